@@ -1,0 +1,14 @@
+pub mod Answered
+pub mod Bound
+pub mod Derived
+pub mod Fewest
+pub mod Halves
+pub mod Lexed
+pub mod Numerals
+pub mod OneAnswer
+pub mod Pieces
+pub mod Printed
+pub mod Spelled
+pub mod Tallies
+pub mod Turning
+pub mod Walks

@@ -1,0 +1,184 @@
+-- The laws of what is printed.
+use Rattle.std.proofs.Common.{◌≡◌, ℕ, ◌+◌, ◌<◌, ◌≤◌, ◌^◌, zero, suc, List, [], ◌∷◌, ◌++◌, length, get_or, map, Bool, true, false, not, cond, eqb, ◌&&◌, ◌||◌, Option, Some, None, Result, Ok, Err, ℤ, pos, negsuc, refl, sym, ap, subst, ◌∙◌, arith}
+use Rattle.std.proofs.lemmas.Bool.Decides.{nat_tests}
+use Rattle.std.proofs.lemmas.Int.{ints}
+use Rattle.std.proofs.lemmas.List.{append-nil}
+use Rattle.std.proofs.lemmas.List.Elements.{All-get_or}
+use Rattle.std.proofs.lemmas.List.Folds.{find-append}
+use Rattle.std.proofs.lemmas.Bool.{false_from_ne_true}
+use Rattle.std.proofs.lemmas.Iterator.Adapters.{position_from-zero}
+use Rattle.std.proofs.lemmas.Slice.Eq.{bytes_eq-Decides}
+use Rattle.std.specs.Option.{option_or}
+use Rattle.std.specs.Prelude.{All, nat_lt, find, is_none, unwrap_or, position, IsTrue}
+use Rattle.std.specs.List.{list_all, position_from}
+use Rattle.std.specs.Str.{bytes_eq}
+use Rattle.param_expr.specs.Eval.{RefersBelow, in_i64}
+use Rattle.param_expr.specs.Tree as expr
+use Rattle.param_expr.specs.Tree.{Tree}
+use Rattle.param_expr.specs.Named as tree
+use Rattle.param_expr.specs.Named.{NamedTree}
+use Rattle.param_expr.specs.Words.{IsName}
+use Rattle.param_expr.specs.Tokens.{Token, Lexeme, Placed, tokens_from, tokens_of, plain_tokens}
+use Rattle.param_expr.specs.Grammar.{sum_tokens, Spells}
+use Rattle.param_expr.specs.Parse.{Answers, is_large, first_large, most_open}
+use Rattle.param_expr.specs.Bind.{Binds, place_of, names_of, unknown_of, placed_in}
+use Rattle.param_expr.specs.Print.{with_names, NonNegative, Differ, tightness, printed, operand, parentheses, has_no_leading_zero, has_no_leading_zeros, has_no_spaces, IsReadAgain, CanBeRead, is_number, begins_well, opened_in}
+use Rattle.param_expr.specs.Pieces.{HasSmallNumbers}
+use Rattle.param_expr.proofs.Lexed.{lex, lexeme_of, Writes, is_fine}
+use Rattle.param_expr.proofs.Derived.{Writable, Derivation, derivation, asked_of}
+use Rattle.param_expr.proofs.Fewest.{all_sound, sum_least, sound}
+
+-- ---- a whole text that is written token by token
+
+lex_nothing : lex [] ≡ []
+unfolding tokens_from
+lex_nothing = refl
+
+lex_whole : (text : List ℕ) (tokens : List Token) (w : Writes text tokens) → lex text ≡ w.lexemes
+lex_whole text tokens w = ap lex (sym (append-nil text)) ∙ w.lexes [] tt ∙ ap (λ ls. w.lexemes ++ ls) lex_nothing ∙ append-nil w.lexemes
+
+plain_lexemes : (placed : List Placed) → plain_tokens placed ≡ map (λ (l : Lexeme). l.token) (map lexeme_of placed)
+plain_lexemes [] = refl
+plain_lexemes (p ∷ rest) = ap (λ ts. p.token ∷ ts) (plain_lexemes rest)
+
+plain_whole : (text : List ℕ) (tokens : List Token) → Writes text tokens → plain_tokens (tokens_of text) ≡ tokens
+plain_whole text tokens w = plain_lexemes (tokens_of text) ∙ ap (map (λ (l : Lexeme). l.token)) (lex_whole text tokens w) ∙ w.tokens_are
+
+both_true : (a b : Bool) → (a && b) ≡ true → (a ≡ true) × (b ≡ true)
+both_true true b h = (refl, h)
+both_true false b h = absurd cc
+
+and_both : (a b : Bool) → a ≡ true → b ≡ true → (a && b) ≡ true
+and_both a b h k = cc
+
+fine_zeros : (placed : List Placed) → list_all is_fine (map lexeme_of placed) ≡ true → list_all has_no_leading_zero placed ≡ true
+fine_zeros [] h = refl
+fine_zeros (p ∷ rest) h =
+    let parts = both_true (is_fine (lexeme_of p)) (list_all is_fine (map lexeme_of rest)) h in
+    let here = both_true (not (is_number p.token) || begins_well p.bytes) (not (is_large p.token)) parts.0 in
+    and_both _ _ here.0 (fine_zeros rest parts.1)
+
+cond_small : (b : Bool) (x : ℕ) (o : Option ℕ) → not b ≡ true → cond b (Some x) o ≡ o
+cond_small true x o h = absurd cc
+cond_small false x o h = refl
+
+fine_small : (placed : List Placed) → list_all is_fine (map lexeme_of placed) ≡ true → first_large placed ≡ None
+fine_small [] h = refl
+fine_small (p ∷ rest) h =
+    let parts = both_true (is_fine (lexeme_of p)) (list_all is_fine (map lexeme_of rest)) h in
+    let here = both_true (not (is_number p.token) || begins_well p.bytes) (not (is_large p.token)) parts.0 in
+    cond_small (is_large p.token) p.at (first_large rest) here.1 ∙ fine_small rest parts.1
+
+fine_whole : (text : List ℕ) (tokens : List Token) → Writes text tokens → list_all is_fine (map lexeme_of (tokens_of text)) ≡ true
+fine_whole text tokens w = ap (list_all is_fine) (lex_whole text tokens w) ∙ w.fine
+
+-- ---- the text of a tree
+
+loose_none : (has : ℕ) (text other : List ℕ) → cond (nat_lt has 0) other text ≡ text
+loose_none has text other = grind (arith, nat_tests)
+
+whole_operand : (t : NamedTree) → operand 0 t ≡ printed t
+whole_operand t = loose_none (tightness t) (printed t) _
+
+written : (t : NamedTree) (d : Derivation t) → Writes (printed t) (sum_tokens d.sum)
+written t d = subst (λ text. Writes text (sum_tokens d.sum)) (whole_operand t) d.sum_written
+
+printed_spells : (t : NamedTree) → Writable t → Spells (printed t) t
+printed_spells t h =
+    let d = derivation t h in
+    record { sum = d.sum; tokens_are = sym (plain_whole (printed t) (sum_tokens d.sum) (written t d)); tree_is = d.sum_is }
+
+printed_zeros : (t : NamedTree) → Writable t → has_no_leading_zeros (printed t) ≡ true
+printed_zeros t h = let d = derivation t h in fine_zeros (tokens_of (printed t)) (fine_whole (printed t) (sum_tokens d.sum) (written t d))
+
+printed_small : (t : NamedTree) → Writable t → first_large (tokens_of (printed t)) ≡ None
+printed_small t h = let d = derivation t h in fine_small (tokens_of (printed t)) (fine_whole (printed t) (sum_tokens d.sum) (written t d))
+
+printed_spaces : (t : NamedTree) → Writable t → has_no_spaces (printed t) ≡ true
+printed_spaces t h = let d = derivation t h in (written t d).solid
+
+printed_fewest : (t : NamedTree) → Writable t → (other : List ℕ) → Spells other t → parentheses (printed t) ≤ parentheses other
+printed_fewest t h other k =
+    let d = derivation t h in
+    let mine : parentheses (printed t) ≡ asked_of 0 t = ap opened_in (plain_whole (printed t) (sum_tokens d.sum) (written t d)) ∙ d.sum_opened in
+    let theirs : opened_in (sum_tokens k.sum) ≡ parentheses other = ap opened_in k.tokens_are in
+    let least = sum_least k.sum (ap (list_all sound) k.tokens_are ∙ all_sound other 0 0) in
+    let same = ap (asked_of 0) k.tree_is in
+    omega arith
+
+-- ---- what can be printed
+
+small_number : (n : ℕ) → IsTrue (in_i64 (pos n)) → n < 2 ^ 63
+small_number n h = grind (arith, nat_tests, ints)
+
+writable : (names : List (List ℕ)) (t : Tree) → RefersBelow (length names) t → All IsName names → NonNegative t → HasSmallNumbers t → Writable (with_names names t)
+writable names (expr.number (pos n)) refers named h small = small_number n small
+writable names (expr.number (negsuc n)) refers named h small = absurd h
+writable names (expr.param i) refers named h small = All-get_or IsName names i [] refers named
+writable names (expr.binary op a b) refers named h small = (writable names a refers.0 named h.0 small.0, writable names b refers.1 named h.1 small.1)
+
+-- ---- names that differ are found again
+
+same_bytes : (x : List ℕ) → bytes_eq x x ≡ true
+same_bytes x = (bytes_eq-Decides x x).1 refl
+
+other_bytes : (x y : List ℕ) → (x ≡ y → ⊥) → bytes_eq x y ≡ false
+other_bytes x y h = false_from_ne_true (bytes_eq x y) (λ e. h ((bytes_eq-Decides x y).0 e))
+
+first_place : (names : List (List ℕ)) (i k : ℕ) → i < length names → ((j : ℕ) → j < i → get_or names i [] ≡ get_or names j [] → ⊥) → position_from (bytes_eq (get_or names i [])) k names ≡ Some (k + i)
+first_place [] i k h first = absurd (omega arith)
+first_place (x ∷ names) zero k h first = rw same_bytes (ap (λ n. Some n) (omega arith))
+first_place (x ∷ names) (suc i) k h first =
+    let no = other_bytes (get_or names i []) x (first 0 (omega arith)) in
+    ap (λ b. cond b (Some k) (position_from (bytes_eq (get_or names i [])) (k + 1) names)) no
+    ∙ first_place names i (k + 1) (omega arith) (λ j below. first (suc j) (omega arith))
+    ∙ ap (λ n. Some n) (omega arith)
+
+place_again : (names : List (List ℕ)) (i : ℕ) → Differ names → i < length names → place_of names (get_or names i []) ≡ Some i
+place_again names i differ h =
+    position_from-zero (bytes_eq (get_or names i [])) names
+    ∙ first_place names i 0 h (λ j below same. let one : i ≡ j = differ i j h (omega arith) same in omega arith)
+    ∙ ap (λ n. Some n) (omega arith)
+
+unknown_none : (names : List (List ℕ)) (t : Tree) → Differ names → RefersBelow (length names) t → unknown_of names (with_names names t) ≡ None
+unknown_none names (expr.number z) differ h = refl
+unknown_none names (expr.param i) differ h = ap (λ (o : Option ℕ). cond (is_none o) (Some (get_or names i [])) None) (place_again names i differ h)
+unknown_none names (expr.binary op a b) differ h =
+    find-append (λ w. is_none (place_of names w)) (names_of (with_names names a)) (names_of (with_names names b))
+    ∙ ap (λ o. option_or o (unknown_of names (with_names names b))) (unknown_none names a differ h.0)
+    ∙ unknown_none names b differ h.1
+
+placed_again : (names : List (List ℕ)) (t : Tree) → Differ names → RefersBelow (length names) t → t ≡ placed_in names (with_names names t)
+placed_again names (expr.number z) differ h = refl
+placed_again names (expr.param i) differ h = ap (λ (o : Option ℕ). expr.param (unwrap_or o 0)) (sym (place_again names i differ h))
+placed_again names (expr.binary op a b) differ h = ap (λ x. expr.binary op x b) (placed_again names a differ h.0) ∙ ap (expr.binary op (placed_in names (with_names names a))) (placed_again names b differ h.1)
+
+read_again : (names : List (List ℕ)) (t : Tree) → Writable (with_names names t) → RefersBelow (length names) t → CanBeRead (printed (with_names names t)) names → IsReadAgain (printed (with_names names t)) names t
+read_again names t h refers k = record {
+  parsed = (k.short, printed_spells (with_names names t) h, printed_small (with_names names t) h, k.flat);
+  bound = (unknown_none names t k.differ refers, placed_again names t k.differ refers);
+}
+
+-- ---- a text that was printed
+
+pub record Laws (text : List ℕ) (names : List (List ℕ)) (t : Tree) : Type 0 where
+  pub spelled : Spells text (with_names names t)
+  pub spaces : IsTrue (has_no_spaces text)
+  pub zeros : IsTrue (has_no_leading_zeros text)
+  pub fewest : (other : List ℕ) → Spells other (with_names names t) → parentheses text ≤ parentheses other
+  pub again : CanBeRead text names → IsReadAgain text names t
+
+laws : (names : List (List ℕ)) (t : Tree) → RefersBelow (length names) t → Writable (with_names names t) → Laws (printed (with_names names t)) names t
+laws names t refers h = record {
+  spelled = printed_spells (with_names names t) h;
+  spaces = printed_spaces (with_names names t) h;
+  zeros = printed_zeros (with_names names t) h;
+  fewest = printed_fewest (with_names names t) h;
+  again = read_again names t h refers;
+}
+
+-- the laws of a text that was written whole
+pub written_laws : (old text : List ℕ) (names : List (List ℕ)) (t : Tree) → old ≡ [] → text ≡ old ++ operand 0 (with_names names t) → RefersBelow (length names) t → All IsName names → NonNegative t → HasSmallNumbers t → Laws text names t
+written_laws old text names t e is refers named h small =
+    let whole : text ≡ printed (with_names names t) = is ∙ ap (λ o. o ++ operand 0 (with_names names t)) e ∙ whole_operand (with_names names t) in
+    subst (λ bytes. Laws bytes names t) (sym whole) (laws names t refers (writable names t refers named h small))

@@ -1,0 +1,13 @@
+pub mod Bind
+pub mod Eval
+pub mod Grammar
+pub mod Machine
+pub mod Named
+pub mod Parse
+pub mod ParsedView
+pub mod Pieces
+pub mod Print
+pub mod Tokens
+pub mod Tree
+pub mod View
+pub mod Words

@@ -1,0 +1,31 @@
+//! Names, and the expressions that give rates and parameters.
+#![tactic(auto)]
+
+mod binding;
+mod evaluation;
+mod expr;
+mod fault;
+mod limits;
+mod name;
+mod op;
+mod parsed;
+mod parsing;
+mod printing;
+mod reader;
+mod stack;
+mod state;
+mod symbol;
+
+pub use binding::{BindFault, bind};
+pub use evaluation::{EvalFault, eval};
+pub use expr::{Expr, Node};
+pub use fault::ExprFault;
+pub use limits::{MAX_EXPRESSION_BYTES, MAX_NAME_BYTES, MAX_OPEN_PARENTHESES};
+pub use name::{Name, is_name};
+pub use op::Op;
+pub use parsed::Parsed;
+pub use parsing::parse;
+pub use printing::print;
+
+#[cfg(test)]
+mod tests;

@@ -1,0 +1,153 @@
+ghost use Rattle.std.specs.Prelude.{◌≡◌, ◌≤◌, ℕ, List, [], ◌++◌, OnOk, IfOk, All, codes, if◌then◌else◌, IsTrue, length, string_bytes};
+ghost use Rattle.param_expr.specs.Eval.{RefersBelow};
+ghost use Rattle.param_expr.specs.Words.{IsName};
+ghost use Rattle.param_expr.specs.Grammar.{Spells};
+ghost use Rattle.param_expr.specs.Pieces.{HasSmallNumbers, after_of, before_of, between_of, left_asks, right_asks};
+ghost use Rattle.param_expr.specs.Print.{CanBeRead, IsReadAgain, NonNegative, has_no_leading_zeros, has_no_spaces, level_of, operand, parentheses, printed, with_names};
+
+use crate::expr::{Expr, Node};
+use crate::name::Name;
+use crate::op::Op;
+use std::alloc::{AllocError, Global};
+
+/// How tightly an operator binds: sums 0, products 1, calls 2.
+fn level(op: Op) -> u8
+    ensures { result ≡ level_of op }
+{
+    match op {
+        Op::Add | Op::Sub => 0,
+        Op::Mul | Op::Div | Op::Rem => 1,
+        Op::Min | Op::Max => 2,
+    }
+}
+
+/// What begins an operand that binds too loosely.
+fn opening(loose: bool) -> &'static str
+    ensures { result.now ≡ (if loose then codes "(" else []) }
+{
+    if loose { "(" } else { "" }
+}
+
+/// What ends it.
+fn closing(loose: bool) -> &'static str
+    ensures { result.now ≡ (if loose then codes ")" else []) }
+{
+    if loose { ")" } else { "" }
+}
+
+/// What is written before the left operand.
+fn before(op: Op) -> &'static str
+    ensures { result.now ≡ before_of op }
+{
+    match op {
+        Op::Min => "min(",
+        Op::Max => "max(",
+        _ => "",
+    }
+}
+
+/// What is written between the operands.
+fn between(op: Op) -> &'static str
+    ensures { result.now ≡ between_of op }
+{
+    match op {
+        Op::Add => "+",
+        Op::Sub => "-",
+        Op::Mul => "*",
+        Op::Div => "/",
+        Op::Rem => "%",
+        Op::Min | Op::Max => ",",
+    }
+}
+
+/// What is written after the right operand.
+fn after(op: Op) -> &'static str
+    ensures { result.now ≡ after_of op }
+{
+    match op {
+        Op::Min | Op::Max => ")",
+        _ => "",
+    }
+}
+
+/// How tightly the left operand has to bind.
+fn left_asks(op: Op) -> u8
+    ensures { result ≡ left_asks op }
+{
+    match op {
+        Op::Min | Op::Max => 0,
+        _ => level(op),
+    }
+}
+
+/// How tightly the right operand has to bind.
+fn right_asks(op: Op) -> u8
+    ensures { result ≡ right_asks op }
+{
+    match op {
+        Op::Min | Op::Max => 0,
+        _ => level(op) + 1,
+    }
+}
+
+fn append(text: &mut String, piece: &str) -> Result<(), AllocError>
+    ensures { OnOk result (string_bytes text.new ≡ string_bytes text.old ++ piece.now) }
+{
+    text.push_str(piece)
+}
+
+/// Writes an expression at the end of a text, in parentheses if it binds less tightly than asked.
+fn write_expr(text: &mut String, asked: u8, expr: &Expr, names: &[Name]) -> Result<(), AllocError>
+    requires asked { asked ≤ 2 }
+    requires refers { RefersBelow (length names.now) expr.now }
+    ensures written { OnOk result (string_bytes text.new ≡ string_bytes text.old ++ operand asked (with_names names.now expr.now)) }
+    ensures limited { OnOk result (HasSmallNumbers expr.now) }
+{
+    match &expr.node {
+        Node::Number(value) => {
+            let value = *value;
+            write!(text, "{value}")
+        }
+        Node::Param(place) => append(text, names[*place as usize].text()),
+        Node::Binary(op, left, right) => {
+            let loose = level(*op) < asked;
+            append(text, opening(loose))?;
+            append(text, before(*op))?;
+            write_expr(text, left_asks(*op), left, names)?;
+            append(text, between(*op))?;
+            write_expr(text, right_asks(*op), right, names)?;
+            append(text, after(*op))?;
+            append(text, closing(loose))
+        }
+    }
+}
+
+/// The text of an expression with the fewest parentheses, without spaces and without leading
+/// zeros, where `names[i]` is the name of the parameter at place `i`.
+///
+/// An operand stands in parentheses only where the text would else spell another expression: a
+/// left operand that is a sum, under `*`, `/` and `%`, and a right operand that is a sum, or, under
+/// `*`, `/` and `%`, a product. Operands of `min` and `max` have none of their own.
+///
+/// # Errors
+///
+/// Want of memory.
+pub fn print(alloc: Global, expr: &Expr, names: &[Name]) -> Result<String, AllocError>
+    requires refers { RefersBelow (length names.now) expr.now }
+    requires names { All IsName names.now }
+    requires numbers { NonNegative expr.now }
+    ensures printed { IfOk result (λ text. string_bytes text ≡ printed (with_names names.now expr.now)) }
+    ensures spelled { IfOk result (λ text. Spells (string_bytes text) (with_names names.now expr.now)) }
+
+    ensures no_spaces { IfOk result (λ text. IsTrue (has_no_spaces (string_bytes text))) }
+    ensures no_leading_zeros { IfOk result (λ text. IsTrue (has_no_leading_zeros (string_bytes text))) }
+    // Among all texts that the expression spells none has fewer parentheses.
+    ensures fewest { IfOk result (λ text. (other : List ℕ) → Spells other (with_names names.now expr.now) → parentheses (string_bytes text) ≤ parentheses other) }
+
+    // Within the limits of `parse`, and where no two names are one, `parse` and `bind` give the expression again.
+    ensures again { IfOk result (λ text. CanBeRead (string_bytes text) names.now → IsReadAgain (string_bytes text) names.now expr.now) }
+{
+    let mut text = String::new(alloc);
+    write_expr(&mut text, 0, expr, names)?;
+    Ok(text)
+}
