@@ -1,0 +1,15 @@
+pub mod InnerLinks
+pub mod FiringLists
+pub mod Deadlock
+pub mod OnlyOne
+pub mod Connected
+pub mod Balanced
+pub mod Lines
+pub mod Windows
+pub mod SameInputs
+pub mod SameTokens
+pub mod Computed
+pub mod ExampleLevels
+pub mod ExampleVectors
+pub mod ExampleOrders
+pub mod ExampleRuns

@@ -1,0 +1,12 @@
+pub mod View
+pub mod Kept
+pub mod Links
+pub mod Balance
+pub mod Components
+pub mod Repetition
+pub mod Limits
+pub mod Firings
+pub mod Orders
+pub mod Interfaces
+pub mod Run
+pub mod LevelRun
