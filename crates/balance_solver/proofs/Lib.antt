@@ -1,0 +1,4 @@
+pub mod Euclid
+pub mod Uniting
+pub mod Between
+pub mod Solved

@@ -1,0 +1,4 @@
+pub mod Pair
+pub mod Scaled
+pub mod Within
+pub mod Joined

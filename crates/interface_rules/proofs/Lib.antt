@@ -1,0 +1,5 @@
+pub mod Grouping
+pub mod Needs
+pub mod Serving
+pub mod Multiplied
+pub mod Bases
