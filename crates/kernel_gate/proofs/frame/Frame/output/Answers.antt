@@ -1,0 +1,16 @@
+use Rattle.std.proofs.Common.{refl, ap, ◌∙◌}
+use Rattle.kernel_gate.proofs.Lists.{list_at, write_at}
+use Rattle.kernel_gate.proofs.frame.Frame.output.Goals as goal
+
+pub returns : goal.returns
+returns c =
+    let outputs = ap (λ f. f.outputs) c.self.view_is in (
+      (
+        refl,
+        λ w i. record (c.self.view_is i) { outputs = write_at _ _ _ w _ outputs c.requires c.index_mut.ensures.value i },
+      ),
+      record {
+        writes_back = tt;
+        value = c.as_mut_slice.ensures.value ∙ list_at _ _ _ _ outputs c.requires c.index_mut.ensures.value;
+      },
+    )

@@ -1,0 +1,13 @@
+pub mod Codes
+pub mod Value
+pub mod Signed
+pub mod Tokens
+pub mod Kernels
+pub mod Elements
+pub mod Sums
+pub mod Rearranged
+pub mod Counted
+pub mod Configured
+pub mod Table
+pub mod Framed
+pub mod Lending
