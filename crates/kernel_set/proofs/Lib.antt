@@ -1,0 +1,4 @@
+pub mod Steps
+pub mod Firings
+pub mod Bins
+pub mod Middles

@@ -1,0 +1,145 @@
+// The kernels that count tokens.
+ghost use Rattle.std.specs.Prelude.{◌≡◌, ◌==◌, ◌≤ℤ◌, ℕ, ℤ, [], ◌∷◌, true, false, pos, length, map, find, count_by, IfNone, IfOk, IfSome};
+ghost use Rattle.kernel_gate.specs.Value.{SameFrame, answer_of, port, told_by};
+ghost use Rattle.kernel_gate.specs.Signed.{Fits};
+ghost use Rattle.kernel_gate.specs.Tokens.{places};
+ghost use Rattle.kernel_gate.specs.Counted.{smaller, larger, in_the_middle, in_bin, median_signature, median_answer, histogram_signature, histogram_answer, count_above_signature, count_above_answer};
+
+use kernel_gate::{Frame, KernelFault};
+
+/// The number of tokens greater than a limit.
+fn above(limit: i64, x: &[i64]) -> usize
+    ensures { result ≡ larger x.now limit }
+{
+    let mut count = 0;
+    for t in x {
+        if limit < *t {
+            count += 1;
+        }
+    }
+    count
+}
+
+/// The number of tokens smaller than a limit.
+fn below(limit: i64, x: &[i64]) -> usize
+    ensures { result ≡ smaller x.now limit }
+{
+    let mut count = 0;
+    for t in x {
+        if *t < limit {
+            count += 1;
+        }
+    }
+    count
+}
+
+/// Whether at most half of the other tokens are smaller than this one, and at most half are larger.
+fn is_middle(x: &[i64], t: i64) -> bool
+    ensures { result ≡ in_the_middle x.now t }
+{
+    let half = x.len().saturating_sub(1) / 2;
+    below(t, x) <= half && above(t, x) <= half
+}
+
+/// The first token in the middle.
+fn middle(x: &[i64]) -> Option<i64>
+    ensures { result ≡ find (in_the_middle x.now) x.now }
+{
+    for t in x {
+        if is_middle(x, *t) {
+            return Some(*t);
+        }
+    }
+    None
+}
+
+/// The bin of a token, of bins from `low` on that are so wide, where it isn't below the first.
+#[inline(always)]
+fn bin_of(low: i64, width: i64, t: i64) -> Option<u64>
+    requires { pos 1 ≤ℤ width }
+    ensures below { IfNone result ((b : ℕ) → in_bin low width b t ≡ false) }
+    ensures within { IfSome result (λ bin. (b : ℕ) → in_bin low width b t ≡ (b == bin)) }
+{
+    if t < low {
+        return None;
+    }
+    Some(t.abs_diff(low) / width.unsigned_abs())
+}
+
+/// Counts the tokens of each bin.
+fn write_counts(low: i64, width: i64, x: &[i64], o: &mut [i64])
+    requires { pos 1 ≤ℤ width }
+    ensures { o.new ≡ map (λ b. pos (count_by (in_bin low width b) x.now)) (places (length o.old)) }
+{
+    o.fill(0);
+    for t in x {
+        if let Some(bin) = bin_of(low, width, *t) {
+            if bin < o.len() as u64 {
+                o[bin as usize] += 1;
+            }
+        }
+    }
+}
+
+/// The number of tokens greater than the argument. Shape unless the output has one token.
+#[tactic(auto, using(crate::proofs::Firings::shaped_same, crate::proofs::Firings::shaped_not, crate::proofs::Firings::size_at, crate::proofs::Firings::tells_one), unfolding(kernel_gate::specs::Counted::count_above_answer))]
+pub fn count_above(frame: &mut Frame) -> Result<(), KernelFault>
+    requires { Fits count_above_signature.counts frame.old }
+    ensures same { SameFrame frame.old frame.new }
+    ensures value { told_by frame.new result ≡ answer_of count_above_answer frame.old }
+{
+    let (args, x, o) = frame.ports(0, 0);
+    if o.len() != 1 {
+        return Err(KernelFault::SHAPE);
+    }
+    o[0] = above(args[0], x) as i64;
+    Ok(())
+}
+
+/// The token in the middle by size: at most half of the others are smaller, and at most half are larger. Shape
+/// unless the output has one token and the input an odd number, at most 255.
+#[tactic(auto, using(crate::proofs::Firings::fitting, crate::proofs::Firings::not_fitting, crate::proofs::Firings::size_at, crate::proofs::Firings::tells_one), unfolding(kernel_gate::specs::Counted::median_answer))]
+pub fn median(frame: &mut Frame) -> Result<(), KernelFault>
+    requires { Fits median_signature.counts frame.old }
+    ensures same { SameFrame frame.old frame.new }
+    ensures value { told_by frame.new result ≡ answer_of median_answer frame.old }
+    ensures only { IfOk result (λ _. (u : ℤ) → in_the_middle (port frame.old.inputs 0) u ≡ true → frame.new.outputs ≡ (u ∷ []) ∷ []) }
+{
+    let (_, x, o) = frame.ports(0, 0);
+    if o.len() != 1 {
+        return Err(KernelFault::SHAPE);
+    }
+    if x.len() % 2 != 1 {
+        return Err(KernelFault::SHAPE);
+    }
+    if 255 < x.len() {
+        return Err(KernelFault::SHAPE);
+    }
+    match middle(x) {
+        Some(t) => {
+            o[0] = t;
+            Ok(())
+        }
+        None => Err(KernelFault::SHAPE),
+    }
+}
+
+/// The number of tokens in each bin: bin `b` has those from the first argument plus `b` times the second on, to
+/// below that of the next bin; the bounds are whole numbers and may lie outside i64. Shape unless the output has a
+/// token; Value where the second argument is below 1.
+#[tactic(auto, using(crate::proofs::Firings::fitting, crate::proofs::Firings::not_fitting, crate::proofs::Firings::taken, crate::proofs::Firings::not_taken, crate::proofs::Firings::size_at, crate::proofs::Firings::tells_one), unfolding(kernel_gate::specs::Counted::histogram_answer))]
+pub fn histogram(frame: &mut Frame) -> Result<(), KernelFault>
+    requires { Fits histogram_signature.counts frame.old }
+    ensures same { SameFrame frame.old frame.new }
+    ensures value { told_by frame.new result ≡ answer_of histogram_answer frame.old }
+{
+    let (args, x, o) = frame.ports(0, 0);
+    if o.is_empty() {
+        return Err(KernelFault::SHAPE);
+    }
+    if args[1] < 1 {
+        return Err(KernelFault::VALUE);
+    }
+    write_counts(args[0], args[1], x, o);
+    Ok(())
+}
