@@ -1,0 +1,5 @@
+pub mod Words
+pub mod Chains
+pub mod Closing
+pub mod Ranking
+pub mod Reached

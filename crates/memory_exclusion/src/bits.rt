@@ -1,0 +1,35 @@
+// Rows of bits in one slice of words, 64 bits to a word, `width` words to a row.
+ghost use Rattle.std.specs.Prelude.{ℕ, ◌≡◌, ◌+◌, ◌*◌, ◌/◌, ◌<◌, ◌≤◌, ◌↔◌, length, IsTrue};
+ghost use Rattle.memory_exclusion.specs.Bits.{HasBit, AddsBit, AddsRow};
+
+const BITS: usize = u64::BITS as usize;
+
+/// Whether the row has the bit.
+pub(crate) fn has_bit(words: &[u64], width: usize, row: usize, bit: usize) -> bool
+    requires { row * width + bit / 64 < length words.now }
+    ensures { IsTrue result ↔ HasBit words.now width row bit }
+{
+    words[row * width + bit / BITS] >> (bit % BITS) & 1 == 1
+}
+
+/// Sets one bit of one row.
+pub(crate) fn add_bit(words: &mut [u64], width: usize, row: usize, bit: usize)
+    requires row { row * width + width ≤ length words.old }
+    requires bit { bit < 64 * width }
+    ensures { AddsBit width words.old words.new row bit }
+{
+    words[row * width + bit / BITS] |= 1 << (bit % BITS);
+}
+
+/// Sets in one row all bits of another.
+pub(crate) fn add_row(words: &mut [u64], width: usize, row: usize, other: usize)
+    requires row { row * width + width ≤ length words.old }
+    requires other { other * width + width ≤ length words.old }
+    ensures { AddsRow width words.old words.new row other }
+{
+    let to = row * width;
+    let from = other * width;
+    for k in 0..width {
+        words[to + k] |= words[from + k];
+    }
+}

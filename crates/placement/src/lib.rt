@@ -1,0 +1,11 @@
+//! Offsets for the buffers of a graph in one run of cells: first fit, by size downwards.
+#![tactic(auto)]
+
+mod gap;
+mod order;
+mod placing;
+
+pub use placing::{Placement, place};
+
+#[cfg(test)]
+mod tests;

@@ -1,0 +1,63 @@
+ghost use Rattle.std.specs.Prelude.{◌≡◌, ◌^◌, ◌<◌, ◌≤◌, length, sum, All, IfOk};
+ghost use Rattle.placement_checker.specs.Placed.{Valid, Tight};
+
+use crate::gap::{Placed, enter, least_offset};
+use crate::order::placing_order;
+use placement_checker::Exclusion;
+use sdf_level::List;
+use std::alloc::{AllocError, Global};
+
+/// Where each buffer lies in one run of cells.
+#[derive(Debug, Drop)]
+pub struct Placement {
+    /// The first cell of each buffer, by number.
+    pub offsets: List<u32>,
+    /// How many cells there are.
+    pub height: u32,
+}
+
+/// First fit over the memory exclusion graph: by size downwards, then by number, each buffer gets
+/// the least offset at which it overlaps no earlier one that excludes it. The height is the greatest
+/// end, 0 with no buffer. `sizes` has the cells of each buffer, by number.
+///
+/// # Errors
+///
+/// Want of memory.
+pub fn place<X: Exclusion>(
+    alloc: Global,
+    sizes: &[u32],
+    exclusion: &X,
+) -> Result<Placement, AllocError>
+    requires range { length sizes.now ≤ X.range exclusion.now }
+    requires filled { All (λ size. 1 ≤ size) sizes.now }
+    requires sum { sum sizes.now < 2 ^ 32 }
+    ensures long { IfOk result (λ p. length p.offsets ≡ length sizes.now) }
+    ensures valid { IfOk result (λ p. Valid sizes.now (X.excludes exclusion.now) p.offsets p.height) }
+    ensures tight { IfOk result (λ p. Tight sizes.now (X.excludes exclusion.now) p.offsets p.height) }
+{
+    let range = exclusion.range() as usize;
+    prove!(sizes.len() <= range);
+    let order = placing_order(alloc, sizes)?;
+    let mut offsets = vec![in alloc; 0u32; sizes.len()]?;
+    let mut placed = Vec::with_capacity(alloc, sizes.len())?;
+    let mut height = 0;
+    for &number in &order {
+        let size = sizes[number as usize];
+        let offset = least_offset(&placed, exclusion, number, size);
+        let end = offset + size;
+        enter(
+            &mut placed,
+            Placed {
+                number,
+                offset,
+                end,
+            },
+        )?;
+        offsets[number as usize] = offset;
+        height = height.max(end);
+    }
+    Ok(Placement {
+        offsets: List::new(offsets),
+        height,
+    })
+}

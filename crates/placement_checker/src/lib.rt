@@ -1,0 +1,11 @@
+//! Whether a placement of buffers in one run of cells keeps those apart that exclude each other.
+#![tactic(auto)]
+
+mod checker;
+mod exclusion;
+
+pub use checker::{Clash, check};
+pub use exclusion::Exclusion;
+
+#[cfg(test)]
+mod tests;
