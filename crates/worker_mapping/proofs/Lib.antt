@@ -1,0 +1,14 @@
+pub mod Choosing
+pub mod Kept
+pub mod Lists
+pub mod Edges
+pub mod Adjacent
+pub mod Priorities
+pub mod ByRank
+pub mod Releasing
+pub mod Places
+pub mod Entries
+pub mod Placing
+pub mod Homes
+pub mod HeaviestPath
+pub mod Unique

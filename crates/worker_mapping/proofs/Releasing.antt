@@ -1,0 +1,154 @@
+-- Nodes that wait for one node less, one node more.
+use Rattle.std.proofs.Common.{◌≡◌, ℕ, zero, suc, ◌+◌, ◌-◌, ◌<◌, ◌≤◌, inl, inr, ⊎_elim, Bool, true, false, cond, eqb, ltb, List, [], ◌∷◌, ◌++◌, max, length, set, get_or, take, slice_index, arith, refl, ap, sym, ◌∙◌}
+use Rattle.std.specs.List.{Contains, filter}
+use Rattle.std.proofs.lemmas.List.{length-set, length-append, get_or-set_same, get_or-set_other, take_more}
+use Rattle.std.proofs.lemmas.List.Elements.{Contains-push, Contains-push_cases, Contains-append_left, filter-append}
+use Rattle.std.proofs.lemmas.Bool.{cases_eq, eq-eqb, ne_eqb, lt-ltb}
+use Rattle.worker_mapping.specs.Release.{times, Releases}
+
+pub times-append : (n : ℕ) (xs ys : List ℕ) → times n (xs ++ ys) ≡ times n xs + times n ys
+times-append n xs ys = ap length (filter-append (λ x. eqb x n) xs ys) ∙ length-append (filter (λ x. eqb x n) xs) (filter (λ x. eqb x n) ys)
+
+pub times-own : (n : ℕ) → times n (n ∷ []) ≡ 1
+times-own n = rw (eq-eqb n n refl)
+
+pub times-other : (n x : ℕ) → (x ≡ n → ⊥) → times n (x ∷ []) ≡ 0
+times-other n x h = rw (ne_eqb x n h)
+
+times-take-le : (n : ℕ) (xs : List ℕ) (i : ℕ) → times n (take i xs) ≤ times n xs
+times-take-le n xs zero = omega arith
+times-take-le n [] (suc i) = omega arith
+times-take-le n (x ∷ xs) (suc i) = elim (eqb x n) as (λ b. length (cond b (x ∷ filter (λ y. eqb y n) (take i xs)) (filter (λ y. eqb y n) (take i xs))) ≤ length (cond b (x ∷ filter (λ y. eqb y n) xs) (filter (λ y. eqb y n) xs))) [
+  | true ↦ let h = times-take-le n xs i in omega arith
+  | false ↦ times-take-le n xs i
+]
+
+-- an element that follows is not counted yet
+pub times-take-lt : (xs : List ℕ) (i : ℕ) → i < length xs → times (get_or xs i 0) (take i xs) < times (get_or xs i 0) xs
+times-take-lt xs i h =
+    let n : ℕ = get_or xs i 0 in
+    let more = ap (times n) (take_more xs i 0 h) ∙ times-append n (take i xs) (n ∷ []) in
+    let one = times-own n in
+    let all = times-take-le n xs (i + 1) in
+    omega arith
+
+-- a number that is counted stands in the list
+pub Contains-from_times : (n : ℕ) (xs : List ℕ) → 0 < times n xs → Contains xs n
+Contains-from_times n [] h = absurd (omega arith)
+Contains-from_times n (x ∷ xs) h = ⊎_elim
+    (λ (same : x ≡ n). (0, omega arith, same))
+    (λ (other : x ≡ n → ⊥). let later = Contains-from_times n xs (rw (ne_eqb x n other) at h) in (suc later.0, (let k = later.1 in omega arith), later.2))
+    (cases_eq x n)
+
+pub times-from_Contains : (n : ℕ) (xs : List ℕ) → Contains xs n → 0 < times n xs
+times-from_Contains n [] h = let k = h.1 in absurd (omega arith)
+times-from_Contains n (x ∷ xs) h = ⊎_elim
+    (λ (same : x ≡ n). rw (eq-eqb x n same) (omega arith))
+    (λ (other : x ≡ n → ⊥). rw (ne_eqb x n other) (times-from_Contains n xs (go h.0 h.1 h.2 other)))
+    (cases_eq x n) where
+      go : (k : ℕ) → k < length (x ∷ xs) → get_or (x ∷ xs) k n ≡ n → (x ≡ n → ⊥) → Contains xs n
+      go zero below at other = absurd (other at)
+      go (suc k) below at other = (k, omega arith, at)
+
+module _ (heads : List ℕ) (end : ℕ) (waiting ready candidates waiting' ready' candidates' : List ℕ) (h : Releases heads end waiting ready candidates waiting' ready' candidates') (n : ℕ) (inside : n < length waiting') (inside_ready : n < length ready') (enough : 0 < slice_index waiting' n) where
+  waiting-own : slice_index (set waiting' n (slice_index waiting' n - 1)) n ≡ slice_index waiting' n - 1
+  waiting-own = get_or-set_same waiting' n (slice_index waiting' n - 1) 0 inside
+
+  waiting-other : (m : ℕ) → (n ≡ m → ⊥) → slice_index (set waiting' n (slice_index waiting' n - 1)) m ≡ slice_index waiting' m
+  waiting-other m o = get_or-set_other waiting' n m (slice_index waiting' n - 1) 0 (λ q. o (sym q))
+
+  waits_each : (m : ℕ) → slice_index (set waiting' n (slice_index waiting' n - 1)) m + times m (heads ++ n ∷ []) ≡ slice_index waiting m
+  waits_each m = ⊎_elim
+      (λ (own : n ≡ m). rw (← own) (let k = h.waiting_each n in let a = times-append n heads (n ∷ []) in let b = times-own n in let w = waiting-own in omega arith))
+      (λ (other : n ≡ m → ⊥). (let k = h.waiting_each m in let a = times-append m heads (n ∷ []) in let b = times-other m n other in let w = waiting-other m other in omega arith))
+      (cases_eq n m)
+
+  ready-each : (m : ℕ) → slice_index (set ready' n (max (slice_index ready' n) end)) m ≡ max (slice_index ready m) (cond (ltb 0 (times m (heads ++ n ∷ []))) end 0)
+  ready-each m = ⊎_elim
+      (λ (own : n ≡ m).
+      let a = times-append n heads (n ∷ []) in
+      let b = times-own n in
+      let positive : ltb 0 (times n (heads ++ n ∷ [])) ≡ true = lt-ltb 0 (times n (heads ++ n ∷ [])) (omega arith) in
+      let now = get_or-set_same ready' n (max (slice_index ready' n) end) 0 inside_ready in
+      let k = h.ready_each n in
+      let small = cond-le (ltb 0 (times n heads)) end in
+      rw (← own, positive, now) (omega arith))
+      (λ (other : n ≡ m → ⊥).
+      let a = times-append m heads (n ∷ []) in
+      let b = times-other m n other in
+      let same : times m (heads ++ n ∷ []) ≡ times m heads = omega arith in
+      rw (same, get_or-set_other ready' n m (max (slice_index ready' n) end) 0 (λ q. other (sym q))) (h.ready_each m))
+      (cases_eq n m) where
+        cond-le : (b : Bool) (x : ℕ) → cond b x 0 ≤ x
+        cond-le true x = omega arith
+        cond-le false x = omega arith
+
+  -- it waits for another node still
+  pub Releases-waits : 1 < slice_index waiting' n → Releases (heads ++ n ∷ []) end waiting ready candidates (set waiting' n (slice_index waiting' n - 1)) (set ready' n (max (slice_index ready' n) end)) candidates'
+  Releases-waits more = record {
+    waiting_long = length-set waiting' n (slice_index waiting' n - 1) ∙ h.waiting_long;
+    waiting_each = waits_each;
+    ready_long = length-set ready' n (max (slice_index ready' n) end) ∙ h.ready_long;
+    ready_each = ready-each;
+    candidates_each = λ m. (
+      (λ now. ⊎_elim
+          (λ (old : Contains candidates m). inl old)
+          (λ (free : Contains heads m × (slice_index waiting' m ≡ 0)).
+          let f = free.1 in
+          let other : n ≡ m → ⊥ = (λ (e : n ≡ m). let g : slice_index waiting' n ≡ 0 = rw e f in omega arith) in
+          inr (Contains-append_left heads (n ∷ []) m free.0, waiting-other m other ∙ f))
+          ((h.candidates_each m).0 now)),
+      (λ at. (h.candidates_each m).1 (⊎_elim
+          (λ (old : Contains candidates m). inl old)
+          (λ (free : Contains (heads ++ n ∷ []) m × (slice_index (set waiting' n (slice_index waiting' n - 1)) m ≡ 0)).
+          let f = free.1 in
+          ⊎_elim
+          (λ (early : Contains heads m). ⊎_elim
+          (λ (e : n ≡ m). absurd (let g : slice_index (set waiting' n (slice_index waiting' n - 1)) n ≡ 0 = rw (← e) at f in let w = waiting-own in omega arith))
+          (λ (other : n ≡ m → ⊥). inr (early, sym (waiting-other m other) ∙ f))
+          (cases_eq n m))
+          (λ (e : n ≡ m). absurd (let g : slice_index (set waiting' n (slice_index waiting' n - 1)) n ≡ 0 = rw (← e) at f in let w = waiting-own in omega arith))
+          (Contains-push_cases heads n m free.0))
+          at)),
+    );
+  }
+
+  -- it waits for none
+  pub Releases-frees : slice_index waiting' n ≡ 1 → Releases (heads ++ n ∷ []) end waiting ready candidates (set waiting' n (slice_index waiting' n - 1)) (set ready' n (max (slice_index ready' n) end)) (candidates' ++ n ∷ [])
+  Releases-frees last = record {
+    waiting_long = length-set waiting' n (slice_index waiting' n - 1) ∙ h.waiting_long;
+    waiting_each = waits_each;
+    ready_long = length-set ready' n (max (slice_index ready' n) end) ∙ h.ready_long;
+    ready_each = ready-each;
+    candidates_each = λ m. (
+      (λ now. ⊎_elim
+          (λ (had : Contains candidates' m). ⊎_elim
+          (λ (old : Contains candidates m). inl old)
+          (λ (free : Contains heads m × (slice_index waiting' m ≡ 0)).
+          let f = free.1 in
+          let other : n ≡ m → ⊥ = (λ (e : n ≡ m). let g : slice_index waiting' n ≡ 0 = rw e f in omega arith) in
+          inr (Contains-append_left heads (n ∷ []) m free.0, waiting-other m other ∙ f))
+          ((h.candidates_each m).0 had))
+          (λ (e : n ≡ m). inr (rw (← e) (Contains-push heads n), rw (← e) (let w = waiting-own in omega arith)))
+          (Contains-push_cases candidates' n m now)),
+      (λ at. ⊎_elim
+          (λ (e : n ≡ m). rw (← e) (Contains-push candidates' n))
+          (λ (other : n ≡ m → ⊥). Contains-append_left candidates' (n ∷ []) m ((h.candidates_each m).1 (⊎_elim
+          (λ (old : Contains candidates m). inl old)
+          (λ (free : Contains (heads ++ n ∷ []) m × (slice_index (set waiting' n (slice_index waiting' n - 1)) m ≡ 0)). ⊎_elim
+          (λ (early : Contains heads m). inr (early, sym (waiting-other m other) ∙ free.1))
+          (λ (e : n ≡ m). absurd (other e))
+          (Contains-push_cases heads n m free.0))
+          at)))
+          (cases_eq n m)),
+    );
+  }
+
+pub Releases-none : (end : ℕ) (waiting ready candidates : List ℕ) → Releases [] end waiting ready candidates waiting ready candidates
+Releases-none end waiting ready candidates = record {
+  waiting_long = refl;
+  waiting_each = λ n. omega arith;
+  ready_long = refl;
+  ready_each = λ n. omega arith;
+  candidates_each = λ n. ((λ now. inl now), (λ at. ⊎_elim (λ (old : Contains candidates n). old) (λ (free : Contains [] n × (slice_index waiting n ≡ 0)). let k = free.0.1 in absurd (omega arith)) at));
+}

@@ -1,0 +1,7 @@
+pub mod Graph
+pub mod Paths
+pub mod Schedule
+pub mod Ranked
+pub mod Neighbours
+pub mod Choice
+pub mod Release

@@ -1,0 +1,18 @@
+//! Where each node of a graph runs first: its home worker, by a list schedule of the whole graph
+//! with the heaviest path from a node as its priority (Hu 1961; Graham 1969).
+#![tactic(auto)]
+
+mod choice;
+mod entry;
+mod mapping;
+mod neighbours;
+mod priority;
+mod schedule;
+
+pub use entry::Entry;
+pub use mapping::{Mapping, map};
+
+#[cfg(test)]
+mod plain_search;
+#[cfg(test)]
+mod tests;
