@@ -1,0 +1,4 @@
+pub mod Token
+pub mod Records
+pub mod Streams
+pub mod Rows
