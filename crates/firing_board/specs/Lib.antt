@@ -1,0 +1,12 @@
+pub mod OnePass
+pub mod Job
+pub mod Jobs
+pub mod Meaning
+pub mod Run
+pub mod Core
+pub mod View
+pub mod Calls
+pub mod Slots
+pub mod Stages
+pub mod Ends
+pub mod Kept

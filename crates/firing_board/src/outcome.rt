@@ -1,0 +1,26 @@
+use crate::path::Path;
+use param_expr::Name;
+use sdf_level::List;
+
+/// The state that an iteration leaves to the next: a list of tokens for each FIFO of the top graph, in file order, and
+/// then a list for each of its actors, which is empty.
+#[derive(Drop)]
+pub struct Delays {
+    pub lists: List<List<i64>>,
+}
+
+/// A parameter's value in one job.
+#[derive(Drop)]
+pub struct TraceRow {
+    pub path: Path,
+    pub name: Name,
+    pub value: i64,
+}
+
+/// What one firing of the top graph gave: a list of tokens for each output interface in file order, and the values of
+/// the chosen parameters.
+#[derive(Drop)]
+pub struct Iteration {
+    pub outs: List<List<i64>>,
+    pub trace: List<TraceRow>,
+}
