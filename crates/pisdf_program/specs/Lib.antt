@@ -1,0 +1,16 @@
+pub mod Codes
+pub mod Number
+pub mod Words
+pub mod WordsSeen
+pub mod Worked
+pub mod Json
+pub mod FirstForm
+pub mod FormSeen
+pub mod LackSeen
+pub mod Streams
+pub mod Calls
+pub mod Iterated
+pub mod LineSeen
+pub mod Loaded
+pub mod Texts
+pub mod Result

@@ -1,0 +1,61 @@
+-- What loading a file gives.
+use Rattle.std.specs.Prelude.{◌≡◌, ℕ, ◌≤◌, ℤ, List, Bool, true, false, Result, Ok, Err}
+use Rattle.std.specs.Arc.{arc_value}
+use Rattle.outer_world.specs.Faults.{Rose}
+use Rattle.pisdf_model.specs.declared.graph.Graphs.{Graphs}
+use Rattle.firing_board.specs.OnePass.{IsOnePass}
+use Rattle.firing_board.specs.Run.{needs_of}
+use Rattle.pisdf_program.specs.declared.load.Runnable.{Runnable}
+use Rattle.pisdf_program.specs.declared.status.Status.{Status}
+use Rattle.pisdf_program.specs.declared.status.Status.TheVariants.{Done, Usage, GraphRefused, TokensRefused, RunRefused, ReadFault, WriteFault, WantOfMemory, NotYet}
+use Rattle.pisdf_program.specs.declared.status.Which.{Which}
+
+-- a status that the words and files decide: no fault of a file or a sink, and no want of memory
+abbrev pub is_answer : Status → Bool
+is_answer Done = true
+is_answer Usage = true
+is_answer (GraphRefused cause) = true
+is_answer (TokensRefused cause) = true
+is_answer (RunRefused refusal) = true
+is_answer (ReadFault which) = false
+is_answer WriteFault = false
+is_answer WantOfMemory = false
+is_answer (NotYet later) = true
+
+-- what was given, or refused, is what reading the told file gives; a fault and want of memory show nothing of it
+abbrev pub Settles : {A : Type 0} → Result A Status → Result A Status → Type 0
+Settles told (Ok x) = told ≡ Ok x
+Settles told (Err status) = is_answer status ≡ true → told ≡ Err status
+
+abbrev pub GraphSettles : Result Graphs Status → Result Runnable Status → Type 0
+GraphSettles told (Ok loaded) = told ≡ Ok (arc_value loaded.graphs)
+GraphSettles told (Err status) = is_answer status ≡ true → told ≡ Err status
+
+-- a status of reading a file: its fault is one of reading this file, whose count rose
+abbrev pub FaultsOnly : Which → ℕ → ℕ → Status → Type 0
+FaultsOnly which before now Done = ⊥
+FaultsOnly which before now Usage = ⊥
+FaultsOnly which before now (GraphRefused cause) = Unit {0}
+FaultsOnly which before now (TokensRefused cause) = Unit {0}
+FaultsOnly which before now (RunRefused refusal) = Unit {0}
+FaultsOnly which before now (ReadFault w) = (w ≡ which) × Rose before now
+FaultsOnly which before now WriteFault = ⊥
+FaultsOnly which before now WantOfMemory = Unit {0}
+FaultsOnly which before now (NotYet later) = Unit {0}
+
+-- a status of reading bytes, which is no fault
+abbrev pub NoFault : Status → Type 0
+NoFault Done = ⊥
+NoFault Usage = ⊥
+NoFault (GraphRefused cause) = Unit {0}
+NoFault (TokensRefused cause) = Unit {0}
+NoFault (RunRefused refusal) = Unit {0}
+NoFault (ReadFault w) = ⊥
+NoFault WriteFault = ⊥
+NoFault WantOfMemory = Unit {0}
+NoFault (NotYet later) = Unit {0}
+
+-- graphs that can be run, and how many tokens an iteration takes from each input
+pub record CanRun (loaded : Runnable) : Type 0 where
+  pub form : IsOnePass (arc_value loaded.graphs)
+  pub needs : loaded.needs ≡ needs_of (arc_value loaded.graphs)

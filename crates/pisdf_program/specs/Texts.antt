@@ -1,0 +1,101 @@
+-- The texts that a command writes.
+use Rattle.std.specs.Prelude.{ℕ, ◌+◌, ◌==◌, ℤ, List, [], ◌∷◌, ◌++◌, codes, if◌then◌else◌}
+use Rattle.std.specs.Fmt.{decimal}
+use Rattle.token_text.specs.Rows.{tokens_text, param_text}
+use Rattle.pisdf_model.specs.declared.graph.Interface.{Interface}
+use Rattle.firing_board.specs.declared.outcome.Iteration.{Iteration}
+use Rattle.firing_board.specs.declared.outcome.TraceRow.{TraceRow}
+use Rattle.firing_board.specs.declared.refusal.Cause.{Cause}
+use Rattle.firing_board.specs.declared.refusal.Cause.TheVariants.{Kernel}
+use Rattle.pisdf_program.specs.declared.status.Status.{Status}
+use Rattle.pisdf_program.specs.declared.status.Status.TheVariants.{Done, Usage, GraphRefused, TokensRefused, RunRefused, ReadFault, WriteFault, WantOfMemory, NotYet}
+use Rattle.pisdf_program.specs.declared.status.GraphCause.{GraphCause}
+use Rattle.pisdf_program.specs.declared.status.GraphCause.TheVariants as graph
+use Rattle.pisdf_program.specs.declared.status.GraphFault.{GraphFault}
+use Rattle.pisdf_program.specs.declared.status.GraphFault.TheVariants.{NotJson}
+use Rattle.pisdf_program.specs.declared.status.TokenCause.{TokenCause}
+use Rattle.pisdf_program.specs.declared.status.TokenCause.TheVariants as tokens
+use Rattle.pisdf_program.specs.declared.status.Which.{Which}
+use Rattle.pisdf_program.specs.declared.status.Which.TheVariants as which
+use Rattle.pisdf_program.specs.declared.status.Later.{Later}
+use Rattle.pisdf_program.specs.declared.status.Later.TheVariants as later
+
+-- texts one after another
+abbrev pub joined : List (List ℕ) → List ℕ
+joined [] = []
+joined (text ∷ texts) = text ++ joined texts
+
+-- ---- for standard output
+
+-- the rows of the chosen parameters' values
+abbrev pub param_rows : ℕ → List TraceRow → List ℕ
+param_rows n [] = []
+param_rows n (row ∷ rows) = param_text n row.path row.name row.value ++ param_rows n rows
+
+-- a row of tokens for each output
+abbrev pub token_rows : ℕ → List Interface → List (List ℤ) → List ℕ
+token_rows n [] lists = []
+token_rows n (output ∷ outputs) [] = []
+token_rows n (output ∷ outputs) (tokens ∷ lists) = tokens_text n output.name tokens ++ token_rows n outputs lists
+
+-- the text of iteration n: its parameter trace, and then its outputs
+abbrev pub iteration_text : ℕ → List Interface → Iteration → List ℕ
+iteration_text n outputs iteration = param_rows n iteration.trace ++ token_rows n outputs iteration.outs
+
+-- the texts of iterations from number n on
+abbrev pub texts_from : ℕ → List Interface → List Iteration → List (List ℕ)
+texts_from n outputs [] = []
+texts_from n outputs (iteration ∷ iterations) = iteration_text n outputs iteration ∷ texts_from (n + 1) outputs iterations
+
+-- ---- for standard error
+
+abbrev pub left_line : List ℕ → ℕ → List ℕ
+left_line name count = joined (codes "left: " ∷ name ∷ codes " " ∷ decimal count ∷ codes "\n" ∷ [])
+
+-- a line for each input stream with tokens left
+abbrev pub left_lines : List Interface → List ℕ → List ℕ
+left_lines [] counts = []
+left_lines (input ∷ inputs) [] = []
+left_lines (input ∷ inputs) (count ∷ counts) = (if count == 0 then [] else left_line input.name count) ++ left_lines inputs counts
+
+abbrev pub usage_line : List ℕ
+usage_line = codes "usage: run GRAPH TOKENS ITERATIONS WORKERS\n"
+
+abbrev pub memory_line : List ℕ
+memory_line = codes "memory\n"
+
+abbrev pub read_line : Which → List ℕ
+read_line which.Graph = codes "read: graph\n"
+read_line which.Tokens = codes "read: tokens\n"
+
+abbrev pub graph_line : GraphCause → List ℕ
+graph_line graph.TooLong = codes "graph: 0 length\n"
+graph_line (graph.Fault NotJson) = codes "graph: 1 json\n"
+
+abbrev pub tokens_line : TokenCause → List ℕ
+tokens_line tokens.TooLong = codes "tokens: length\n"
+tokens_line (tokens.Short name has needs) =
+    joined (codes "tokens: short " ∷ name ∷ codes " has " ∷ decimal has ∷ codes " needs " ∷ decimal needs ∷ codes "\n" ∷ [])
+
+-- at a path
+abbrev pub refusal_line : List ℕ → Cause → List ℕ
+refusal_line path (Kernel name firing code) =
+    joined (codes "run: " ∷ path ∷ codes " kernel " ∷ name ∷ codes ":" ∷ decimal firing ∷ codes " " ∷ decimal code ∷ codes "\n" ∷ [])
+
+abbrev pub later_line : Later → List ℕ
+later_line later.Command = codes "notyet command\n"
+later_line later.Workers = codes "notyet workers\n"
+later_line later.Graph = codes "notyet graph\n"
+later_line later.Tokens = codes "notyet tokens\n"
+
+-- the line of a status. After Done there are lines for the streams with tokens left, and after a failed put there is none
+abbrev pub line_of : Status → List ℕ
+line_of Done = []
+line_of Usage = usage_line
+line_of (GraphRefused cause) = graph_line cause
+line_of (TokensRefused cause) = tokens_line cause
+line_of (RunRefused refusal) = refusal_line refusal.path refusal.cause
+line_of (ReadFault which) = read_line which
+line_of WriteFault = []
+line_of WantOfMemory = memory_line
+line_of (NotYet later) = later_line later

@@ -1,0 +1,69 @@
+-- The words of a command.
+use Rattle.std.specs.Prelude.{ℕ, List, [], ◌∷◌, Option, Some, None, option_and_then, option_map, codes, if◌then◌else◌}
+use Rattle.std.specs.Str.{bytes_eq}
+use Rattle.pisdf_program.specs.Number.{number_within}
+
+-- a command with the names of its files and its numbers
+pub data Command : Type 0 where
+  Run : (graph tokens : List ℕ) (iterations workers : ℕ) → Command
+  Plain : (graph tokens : List ℕ) (iterations : ℕ) → Command
+  Plan : (graph tokens : List ℕ) (workers : ℕ) → Command
+  Journal : (graph tokens : List ℕ) (iterations workers : ℕ) → Command
+  Soak : (number workers : ℕ) → Command
+
+-- 0 to 65,536, in 1 to 5 digits
+abbrev pub iterations_of : List ℕ → Option ℕ
+iterations_of word = number_within 5 0 65536 word
+
+-- 1 to 16, in 1 or 2 digits
+abbrev pub workers_of : List ℕ → Option ℕ
+workers_of word = number_within 2 1 16 word
+
+-- 0 to 65,535, in 1 to 5 digits
+abbrev pub generated_of : List ℕ → Option ℕ
+generated_of word = number_within 5 0 65535 word
+
+-- ---- the words after a command's name
+
+-- GRAPH TOKENS ITERATIONS WORKERS
+abbrev pub run_row : List (List ℕ) → Option Command
+run_row (graph ∷ tokens ∷ iterations ∷ workers ∷ []) =
+    option_and_then (λ i. option_map (λ w. Run graph tokens i w) (workers_of workers)) (iterations_of iterations)
+run_row _ = None
+
+-- GRAPH TOKENS ITERATIONS
+abbrev pub plain_row : List (List ℕ) → Option Command
+plain_row (graph ∷ tokens ∷ iterations ∷ []) = option_map (λ i. Plain graph tokens i) (iterations_of iterations)
+plain_row _ = None
+
+-- GRAPH TOKENS WORKERS
+abbrev pub plan_row : List (List ℕ) → Option Command
+plan_row (graph ∷ tokens ∷ workers ∷ []) = option_map (λ w. Plan graph tokens w) (workers_of workers)
+plan_row _ = None
+
+-- GRAPH TOKENS ITERATIONS WORKERS
+abbrev pub journal_row : List (List ℕ) → Option Command
+journal_row (graph ∷ tokens ∷ iterations ∷ workers ∷ []) =
+    option_and_then (λ i. option_map (λ w. Journal graph tokens i w) (workers_of workers)) (iterations_of iterations)
+journal_row _ = None
+
+-- NUMBER WORKERS
+abbrev pub soak_row : List (List ℕ) → Option Command
+soak_row (number ∷ workers ∷ []) = option_and_then (λ n. option_map (λ w. Soak n w) (workers_of workers)) (generated_of number)
+soak_row _ = None
+
+-- ---- a command's name, and the words after it
+
+abbrev pub row_of : List ℕ → List (List ℕ) → Option Command
+row_of name words =
+    if bytes_eq name (codes "run") then run_row words
+    else if bytes_eq name (codes "plain") then plain_row words
+    else if bytes_eq name (codes "plan") then plan_row words
+    else if bytes_eq name (codes "journal") then journal_row words
+    else if bytes_eq name (codes "soak") then soak_row words
+    else None
+
+-- the command that some row of the table reads in the words
+abbrev pub command_of : List (List ℕ) → Option Command
+command_of [] = None
+command_of (name ∷ words) = row_of name words

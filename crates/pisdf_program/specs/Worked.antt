@@ -1,0 +1,147 @@
+-- What a call of the program has done.
+use Rattle.std.specs.Prelude.{◌≡◌, ◌≢◌, ◌⊎◌, ℕ, Bool, true, None, List, [], Option, Some, Result, Ok, Err, String, string_bytes}
+use Rattle.std.specs.declared.alloc.Global.{Global}
+use Rattle.outer_world.specs.Faults.{Rose}
+use Rattle.outer_world.specs.Sink.{Grows}
+use Rattle.pisdf_model.specs.declared.graph.Graphs.{Graphs}
+use Rattle.firing_board.specs.Job.{top_of}
+use Rattle.firing_board.specs.Run as run
+use Rattle.pisdf_program.specs.Calls.{GrowsPartly, GrowsByFirst}
+use Rattle.pisdf_program.specs.Loaded.{is_answer}
+use Rattle.pisdf_program.specs.Result.{Outcome, short_of}
+use Rattle.pisdf_program.specs.Texts.{joined, left_lines, line_of, memory_line, read_line}
+use Rattle.pisdf_program.specs.Words.{Command, Run, Plain, Plan, Journal, Soak}
+use Rattle.pisdf_program.specs.declared.run.RunEnd.{RunEnd}
+use Rattle.pisdf_program.specs.declared.run.RunEnd.TheVariants as end
+use Rattle.pisdf_program.specs.declared.status.Status.{Status}
+use Rattle.pisdf_program.specs.declared.status.Status.TheVariants.{Done, Usage, GraphRefused, TokensRefused, RunRefused, ReadFault, WriteFault, WantOfMemory, NotYet}
+use Rattle.pisdf_program.specs.declared.status.Which.{Which}
+use Rattle.pisdf_program.specs.declared.status.Which.TheVariants.{Graph, Tokens}
+
+-- ---- the end of a run, told
+
+-- the lines of the streams with tokens left, or the refusal; both may lack memory
+abbrev pub Reports : Graphs → RunEnd → Result (String Global) Status → Type 0
+Reports graphs (end.Done left) (Ok text) = string_bytes text ≡ left_lines (top_of graphs).inputs left
+Reports graphs (end.Done left) (Err status) = status ≡ WantOfMemory
+Reports graphs (end.Short stream has needs) (Ok text) = ⊥
+Reports graphs (end.Short stream has needs) (Err status) =
+    (status ≡ short_of graphs record { stream = stream; has = has; needs = needs }) ⊎ (status ≡ WantOfMemory)
+Reports graphs (end.Refused refusal) (Ok text) = ⊥
+Reports graphs (end.Refused refusal) (Err status) = status ≡ RunRefused refusal
+Reports graphs end.WriteFault (Ok text) = ⊥
+Reports graphs end.WriteFault (Err status) = status ≡ WriteFault
+Reports graphs end.Memory (Ok text) = ⊥
+Reports graphs end.Memory (Err status) = status ≡ WantOfMemory
+
+-- ---- before anything is put to standard error
+
+-- the told files decide this status and this line, and all texts were put
+abbrev pub Decided : Option Outcome → Option (List ℕ) → Option (List ℕ) → List ℕ → Status → Type 0
+Decided expected had has line status = (o : Outcome) → expected ≡ Some o → (o.status ≡ status) × (o.line ≡ line) × Grows had has (joined o.texts)
+
+abbrev pub Stopped : Option Outcome → Option (List ℕ) → Option (List ℕ) → ℕ → ℕ → Status → Type 0
+Stopped expected had has before now Done = ⊥
+Stopped expected had has before now Usage = Decided expected had has (line_of Usage) Usage
+Stopped expected had has before now (GraphRefused cause) = Decided expected had has (line_of (GraphRefused cause)) (GraphRefused cause)
+Stopped expected had has before now (TokensRefused cause) = Decided expected had has (line_of (TokensRefused cause)) (TokensRefused cause)
+Stopped expected had has before now (RunRefused refusal) = Decided expected had has (line_of (RunRefused refusal)) (RunRefused refusal)
+Stopped expected had has before now (ReadFault which) = Grows had has []
+Stopped expected had has before now WriteFault = Rose before now × ((o : Outcome) → expected ≡ Some o → GrowsPartly had has (joined o.texts))
+Stopped expected had has before now WantOfMemory = (o : Outcome) → expected ≡ Some o → GrowsByFirst had has o.texts
+Stopped expected had has before now (NotYet later) = Decided expected had has (line_of (NotYet later)) (NotYet later)
+
+-- the lines for standard error after Done, or the status otherwise
+abbrev pub Works : Option Outcome → Option (List ℕ) → Option (List ℕ) → ℕ → ℕ → Result (String Global) Status → Type 0
+Works expected had has before now (Ok text) = Decided expected had has (string_bytes text) Done
+Works expected had has before now (Err status) = Stopped expected had has before now status
+
+-- ---- standard error
+
+-- a line was put and the status is this one, or the put failed
+abbrev pub PutsLine : List ℕ → Status → Option (List ℕ) → Option (List ℕ) → ℕ → ℕ → Status → Type 0
+PutsLine line told had has before now status =
+    ((status ≡ told) × Grows had has line) ⊎ ((status ≡ WriteFault) × Rose before now × GrowsPartly had has line)
+
+-- a status's line was put, or the line of want of memory
+abbrev pub Tells : Status → Option (List ℕ) → Option (List ℕ) → ℕ → ℕ → Status → Type 0
+Tells told had has before now status =
+    PutsLine (line_of told) told had has before now status ⊎ PutsLine memory_line WantOfMemory had has before now status
+
+-- after a failed put nothing was put
+abbrev pub TellsUnlessCut : Status → Option (List ℕ) → Option (List ℕ) → ℕ → ℕ → Status → Type 0
+TellsUnlessCut told had has before now status =
+    ((told ≡ WriteFault) × (status ≡ WriteFault) × Grows had has []) ⊎ ((told ≢ WriteFault) × Tells told had has before now status)
+
+-- the lines of the streams with tokens left were put, or a status's line
+abbrev pub Concludes : Result (String Global) Status → Option (List ℕ) → Option (List ℕ) → ℕ → ℕ → Status → Type 0
+Concludes (Ok text) had has before now status = PutsLine (string_bytes text) Done had has before now status
+Concludes (Err told) had has before now status = TellsUnlessCut told had has before now status
+
+-- ---- the whole call
+
+-- both texts were written, and the status is the outcome's
+pub record IsResult (o : Outcome) (out_had out_has err_had err_has : Option (List ℕ)) (answer : Status) : Type 0 where
+  pub status : answer ≡ o.status
+  pub out : Grows out_had out_has (joined o.texts)
+  pub err : Grows err_had err_has o.line
+
+-- the first texts were written, each whole, and the line of want of memory
+pub record IsStarved (o : Outcome) (out_had out_has err_had err_has : Option (List ℕ)) : Type 0 where
+  pub out : GrowsByFirst out_had out_has o.texts
+  pub err : Grows err_had err_has memory_line
+
+-- a line that a call of this outcome may put: the outcome's, or that of want of memory or of a fault of reading
+abbrev pub MayTell : Outcome → List ℕ → Type 0
+MayTell o line = (line ≡ o.line) ⊎ (line ≡ memory_line) ⊎ ((which : Which) × (line ≡ read_line which))
+
+-- a put failed and was the last: one to out, after which nothing was put to err, or one to err
+abbrev pub IsCut : Outcome → Option (List ℕ) → Option (List ℕ) → Option (List ℕ) → Option (List ℕ) → Type 0
+IsCut o out_had out_has err_had err_has =
+    (GrowsPartly out_had out_has (joined o.texts) × Grows err_had err_has [])
+    ⊎ (GrowsByFirst out_had out_has o.texts × ((line : List ℕ) × MayTell o line × GrowsPartly err_had err_has line))
+
+-- nothing but the line of the file that couldn't be read was written
+pub record IsUnread (which : Which) (out_had out_has err_had err_has : Option (List ℕ)) : Type 0 where
+  pub out : Grows out_had out_has []
+  pub err : Grows err_had err_has (read_line which)
+
+-- what the call has done, `expected` being the outcome of the told files: by status
+pub record Ended (expected : Option Outcome) (out_had out_has err_had err_has : Option (List ℕ)) (out_before out_now err_before err_now : ℕ) (status : Status) : Type 0 where
+  pub result : (o : Outcome) → expected ≡ Some o → is_answer status ≡ true → IsResult o out_had out_has err_had err_has status
+  pub memory : (o : Outcome) → expected ≡ Some o → status ≡ WantOfMemory → IsStarved o out_had out_has err_had err_has
+  pub write : status ≡ WriteFault → Rose out_before out_now ⊎ Rose err_before err_now
+  pub cut : (o : Outcome) → expected ≡ Some o → status ≡ WriteFault → IsCut o out_had out_has err_had err_has
+  pub unread : (which : Which) → status ≡ ReadFault which → IsUnread which out_had out_has err_had err_has
+
+-- ---- the files of a command
+
+-- the name of one of its files in a command's words
+abbrev pub file_in : Which → Command → Option (List ℕ)
+file_in Graph (Run graph tokens iterations workers) = Some graph
+file_in Tokens (Run graph tokens iterations workers) = Some tokens
+file_in which _ = None
+
+abbrev pub file_of : Which → Option Command → Option (List ℕ)
+file_of which None = None
+file_of which (Some command) = file_in which command
+
+-- the count of a name rose
+abbrev pub RoseAt : (List ℕ → ℕ) → (List ℕ → ℕ) → Option (List ℕ) → Type 0
+RoseAt before now None = ⊥
+RoseAt before now (Some name) = Rose (before name) (now name)
+
+-- where a status is a fault of reading a file, the count of that file's name in the command's words rose
+abbrev pub CountRose : Option Command → (List ℕ → ℕ) → (List ℕ → ℕ) → Status → Type 0
+CountRose command before now status = (which : Which) → status ≡ ReadFault which → RoseAt before now (file_of which command)
+
+-- ---- completeness
+
+-- the status is the outcome's, or want of memory, or a fault where a count rose: of a sink, or of one of the command's files
+abbrev pub Completes : Option Outcome → Option Command → (List ℕ → ℕ) → (List ℕ → ℕ) → ℕ → ℕ → ℕ → ℕ → Status → Type 0
+Completes expected command before now out_before out_now err_before err_now status =
+    (o : Outcome) → expected ≡ Some o
+    → (status ≡ o.status)
+    ⊎ (status ≡ WantOfMemory)
+    ⊎ ((status ≡ WriteFault) × (Rose out_before out_now ⊎ Rose err_before err_now))
+    ⊎ ((which : Which) × (status ≡ ReadFault which) × RoseAt before now (file_of which command))

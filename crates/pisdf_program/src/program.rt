@@ -1,0 +1,183 @@
+// The top call.
+ghost use Rattle.std.specs.Prelude.{◌≡◌, ◌≢◌, ◌⊎◌, ◌↔◌, ◌<◌, ◌≤◌, map, IfErr, IfOk, IsTrue, length, string_bytes};
+ghost use Rattle.kernel_gate.specs.Table.{the_signatures};
+ghost use Rattle.pisdf_program.specs.Result.{name_at, result_of, result_of_command};
+ghost use Rattle.pisdf_program.specs.Words as table;
+ghost use Rattle.pisdf_program.specs.Worked.{Completes, Concludes, CountRose, Ended, PutsLine, Reports, TellsUnlessCut, Works};
+
+use crate::line::{MEMORY, left_lines, line_of};
+use crate::load::{load_graph, load_streams};
+use crate::put::put_text;
+use crate::run::{RunEnd, run_all, top_of};
+use crate::status::{Later, Status, TokenCause};
+use crate::streams::Streams;
+use crate::words::{Command, read_words};
+use kernel_gate::Gate;
+use outer_world::{Shelf, Sink};
+use param_expr::Name;
+use pisdf_model::{Graphs, Interface};
+use std::alloc::{AllocError, Global};
+
+/// The name of an input by its number.
+fn name_at(alloc: Global, inputs: &[Interface], stream: usize) -> Result<Name, AllocError>
+    ensures { IfOk result (λ n. n ≡ name_at (map (λ i. i.name) inputs.now) stream) }
+{
+    if stream < inputs.len() {
+        return inputs[stream].name.clone();
+    }
+    Ok(Name::new(String::new(alloc)))
+}
+
+/// The lines for the streams with tokens left after a run that is done, or the status that it ended with.
+fn report(alloc: Global, graphs: &Graphs, end: RunEnd) -> Result<String, Status>
+    requires { graphs.now.top < length graphs.now.graphs }
+    ensures { Reports graphs.now end result }
+{
+    let inputs = top_of(graphs).inputs.items();
+    match end {
+        RunEnd::Done { left } => match left_lines(alloc, inputs, left.items()) {
+            Ok(lines) => Ok(lines),
+            Err(_) => Err(Status::WantOfMemory),
+        },
+        RunEnd::Short { stream, has, needs } => match name_at(alloc, inputs, stream) {
+            Ok(stream) => Err(Status::TokensRefused(TokenCause::Short { stream, has, needs })),
+            Err(_) => Err(Status::WantOfMemory),
+        },
+        RunEnd::Refused(refusal) => Err(Status::RunRefused(refusal)),
+        RunEnd::WriteFault => Err(Status::WriteFault),
+        RunEnd::Memory => Err(Status::WantOfMemory),
+    }
+}
+
+/// Runs a graph file on a token file with one worker. The answer is the lines for standard error after a run that is
+/// done, or another status; nothing was put to standard error yet.
+fn run<S: Shelf, O: Sink, K: Gate>(
+    alloc: Global,
+    graph: &str,
+    tokens: &str,
+    iterations: u32,
+    shelf: &mut S,
+    out: &mut O,
+    gate: &K,
+) -> Result<String, Status>
+    requires kernels { K.kernels gate.now ≡ the_signatures }
+    requires few { iterations ≤ 65536 }
+    ensures works { Works (result_of_command (Some (table.Run graph.now tokens.now iterations 1)) (S.holds shelf.old)) (O.written out.old) (O.written out.new) (O.faults out.old) (O.faults out.new) result }
+    ensures read { IfErr result (CountRose (Some (table.Run graph.now tokens.now iterations 1)) (S.faults shelf.old) (S.faults shelf.new)) }
+    ensures usage { result ≢ Err Status.Usage }
+{
+    let loaded = match load_graph(alloc, shelf, graph) {
+        Ok(loaded) => loaded,
+        Err(status) => return Err(status),
+    };
+    let streams = match load_streams(alloc, shelf, tokens, &loaded.graphs) {
+        Ok(streams) => streams,
+        Err(status) => return Err(status),
+    };
+    let needs = loaded.needs.items();
+    let given = streams.items();
+    let feed = Streams {
+        needs,
+        tokens: given,
+    };
+    let end = run_all(alloc, &loaded.graphs, &feed, iterations, gate, out);
+    report(alloc, &loaded.graphs, end)
+}
+
+/// Does what the words ask for, up to what is put to standard error.
+fn work<S: Shelf, O: Sink, K: Gate>(
+    alloc: Global,
+    words: &[String],
+    shelf: &mut S,
+    out: &mut O,
+    gate: &K,
+) -> Result<String, Status>
+    requires kernels { K.kernels gate.now ≡ the_signatures }
+    ensures works { Works (result_of (map string_bytes words.now) (S.holds shelf.old)) (O.written out.old) (O.written out.new) (O.faults out.old) (O.faults out.new) result }
+    ensures read { IfErr result (CountRose (table.command_of (map string_bytes words.now)) (S.faults shelf.old) (S.faults shelf.new)) }
+    ensures usage { table.command_of (map string_bytes words.now) ≡ None → (result ≡ Err Status.Usage) × (shelf.new ≡ shelf.old) }
+    ensures only { result ≡ Err Status.Usage → table.command_of (map string_bytes words.now) ≡ None }
+{
+    let Some(command) = read_words(words) else {
+        return Err(Status::Usage);
+    };
+    match command {
+        Command::Run {
+            graph,
+            tokens,
+            iterations,
+            workers,
+        } => {
+            if workers != 1 {
+                return Err(Status::NotYet(Later::Workers));
+            }
+            run(alloc, graph, tokens, iterations, shelf, out, gate)
+        }
+        Command::Plain { .. } => Err(Status::NotYet(Later::Command)),
+        Command::Plan { .. } => Err(Status::NotYet(Later::Command)),
+        Command::Journal { .. } => Err(Status::NotYet(Later::Command)),
+        Command::Soak { .. } => Err(Status::NotYet(Later::Command)),
+    }
+}
+
+/// Puts a line, and answers the status, or that the put failed.
+fn put_line<E: Sink>(err: &mut E, line: &[u8], status: Status) -> Status
+    ensures { PutsLine line.now status (E.written err.old) (E.written err.new) (E.faults err.old) (E.faults err.new) result }
+{
+    match put_text(err, line) {
+        Ok(()) => status,
+        Err(_) => Status::WriteFault,
+    }
+}
+
+fn is_write_fault(status: &Status) -> bool
+    ensures { IsTrue result ↔ (status.now ≡ Status.WriteFault) }
+{
+    matches!(status, Status::WriteFault)
+}
+
+/// Puts the line of a status, and nothing after a failed put.
+fn tell<E: Sink>(alloc: Global, err: &mut E, status: Status) -> Status
+    ensures tells { TellsUnlessCut status (E.written err.old) (E.written err.new) (E.faults err.old) (E.faults err.new) result }
+    ensures usage { status ≡ Status.Usage → (result ≡ Status.Usage) ⊎ (result ≡ Status.WriteFault) }
+{
+    if is_write_fault(&status) {
+        return Status::WriteFault;
+    }
+    match line_of(alloc, &status) {
+        Ok(line) => put_line(err, line.bytes(), status),
+        Err(_) => put_line(err, MEMORY.as_bytes(), Status::WantOfMemory),
+    }
+}
+
+/// Puts the text for standard error.
+fn conclude<E: Sink>(alloc: Global, err: &mut E, worked: Result<String, Status>) -> Status
+    ensures concludes { Concludes worked (E.written err.old) (E.written err.new) (E.faults err.old) (E.faults err.new) result }
+    ensures usage { worked ≡ Err Status.Usage → (result ≡ Status.Usage) ⊎ (result ≡ Status.WriteFault) }
+{
+    match worked {
+        Ok(lines) => put_line(err, lines.as_str().as_bytes(), Status::Done),
+        Err(status) => tell(alloc, err, status),
+    }
+}
+
+/// Does what the words ask for: loads the files that they name from the shelf, puts the texts to `out` and the line of
+/// the status, or the lines of the streams with tokens left, to `err`.
+pub fn run_program<S: Shelf, O: Sink, E: Sink, K: Gate + Sync>(
+    alloc: Global,
+    words: &[String],
+    shelf: &mut S,
+    out: &mut O,
+    err: &mut E,
+    gate: &K,
+) -> Status
+    requires kernels { K.kernels gate.now ≡ the_signatures }
+    ensures read { CountRose (table.command_of (map string_bytes words.now)) (S.faults shelf.old) (S.faults shelf.new) result }
+    ensures usage { table.command_of (map string_bytes words.now) ≡ None → ((result ≡ Status.Usage) ⊎ (result ≡ Status.WriteFault)) × (shelf.new ≡ shelf.old) }
+    ensures only_usage { result ≡ Status.Usage → table.command_of (map string_bytes words.now) ≡ None }
+    ensures complete { Completes (result_of (map string_bytes words.now) (S.holds shelf.old)) (table.command_of (map string_bytes words.now)) (S.faults shelf.old) (S.faults shelf.new) (O.faults out.old) (O.faults out.new) (E.faults err.old) (E.faults err.new) result }
+    ensures ended { Ended (result_of (map string_bytes words.now) (S.holds shelf.old)) (O.written out.old) (O.written out.new) (E.written err.old) (E.written err.new) (O.faults out.old) (O.faults out.new) (E.faults err.old) (E.faults err.new) result }
+{
+    let worked = work(alloc, words, shelf, out, gate);
+    conclude(alloc, err, worked)
+}

@@ -1,0 +1,85 @@
+ghost use Rattle.std.specs.Prelude.{◌≡◌};
+ghost use Rattle.pisdf_program.specs.Codes.{code_of};
+
+use firing_board::Refusal;
+use param_expr::Name;
+
+/// How a call of the program ended.
+#[derive(Drop)]
+pub enum Status {
+    /// All iterations were run, and every text was put whole.
+    Done,
+    /// No row of the table of commands reads the words.
+    Usage,
+    GraphRefused(GraphCause),
+    TokensRefused(TokenCause),
+    RunRefused(Refusal),
+    /// A file couldn't be read. The shelf's count of faults of its name rose.
+    ReadFault(Which),
+    /// A text couldn't be put. A sink's count of faults rose.
+    WriteFault,
+    WantOfMemory,
+    /// The words or files ask for what the program doesn't do yet.
+    NotYet(Later),
+}
+
+/// Why a graph file was refused.
+#[derive(Drop)]
+pub enum GraphCause {
+    TooLong,
+    Fault(GraphFault),
+}
+
+/// What is wrong in a graph file.
+#[derive(Clone, Copy, Debug, PartialEq, Eq)]
+pub enum GraphFault {
+    /// Its bytes are no JSON text.
+    NotJson,
+}
+
+/// Why a token file was refused.
+#[derive(Drop)]
+pub enum TokenCause {
+    TooLong,
+    /// An iteration began with fewer tokens left in a stream than it needs.
+    Short { stream: Name, has: u64, needs: u32 },
+}
+
+/// One of the two files that the words name.
+#[derive(Clone, Copy, Debug, PartialEq, Eq)]
+pub enum Which {
+    Graph,
+    Tokens,
+}
+
+/// What the program doesn't do yet.
+#[derive(Clone, Copy, Debug, PartialEq, Eq)]
+pub enum Later {
+    /// A command other than `run`.
+    Command,
+    /// More than one worker.
+    Workers,
+    /// A graph other than one kernel `pass` between one input and one output, or a graph file with a fault.
+    Graph,
+    /// A token file with a fault.
+    Tokens,
+}
+
+impl Status {
+    /// The exit code.
+    pub fn code(&self) -> u8
+        ensures { result ≡ code_of self.now }
+    {
+        match self {
+            Status::Done => 0,
+            Status::Usage => 1,
+            Status::GraphRefused(_) => 2,
+            Status::TokensRefused(_) => 3,
+            Status::RunRefused(_) => 4,
+            Status::ReadFault(_) => 5,
+            Status::WriteFault => 6,
+            Status::WantOfMemory => 7,
+            Status::NotYet(_) => 8,
+        }
+    }
+}

@@ -1,0 +1,143 @@
+ghost use Rattle.std.specs.Prelude.{◌≡◌, ◌≤◌, IfSome, map, option_map, string_bytes};
+ghost use Rattle.pisdf_program.specs.Words.{command_of, run_row, plain_row, plan_row, journal_row, soak_row, iterations_of, workers_of, generated_of};
+ghost use Rattle.pisdf_program.specs.WordsSeen.{IsFew, seen};
+
+use crate::limits;
+use crate::number::number_within;
+
+/// What the words ask for.
+#[derive(Clone, Copy)]
+pub(crate) enum Command<'w> {
+    Run {
+        graph: &'w str,
+        tokens: &'w str,
+        iterations: u32,
+        workers: u32,
+    },
+    Plain {
+        graph: &'w str,
+        tokens: &'w str,
+        iterations: u32,
+    },
+    Plan {
+        graph: &'w str,
+        tokens: &'w str,
+        workers: u32,
+    },
+    Journal {
+        graph: &'w str,
+        tokens: &'w str,
+        iterations: u32,
+        workers: u32,
+    },
+    Soak {
+        number: u32,
+        workers: u32,
+    },
+}
+
+fn iterations_of(word: &str) -> Option<u32>
+    ensures number { result ≡ iterations_of word.now }
+    ensures few { IfSome result (λ n. n ≤ 65536) }
+{
+    number_within(limits::ITERATION_DIGITS, 0, limits::ITERATIONS, word)
+}
+
+fn workers_of(word: &str) -> Option<u32>
+    ensures { result ≡ workers_of word.now }
+{
+    number_within(limits::WORKER_DIGITS, 1, limits::WORKERS, word)
+}
+
+fn generated_of(word: &str) -> Option<u32>
+    ensures { result ≡ generated_of word.now }
+{
+    number_within(limits::GENERATED_DIGITS, 0, limits::GENERATED, word)
+}
+
+fn run_row(words: &[String]) -> Option<Command<'_>>
+    ensures row { option_map seen result ≡ run_row (map string_bytes words.now) }
+    ensures few { IfSome result IsFew }
+{
+    match words {
+        [graph, tokens, iterations, workers] => Some(Command::Run {
+            graph: graph.as_str(),
+            tokens: tokens.as_str(),
+            iterations: iterations_of(iterations.as_str())?,
+            workers: workers_of(workers.as_str())?,
+        }),
+        _ => None,
+    }
+}
+
+fn plain_row(words: &[String]) -> Option<Command<'_>>
+    ensures row { option_map seen result ≡ plain_row (map string_bytes words.now) }
+    ensures few { IfSome result IsFew }
+{
+    match words {
+        [graph, tokens, iterations] => Some(Command::Plain {
+            graph: graph.as_str(),
+            tokens: tokens.as_str(),
+            iterations: iterations_of(iterations.as_str())?,
+        }),
+        _ => None,
+    }
+}
+
+fn plan_row(words: &[String]) -> Option<Command<'_>>
+    ensures row { option_map seen result ≡ plan_row (map string_bytes words.now) }
+    ensures few { IfSome result IsFew }
+{
+    match words {
+        [graph, tokens, workers] => Some(Command::Plan {
+            graph: graph.as_str(),
+            tokens: tokens.as_str(),
+            workers: workers_of(workers.as_str())?,
+        }),
+        _ => None,
+    }
+}
+
+fn journal_row(words: &[String]) -> Option<Command<'_>>
+    ensures row { option_map seen result ≡ journal_row (map string_bytes words.now) }
+    ensures few { IfSome result IsFew }
+{
+    match words {
+        [graph, tokens, iterations, workers] => Some(Command::Journal {
+            graph: graph.as_str(),
+            tokens: tokens.as_str(),
+            iterations: iterations_of(iterations.as_str())?,
+            workers: workers_of(workers.as_str())?,
+        }),
+        _ => None,
+    }
+}
+
+fn soak_row(words: &[String]) -> Option<Command<'_>>
+    ensures row { option_map seen result ≡ soak_row (map string_bytes words.now) }
+    ensures few { IfSome result IsFew }
+{
+    match words {
+        [number, workers] => Some(Command::Soak {
+            number: generated_of(number.as_str())?,
+            workers: workers_of(workers.as_str())?,
+        }),
+        _ => None,
+    }
+}
+
+/// What the words ask for, where some row of the table of commands reads them.
+pub(crate) fn read_words(words: &[String]) -> Option<Command<'_>>
+    ensures command { option_map seen result ≡ command_of (map string_bytes words.now) }
+    ensures few { IfSome result IsFew }
+{
+    let (name, rest) = words.split_first()?;
+    match name.as_str() {
+        "run" => run_row(rest),
+        "plain" => plain_row(rest),
+        "plan" => plan_row(rest),
+        "journal" => journal_row(rest),
+        "soak" => soak_row(rest),
+        _ => None,
+    }
+}
