@@ -9,14 +9,19 @@ use std::marker::Model;
 #[cycle(expr)]
 #[derive(Drop)]
 pub struct Expr {
+    /// Its root.
     pub node: Node,
 }
 
+/// The root of an expression.
 #[cycle(expr)]
 #[derive(Drop)]
 pub enum Node {
+    /// A whole number, at least 0 where it was read from a text.
     Number(i64),
+    /// A parameter, by its place.
     Param(u32),
+    /// An operation on a left and a right operand.
     Binary(Op, Box<Expr>, Box<Expr>),
 }
 
@@ -39,6 +44,7 @@ impl Model for Expr {
 }
 
 impl Expr {
+    /// The expression that is a number.
     pub fn number(value: i64) -> Expr
         ensures { result ≡ number value }
     {
@@ -47,6 +53,7 @@ impl Expr {
         }
     }
 
+    /// The expression that is the parameter at a place.
     pub fn param(place: u32) -> Expr
         ensures { result ≡ param place }
     {
@@ -55,6 +62,7 @@ impl Expr {
         }
     }
 
+    /// An operation on two operands. The error is want of memory.
     pub fn binary(alloc: Global, op: Op, left: Expr, right: Expr) -> Result<Expr, AllocError>
         ensures { IfOk result (λ e. e ≡ binary op left right) }
     {

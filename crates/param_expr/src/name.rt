@@ -20,12 +20,14 @@ impl Model for Name {
 }
 
 impl Name {
+    /// A name with this text, whatever it is.
     pub fn new(text: String) -> Self
         ensures { result ≡ string_bytes text }
     {
         Name { written: text }
     }
 
+    /// Its text.
     pub fn text(&self) -> &str
         ensures { result.now ≡ self.now }
     {
