@@ -1,5 +1,5 @@
 -- What a call of the program has done.
-use Rattle.std.specs.Prelude.{◌≡◌, ◌≢◌, ◌⊎◌, ℕ, Bool, true, None, List, [], Option, Some, Result, Ok, Err, String, string_bytes}
+use Rattle.std.specs.Prelude.{◌≡◌, ◌≢◌, ◌⊎◌, ◌==◌, if◌then◌else◌, ℕ, Bool, true, None, List, [], Option, Some, Result, Ok, Err, String, string_bytes}
 use Rattle.std.specs.declared.alloc.Global.{Global}
 use Rattle.outer_world.specs.Faults.{Rose}
 use Rattle.outer_world.specs.Sink.{Grows}
@@ -116,10 +116,10 @@ pub record Ended (expected : Option Outcome) (out_had out_has err_had err_has : 
 
 -- ---- the files of a command
 
--- the name of one of its files in a command's words
+-- the name of one of the files that a command loads, in its words
 abbrev pub file_in : Which → Command → Option (List ℕ)
-file_in Graph (Run graph tokens iterations workers) = Some graph
-file_in Tokens (Run graph tokens iterations workers) = Some tokens
+file_in Graph (Run graph tokens iterations workers) = if workers == 1 then Some graph else None
+file_in Tokens (Run graph tokens iterations workers) = if workers == 1 then Some tokens else None
 file_in which _ = None
 
 abbrev pub file_of : Which → Option Command → Option (List ℕ)
