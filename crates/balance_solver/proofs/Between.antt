@@ -1,6 +1,5 @@
 -- The same of a link between two ports, in numbers.
-use Rattle.std.proofs.Common.{◌≡◌, ℕ, ◌*◌, ◌<◌, ◌⊎◌, inl, inr, Bool, true, false, List, length, slice_index, refl, sym}
-use Rattle.std.specs.Bool.{OnTrue, OnFalse}
+use Rattle.std.proofs.Common.{◌≡◌, ℕ, ◌*◌, ◌<◌, ◌⊎◌, inl, inr, List, length, slice_index, refl, sym}
 use Rattle.sdf_level.specs.Links.{Inner, OfInner}
 use Rattle.sdf_level.specs.declared.link.Tail.{Tail}
 use Rattle.sdf_level.specs.declared.link.Head.{Head}
@@ -11,14 +10,6 @@ use Rattle.balance_solver.specs.Pair.{IsLeastPair}
 use Rattle.balance_solver.specs.Scaled.{IsScaled, IsTooLarge}
 use Rattle.balance_solver.specs.Joined.{IsJoined, Adds, Refutes, AddsBetween, RefutesBetween}
 use Rattle.balance_solver.proofs.Uniting.{adds_same, refutes_uneven, refutes_zero, refutes_large, adds_united}
-
-pub OnTrue-map : {P Q : Type 0} (b : Bool) → (P → Q) → OnTrue b P → OnTrue b Q
-OnTrue-map true f p = f p
-OnTrue-map false f p = tt
-
-pub OnFalse-map : {P Q : Type 0} (b : Bool) → (P → Q) → OnFalse b P → OnFalse b Q
-OnFalse-map true f p = tt
-OnFalse-map false f p = f p
 
 module _ (n a put b taken : ℕ) (group q : List ℕ) (tail_there : a < n) (head_there : b < n) where
   abbrev link : ℕ → ℕ → ℕ → Link

@@ -5,7 +5,9 @@ use Rattle.sdf_level.specs.declared.link.Link.{Link}
 use Rattle.sdf_level.specs.Links.{Inner, OfInner}
 use Rattle.sdf_level.specs.Balance.{IsBalanced}
 use Rattle.balance_solver.specs.Pair.{IsLeastPair}
-use Rattle.balance_solver.specs.Scaled.{factor, new_group, IsScaled, IsTooLarge}
+use Rattle.sdf_level.specs.Groups.{new_group}
+use Rattle.sdf_level.proofs.Regrouped.{moved, unmoved}
+use Rattle.balance_solver.specs.Scaled.{factor, IsScaled, IsTooLarge}
 use Rattle.balance_solver.specs.Joined.{IsJoined, SolvesLinks, AreJoined, IsMultipleOn, Adds, Refutes}
 use Rattle.std.proofs.Math.Nat.{mul_comm}
 use Rattle.balance_solver.proofs.Euclid.{equal_factor}
@@ -31,12 +33,6 @@ factor_from into from x y n = rw (ne_eqb from into n, eq-eqb from from refl)
 
 factor_none : (into from x y g : ℕ) → g ≢ into → g ≢ from → factor into from x y g ≡ 1
 factor_none into from x y g n m = rw (ne_eqb g into n, ne_eqb g from m)
-
-moved : (into from : ℕ) → new_group into from from ≡ into
-moved into from = rw (eq-eqb from from refl)
-
-unmoved : (into from g : ℕ) → g ≢ from → new_group into from g ≡ g
-unmoved into from g n = rw (ne_eqb g from n)
 
 swap_factors : (m q p : ℕ) → m * q * p ≡ m * (q * p)
 swap_factors m q p = grind arith
@@ -68,8 +64,8 @@ pair_even u v p c x y e = rw (moved_factor u x p, moved_factor v y c) e
     moved_factor : (u f p : ℕ) → u * f * p ≡ f * (u * p)
     moved_factor u f p = grind arith
 
-origin : (into from g : ℕ) → new_group into from g ≡ into → (g ≡ into) ⊎ (g ≡ from)
-origin into from g e = ⊎_elim (λ (f : g ≡ from). inr f) (λ (f : g ≢ from). inl (sym (unmoved into from g f) ∙ e)) (cases_eq g from)
+origin : (into from g : ℕ) → new_group from into g ≡ into → (g ≡ into) ⊎ (g ≡ from)
+origin into from g e = ⊎_elim (λ (f : g ≡ from). inr f) (λ (f : g ≢ from). inl (sym (unmoved from into g f) ∙ e)) (cases_eq g from)
 
 -- what balances a multiple balances the vector
 cancel : (m u p v c : ℕ) → 1 ≤ m * u → m * u * p ≡ m * v * c → u * p ≡ v * c
@@ -149,7 +145,7 @@ module _ (n : ℕ) (link : Link) (k : Inner) (group q : List ℕ) (only : (P : I
         tail_there = h.tail_there;
         head_there = h.head_there;
         either = ⊎_elim (λ z. inl z) (λ (b : (slice_index group l.tail ≡ slice_index group l.head) × IsBalanced q l). inr (
-          scaled.all.groups l.tail (inside l.tail h.tail_there) ∙ ap (new_group into from) b.0 ∙ sym (scaled.all.groups l.head (inside l.head h.head_there)),
+          scaled.all.groups l.tail (inside l.tail h.tail_there) ∙ ap (new_group from into) b.0 ∙ sym (scaled.all.groups l.head (inside l.head h.head_there)),
           rw (scaled.all.entries l.tail (inside l.tail h.tail_there), scaled.all.entries l.head (inside l.head h.head_there), b.0)
               (scaled_even (slice_index q l.tail) (slice_index q l.head) l.produced l.consumed (factor into from x y (slice_index group l.head)) b.1),
         )) h.either;
@@ -160,7 +156,7 @@ module _ (n : ℕ) (link : Link) (k : Inner) (group q : List ℕ) (only : (P : I
         tail_there = tail_there;
         head_there = head_there;
         either = inr (
-          scaled.all.groups k.tail (inside k.tail tail_there) ∙ ap (new_group into from) is_into ∙ unmoved into from into (λ e. apart (sym e)) ∙ sym (scaled.all.groups k.head (inside k.head head_there) ∙ ap (new_group into from) is_from ∙ moved into from),
+          scaled.all.groups k.tail (inside k.tail tail_there) ∙ ap (new_group from into) is_into ∙ unmoved from into into (λ e. apart (sym e)) ∙ sym (scaled.all.groups k.head (inside k.head head_there) ∙ ap (new_group from into) is_from ∙ moved from into),
           rw (scaled.all.entries k.tail (inside k.tail tail_there), scaled.all.entries k.head (inside k.head head_there), is_into, is_from, factor_into into from x y, factor_from into from x y apart)
               (pair_even (slice_index q k.tail) (slice_index q k.head) k.produced k.consumed x y pair.even),
         );
@@ -171,9 +167,9 @@ module _ (n : ℕ) (link : Link) (k : Inner) (group q : List ℕ) (only : (P : I
       other_group other g apart_too all = (
         all.0,
         λ a in' e.
-            let came : new_group into from (slice_index group a) ≡ g = sym (scaled.all.groups a (inside a in')) ∙ e in
-            let not_from : slice_index group a ≢ from = λ f. apart_too (sym came ∙ ap (new_group into from) f ∙ moved into from) in
-            let stays : slice_index group a ≡ g = sym (unmoved into from (slice_index group a) not_from) ∙ came in
+            let came : new_group from into (slice_index group a) ≡ g = sym (scaled.all.groups a (inside a in')) ∙ e in
+            let not_from : slice_index group a ≢ from = λ f. apart_too (sym came ∙ ap (new_group from into) f ∙ moved from into) in
+            let stays : slice_index group a ≡ g = sym (unmoved from into (slice_index group a) not_from) ∙ came in
             let one : factor into from x y (slice_index group a) ≡ 1 = factor_none into from x y (slice_index group a) (λ i. apart_too (sym stays ∙ i)) not_from in
             all.1 a in' stays ∙ sym (ap (λ (v : ℕ). all.0 * v) (scaled.all.entries a (inside a in') ∙ ap (λ (v : ℕ). slice_index q a * v) one ∙ omega arith)),
       )

@@ -1,4 +1,3 @@
 pub mod Pair
 pub mod Scaled
-pub mod Within
 pub mod Joined

@@ -1,7 +1,7 @@
 // Groups of actors that links join, and for each group the least vector that solves its links.
 ghost use Rattle.std.specs.Prelude.{ℕ, ◌≡◌, ◌<◌, ◌≤◌, ◌^◌, length, slice_index};
 ghost use Rattle.std.specs.Bool.{OnTrue, OnFalse};
-ghost use Rattle.balance_solver.specs.Within.{IsWithin};
+ghost use Rattle.sdf_level.specs.Within.{IsWithin};
 ghost use Rattle.balance_solver.specs.Scaled.{IsScaled, IsTooLarge};
 ghost use Rattle.balance_solver.specs.Joined.{Adds, Refutes, AddsBetween, RefutesBetween};
 

@@ -11,4 +11,6 @@ pub use solve::repetition;
 pub use unsolved::Unsolved;
 
 #[cfg(test)]
+mod plain_search;
+#[cfg(test)]
 mod tests;

@@ -1,4 +1,4 @@
-ghost use Rattle.std.specs.Prelude.{◌≡◌, IfOk, IsErr, IsErrOf};
+ghost use Rattle.std.specs.Prelude.{ℕ, ◌≡◌, List as Seq, IfOk, IsErr, IsErrOf};
 ghost use Rattle.sdf_level.specs.Balance.{IsBase, HasNoVector};
 
 use crate::join::join;
@@ -14,6 +14,7 @@ use std::alloc::Global;
 /// `NoVector` exactly where no such vector exists; so also where such a link has exactly one rate 0.
 pub fn repetition(alloc: Global, level: &Level) -> Result<List<u32>, Unsolved>
     ensures base { IfOk result (λ q. IsBase level.now q) }
+    ensures only { IfOk result (λ q. (other : Seq ℕ) → IsBase level.now other → other ≡ q) }
     ensures no_vector { IsErrOf result Unsolved.NoVector → HasNoVector level.now }
     ensures refused { HasNoVector level.now → IsErr result }
 {

@@ -1,13 +1,8 @@
 -- Which actors lack tokens, after so many firings of each: a list with an entry for each actor.
-use Rattle.std.specs.Prelude.{◌≡◌, ◌≢◌, ℕ, ◌-◌, ◌<◌, ◌≤◌, Bool, true, false, List, length, slice_index, slice_index_or}
+use Rattle.std.specs.Prelude.{◌≡◌, ◌≢◌, ℕ, ◌-◌, ◌<◌, Bool, true, false, List, length, slice_index, slice_index_or}
 use Rattle.sdf_level.specs.Links.{OfInner, EachInner}
 use Rattle.sdf_level.specs.Firings.{HasTokens, IsReady}
-use Rattle.sdf_level.specs.declared.TheConstants.{RATE_LIMIT}
 use Rattle.sdf_level.specs.declared.link.Link.{Link}
-use Rattle.sdf_level.specs.declared.link.Tail.{Tail}
-use Rattle.sdf_level.specs.declared.link.Head.{Head}
-use Rattle.sdf_level.specs.declared.link.Tail.TheVariants as tail
-use Rattle.sdf_level.specs.declared.link.Head.TheVariants as head
 
 abbrev pub entry_of : List ℕ → ℕ → ℕ
 entry_of list a = slice_index list a
@@ -38,19 +33,6 @@ pub record AreStarved (links : List Link) (fired : List ℕ) (starved : List Boo
 pub record IsFree (counts fired : List ℕ) (starved : List Bool) (a : ℕ) : Type 0 where
   pub left : slice_index fired a < slice_index counts a
   pub fed : slice_index_or starved a true ≡ false
-
-abbrev pub IsTailWithin : ℕ → Tail → Type 0
-IsTailWithin n (tail.Source s) = Unit {0}
-IsTailWithin n (tail.Port a p r) = (a < n) × (r ≤ RATE_LIMIT)
-
-abbrev pub IsHeadWithin : ℕ → Head → Type 0
-IsHeadWithin n (head.Sink s) = Unit {0}
-IsHeadWithin n (head.Port a p r) = (a < n) × (r ≤ RATE_LIMIT)
-
--- the actors at its ends are below n, and their rates within the limit
-pub record IsWithin (n : ℕ) (link : Link) : Type 0 where
-  pub tail : IsTailWithin n link.tail
-  pub head : IsHeadWithin n link.head
 
 -- what is left of each count
 pub record IsRest (counts fired left : List ℕ) : Type 0 where

@@ -1,4 +1,4 @@
-ghost use Rattle.std.specs.Prelude.{ℕ, ◌≡◌, ◌≤◌, ◌<◌, ◌↔◌, length, slice_index, IfOk, IfErr, IsErr, IsTrue};
+ghost use Rattle.std.specs.Prelude.{ℕ, ◌≡◌, ◌≤◌, ◌<◌, ◌↔◌, List as Seq, length, slice_index, IfOk, IfErr, IsErr, IsTrue};
 ghost use Rattle.sdf_level.specs.Orders.{IsDeadlocked, IsLeft, IsTurnOrder};
 ghost use Rattle.firing_order.specs.Answers.{IfLeft};
 ghost use Rattle.firing_order.specs.Marks.{IsRest};
@@ -21,11 +21,13 @@ use std::alloc::{AllocError, Global};
 pub fn order(alloc: Global, level: &Level, counts: &[u32]) -> Result<List<Turn>, Stuck>
     requires { length counts.now ≡ level.now.actors }
     ensures order { IfOk result (IsTurnOrder level.now counts.now) }
+    ensures only { IfOk result (λ turns. (other : Seq Turn) → IsTurnOrder level.now counts.now other → other ≡ turns) }
 
     // Where there is no order the answer says so, and where it says so there is none.
     ensures each_deadlock { IsDeadlocked level.now counts.now → IsErr result }
     ensures only_deadlock { IfErr result (IfLeft (λ _. IsDeadlocked level.now counts.now)) }
     ensures left { IfErr result (IfLeft (IsLeft level.now counts.now)) }
+    ensures only_left { IfErr result (IfLeft (λ left. (other : Seq ℕ) → IsLeft level.now counts.now other → other ≡ left)) }
 {
     let mut fired = vec![in alloc; 0u32; counts.len()]?;
     let mut starved = vec![in alloc; false; counts.len()]?;

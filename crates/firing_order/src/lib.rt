@@ -11,4 +11,6 @@ pub use law::same_tokens;
 pub use stuck::Stuck;
 
 #[cfg(test)]
+mod plain_search;
+#[cfg(test)]
 mod tests;

@@ -1,7 +1,8 @@
 // Which actors lack tokens, and which is the next to fire.
 ghost use Rattle.std.specs.Prelude.{ℕ, ◌≡◌, ◌<◌, false, length, replicate, IfSome, IfNone};
 ghost use Rattle.std.specs.List.{AllByRecursion};
-ghost use Rattle.firing_order.specs.Marks.{IsFilled, IsLacking, AreStarved, IsFree, IsWithin};
+ghost use Rattle.sdf_level.specs.Within.{IsWithin};
+ghost use Rattle.firing_order.specs.Marks.{IsFilled, IsLacking, AreStarved, IsFree};
 
 use sdf_level::{Head, Level, Link, Tail};
 

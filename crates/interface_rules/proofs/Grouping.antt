@@ -1,10 +1,8 @@
 -- What one link more makes of the groups.
 use Rattle.std.proofs.Common.{◌≡◌, ◌≢◌, ℕ, ◌+◌, ◌<◌, ◌⊎◌, inl, inr, ⊎_elim, List, [], ◌∷◌, ◌++◌, length, slice_index, get_or, take, refl, ap, sym, ◌∙◌, arith}
-use Rattle.std.proofs.lemmas.Bool.{cases_eq, eq-eqb, ne_eqb}
+use Rattle.std.proofs.lemmas.Bool.{cases_eq}
 use Rattle.std.proofs.lemmas.List.{take_more}
-use Rattle.std.proofs.lemmas.List.Elements.{All-from_recursion}
 use Rattle.sdf_level.specs.View.{LevelView}
-use Rattle.sdf_level.specs.Kept.{TailIsThere, HeadIsThere, IsLevel}
 use Rattle.sdf_level.specs.Links.{IsInnerWith}
 use Rattle.sdf_level.specs.Components.{Joins, IsPath, AreConnected}
 use Rattle.sdf_level.specs.declared.link.Link.{Link}
@@ -13,7 +11,9 @@ use Rattle.sdf_level.specs.declared.link.Head.{Head}
 use Rattle.sdf_level.specs.declared.link.Tail.TheVariants as tail
 use Rattle.sdf_level.specs.declared.link.Head.TheVariants as head
 use Rattle.sdf_level.proofs.Connected.{connected-sym, connected-trans, connected-more, connected-new, connected-none, connected-split, IsNear}
-use Rattle.interface_rules.specs.Groups.{HasTailBelow, HasHeadBelow, HasActorsBelow, AreGrouped, new_group, IsRelabelled, Groups, GroupsBetween}
+use Rattle.sdf_level.specs.Groups.{new_group}
+use Rattle.sdf_level.proofs.Regrouped.{moved, unmoved}
+use Rattle.interface_rules.specs.Groups.{AreGrouped, IsRelabelled, Groups, GroupsBetween}
 
 -- before any link each actor is a group
 pub grouped_at_start : (n : ℕ) (group : List ℕ) → length group ≡ n → ((a : ℕ) → a < n → slice_index group a ≡ a) → AreGrouped n [] group
@@ -34,12 +34,6 @@ groups_same n link group none links g = record {
   below = g.below;
   same = λ a b h k. ((λ e. connected-more links link a b ((g.same a b h k).0 e)), (λ f. (g.same a b h k).1 (connected-none links link none a b f)));
 }
-
-moved : (from into : ℕ) → new_group from into from ≡ into
-moved from into = rw (eq-eqb from from refl)
-
-unmoved : (from into g : ℕ) → g ≢ from → new_group from into g ≡ g
-unmoved from into g n = rw (ne_eqb g from n)
 
 stays : (from into : ℕ) → new_group from into into ≡ into
 stays from into = ⊎_elim
@@ -135,20 +129,6 @@ groups_to_sink n s delay t h group e = rw e (groups_same n record { tail = t; he
     none : (t : Tail) (a b : ℕ) → IsInnerWith (Joins a b) t (head.Sink s) delay → ⊥
     none (tail.Source x) a b joined = joined
     none (tail.Port x y z) a b joined = joined
-
-tail_below : (level : LevelView) (t : Tail) → TailIsThere level t → HasTailBelow level.actors t
-tail_below level (tail.Source s) there = tt
-tail_below level (tail.Port a p r) there = there
-
-head_below : (level : LevelView) (h : Head) → HeadIsThere level h → HasHeadBelow level.actors h
-head_below level (head.Sink s) there = tt
-head_below level (head.Port a p r) there = there
-
-pub below_at : (level : LevelView) (i : ℕ) (d : Link) → IsLevel level → i < length level.links → HasActorsBelow level.actors (get_or level.links i d)
-below_at level i d known inside = (
-  tail_below level (get_or level.links i d).tail (All-from_recursion (λ link. TailIsThere level link.tail) level.links known.tails_there i d inside),
-  head_below level (get_or level.links i d).head (All-from_recursion (λ link. HeadIsThere level link.head) level.links known.heads_there i d inside),
-)
 
 pub grouped_next : (level : LevelView) (i : ℕ) (d : Link) (group group' : List ℕ) → i < length level.links → AreGrouped level.actors (take i level.links) group → Groups level.actors (get_or level.links i d) group group' → AreGrouped level.actors (take (i + 1) level.links) group'
 grouped_next level i d group group' inside grouped groups = rw (take_more level.links i d inside) (groups (take i level.links) grouped)

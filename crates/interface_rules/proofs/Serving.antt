@@ -1,6 +1,5 @@
 -- What one link more makes of the factors.
-use Rattle.std.proofs.Common.{◌≡◌, ◌≢◌, ℕ, ◌*◌, ◌<◌, ◌≤◌, ⊎_elim, Bool, true, false, List, [], ◌∷◌, ◌++◌, length, slice_index, get_or, take, replicate, max, refl, ap, sym, ◌∙◌, subst, arith}
-use Rattle.std.specs.Bool.{OnTrue}
+use Rattle.std.proofs.Common.{◌≡◌, ◌≢◌, ℕ, ◌*◌, ◌<◌, ◌≤◌, ⊎_elim, List, [], ◌∷◌, ◌++◌, length, slice_index, get_or, take, replicate, max, refl, ap, sym, ◌∙◌, subst, arith}
 use Rattle.std.proofs.Math.Nat.{mul-le-mul_right}
 use Rattle.std.proofs.lemmas.Bool.{cases_eq}
 use Rattle.std.proofs.lemmas.List.{get_or-replicate, length-replicate, take_more}
@@ -17,10 +16,6 @@ use Rattle.sdf_level.specs.declared.link.Tail.TheVariants as tail
 use Rattle.sdf_level.specs.declared.link.Head.TheVariants as head
 use Rattle.sdf_level.proofs.InnerLinks.{EachOuter-snoc, EachOuter-front, EachOuter-end, EachOuter-map}
 use Rattle.interface_rules.specs.Served.{IsServed, IsLeastFor, AreServed, Serves, Disagrees, IsServedOnce, IsSound}
-
-pub OnTrue-map : {P Q : Type 0} (b : Bool) → (P → Q) → OnTrue b P → OnTrue b Q
-OnTrue-map true f p = f p
-OnTrue-map false f p = tt
 
 -- before any link each factor is 1
 pub served_at_start : (level : LevelView) (base group factors : List ℕ) → factors ≡ replicate level.actors 1 → AreServed level [] base group factors

@@ -1,32 +1,16 @@
 -- The components that some first links make, each with a number that its actors share.
-use Rattle.std.specs.Prelude.{◌≡◌, ℕ, ◌<◌, ◌↔◌, ◌==◌, List, [], ◌∷◌, ◌++◌, length, slice_index, if◌then◌else◌}
+use Rattle.std.specs.Prelude.{◌≡◌, ℕ, ◌<◌, ◌↔◌, List, [], ◌∷◌, ◌++◌, length, slice_index}
 use Rattle.sdf_level.specs.Components.{AreConnected}
+use Rattle.sdf_level.specs.Groups.{new_group}
 use Rattle.sdf_level.specs.declared.link.Link.{Link}
-use Rattle.sdf_level.specs.declared.link.Tail.{Tail}
-use Rattle.sdf_level.specs.declared.link.Head.{Head}
 use Rattle.sdf_level.specs.declared.link.Tail.TheVariants as tail
 use Rattle.sdf_level.specs.declared.link.Head.TheVariants as head
-
-abbrev pub HasTailBelow : ℕ → Tail → Type 0
-HasTailBelow n (tail.Source s) = Unit {0}
-HasTailBelow n (tail.Port a p r) = a < n
-
-abbrev pub HasHeadBelow : ℕ → Head → Type 0
-HasHeadBelow n (head.Sink s) = Unit {0}
-HasHeadBelow n (head.Port a p r) = a < n
-
--- the actors at the link are below n
-abbrev pub HasActorsBelow : ℕ → Link → Type 0
-HasActorsBelow n link = HasTailBelow n link.tail × HasHeadBelow n link.head
 
 -- n actors have one number exactly where these links connect them
 pub record AreGrouped (n : ℕ) (links : List Link) (group : List ℕ) : Type 0 where
   pub one_each : length group ≡ n
   pub below : (a : ℕ) → a < n → slice_index group a < n
   pub same : (a b : ℕ) → a < n → b < n → (slice_index group a ≡ slice_index group b) ↔ AreConnected links a b
-
-abbrev pub new_group : ℕ → ℕ → ℕ → ℕ
-new_group from into g = if g == from then into else g
 
 -- the first n actors have their new groups
 abbrev pub IsRelabelled : ℕ → List ℕ → List ℕ → ℕ → ℕ → Type 0

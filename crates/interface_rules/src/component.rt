@@ -1,6 +1,7 @@
 // The components of a level, as a number for each actor that connected actors share.
 ghost use Rattle.std.specs.Prelude.{ℕ, ◌≡◌, ◌<◌, length, slice_index, IfOk};
-ghost use Rattle.interface_rules.specs.Groups.{AreGrouped, HasActorsBelow, IsRelabelled, Groups, GroupsBetween};
+ghost use Rattle.sdf_level.specs.Within.{IsWithin};
+ghost use Rattle.interface_rules.specs.Groups.{AreGrouped, IsRelabelled, Groups, GroupsBetween};
 
 use sdf_level::{Head, Level, Link, Tail};
 use std::alloc::{AllocError, Global};
@@ -32,7 +33,7 @@ fn join_ports(tail: u32, put: u32, head: u32, taken: u32, group: &mut [u32])
 
 /// Adds a link; one with a source or sink joins nothing.
 fn join(link: &Link, group: &mut [u32])
-    requires { HasActorsBelow (length group.old) link.now }
+    requires { IsWithin (length group.old) link.now }
     ensures { Groups (length group.old) link.now group.old group.new }
 {
     let Tail::Port {

@@ -1,6 +1,6 @@
-ghost use Rattle.std.specs.Prelude.{ℕ, ◌≡◌, IfOk, IsErr, IsErrOf};
+ghost use Rattle.std.specs.Prelude.{ℕ, ◌≡◌, List as Seq, IfOk, IsErr, IsErrOf};
 ghost use Rattle.sdf_level.specs.Balance.{IsBase};
-ghost use Rattle.sdf_level.specs.Repetition.{IsRepetition, IsFirstMismatch};
+ghost use Rattle.sdf_level.specs.Repetition.{IsRepetition, HasNoRepetition, IsFirstMismatch};
 
 use crate::component::components;
 use crate::fault::InterfaceFault;
@@ -18,6 +18,9 @@ use std::alloc::Global;
 pub fn factor(alloc: Global, level: &Level, base: &[u32]) -> Result<List<u32>, InterfaceFault>
     requires { IsBase level.now base.now }
     ensures repetition { IfOk result (λ q. IsRepetition level.now q) }
+    ensures only { IfOk result (λ q. (other : Seq ℕ) → IsRepetition level.now other → other ≡ q) }
+    ensures none { (link : ℕ) → IsErrOf result (InterfaceFault.Mismatch link) → HasNoRepetition level.now }
+    ensures each_none { HasNoRepetition level.now → IsErr result }
     ensures mismatch { (link : ℕ) → IsErrOf result (InterfaceFault.Mismatch link) → IsFirstMismatch level.now link }
     ensures refused { (link : ℕ) → IsFirstMismatch level.now link → IsErr result }
 {

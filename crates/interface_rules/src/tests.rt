@@ -2,7 +2,7 @@ ghost use Rattle.std.specs.Prelude.{◌≡◌, ◌≤◌, ◌∷◌, [], IfOk};
 ghost use Rattle.sdf_level.specs.Balance.{IsBase};
 
 use super::{InterfaceFault, factor, kept_from, repeated_at};
-use sdf_level::{Head, Level, Link, List, RATE_LIMIT, Tail};
+use sdf_level::{BASE_ENTRY_LIMIT, Head, Level, Link, List, RATE_LIMIT, Tail};
 use std::alloc::{AllocError, Global};
 use std::test::Fail;
 
@@ -68,6 +68,38 @@ fn one(alloc: Global, source: u32, taken: u32, put: u32, sink: u32) -> Result<Le
     let links = vec![in alloc; from_source(0, 0, 0, taken), into_sink(0, put)]?;
     Ok(Level {
         actors: 1,
+        sources: List::new(sources),
+        sinks: List::new(sinks),
+        links: List::new(links),
+    })
+}
+
+/// Actors without ports.
+fn unlinked(alloc: Global, actors: u32) -> Level
+    ensures none { actors ≡ 0 → IsBase result [] }
+    ensures two { actors ≡ 2 → IsBase result (1 ∷ 1 ∷ []) }
+{
+    Level {
+        actors,
+        sources: List::new(Vec::new(alloc)),
+        sinks: List::new(Vec::new(alloc)),
+        links: List::new(Vec::new(alloc)),
+    }
+}
+
+/// An actor that gives so many tokens for each of a source, and one that takes one of them, with a sink.
+fn ramp(alloc: Global, given: u32, source: u32, sink: u32) -> Result<Level, AllocError>
+    requires some { 1 ≤ given }
+    requires given { given ≤ BASE_ENTRY_LIMIT }
+    requires source { source ≤ RATE_LIMIT }
+    requires sink { sink ≤ RATE_LIMIT }
+    ensures { IfOk result (λ level. IsBase level (1 ∷ given ∷ [])) }
+{
+    let sources = vec![in alloc; source]?;
+    let sinks = vec![in alloc; sink]?;
+    let links = vec![in alloc; from_source(0, 0, 0, 1), between(given, 1), into_sink(1, 1)]?;
+    Ok(Level {
+        actors: 2,
         sources: List::new(sources),
         sinks: List::new(sinks),
         links: List::new(links),
@@ -154,7 +186,6 @@ fn repetition_vectors(rt: HostRuntime) -> Result<(), Fail> {
     let alloc = rt.alloc();
     assert!(rt; has_counts(alloc, one(alloc, 4, 2, 1, 2)?, &[1], &[2])?);
     assert!(rt; has_counts(alloc, one(alloc, 4, 1, 1, 1)?, &[1], &[4])?);
-    assert!(rt; has_counts(alloc, one(alloc, RATE_LIMIT, 1, 1, 1)?, &[1], &[RATE_LIMIT])?);
     assert!(rt; has_counts(alloc, one(alloc, 0, 0, 0, 0)?, &[1], &[1])?);
     assert!(rt; has_counts(alloc, doubled(alloc, 3, 2)?, &[3, 2], &[3, 2])?);
     assert!(rt; has_counts(alloc, doubled(alloc, 4, 2)?, &[3, 2], &[6, 4])?);
@@ -164,11 +195,36 @@ fn repetition_vectors(rt: HostRuntime) -> Result<(), Fail> {
 }
 
 #[test]
+fn repetition_vectors_without_sources_and_sinks(rt: HostRuntime) -> Result<(), Fail> {
+    let alloc = rt.alloc();
+    assert!(rt; has_counts(alloc, unlinked(alloc, 0), &[], &[])?);
+    assert!(rt; has_counts(alloc, unlinked(alloc, 2), &[1, 1], &[1, 1])?);
+    Ok(())
+}
+
+#[test]
+fn repetition_vectors_at_the_limits(rt: HostRuntime) -> Result<(), Fail> {
+    let alloc = rt.alloc();
+    let most = RATE_LIMIT;
+    assert!(rt; has_counts(alloc, one(alloc, most, 1, 1, 1)?, &[1], &[most])?);
+    assert!(rt; has_counts(alloc, one(alloc, 1, 1, 1, most)?, &[1], &[most])?);
+    assert!(rt; has_counts(alloc, one(alloc, most, most, most, most)?, &[1], &[1])?);
+    assert!(rt; has_counts(alloc, one(alloc, most, most - 1, most, most)?, &[1], &[2])?);
+    assert!(rt; has_counts(alloc, one(alloc, 101376, 12672, 12672, 101376)?, &[1], &[8])?);
+    assert!(rt; has_counts(alloc, ramp(alloc, 1023, 1, 1)?, &[1, 1023], &[1, 1023])?);
+    assert!(rt; has_counts(alloc, ramp(alloc, 1024, 1, 1024)?, &[1, 1024], &[1, 1024])?);
+    assert!(rt; has_counts(alloc, ramp(alloc, 1024, 1, 1025)?, &[1, 1024], &[2, 2048])?);
+    Ok(())
+}
+
+#[test]
 fn first_mismatches(rt: HostRuntime) -> Result<(), Fail> {
     let alloc = rt.alloc();
     assert!(rt; is_mismatched(alloc, one(alloc, 0, 0, 0, 2)?, &[1], 1));
     assert!(rt; is_mismatched(alloc, one(alloc, 0, 1, 0, 2)?, &[1], 0));
+    assert!(rt; is_mismatched(alloc, one(alloc, 1, 0, 1, 0)?, &[1], 0));
     assert!(rt; is_mismatched(alloc, doubled(alloc, 3, 0)?, &[3, 2], 2));
+    assert!(rt; is_mismatched(alloc, doubled(alloc, 0, 0)?, &[3, 2], 0));
     Ok(())
 }
 

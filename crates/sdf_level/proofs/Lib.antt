@@ -13,3 +13,7 @@ pub mod ExampleLevels
 pub mod ExampleVectors
 pub mod ExampleOrders
 pub mod ExampleRuns
+pub mod NumberedPorts
+pub mod LinksWithin
+pub mod Branches
+pub mod Regrouped

@@ -10,3 +10,6 @@ pub mod Orders
 pub mod Interfaces
 pub mod Run
 pub mod LevelRun
+pub mod Numbered
+pub mod Within
+pub mod Groups

@@ -2,14 +2,17 @@
 //! definitions that the other crates cite.
 #![tactic(auto)]
 
+mod inner_link;
 mod level;
 mod link;
 mod list;
 mod node;
+mod numbering;
 mod single_rate;
 mod token_name;
 mod turn;
 
+pub use inner_link::InnerLink;
 pub use level::Level;
 pub use link::{Head, Link, Tail};
 pub use list::List;

@@ -1,4 +1,4 @@
-use super::{Head, Level, Link, List, Tail};
+use super::{Head, InnerLink, Level, Link, List, Tail};
 use std::alloc::{AllocError, Global};
 use std::test::Fail;
 
@@ -63,5 +63,49 @@ fn a_list_gives_its_elements_back(rt: HostRuntime) -> Result<(), Fail> {
     assert_eq!(rt; list.items(), [7, 5, 7].as_slice());
     let elements = list.into_items();
     assert_eq!(rt; elements.as_slice(), [7, 5, 7].as_slice());
+    Ok(())
+}
+
+/// Two links from actor 0 to actor 1, one back, and one from actor 1 to itself: each port has the next number of its actor.
+#[test]
+fn ports_are_numbered_in_the_order_of_the_links(rt: HostRuntime) -> Result<(), Fail> {
+    let there = InnerLink {
+        tail: 0,
+        produced: 2,
+        head: 1,
+        consumed: 3,
+        delay: 0,
+    };
+    let back = InnerLink {
+        tail: 1,
+        produced: 3,
+        head: 0,
+        consumed: 2,
+        delay: 6,
+    };
+    let own = InnerLink {
+        tail: 1,
+        produced: 1,
+        head: 1,
+        consumed: 1,
+        delay: 1,
+    };
+    let level = Level::between_actors(rt.alloc(), 2, &[there, there, back, own])?;
+    assert_eq!(rt; level.actors, 2);
+    assert!(rt; level.sources.items().is_empty());
+    assert!(rt; level.sinks.items().is_empty());
+    let output = |actor, port, rate| Tail::Port { actor, port, rate };
+    let input = |actor, port, rate| Head::Port { actor, port, rate };
+    let links = level.links.items();
+    assert_eq!(rt; links.len(), 4);
+    assert_eq!(rt; links[0].tail, output(0, 0, 2));
+    assert_eq!(rt; links[0].head, input(1, 0, 3));
+    assert_eq!(rt; links[1].tail, output(0, 1, 2));
+    assert_eq!(rt; links[1].head, input(1, 1, 3));
+    assert_eq!(rt; links[2].tail, output(1, 0, 3));
+    assert_eq!(rt; links[2].head, input(0, 0, 2));
+    assert_eq!(rt; links[2].delay, 6);
+    assert_eq!(rt; links[3].tail, output(1, 1, 1));
+    assert_eq!(rt; links[3].head, input(1, 2, 1));
     Ok(())
 }

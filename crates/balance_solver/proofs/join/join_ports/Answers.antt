@@ -1,6 +1,7 @@
 use Rattle.std.proofs.Common.{◌≡◌, ℕ, ◌<◌, ◌⊎◌, inl, inr, ⊎_elim, nat_eq, refl, arith}
 use Rattle.std.proofs.lemmas.Bool.{eqb-true, eqb-false, OnTrue_from, OnFalse_from}
-use Rattle.balance_solver.proofs.Between.{OnTrue-map, OnFalse-map, between_none, between_even, between_one_zero, between_uneven, between_large, between_united}
+use Rattle.sdf_level.proofs.Branches.{OnTrue-map, OnFalse-map}
+use Rattle.balance_solver.proofs.Between.{between_none, between_even, between_one_zero, between_uneven, between_large, between_united}
 use Rattle.balance_solver.proofs.join.join_ports.Goals as goal
 
 pub returns-then-put-eq0-clause-joined : goal.returns-then-put-eq0-clause-joined

@@ -3,7 +3,9 @@ use Rattle.std.proofs.lemmas.Grind.{common_steps}
 use Rattle.std.proofs.lemmas.List.{take_all}
 use Rattle.sdf_level.specs.View.{LevelView}
 use Rattle.sdf_level.specs.Kept.{IsLevel}
-use Rattle.balance_solver.proofs.Solved.{joined_at_start, no_vector, is_base, within_at}
+use Rattle.sdf_level.proofs.LinksWithin.{within_at}
+use Rattle.sdf_level.proofs.OnlyOne.{base_only}
+use Rattle.balance_solver.proofs.Solved.{joined_at_start, no_vector, is_base}
 use Rattle.balance_solver.proofs.solve.repetition.Goals as goal
 
 pub loop-link-init : goal.loop-link-init
@@ -42,3 +44,6 @@ returns-clause-base c = solved c
 
 pub returns-clause-refused : goal.returns-clause-refused
 returns-clause-refused c none = absurd (none _ (solved c).solves)
+
+pub returns-clause-only : goal.returns-clause-only
+returns-clause-only c other is = base_only c.args.level.now other _ is (solved c)

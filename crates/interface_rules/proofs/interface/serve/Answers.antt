@@ -1,6 +1,7 @@
 use Rattle.std.proofs.Common.{◌≡◌, ap, ◌∙◌}
 use Rattle.sdf_level.specs.View.{LevelView}
-use Rattle.interface_rules.proofs.Serving.{OnTrue-map, serves_source, serves_sink, serves_across, serves_inner}
+use Rattle.sdf_level.proofs.Branches.{OnTrue-map}
+use Rattle.interface_rules.proofs.Serving.{serves_source, serves_sink, serves_across, serves_inner}
 use Rattle.interface_rules.proofs.interface.serve.Goals as goal
 
 pub returns-in_default-clause-served : goal.returns-in_default-clause-served

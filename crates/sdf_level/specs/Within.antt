@@ -1,4 +1,4 @@
--- What a link of a level with n actors keeps.
+-- What every link of a level with n actors keeps: its actors are below n, and the rates of its ports within the limit.
 use Rattle.std.specs.Prelude.{ℕ, ◌<◌, ◌≤◌}
 use Rattle.sdf_level.specs.declared.TheConstants.{RATE_LIMIT}
 use Rattle.sdf_level.specs.declared.link.Link.{Link}
@@ -15,6 +15,6 @@ abbrev pub IsHeadWithin : ℕ → Head → Type 0
 IsHeadWithin n (head.Sink s) = Unit {0}
 IsHeadWithin n (head.Port a p r) = (a < n) × (r ≤ RATE_LIMIT)
 
--- its actors are below n, and their rates within the limit
-abbrev pub IsWithin : ℕ → Link → Type 0
-IsWithin n link = IsTailWithin n link.tail × IsHeadWithin n link.head
+pub record IsWithin (n : ℕ) (link : Link) : Type 0 where
+  pub tail : IsTailWithin n link.tail
+  pub head : IsHeadWithin n link.head

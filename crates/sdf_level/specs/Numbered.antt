@@ -1,0 +1,31 @@
+-- Links between actors, without the numbers of their ports.
+use Rattle.std.specs.Prelude.{ℕ, ◌≤◌, ◌<◌, List, [], ◌∷◌, ◌++◌}
+use Rattle.sdf_level.specs.Links.{Inner}
+use Rattle.sdf_level.specs.declared.TheConstants.{RATE_LIMIT}
+use Rattle.sdf_level.specs.declared.inner_link.InnerLink.{InnerLink}
+use Rattle.sdf_level.specs.declared.link.Link.{Link}
+use Rattle.sdf_level.specs.declared.link.Tail.{Tail}
+use Rattle.sdf_level.specs.declared.link.Head.{Head}
+use Rattle.sdf_level.specs.declared.link.Tail.TheVariants as tail
+use Rattle.sdf_level.specs.declared.link.Head.TheVariants as head
+
+-- its actors are below n, and its rates within the limit
+pub record IsBetween (n : ℕ) (link : InnerLink) : Type 0 where
+  pub tail_there : link.tail < n
+  pub head_there : link.head < n
+  pub produced : link.produced ≤ RATE_LIMIT
+  pub consumed : link.consumed ≤ RATE_LIMIT
+
+abbrev pub inner_of : InnerLink → Inner
+inner_of link = record { tail = link.tail; produced = link.produced; head = link.head; consumed = link.consumed; delay = link.delay }
+
+-- what stands at a link, if that is between two actors
+abbrev pub inner_at : Tail → Head → ℕ → List Inner
+inner_at (tail.Source s) h d = []
+inner_at (tail.Port a p r) (head.Sink t) d = []
+inner_at (tail.Port a p r) (head.Port b j c) d = record { tail = a; produced = r; head = b; consumed = c; delay = d } ∷ []
+
+-- the links between two actors, in their order
+abbrev pub inner_links : List Link → List Inner
+inner_links [] = []
+inner_links (link ∷ links) = inner_at link.tail link.head link.delay ++ inner_links links
