@@ -8,4 +8,6 @@ mod placing;
 pub use placing::{Placement, place};
 
 #[cfg(test)]
+mod plain_search;
+#[cfg(test)]
 mod tests;

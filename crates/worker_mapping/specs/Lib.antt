@@ -1,4 +1,5 @@
 pub mod Graph
+pub mod Costs
 pub mod Paths
 pub mod Schedule
 pub mod Ranked

@@ -15,4 +15,6 @@ pub use mapping::{Mapping, map};
 #[cfg(test)]
 mod plain_search;
 #[cfg(test)]
+mod small_graphs;
+#[cfg(test)]
 mod tests;
