@@ -1,7 +1,7 @@
 -- A signature in its place of the table.
-use Rattle.std.proofs.Common.{◌≡◌, ℕ, ◌<◌, List, [], ◌∷◌, length, map, get_or, suc, ap, subst, sym, ◌∙◌, arith}
+use Rattle.std.proofs.Common.{◌≡◌, ℕ, ◌<◌, List, [], ◌∷◌, length, map, get_or, suc, ap, subst, sym, arith}
 use Rattle.std.specs.Prelude.{slice_get, Some}
-use Rattle.kernel_gate.specs.Signed.{SignatureView, Counts, counts_of, signature_view, unnamed}
+use Rattle.kernel_gate.specs.Signed.{SignatureView, counts_of, signature_view, unnamed}
 use Rattle.kernel_gate.specs.declared.signature.Signature.{Signature}
 
 seen_at : (xs : List Signature) (kind : ℕ) (s d : Signature) → kind < length xs → s ≡ get_or xs kind d → slice_get (unnamed (map signature_view xs)) kind ≡ Some (counts_of s)

@@ -4,6 +4,12 @@ ghost use Rattle.std.specs.Bool.{OnTrue};
 ghost use Rattle.kernel_gate.specs.Signed.{IsFrameOf, unnamed};
 ghost use Rattle.kernel_gate.specs.Table.{the_signatures};
 
+mod configured;
+mod counted;
+mod elements;
+mod rearranged;
+mod sums;
+
 use super::*;
 use sdf_level::List;
 use std::alloc::{AllocError, Global};
@@ -89,413 +95,132 @@ fn equal(held: &[Vec<i64>], want: &[&[i64]]) -> bool {
     true
 }
 
-/// Whether the kernel of this name, with these arguments, inputs, output lengths and number of sets, gives these
-/// outputs and sets (code 0) or has this code.
-fn answers(
-    alloc: Global,
-    (name, args, inputs, outs): (&str, &[i64], &[&[i64]], &[u32]),
-    code: u8,
-    outputs: &[&[i64]],
-    sets: &[i64],
-) -> Result<bool, AllocError> {
-    let Ok(count) = u32::try_from(sets.len()) else {
-        return Ok(false);
-    };
-    let Some(mut frame) = frame_for(alloc, place_of(name), args, inputs, outs, count)? else {
-        return Ok(false);
-    };
-    let fired = Library.fire(&mut frame);
-    let same_sets = frame.sets() == sets;
-    let held = frame.into_outputs();
-    match fired {
-        Ok(()) => Ok(code == 0 && same_sets && equal(held.as_slice(), outputs)),
-        Err(fault) => Ok(fault.code == code),
-    }
-}
+/// A firing that is Ok: the kernel's name, its arguments, its inputs, and the outputs and the sets that it gives.
+type Given = (
+    &'static str,
+    &'static [i64],
+    &'static [&'static [i64]],
+    &'static [&'static [i64]],
+    &'static [i64],
+);
 
-/// A kernel's name, arguments, inputs, output lengths, code, outputs and sets.
-type Case = (
+/// A firing that is refused: the kernel's name, its arguments, its inputs, the lengths of its outputs, the number of
+/// its sets, and the fault.
+type Refused = (
     &'static str,
     &'static [i64],
     &'static [&'static [i64]],
     &'static [u32],
-    u8,
-    &'static [&'static [i64]],
-    &'static [i64],
+    u32,
+    KernelFault,
 );
 
 const MIN: i64 = i64::MIN;
 
 const MAX: i64 = i64::MAX;
 
+/// 2 to the 62: half of what doesn't lie in i64.
+const HALF: i64 = 4611686018427387904;
+
+/// The lengths of the lists.
+fn lengths_of(alloc: Global, lists: &[&[i64]]) -> Result<Vec<u32>, AllocError> {
+    let mut all = Vec::with_capacity(alloc, lists.len())?;
+    for list in lists {
+        all.push(u32::try_from(list.len()).unwrap_or(u32::MAX))?;
+    }
+    Ok(all)
+}
+
+/// Whether the kernel of this name gives these outputs and sets.
+fn gives(alloc: Global, case: &Given) -> Result<bool, AllocError> {
+    let (name, args, inputs, outputs, sets) = *case;
+    let lengths = lengths_of(alloc, outputs)?;
+    let count = u32::try_from(sets.len()).unwrap_or(u32::MAX);
+    let frame = frame_for(
+        alloc,
+        place_of(name),
+        args,
+        inputs,
+        lengths.as_slice(),
+        count,
+    )?;
+    let Some(mut frame) = frame else {
+        return Ok(false);
+    };
+    let fired = Library.fire(&mut frame);
+    let same_sets = frame.sets() == sets;
+    let held = frame.into_outputs();
+    Ok(fired.is_ok() && same_sets && equal(held.as_slice(), outputs))
+}
+
+/// Whether the kernel of this name has this fault.
+fn refuses(alloc: Global, case: &Refused) -> Result<bool, AllocError> {
+    let (name, args, inputs, lengths, sets, fault) = *case;
+    let Some(mut frame) = frame_for(alloc, place_of(name), args, inputs, lengths, sets)? else {
+        return Ok(false);
+    };
+    let fired = Library.fire(&mut frame);
+    frame.end();
+    Ok(fired == Err(fault))
+}
+
+/// The kernel and the place of the first firing that doesn't give what stands beside it.
+fn first_not_given(
+    alloc: Global,
+    cases: &[Given],
+) -> Result<Option<(&'static str, usize)>, AllocError> {
+    for (place, case) in cases.iter().enumerate() {
+        if !gives(alloc, case)? {
+            return Ok(Some((case.0, place)));
+        }
+    }
+    Ok(None)
+}
+
+/// The kernel and the place of the first firing that isn't refused with the fault beside it.
+fn first_not_refused(
+    alloc: Global,
+    cases: &[Refused],
+) -> Result<Option<(&'static str, usize)>, AllocError> {
+    for (place, case) in cases.iter().enumerate() {
+        if !refuses(alloc, case)? {
+            return Ok(Some((case.0, place)));
+        }
+    }
+    Ok(None)
+}
+
 #[test]
 fn element_kernels_are_their_rows(rt: HostRuntime) -> Result<(), Fail> {
-    let alloc = rt.alloc();
-    let cases: [Case; 41] = [
-        ("pass", &[], &[&[MIN, MAX]], &[2], 0, &[&[MIN, MAX]], &[]),
-        ("pass", &[], &[&[]], &[0], 0, &[&[]], &[]),
-        ("pass", &[], &[&[1]], &[2], 3, &[], &[]),
-        ("dup", &[], &[&[1, 2]], &[2, 2], 0, &[&[1, 2], &[1, 2]], &[]),
-        ("dup", &[], &[&[1]], &[1, 2], 3, &[], &[]),
-        ("dup", &[], &[&[1]], &[2, 1], 3, &[], &[]),
-        (
-            "gain",
-            &[2],
-            &[&[-4611686018427387904, 7]],
-            &[2],
-            0,
-            &[&[MIN, 14]],
-            &[],
-        ),
-        ("gain", &[2], &[&[4611686018427387904]], &[1], 1, &[], &[]),
-        ("gain", &[-1], &[&[MIN]], &[1], 1, &[], &[]),
-        ("gain", &[2], &[&[MAX]], &[2], 3, &[], &[]),
-        (
-            "add",
-            &[],
-            &[&[MAX, 1], &[MIN, 2]],
-            &[2],
-            0,
-            &[&[-1, 3]],
-            &[],
-        ),
-        ("add", &[], &[&[MAX], &[1]], &[1], 1, &[], &[]),
-        ("add", &[], &[&[MIN], &[-1]], &[1], 1, &[], &[]),
-        ("add", &[], &[&[MAX, 1], &[1]], &[2], 3, &[], &[]),
-        ("add", &[], &[&[MAX], &[1]], &[2], 3, &[], &[]),
-        (
-            "sub",
-            &[],
-            &[&[-1, 5], &[MIN, 7]],
-            &[2],
-            0,
-            &[&[MAX, -2]],
-            &[],
-        ),
-        ("sub", &[], &[&[0], &[MIN]], &[1], 1, &[], &[]),
-        ("sub", &[], &[&[MIN], &[1]], &[1], 1, &[], &[]),
-        ("sub", &[], &[&[1], &[1, 2]], &[1], 3, &[], &[]),
-        (
-            "mul",
-            &[],
-            &[&[3037000499, -3], &[3037000499, 5]],
-            &[2],
-            0,
-            &[&[9223372030926249001, -15]],
-            &[],
-        ),
-        (
-            "mul",
-            &[],
-            &[&[3037000500], &[3037000500]],
-            &[1],
-            1,
-            &[],
-            &[],
-        ),
-        ("mul", &[], &[&[MIN], &[-1]], &[1], 1, &[], &[]),
-        ("mul", &[], &[&[MIN], &[-1]], &[0], 3, &[], &[]),
-        (
-            "div",
-            &[],
-            &[&[7, -7, 7, -7], &[2, 2, -2, -2]],
-            &[4],
-            0,
-            &[&[3, -3, -3, 3]],
-            &[],
-        ),
-        ("div", &[], &[&[1], &[0]], &[1], 2, &[], &[]),
-        ("div", &[], &[&[MIN], &[-1]], &[1], 1, &[], &[]),
-        ("div", &[], &[&[MIN, 1], &[-1, 0]], &[2], 1, &[], &[]),
-        ("div", &[], &[&[1, MIN], &[0, -1]], &[2], 2, &[], &[]),
-        ("div", &[], &[&[1], &[0]], &[2], 3, &[], &[]),
-        (
-            "min",
-            &[],
-            &[&[MIN, 3, 4], &[MAX, 3, -4]],
-            &[3],
-            0,
-            &[&[MIN, 3, -4]],
-            &[],
-        ),
-        ("min", &[], &[&[1], &[1, 2]], &[1], 3, &[], &[]),
-        (
-            "max",
-            &[],
-            &[&[MIN, 3, 4], &[MAX, 3, -4]],
-            &[3],
-            0,
-            &[&[MAX, 3, 4]],
-            &[],
-        ),
-        ("max", &[], &[&[1, 2], &[1]], &[2], 3, &[], &[]),
-        (
-            "clamp",
-            &[-1, 2],
-            &[&[MIN, 0, MAX]],
-            &[3],
-            0,
-            &[&[-1, 0, 2]],
-            &[],
-        ),
-        ("clamp", &[2, 2], &[&[1, 2, 3]], &[3], 0, &[&[2, 2, 2]], &[]),
-        ("clamp", &[3, 1], &[&[2]], &[1], 4, &[], &[]),
-        ("clamp", &[3, 1], &[&[]], &[0], 4, &[], &[]),
-        ("clamp", &[3, 1], &[&[2]], &[2], 3, &[], &[]),
-        ("threshold", &[MIN], &[&[MIN]], &[1], 0, &[&[1]], &[]),
-        (
-            "threshold",
-            &[MAX],
-            &[&[MAX, 9223372036854775806]],
-            &[2],
-            0,
-            &[&[1, 0]],
-            &[],
-        ),
-        ("threshold", &[0], &[&[1]], &[0], 3, &[], &[]),
-    ];
-    for (place, (name, args, inputs, outs, code, outputs, sets)) in cases.iter().enumerate() {
-        let as_wanted = answers(alloc, (name, args, inputs, outs), *code, outputs, sets)?;
-        assert!(rt; as_wanted, "{name}, case {place}");
-    }
+    assert_eq!(rt; first_not_given(rt.alloc(), &elements::GIVEN)?, None);
+    assert_eq!(rt; first_not_refused(rt.alloc(), &elements::REFUSED)?, None);
     Ok(())
 }
 
 #[test]
 fn sums_and_windows_are_their_rows(rt: HostRuntime) -> Result<(), Fail> {
-    let alloc = rt.alloc();
-    let cases: [Case; 32] = [
-        ("sum", &[], &[&[]], &[1], 0, &[&[0]], &[]),
-        ("sum", &[], &[&[MAX, -1, 1]], &[1], 0, &[&[MAX]], &[]),
-        ("sum", &[], &[&[MAX, 1, -1]], &[1], 1, &[], &[]),
-        ("sum", &[], &[&[1]], &[2], 3, &[], &[]),
-        ("mean", &[], &[&[-7, 0, 0, 0]], &[1], 0, &[&[-1]], &[]),
-        ("mean", &[], &[&[7, 0, 0, 0]], &[1], 0, &[&[1]], &[]),
-        ("mean", &[], &[&[MIN]], &[1], 0, &[&[MIN]], &[]),
-        ("mean", &[], &[&[]], &[1], 3, &[], &[]),
-        ("mean", &[], &[&[MAX, 1, -1]], &[1], 1, &[], &[]),
-        ("mean", &[], &[&[1]], &[0], 3, &[], &[]),
-        (
-            "dot",
-            &[],
-            &[&[1, 2, 3], &[4, 5, 6]],
-            &[1],
-            0,
-            &[&[32]],
-            &[],
-        ),
-        ("dot", &[], &[&[], &[]], &[1], 0, &[&[0]], &[]),
-        ("dot", &[], &[&[MIN], &[-1]], &[1], 1, &[], &[]),
-        ("dot", &[], &[&[MAX, 1], &[1, 1]], &[1], 1, &[], &[]),
-        ("dot", &[], &[&[1], &[1, 2]], &[1], 3, &[], &[]),
-        ("dot", &[], &[&[1], &[1]], &[2], 3, &[], &[]),
-        (
-            "fir",
-            &[1, 2, 3],
-            &[&[1, 0, 0, 1]],
-            &[2],
-            0,
-            &[&[3, 1]],
-            &[],
-        ),
-        ("fir", &[5], &[&[1, -1]], &[2], 0, &[&[5, -5]], &[]),
-        ("fir", &[1, 1, 1], &[&[MAX, 1, -1]], &[1], 0, &[&[MAX]], &[]),
-        ("fir", &[1, 1, 1], &[&[-1, 1, MAX]], &[1], 1, &[], &[]),
-        ("fir", &[-1], &[&[MIN]], &[1], 1, &[], &[]),
-        ("fir", &[1, 2], &[&[1]], &[0], 3, &[], &[]),
-        ("fir", &[1, 1], &[&[1, 2]], &[2], 3, &[], &[]),
-        (
-            "moving",
-            &[2],
-            &[&[4, -7, 2]],
-            &[3],
-            0,
-            &[&[4, -1, -2]],
-            &[],
-        ),
-        ("moving", &[64], &[&[1, 2]], &[2], 0, &[&[1, 1]], &[]),
-        ("moving", &[1], &[&[MIN, MAX]], &[2], 0, &[&[MIN, MAX]], &[]),
-        ("moving", &[2], &[&[-1, 0]], &[2], 0, &[&[-1, 0]], &[]),
-        ("moving", &[2], &[&[MAX, 1]], &[2], 1, &[], &[]),
-        ("moving", &[0], &[&[1]], &[1], 4, &[], &[]),
-        ("moving", &[65], &[&[1]], &[1], 4, &[], &[]),
-        ("moving", &[-1], &[&[]], &[0], 4, &[], &[]),
-        ("moving", &[0], &[&[1]], &[2], 3, &[], &[]),
-    ];
-    for (place, (name, args, inputs, outs, code, outputs, sets)) in cases.iter().enumerate() {
-        let as_wanted = answers(alloc, (name, args, inputs, outs), *code, outputs, sets)?;
-        assert!(rt; as_wanted, "{name}, case {place}");
-    }
+    assert_eq!(rt; first_not_given(rt.alloc(), &sums::GIVEN)?, None);
+    assert_eq!(rt; first_not_refused(rt.alloc(), &sums::REFUSED)?, None);
     Ok(())
 }
 
 #[test]
 fn rearranging_kernels_are_their_rows(rt: HostRuntime) -> Result<(), Fail> {
-    let alloc = rt.alloc();
-    let cases: [Case; 24] = [
-        ("up", &[], &[&[1, 2]], &[4], 0, &[&[1, 1, 2, 2]], &[]),
-        ("up", &[], &[&[1, 2]], &[2], 0, &[&[1, 2]], &[]),
-        ("up", &[], &[&[]], &[0], 3, &[], &[]),
-        ("up", &[], &[&[1, 2]], &[3], 3, &[], &[]),
-        ("up", &[], &[&[1, 2]], &[1], 3, &[], &[]),
-        ("up", &[], &[&[1]], &[0], 3, &[], &[]),
-        ("down", &[], &[&[1, 2, 3, 4]], &[2], 0, &[&[1, 3]], &[]),
-        ("down", &[], &[&[1, 2]], &[2], 0, &[&[1, 2]], &[]),
-        ("down", &[], &[&[1]], &[0], 3, &[], &[]),
-        ("down", &[], &[&[1, 2, 3]], &[2], 3, &[], &[]),
-        ("down", &[], &[&[1]], &[2], 3, &[], &[]),
-        ("ramp", &[10, -4], &[], &[4], 0, &[&[10, 6, 2, -2]], &[]),
-        ("ramp", &[5, 3], &[], &[0], 0, &[&[]], &[]),
-        ("ramp", &[MAX, 1], &[], &[1], 0, &[&[MAX]], &[]),
-        (
-            "ramp",
-            &[MAX - 2, 1],
-            &[],
-            &[3],
-            0,
-            &[&[MAX - 2, MAX - 1, MAX]],
-            &[],
-        ),
-        ("ramp", &[MAX, 1], &[], &[2], 1, &[], &[]),
-        ("ramp", &[MIN, -1], &[], &[2], 1, &[], &[]),
-        (
-            "transpose",
-            &[2, 3],
-            &[&[1, 2, 3, 4, 5, 6]],
-            &[6],
-            0,
-            &[&[1, 4, 2, 5, 3, 6]],
-            &[],
-        ),
-        ("transpose", &[1, 2], &[&[8, 9]], &[2], 0, &[&[8, 9]], &[]),
-        ("transpose", &[0, 3], &[&[]], &[0], 4, &[], &[]),
-        ("transpose", &[-1, -2], &[&[1, 2]], &[2], 4, &[], &[]),
-        ("transpose", &[2, 3], &[&[1, 2]], &[2], 4, &[], &[]),
-        (
-            "transpose",
-            &[4294967296, 4294967296],
-            &[&[]],
-            &[0],
-            4,
-            &[],
-            &[],
-        ),
-        ("transpose", &[0, 3], &[&[1]], &[2], 3, &[], &[]),
-    ];
-    for (place, (name, args, inputs, outs, code, outputs, sets)) in cases.iter().enumerate() {
-        let as_wanted = answers(alloc, (name, args, inputs, outs), *code, outputs, sets)?;
-        assert!(rt; as_wanted, "{name}, case {place}");
-    }
+    assert_eq!(rt; first_not_given(rt.alloc(), &rearranged::GIVEN)?, None);
+    assert_eq!(rt; first_not_refused(rt.alloc(), &rearranged::REFUSED)?, None);
     Ok(())
 }
 
 #[test]
-fn counting_and_configuring_kernels_are_their_rows(rt: HostRuntime) -> Result<(), Fail> {
-    let alloc = rt.alloc();
-    let cases: [Case; 35] = [
-        ("median", &[], &[&[3, 1, 2]], &[1], 0, &[&[2]], &[]),
-        ("median", &[], &[&[1, 1, 2]], &[1], 0, &[&[1]], &[]),
-        ("median", &[], &[&[2, 1, 2]], &[1], 0, &[&[2]], &[]),
-        ("median", &[], &[&[MAX, 0, MIN]], &[1], 0, &[&[0]], &[]),
-        ("median", &[], &[&[4, 1, 3, 2, 5]], &[1], 0, &[&[3]], &[]),
-        ("median", &[], &[&[]], &[1], 3, &[], &[]),
-        ("median", &[], &[&[1, 2]], &[1], 3, &[], &[]),
-        ("median", &[], &[&[1]], &[2], 3, &[], &[]),
-        (
-            "histogram",
-            &[-2, 3],
-            &[&[-3, -2, 0, 1, 3, 4, 6, 7]],
-            &[3],
-            0,
-            &[&[2, 2, 2]],
-            &[],
-        ),
-        (
-            "histogram",
-            &[MIN, MAX],
-            &[&[MIN, -2, -1, 0, MAX]],
-            &[3],
-            0,
-            &[&[2, 2, 1]],
-            &[],
-        ),
-        (
-            "histogram",
-            &[MAX, MAX],
-            &[&[MAX - 1, MAX, MIN]],
-            &[2],
-            0,
-            &[&[1, 0]],
-            &[],
-        ),
-        ("histogram", &[0, 0], &[&[1]], &[1], 4, &[], &[]),
-        ("histogram", &[0, -1], &[&[]], &[1], 4, &[], &[]),
-        ("histogram", &[0, 0], &[&[1]], &[0], 3, &[], &[]),
-        (
-            "count_above",
-            &[3],
-            &[&[3, 4, 5, -9]],
-            &[1],
-            0,
-            &[&[2]],
-            &[],
-        ),
-        ("count_above", &[MAX], &[&[MAX]], &[1], 0, &[&[0]], &[]),
-        ("count_above", &[0], &[&[]], &[1], 0, &[&[0]], &[]),
-        ("count_above", &[0], &[&[1]], &[2], 3, &[], &[]),
-        ("read_param", &[], &[&[7, 8]], &[], 0, &[], &[7, 8]),
-        (
-            "read_param",
-            &[],
-            &[&[1, 2, 3, MIN]],
-            &[],
-            0,
-            &[],
-            &[1, 2, 3, MIN],
-        ),
-        ("read_param", &[], &[&[1, 2]], &[], 3, &[], &[0, 0, 0]),
-        ("read_param", &[], &[&[1, 2]], &[], 3, &[], &[0]),
-        ("pick", &[5, 6, 7], &[&[2]], &[], 0, &[], &[7]),
-        ("pick", &[MIN], &[&[0]], &[], 0, &[], &[MIN]),
-        ("pick", &[5, 6], &[&[2]], &[], 4, &[], &[0]),
-        ("pick", &[5, 6], &[&[-1]], &[], 4, &[], &[0]),
-        ("pick", &[5, 6], &[&[MIN]], &[], 4, &[], &[0]),
-        ("pick", &[5, 6], &[&[0, 0]], &[], 3, &[], &[0]),
-        ("pick", &[5], &[&[]], &[], 3, &[], &[0]),
-        (
-            "spread",
-            &[],
-            &[&[3, -4, 9]],
-            &[3],
-            0,
-            &[&[3, -4, 9]],
-            &[13],
-        ),
-        ("spread", &[], &[&[5]], &[1], 0, &[&[5]], &[0]),
-        ("spread", &[], &[&[-1, MIN]], &[2], 0, &[&[-1, MIN]], &[MAX]),
-        ("spread", &[], &[&[MIN, 0]], &[2], 1, &[], &[0]),
-        ("spread", &[], &[&[]], &[0], 3, &[], &[0]),
-        ("spread", &[], &[&[5]], &[2], 3, &[], &[0]),
-    ];
-    for (place, (name, args, inputs, outs, code, outputs, sets)) in cases.iter().enumerate() {
-        let as_wanted = answers(alloc, (name, args, inputs, outs), *code, outputs, sets)?;
-        assert!(rt; as_wanted, "{name}, case {place}");
-    }
+fn counting_kernels_are_their_rows(rt: HostRuntime) -> Result<(), Fail> {
+    assert_eq!(rt; first_not_given(rt.alloc(), &counted::GIVEN)?, None);
+    assert_eq!(rt; first_not_refused(rt.alloc(), &counted::REFUSED)?, None);
     Ok(())
 }
 
 #[test]
-fn the_median_of_more_than_255_tokens_is_refused(rt: HostRuntime) -> Result<(), Fail> {
-    let alloc = rt.alloc();
-    let tokens = [4; 257];
-    let refused = answers(alloc, ("median", &[], &[&tokens], &[1]), 3, &[], &[])?;
-    let taken = answers(
-        alloc,
-        ("median", &[], &[&tokens[..255]], &[1]),
-        0,
-        &[&[4]],
-        &[],
-    )?;
-    assert_eq!(rt; (refused, taken), (true, true));
+fn configuring_kernels_are_their_rows(rt: HostRuntime) -> Result<(), Fail> {
+    assert_eq!(rt; first_not_given(rt.alloc(), &configured::GIVEN)?, None);
+    assert_eq!(rt; first_not_refused(rt.alloc(), &configured::REFUSED)?, None);
     Ok(())
 }

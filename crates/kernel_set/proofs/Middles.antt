@@ -1,10 +1,16 @@
--- An odd number of tokens has one number in the middle at most.
-use Rattle.std.proofs.Common.{◌≡◌, ℕ, ◌+◌, ◌-◌, ◌/◌, ◌%◌, ◌≤◌, Bool, true, false, cond, List, [], ◌∷◌, length, suc, refl, arith}
-use Rattle.std.specs.Prelude.{ℤ, ◌<ℤ◌, int_lt, count_by, find, Some}
+-- An odd number of tokens has exactly one number in the middle.
+use Rattle.std.proofs.Common.{◌≡◌, ℕ, ◌+◌, ◌-◌, ◌/◌, ◌%◌, ◌≤◌, ◌<◌, Bool, true, false, cond, List, [], ◌∷◌, length, get_or, suc, refl, sym, ap, ◌∙◌, arith}
+use Rattle.std.specs.Prelude.{ℤ, pos, nat_le, ◌<ℤ◌, int_lt, count_by, sum_by, find, Some}
+use Rattle.std.specs.Ordering.{int_cmp, is_lt}
+use Rattle.std.specs.List.Sorted.{IsPermutation, IsSorted}
 use Rattle.std.proofs.lemmas.Int.{ints, by_lt_z}
 use Rattle.std.proofs.lemmas.Bool.Decides.{nat_tests}
-use Rattle.std.proofs.lemmas.List.Recursion.{is_count_by}
+use Rattle.std.proofs.lemmas.Cmp.{int_cmp_total}
+use Rattle.std.proofs.lemmas.List.Elements.{Contains-get_or}
+use Rattle.std.proofs.lemmas.List.Recursion.{is_count_by, is_sum_by}
+use Rattle.std.proofs.lemmas.List.Sorted.{Contains-permutation, IsPermutation-sym, length_permutation, ranks_by, sorted_far, sum_by-IsPermutation}
 use Rattle.kernel_gate.specs.Counted.{smaller, larger, in_the_middle}
+use Rattle.kernel_set.proofs.Firings.{both}
 
 abbrev tally : (ℤ → Bool) → List ℤ → ℕ
 tally p [] = 0
@@ -53,3 +59,82 @@ first_passes p x xs t false fails later is = later is
 pub find_passes : (p : ℤ → Bool) (xs : List ℤ) (t : ℤ) → find p xs ≡ Some t → p t ≡ true
 find_passes p [] t e = cc
 find_passes p (x ∷ xs) t e = first_passes p x xs t (p x) refl (find_passes p xs t) e
+
+-- tokens in order have the middle one in the middle
+weighed : (b : Bool) (n : ℕ) → cond b (1 + n) n ≡ cond b 1 0 + n
+weighed true n = refl
+weighed false n = omega arith
+
+tally_sum : (p : ℤ → Bool) (xs : List ℤ) → tally p xs ≡ sum_by (λ x. cond (p x) 1 0) xs
+tally_sum p xs = is_sum_by (tally p) (λ x. cond (p x) 1 0) refl (λ x ys. weighed (p x) (tally p ys)) xs
+
+tally_moved : (p : ℤ → Bool) (xs ys : List ℤ) → IsPermutation xs ys → tally p ys ≡ tally p xs
+tally_moved p xs ys moved = tally_sum p ys ∙ (sum_by-IsPermutation (λ x. cond (p x) 1 0) xs ys moved ∙ sym (tally_sum p xs))
+
+none : (b : Bool) (t n : ℕ) → b ≡ false → t ≤ n → cond b (1 + t) t ≤ n
+none true t n e le = cc
+none false t n e le = le
+
+one : (b : Bool) (t n : ℕ) → t ≤ n → cond b (1 + t) t ≤ suc n
+one true t n le = omega arith
+one false t n le = omega arith
+
+-- where only tokens before a place pass, no more pass than stand there
+few_before : (p : ℤ → Bool) (ys : List ℤ) (n : ℕ) → ((k : ℕ) → n ≤ k → k < length ys → p (get_or ys k (pos 0)) ≡ false) → tally p ys ≤ n
+few_before p [] n fails = omega arith
+few_before p (y ∷ ys) Prim.Native.Nat.zero fails =
+    none (p y) (tally p ys) 0 (fails 0 (omega arith) (omega arith)) (few_before p ys 0 (λ k le lt. fails (suc k) (omega arith) (omega arith)))
+few_before p (y ∷ ys) (Prim.Native.Nat.suc n) fails =
+    one (p y) (tally p ys) n (few_before p ys n (λ k le lt. fails (suc k) (omega arith) (omega arith)))
+
+-- where only tokens from a place on pass
+few_after : (p : ℤ → Bool) (ys : List ℤ) (n : ℕ) → ((k : ℕ) → k < n → k < length ys → p (get_or ys k (pos 0)) ≡ false) → tally p ys ≤ length ys - n
+few_after p [] n fails = omega arith
+few_after p (y ∷ ys) Prim.Native.Nat.zero fails =
+    let fewer = few_after p ys 0 (λ k lt. absurd (omega arith)) in
+    let all = one (p y) (tally p ys) (length ys) (omega arith) in
+    omega arith
+few_after p (y ∷ ys) (Prim.Native.Nat.suc n) fails =
+    let fewer = none (p y) (tally p ys) (length ys - n) (fails 0 (omega arith) (omega arith)) (few_after p ys n (λ k lt lt_all. fails (suc k) (omega arith) (omega arith))) in
+    omega arith
+
+not_less : (x y : ℤ) → is_lt (int_cmp x y) ≡ false → int_lt x y ≡ false
+not_less x y e = grind (arith, ints)
+
+in_order : (ys : List ℤ) → IsSorted int_cmp ys → (i j : ℕ) → i ≤ j → j < length ys → int_lt (get_or ys j (pos 0)) (get_or ys i (pos 0)) ≡ false
+in_order ys sorted i j le lt =
+    not_less (get_or ys j (pos 0)) (get_or ys i (pos 0)) (sorted_far (λ x y. is_lt (int_cmp x y)) (ranks_by int_cmp_total (λ (x : ℤ). x)) ys sorted i j (pos 0) le lt)
+
+middle_passes : (xs ys : List ℤ) → length xs % 2 ≡ 1 → IsPermutation xs ys → IsSorted int_cmp ys → in_the_middle xs (get_or ys (length xs / 2) (pos 0)) ≡ true
+middle_passes xs ys odd moved sorted =
+    let h = length xs / 2 in
+    let t = get_or ys h (pos 0) in
+    let len : length ys ≡ length xs = length_permutation xs ys moved in
+    let here : h < length ys = omega arith in
+    let before = few_before (λ u. int_lt u t) ys h (λ k le lt. in_order ys sorted h k le lt) in
+    let after = few_after (λ u. int_lt t u) ys (h + 1) (λ k lt lt_all. in_order ys sorted k h (omega arith) here) in
+    let few : smaller xs t ≤ (length xs - 1) / 2 = omega (arith, tally_is (λ u. int_lt u t) xs, tally_moved (λ u. int_lt u t) xs ys moved) in
+    let many : larger xs t ≤ (length xs - 1) / 2 = omega (arith, tally_is (λ u. int_lt t u) xs, tally_moved (λ u. int_lt t u) xs ys moved) in
+    both _ _ (is_le (smaller xs t) ((length xs - 1) / 2) few) (is_le (larger xs t) ((length xs - 1) / 2) many)
+  where
+    is_le : (m n : ℕ) → m ≤ n → nat_le m n ≡ true
+    is_le m n le = grind (arith, nat_tests)
+
+found_at : (p : ℤ → Bool) (xs : List ℤ) (k : ℕ) (d : ℤ) → k < length xs → p (get_or xs k d) ≡ true → (u : ℤ) × (find p xs ≡ Some u)
+found_at p [] k d lt passes = absurd (omega arith)
+found_at p (x ∷ xs) Prim.Native.Nat.zero d lt passes = (x, ap (λ (b : Bool). cond b (Some x) (find p xs)) passes)
+found_at p (x ∷ xs) (Prim.Native.Nat.suc k) d lt passes = later (p x) (found_at p xs k d (omega arith) passes)
+  where
+    later : (b : Bool) → ((u : ℤ) × (find p xs ≡ Some u)) → (u : ℤ) × (cond b (Some x) (find p xs) ≡ Some u)
+    later true rest = (x, refl)
+    later false rest = rest
+
+-- an odd number of tokens has one in the middle, and an order shows it
+pub middle_found : (xs ys : List ℤ) → length xs % 2 ≡ 1 → IsPermutation xs ys → IsSorted int_cmp ys → find (in_the_middle xs) xs ≡ Some (get_or ys (length xs / 2) (pos 0))
+middle_found xs ys odd moved sorted =
+    let t = get_or ys (length xs / 2) (pos 0) in
+    let len : length ys ≡ length xs = length_permutation xs ys moved in
+    let passes = middle_passes xs ys odd moved sorted in
+    let held = Contains-permutation ys xs t (IsPermutation-sym xs ys moved) (Contains-get_or ys (length xs / 2) (pos 0) (omega arith)) in
+    let found = found_at (in_the_middle xs) xs held.0 t held.1 (ap (in_the_middle xs) held.2 ∙ passes) in
+    found.1 ∙ ap Some (the_same xs found.0 t odd (find_passes (in_the_middle xs) xs found.0 found.1) passes)

@@ -5,7 +5,7 @@ ghost use Rattle.kernel_gate.specs.Signed.{Fits};
 ghost use Rattle.kernel_gate.specs.Tokens.{bounded};
 ghost use Rattle.kernel_gate.specs.Configured.{at_place, greatest, least, read_param_signature, read_param_answer, pick_signature, pick_answer, spread_signature, spread_answer};
 
-use crate::tokens::difference;
+use crate::tokens::checked_difference;
 use kernel_gate::{Frame, KernelFault};
 
 /// The argument at a place, where there is one.
@@ -29,7 +29,7 @@ fn range_of(x: &[i64]) -> Result<i64, KernelFault>
         high = high.max(*t);
         low = low.min(*t);
     }
-    difference(high, low)
+    checked_difference(high, low)
 }
 
 /// Each parameter is set to the token at its place. Shape unless there are as many tokens as parameters.

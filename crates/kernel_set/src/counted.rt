@@ -1,9 +1,9 @@
 // The kernels that count tokens.
-ghost use Rattle.std.specs.Prelude.{◌≡◌, ◌==◌, ◌≤ℤ◌, ℕ, ℤ, [], ◌∷◌, true, false, pos, length, map, find, count_by, IfNone, IfOk, IfSome};
+ghost use Rattle.std.specs.Prelude.{◌≡◌, ◌==◌, ◌≤◌, ◌≤ℤ◌, ◌%◌, ℕ, ℤ, [], ◌∷◌, true, false, pos, length, map, find, count_by, IfNone, IfOk, IfSome, IsOk, Some};
 ghost use Rattle.kernel_gate.specs.Value.{SameFrame, answer_of, port, told_by};
 ghost use Rattle.kernel_gate.specs.Signed.{Fits};
 ghost use Rattle.kernel_gate.specs.Tokens.{places};
-ghost use Rattle.kernel_gate.specs.Counted.{smaller, larger, in_the_middle, in_bin, median_signature, median_answer, histogram_signature, histogram_answer, count_above_signature, count_above_answer};
+ghost use Rattle.kernel_gate.specs.Counted.{larger, in_the_middle, in_bin, median_signature, median_answer, histogram_signature, histogram_answer, count_above_signature, count_above_answer};
 
 use kernel_gate::{Frame, KernelFault};
 
@@ -20,37 +20,17 @@ fn above(limit: i64, x: &[i64]) -> usize
     count
 }
 
-/// The number of tokens smaller than a limit.
-fn below(limit: i64, x: &[i64]) -> usize
-    ensures { result ≡ smaller x.now limit }
+/// The token in the middle by size: of the tokens in order, the one with as many before it as after it.
+fn middle(x: &[i64]) -> i64
+    requires odd { length x.now % 2 ≡ 1 }
+    requires few { length x.now ≤ 255 }
+    ensures { find (in_the_middle x.now) x.now ≡ Some result }
 {
-    let mut count = 0;
-    for t in x {
-        if *t < limit {
-            count += 1;
-        }
-    }
-    count
-}
-
-/// Whether at most half of the other tokens are smaller than this one, and at most half are larger.
-fn is_middle(x: &[i64], t: i64) -> bool
-    ensures { result ≡ in_the_middle x.now t }
-{
-    let half = x.len().saturating_sub(1) / 2;
-    below(t, x) <= half && above(t, x) <= half
-}
-
-/// The first token in the middle.
-fn middle(x: &[i64]) -> Option<i64>
-    ensures { result ≡ find (in_the_middle x.now) x.now }
-{
-    for t in x {
-        if is_middle(x, *t) {
-            return Some(*t);
-        }
-    }
-    None
+    let mut room = [0i64; 255];
+    let tokens = &mut room[..x.len()];
+    tokens.copy_from_slice(x);
+    tokens.sort_unstable();
+    tokens[x.len() / 2]
 }
 
 /// The bin of a token, of bins from `low` on that are so wide, where it isn't below the first.
@@ -103,6 +83,7 @@ pub fn median(frame: &mut Frame) -> Result<(), KernelFault>
     requires { Fits median_signature.counts frame.old }
     ensures same { SameFrame frame.old frame.new }
     ensures value { told_by frame.new result ≡ answer_of median_answer frame.old }
+    ensures exists { length (port frame.old.outputs 0) ≡ 1 → length (port frame.old.inputs 0) % 2 ≡ 1 → length (port frame.old.inputs 0) ≤ 255 → IsOk result }
     ensures only { IfOk result (λ _. (u : ℤ) → in_the_middle (port frame.old.inputs 0) u ≡ true → frame.new.outputs ≡ (u ∷ []) ∷ []) }
 {
     let (_, x, o) = frame.ports(0, 0);
@@ -115,13 +96,8 @@ pub fn median(frame: &mut Frame) -> Result<(), KernelFault>
     if 255 < x.len() {
         return Err(KernelFault::SHAPE);
     }
-    match middle(x) {
-        Some(t) => {
-            o[0] = t;
-            Ok(())
-        }
-        None => Err(KernelFault::SHAPE),
-    }
+    o[0] = middle(x);
+    Ok(())
 }
 
 /// The number of tokens in each bin: bin `b` has those from the first argument plus `b` times the second on, to

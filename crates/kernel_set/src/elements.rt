@@ -62,6 +62,8 @@ pub fn pass(frame: &mut Frame) -> Result<(), KernelFault>
 
 /// Each token times the argument. Shape unless the output is as long; Overflow at the first product outside i64.
 #[tactic(auto, unfolding(kernel_gate::specs::Elements::gain_answer))]
+// Not inlined: where its loop stood in `fire` it was measured slower.
+#[inline(never)]
 pub fn gain(frame: &mut Frame) -> Result<(), KernelFault>
     requires { Fits gain_signature.counts frame.old }
     ensures same { SameFrame frame.old frame.new }
@@ -94,6 +96,8 @@ pub fn dup(frame: &mut Frame) -> Result<(), KernelFault>
 /// The sums of the tokens at each place. Shape unless both inputs and the output are of one length; Overflow at the
 /// first sum outside i64.
 #[tactic(auto, unfolding(kernel_gate::specs::Elements::add_answer))]
+// Not inlined: where its loop stood in `fire` it was measured slower.
+#[inline(never)]
 pub fn add(frame: &mut Frame) -> Result<(), KernelFault>
     requires { Fits add_signature.counts frame.old }
     ensures same { SameFrame frame.old frame.new }

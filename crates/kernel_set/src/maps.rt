@@ -1,7 +1,9 @@
 // What the kernels make of a token, or of two.
 ghost use Rattle.std.specs.Prelude.{◌≡◌};
 
-use crate::tokens::{PairMap, TokenMap, difference, divided, joined, product};
+use crate::tokens::{
+    PairMap, TokenMap, checked_difference, checked_product, checked_quotient, checked_sum,
+};
 use kernel_gate::KernelFault;
 
 /// Times `factor`.
@@ -18,7 +20,7 @@ impl TokenMap for Times {
 
     #[inline(always)]
     fn image(&self, t: i64) -> Result<i64, KernelFault> {
-        product(t, self.factor)
+        checked_product(t, self.factor)
     }
 }
 
@@ -76,7 +78,7 @@ impl PairMap for Plus {
 
     #[inline(always)]
     fn image(&self, t: i64, u: i64) -> Result<i64, KernelFault> {
-        joined(t, u)
+        checked_sum(t, u)
     }
 }
 
@@ -92,7 +94,7 @@ impl PairMap for Minus {
 
     #[inline(always)]
     fn image(&self, t: i64, u: i64) -> Result<i64, KernelFault> {
-        difference(t, u)
+        checked_difference(t, u)
     }
 }
 
@@ -108,7 +110,7 @@ impl PairMap for Multiplied {
 
     #[inline(always)]
     fn image(&self, t: i64, u: i64) -> Result<i64, KernelFault> {
-        product(t, u)
+        checked_product(t, u)
     }
 }
 
@@ -123,7 +125,7 @@ impl PairMap for Divided {
 
     #[inline(always)]
     fn image(&self, t: i64, u: i64) -> Result<i64, KernelFault> {
-        divided(t, u)
+        checked_quotient(t, u)
     }
 }
 

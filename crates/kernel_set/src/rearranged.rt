@@ -7,7 +7,7 @@ ghost use Rattle.kernel_gate.specs.Tokens.{bounded, each, places, token};
 ghost use Rattle.kernel_gate.specs.Rearranged.{column, up_signature, up_answer, down_signature, down_answer, ramp_signature, ramp_answer, transpose_signature, transpose_answer};
 ghost use Rattle.kernel_set.specs.Written.{Writes};
 
-use crate::tokens::joined;
+use crate::tokens::checked_sum;
 use kernel_gate::{Frame, KernelFault};
 
 /// Writes each token so many times in a row.
@@ -41,7 +41,7 @@ fn write_steps(start: i64, step: i64, o: &mut [i64]) -> Result<(), KernelFault>
     o[0] = start;
     let mut token = start;
     for n in 1..o.len() {
-        match joined(token, step) {
+        match checked_sum(token, step) {
             Ok(next) => {
                 token = next;
                 o[n] = next;

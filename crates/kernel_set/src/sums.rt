@@ -7,7 +7,7 @@ ghost use Rattle.kernel_gate.specs.Sums.{sum_signature, sum_answer, mean_signatu
 ghost use Rattle.kernel_set.specs.Written.{Writes, alone};
 
 use crate::maps::Plus;
-use crate::tokens::{divided, fold, joined, product};
+use crate::tokens::{checked_product, checked_quotient, checked_sum, fold};
 use kernel_gate::{Frame, KernelFault};
 
 /// The token as the only one of an output.
@@ -29,7 +29,7 @@ fn mean_of_tokens(x: &[i64]) -> Result<i64, KernelFault>
     ensures { result ≡ mean_of x.now }
 {
     match fold(&Plus, 0, x) {
-        Ok(all) => divided(all, x.len() as i64),
+        Ok(all) => checked_quotient(all, x.len() as i64),
         Err(fault) => Err(fault),
     }
 }
@@ -39,8 +39,8 @@ fn mean_of_tokens(x: &[i64]) -> Result<i64, KernelFault>
 fn accumulated(all: i64, x: i64, z: i64) -> Result<i64, KernelFault>
     ensures { result ≡ plus_product all (x, z) }
 {
-    match product(x, z) {
-        Ok(y) => joined(all, y),
+    match checked_product(x, z) {
+        Ok(y) => checked_sum(all, y),
         Err(fault) => Err(fault),
     }
 }

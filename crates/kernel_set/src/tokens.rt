@@ -5,31 +5,20 @@ ghost use Rattle.kernel_set.specs.Written.{Writes};
 
 use kernel_gate::KernelFault;
 
-/// The number as a token, or Overflow.
-#[inline(always)]
-pub(crate) fn narrowed(wide: i128) -> Result<i64, KernelFault>
-    ensures { result ≡ bounded wide }
-{
-    if wide < (i64::MIN as i128) {
-        return Err(KernelFault::OVERFLOW);
-    }
-    if (i64::MAX as i128) < wide {
-        return Err(KernelFault::OVERFLOW);
-    }
-    Ok(wide as i64)
-}
-
 /// The product, or Overflow.
 #[inline(always)]
-pub(crate) fn product(x: i64, z: i64) -> Result<i64, KernelFault>
+pub(crate) fn checked_product(x: i64, z: i64) -> Result<i64, KernelFault>
     ensures { result ≡ bounded (x *ℤ z) }
 {
-    narrowed(x as i128 * z as i128)
+    match x.checked_mul(z) {
+        Some(y) => Ok(y),
+        None => Err(KernelFault::OVERFLOW),
+    }
 }
 
 /// The sum, or Overflow.
 #[inline(always)]
-pub(crate) fn joined(x: i64, z: i64) -> Result<i64, KernelFault>
+pub(crate) fn checked_sum(x: i64, z: i64) -> Result<i64, KernelFault>
     ensures { result ≡ bounded (x +ℤ z) }
 {
     match x.checked_add(z) {
@@ -40,7 +29,7 @@ pub(crate) fn joined(x: i64, z: i64) -> Result<i64, KernelFault>
 
 /// The difference, or Overflow.
 #[inline(always)]
-pub(crate) fn difference(x: i64, z: i64) -> Result<i64, KernelFault>
+pub(crate) fn checked_difference(x: i64, z: i64) -> Result<i64, KernelFault>
     ensures { result ≡ bounded (x -ℤ z) }
 {
     match x.checked_sub(z) {
@@ -51,7 +40,7 @@ pub(crate) fn difference(x: i64, z: i64) -> Result<i64, KernelFault>
 
 /// The quotient, rounded towards zero, or Division where the divisor is 0, or Overflow.
 #[inline(always)]
-pub(crate) fn divided(x: i64, divisor: i64) -> Result<i64, KernelFault>
+pub(crate) fn checked_quotient(x: i64, divisor: i64) -> Result<i64, KernelFault>
     ensures { result ≡ quotient x divisor }
 {
     if divisor == 0 {

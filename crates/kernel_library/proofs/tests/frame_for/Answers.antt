@@ -1,7 +1,7 @@
-use Rattle.std.proofs.Common.{◌≡◌, ℕ, List, [], ◌<◌, length, false, refl, ap, sym, ◌∙◌, arith}
+use Rattle.std.proofs.Common.{◌≡◌, ℕ, List, [], length, false, refl, ap, sym, ◌∙◌, arith}
 use Rattle.std.proofs.lemmas.List.{length-map, length-replicate}
 use Rattle.std.specs.Prelude.{ℤ, slice_get, replicate, pos}
-use Rattle.kernel_gate.specs.Signed.{counts_of, unnamed}
+use Rattle.kernel_gate.specs.Signed.{unnamed}
 use Rattle.kernel_gate.specs.Table.{the_signatures}
 use Rattle.kernel_gate.specs.declared.signature.Signature.{Signature}
 use Rattle.kernel_library.proofs.Seen.{signature_at}
