@@ -1,5 +1,6 @@
 pub mod Answered
 pub mod Bound
+pub mod Computed
 pub mod Derived
 pub mod Fewest
 pub mod Halves

@@ -3,7 +3,7 @@ use Rattle.std.specs.Prelude.{◌≡◌, ℕ, ◌+◌, ◌-◌, ◌^◌, ◌<◌
 use Rattle.param_expr.specs.Named.{NamedTree, number, name, binary}
 use Rattle.param_expr.specs.Tokens as token
 use Rattle.param_expr.specs.Tokens.{Token, Placed, tokens_from}
-use Rattle.param_expr.specs.declared.limits.TheConstants.{MAX_OPEN_PARENTHESES}
+use Rattle.param_expr.specs.declared.limits.TheConstants.{MAX_EXPRESSION_BYTES, MAX_OPEN_PARENTHESES}
 use Rattle.param_expr.specs.declared.op.Op.{Op}
 use Rattle.param_expr.specs.declared.symbol.Symbol.{Symbol}
 use Rattle.param_expr.specs.declared.symbol.Symbol.TheVariants.{Number, Word, Additive, Multiplicative, Function, Open, Close, Comma, Other}
@@ -191,3 +191,11 @@ unless_large None answer = answer
 
 abbrev pub judged_of : Reading → Result NamedTree ExprFault
 judged_of reading = unless_large reading.tally.large (if nat_lt MAX_OPEN_PARENTHESES reading.tally.deepest then Err TooDeep else Ok reading.parsed)
+
+abbrev pub judged_reading : Tally → Result NamedTree ℕ → Result NamedTree ExprFault
+judged_reading tally (Err at) = Err (Syntax at)
+judged_reading tally (Ok expr) = judged_of (record { parsed = expr; tally = tally })
+
+-- the one answer that a text has
+unfoldable pub answer_of : List ℕ → Result NamedTree ExprFault
+answer_of text = if nat_lt MAX_EXPRESSION_BYTES (length text) then Err TooLong else judged_reading (tally_of text first_reader) (outcome text first_reader)

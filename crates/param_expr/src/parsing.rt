@@ -1,7 +1,7 @@
 ghost use Rattle.std.specs.Prelude.{◌≡◌, ◌≤◌, length, IfOk, Result, Err};
 ghost use Rattle.param_expr.specs.Named.{NamedTree};
 ghost use Rattle.param_expr.specs.Grammar.{Spells};
-ghost use Rattle.param_expr.specs.Machine.{judged_of};
+ghost use Rattle.param_expr.specs.Machine.{answer_of, judged_of};
 ghost use Rattle.param_expr.specs.Parse.{Answers, IsStated, SameUnlessMemory, UnlessMemory};
 ghost use Rattle.param_expr.specs.declared.fault.ExprFault.{ExprFault};
 
@@ -61,6 +61,8 @@ pub fn parse(alloc: Global, text: &str) -> Result<Parsed, ExprFault>
     // Such an answer is given, unless memory runs out.
     ensures only { (answer : Result NamedTree ExprFault) → Answers text.now answer → SameUnlessMemory result answer }
     ensures memory { result ≡ Err ExprFault.Memory → length text.now ≤ MAX_EXPRESSION_BYTES }
+    // The one answer, as a function of the text.
+    ensures computed { UnlessMemory (λ found. found ≡ answer_of text.now) result }
     // Its numbers are at least 0, and its names are names.
     ensures stated { IfOk result IsStated }
     // A text spells one tree at most.

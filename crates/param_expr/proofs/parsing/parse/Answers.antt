@@ -1,3 +1,4 @@
+use Rattle.param_expr.proofs.Computed.{computed}
 use Rattle.param_expr.proofs.OneAnswer.{one_answer, one_spelled}
 use Rattle.param_expr.proofs.Fewest.{answer_stated}
 use Rattle.param_expr.proofs.parsing.parse.Goals as goal
@@ -10,3 +11,6 @@ returns-clause-one_tree c = one_spelled c.args.text.now
 
 pub returns-clause-stated : goal.returns-clause-stated
 returns-clause-stated c = answer_stated c.args.text.now c.first_answer.result c.first_answer.ensures.answer
+
+pub returns-clause-computed : goal.returns-clause-computed
+returns-clause-computed c = computed c.args.text.now c.first_answer.result c.first_answer.ensures.answer
