@@ -1,0 +1,12 @@
+pub mod Arrows
+pub mod Count
+pub mod Details
+pub mod InterfaceWires
+pub mod Names
+pub mod Nesting
+pub mod ParamOrder
+pub mod Parts
+pub mod Ports
+pub mod Range
+pub mod Search
+pub mod Wires

@@ -1,13 +1,52 @@
 //! PiSDF graphs (Desnos and others 2013, PiMM): hierarchical dataflow graphs of actors whose token rates depend on
-//! parameters. Names are resolved: a part refers to another by its place in a list.
+//! parameters. Names are resolved: a part refers to another by its place in a list. And the checks of graphs: which
+//! numbers refer to parts, and the first place at which a graph breaks a rule.
 #![tactic(auto)]
 
 mod actor;
+mod arrows;
+mod counting;
+mod detail_fault;
+mod duplicates;
 mod fifo;
 mod graph;
+mod interface_wires;
+mod limits;
+mod named_params;
+mod names;
+mod nesting;
+mod nesting_limit;
+mod ordering;
 mod param;
+mod parts;
+mod port_counts;
+mod range;
+mod wires;
 
 pub use actor::{Actor, Body, Port};
+pub use counting::{Counted, count};
+pub use detail_fault::DetailFault;
+pub use duplicates::duplicate;
 pub use fifo::{End, Fifo, Life};
 pub use graph::{Graph, Graphs, Interface};
+pub use interface_wires::{FifoPlace, interface_wire};
+pub use limits::{
+    MAX_ACTORS, MAX_DELAY_TOKENS, MAX_FIFOS, MAX_GRAPHS, MAX_INPUTS, MAX_OUTPUTS, MAX_PARAMS,
+};
+pub use names::{Scope, ScopedName, repeat};
+pub use nesting::{depth, graph_cycle};
+pub use nesting_limit::MAX_NESTING;
+pub use ordering::param_order;
 pub use param::{Param, ParamKind};
+pub use port_counts::{AnyCounts, Counts, ports};
+pub use range::in_range;
+pub use wires::wire;
+
+#[cfg(test)]
+mod inside;
+#[cfg(test)]
+mod nesting_tests;
+#[cfg(test)]
+mod ordering_tests;
+#[cfg(test)]
+mod tests;

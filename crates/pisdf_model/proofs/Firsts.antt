@@ -1,0 +1,38 @@
+-- The first place at which a test stands.
+use Rattle.std.proofs.Common.{◌≡◌, ℕ, zero, suc, ◌+◌, ◌<◌, ◌≤◌, ◌⊎◌, inl, inr, ⊎_elim, Bool, true, false, cond, List, [], ◌∷◌, map, Option, Some, None, option_map, refl, sym, ap, ◌∙◌, arith}
+use Rattle.std.specs.List.{filter, range_with_len}
+use Rattle.std.proofs.lemmas.Bool.{cases_order, cond-true, cond-false}
+use Rattle.pisdf_model.specs.Details.{first}
+
+module _ (test : ℕ → Bool) where
+  from_nowhere : (a n : ℕ) → ((j : ℕ) → a ≤ j → j < a + n → test j ≡ false) → filter test (range_with_len a n) ≡ []
+  from_nowhere a zero none = refl
+  from_nowhere a (suc n) none =
+      cond-false (test a) (a ∷ filter test (range_with_len (a + 1) n)) (filter test (range_with_len (a + 1) n)) (none a (omega arith) (omega arith))
+      ∙ from_nowhere (a + 1) n (λ j low high. none j (omega arith) (omega arith))
+
+  from_first : (a n k : ℕ) → ((j : ℕ) → a ≤ j → j < k → test j ≡ false) → a ≤ k → k < a + n → test k ≡ true → first (filter test (range_with_len a n)) ≡ Some k
+  from_first a zero k none low high here = absurd (omega arith)
+  from_first a (suc n) k none low high here =
+      let rest = filter test (range_with_len (a + 1) n) in
+      ⊎_elim
+      (λ (same : a ≡ k). ap first (cond-true (test a) (a ∷ rest) rest (rw same here)) ∙ ap Some same)
+      (λ (other : (a < k) ⊎ (k < a)). ⊎_elim
+      (λ (before : a < k). ap first (cond-false (test a) (a ∷ rest) rest (none a (omega arith) before)) ∙ from_first (a + 1) n k (λ j least most. none j (omega arith) most) (omega arith) (omega arith) here)
+      (λ (after : k < a). absurd (omega arith))
+      other)
+      (cases_order a k)
+
+  pub nowhere : (n : ℕ) → ((j : ℕ) → j < n → test j ≡ false) → filter test (range_with_len 0 n) ≡ []
+  nowhere n none = from_nowhere 0 n (λ j low high. none j (omega arith))
+
+  pub first_place : (n k : ℕ) → ((j : ℕ) → j < k → test j ≡ false) → k < n → test k ≡ true → first (filter test (range_with_len 0 n)) ≡ Some k
+  first_place n k none inside here = from_first 0 n k (λ j low most. none j most) (omega arith) (omega arith) here
+
+pub none_first : {D : Type 0} → (ds : List D) → first ds ≡ None → ds ≡ []
+none_first [] none = refl
+none_first (d ∷ ds) none = cc
+
+pub first_mapped : {D E : Type 0} → (f : D → E) (ds : List D) (d : D) → first ds ≡ Some d → first (map f ds) ≡ Some (f d)
+first_mapped f [] d is = cc
+first_mapped f (e ∷ ds) d is = let same : e ≡ d = cc in ap (λ x. Some (f x)) same

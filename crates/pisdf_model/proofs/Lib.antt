@@ -1,0 +1,12 @@
+pub mod Closure
+pub mod Cycles
+pub mod EachGraph
+pub mod Firsts
+pub mod Holding
+pub mod InOrder
+pub mod Late
+pub mod Lists
+pub mod Marking
+pub mod Nested
+pub mod Searching
+pub mod Walking

@@ -1,0 +1,20 @@
+/// The most graphs of a file.
+pub const MAX_GRAPHS: usize = 32;
+
+/// The most parameters of a graph.
+pub const MAX_PARAMS: usize = 64;
+
+/// The most input interfaces of a graph.
+pub const MAX_INPUTS: usize = 32;
+
+/// The most output interfaces of a graph.
+pub const MAX_OUTPUTS: usize = 32;
+
+/// The most actors of a graph.
+pub const MAX_ACTORS: usize = 64;
+
+/// The most FIFOs of a graph.
+pub const MAX_FIFOS: usize = 128;
+
+/// The most tokens of a delay.
+pub const MAX_DELAY_TOKENS: usize = 65_536;
