@@ -1,5 +1,5 @@
 -- What the calls of a board say.
-use Rattle.std.specs.Prelude.{◌≡◌, ℕ, ◌+◌, true, ◌⊎◌, Some, None, List, [], ◌∷◌, ◌++◌}
+use Rattle.std.specs.Prelude.{◌≡◌, ℕ, ℤ, ◌+◌, true, ◌⊎◌, Some, None, List, [], ◌∷◌, ◌++◌}
 use Rattle.std.specs.Option.{option_map}
 use Rattle.kernel_gate.specs.Value.{Answer, Gives}
 use Rattle.kernel_gate.specs.Signed.{IsFrameOf}
@@ -78,3 +78,9 @@ abbrev pub Tells : BoardView → BoardEnd → Type 0
 Tells b (end.Done iteration delays journal) = (one.meaning b.key.graphs b.key.delays b.key.ins ≡ one.Done iteration delays) × (journal ≡ b.journal)
 Tells b (end.Refused refusal journal) = (one.meaning b.key.graphs b.key.delays b.key.ins ≡ one.Refused refusal) × (journal ≡ b.journal)
 Tells b end.Starved = b.starved ≡ true
+
+-- the end gives these tokens, and leaves the state as it was; a starved board tells nothing
+abbrev pub TellsTokens : BoardView → List ℤ → BoardEnd → Type 0
+TellsTokens b tokens (end.Done iteration delays journal) = (iteration.outs ≡ tokens ∷ []) × (delays ≡ b.key.delays)
+TellsTokens b tokens (end.Refused refusal journal) = ⊥
+TellsTokens b tokens end.Starved = b.starved ≡ true

@@ -1,10 +1,10 @@
 // The board of one job.
-ghost use Rattle.std.specs.Prelude.{◌≡◌, ◌≢◌, ◌<◌, ◌≤◌, ◌+◌, ◌++◌, ◌⊎◌, [], ◌∷◌, true, false, None, Some, IfOk, OnOk, OnErr, IsErr, IsTrue, ◌↔◌, All, length, map, replicate};
+ghost use Rattle.std.specs.Prelude.{ℤ, List as Seq, ◌≡◌, ◌≢◌, ◌<◌, ◌≤◌, ◌+◌, ◌++◌, ◌⊎◌, [], ◌∷◌, true, false, None, Some, IfOk, OnOk, OnErr, IsErr, IsTrue, ◌↔◌, All, length, map, replicate};
 ghost use Rattle.std.specs.Arc.{arc_value};
 ghost use Rattle.kernel_gate.specs.Signed.{IsFrameOf, counts_of};
 ghost use Rattle.kernel_gate.specs.Table.{frame_value};
 ghost use Rattle.kernel_gate.specs.Value.{Gives, told_by};
-ghost use Rattle.firing_board.specs.OnePass.{IsOnePass};
+ghost use Rattle.firing_board.specs.OnePass.{IsOnePass, OnePass, graphs_of};
 ghost use Rattle.firing_board.specs.Job.{Fits, job_of};
 
 use crate::compile::{CompileEnd, CompileTask};
@@ -57,7 +57,7 @@ impl Model for Board {
 impl Board {
     ghost use Rattle.firing_board.specs.Core.{NoneRuns, IsQuiet, running_at, unclaimed};
     ghost use Rattle.firing_board.specs.View.{frame_of, now};
-    ghost use Rattle.firing_board.specs.Calls.{Claims, Compiles, IsNode, Picks, Runs, Started, Takes, TakesOne, Tells, with_entry};
+    ghost use Rattle.firing_board.specs.Calls.{Claims, Compiles, IsNode, Picks, Runs, Started, Takes, TakesOne, Tells, TellsTokens, with_entry};
     ghost use Rattle.firing_board.specs.declared.entry.Entry.TheVariants as entry;
 
     /// A board on which nothing is claimed: the job of the top graph for these inputs, a list of tokens for each input
@@ -211,6 +211,8 @@ impl Board {
         requires quiet { NoneRuns self.key (now self) }
         ensures tells { IfOk result (λ e. Tells self e) }
         ensures starved { self.starved ≡ true → IfOk result (λ e. e ≡ BoardEnd.Starved) }
+        // What one thread gets of a graph of this form: the tokens that it takes.
+        ensures passes { (p : OnePass) (tokens : Seq ℤ) → self.key.graphs ≡ graphs_of p → self.key.ins ≡ tokens ∷ [] → length tokens ≡ p.rate → IfOk result (λ e. TellsTokens self tokens e) }
     {
         let Board {
             graphs: _,

@@ -48,7 +48,7 @@ read_graph bytes = if nat_lt 4194304 (length bytes) then Err (GraphRefused graph
 
 abbrev pub streams_in : Result (List (List ℤ)) TokenFault → Result (List (List ℤ)) Status
 streams_in (Ok streams) = Ok streams
-streams_in (Err fault) = Err (NotYet later.Tokens)
+streams_in (Err fault) = Err (TokensRefused (tokens.Fault fault))
 
 -- the names of the top graph's inputs
 abbrev pub input_names : Graphs → List (List ℕ)

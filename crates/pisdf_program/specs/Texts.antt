@@ -2,6 +2,8 @@
 use Rattle.std.specs.Prelude.{ℕ, ◌+◌, ◌==◌, ℤ, List, [], ◌∷◌, ◌++◌, codes, if◌then◌else◌}
 use Rattle.std.specs.Fmt.{decimal}
 use Rattle.token_text.specs.Rows.{tokens_text, param_text}
+use Rattle.token_text.specs.declared.fault.TokenFault.{TokenFault}
+use Rattle.token_text.specs.declared.fault.TokenFault.TheVariants as fault
 use Rattle.pisdf_model.specs.declared.graph.Interface.{Interface}
 use Rattle.firing_board.specs.declared.outcome.Iteration.{Iteration}
 use Rattle.firing_board.specs.declared.outcome.TraceRow.{TraceRow}
@@ -72,8 +74,16 @@ abbrev pub graph_line : GraphCause → List ℕ
 graph_line graph.TooLong = codes "graph: 0 length\n"
 graph_line (graph.Fault NotJson) = codes "graph: 1 json\n"
 
+-- the line of the first fault of the rows, which are counted from 1, as are their fields
+abbrev pub fault_line : TokenFault → List ℕ
+fault_line (fault.Name row) = joined (codes "tokens: name " ∷ decimal row ∷ codes "\n" ∷ [])
+fault_line (fault.Repeated row) = joined (codes "tokens: repeated " ∷ decimal row ∷ codes "\n" ∷ [])
+fault_line (fault.Number row field) = joined (codes "tokens: number " ∷ decimal row ∷ codes " " ∷ decimal field ∷ codes "\n" ∷ [])
+fault_line fault.Memory = memory_line
+
 abbrev pub tokens_line : TokenCause → List ℕ
 tokens_line tokens.TooLong = codes "tokens: length\n"
+tokens_line (tokens.Fault fault) = fault_line fault
 tokens_line (tokens.Short name has needs) =
     joined (codes "tokens: short " ∷ name ∷ codes " has " ∷ decimal has ∷ codes " needs " ∷ decimal needs ∷ codes "\n" ∷ [])
 
@@ -86,7 +96,6 @@ abbrev pub later_line : Later → List ℕ
 later_line later.Command = codes "notyet command\n"
 later_line later.Workers = codes "notyet workers\n"
 later_line later.Graph = codes "notyet graph\n"
-later_line later.Tokens = codes "notyet tokens\n"
 
 -- the line of a status. After Done there are lines for the streams with tokens left, and after a failed put there is none
 abbrev pub line_of : Status → List ℕ

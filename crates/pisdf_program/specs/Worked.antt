@@ -116,7 +116,7 @@ pub record Ended (expected : Option Outcome) (out_had out_has err_had err_has : 
 
 -- ---- the files of a command
 
--- the name of one of the files that a command loads, in its words
+-- the name of one of the files that a command of this stage may load, in its words
 abbrev pub file_in : Which → Command → Option (List ℕ)
 file_in Graph (Run graph tokens iterations workers) = if workers == 1 then Some graph else None
 file_in Tokens (Run graph tokens iterations workers) = if workers == 1 then Some tokens else None

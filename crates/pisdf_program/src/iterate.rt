@@ -1,5 +1,5 @@
 // One iteration of a run.
-ghost use Rattle.std.specs.Prelude.{◌≡◌, ◌⊎◌, true, None, [], IfOk, IfErr};
+ghost use Rattle.std.specs.Prelude.{◌≡◌, ◌⊎◌, false, true, None, [], IfOk, IfErr};
 ghost use Rattle.std.specs.Arc.{arc_value};
 ghost use Rattle.kernel_gate.specs.Table.{the_signatures};
 ghost use Rattle.kernel_gate.specs.Signed.{unnamed};
@@ -13,7 +13,7 @@ use firing_board::{Board, BoardEnd, Claim, Delays, Iteration, Refusal};
 use kernel_gate::Gate;
 use pisdf_model::Graphs;
 use sdf_level::List;
-use std::alloc::Global;
+use std::alloc::{AllocError, Global};
 use std::sync::Arc;
 
 /// Why an iteration gave nothing.
@@ -22,6 +22,26 @@ pub(crate) enum IterationFault {
     /// The refusal that one thread meets first.
     Refused(Refusal),
     Memory,
+}
+
+/// A board for one worker on which nothing is claimed: the top graph's firing for the tokens that it takes.
+pub(crate) fn opened<K: Gate>(
+    alloc: Global,
+    graphs: &Arc<Graphs>,
+    delays: &Delays,
+    ins: &[List<i64>],
+    gate: &K,
+) -> Result<Board, AllocError>
+    requires form { IsOnePass (arc_value graphs.now) }
+    requires kernels { K.kernels gate.now ≡ the_signatures }
+    ensures { IfOk result (λ b. b ≡ record {
+      key = record { graphs = arc_value graphs.now; signatures = unnamed (K.kernels gate.now); delays = delays.now; ins = ins.now; workers = 1 };
+      journal = [];
+      starved = false;
+    }) }
+{
+    let shared = Arc::try_clone(graphs)?;
+    Board::start(alloc, shared, gate.signatures(), delays, ins, 1)
 }
 
 /// What one firing of the top graph gives for the tokens that it takes, with the delays that it leaves.
@@ -37,10 +57,7 @@ pub(crate) fn iterate<K: Gate>(
     ensures done { IfOk result (λ r. one.meaning (arc_value graphs.now) delays.now ins.now ≡ one.Done r.0 r.1) }
     ensures refused { IfErr result (λ e. Refuses (one.meaning (arc_value graphs.now) delays.now ins.now) e) }
 {
-    let Ok(shared) = Arc::try_clone(graphs) else {
-        return Err(IterationFault::Memory);
-    };
-    let Ok(board) = Board::start(alloc, shared, gate.signatures(), delays, ins, 1) else {
+    let Ok(board) = opened(alloc, graphs, delays, ins, gate) else {
         return Err(IterationFault::Memory);
     };
     match drive(board, gate).outcome() {
@@ -57,7 +74,7 @@ pub(crate) fn iterate<K: Gate>(
 }
 
 /// Claims and finishes the items of a board for its one worker, until the job is quiet or memory ran out.
-fn drive<K: Gate>(mut board: Board, gate: &K) -> Board
+pub(crate) fn drive<K: Gate>(mut board: Board, gate: &K) -> Board
     requires one { board.key.workers ≡ 1 }
     requires kernels { board.key.signatures ≡ unnamed (K.kernels gate.now) }
     requires idle { running_at (now board).running 0 ≡ None }

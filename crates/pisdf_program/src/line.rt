@@ -9,6 +9,7 @@ use param_expr::Name;
 use pisdf_model::Interface;
 use std::alloc::{AllocError, Global};
 use std::fmt::Write;
+use token_text::TokenFault;
 
 /// The line of `Usage`, which takes no memory.
 const USAGE: &str = "usage: run GRAPH TOKENS ITERATIONS WORKERS\n";
@@ -60,7 +61,6 @@ fn later_line(later: Later) -> &'static str
         Later::Command => "notyet command\n",
         Later::Workers => "notyet workers\n",
         Later::Graph => "notyet graph\n",
-        Later::Tokens => "notyet tokens\n",
     }
 }
 
@@ -69,9 +69,25 @@ fn tokens_line(alloc: Global, cause: &TokenCause) -> Result<Line, AllocError>
 {
     match cause {
         TokenCause::TooLong => Ok(Line::Fixed("tokens: length\n")),
+        TokenCause::Fault(fault) => fault_line(alloc, *fault),
         TokenCause::Short { stream, has, needs } => {
             Ok(Line::Written(short_line(alloc, stream, *has, *needs)?))
         }
+    }
+}
+
+fn fault_line(alloc: Global, fault: TokenFault) -> Result<Line, AllocError>
+    ensures { IfOk result (λ l. line_text l ≡ tokens_line (TokenCause.Fault fault)) }
+{
+    match fault {
+        TokenFault::Name { row } => Ok(Line::Written(format!(in alloc; "tokens: name {row}\n")?)),
+        TokenFault::Repeated { row } => {
+            Ok(Line::Written(format!(in alloc; "tokens: repeated {row}\n")?))
+        }
+        TokenFault::Number { row, field } => {
+            Ok(Line::Written(format!(in alloc; "tokens: number {row} {field}\n")?))
+        }
+        TokenFault::Memory => Ok(Line::Fixed(MEMORY)),
     }
 }
 

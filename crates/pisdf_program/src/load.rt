@@ -112,7 +112,7 @@ fn parse_streams(alloc: Global, bytes: &[u8], graphs: &Graphs) -> Result<List<Li
     match read_tokens(alloc, bytes, names.as_slice()) {
         Ok(streams) => Ok(streams),
         Err(TokenFault::Memory) => Err(Status::WantOfMemory),
-        Err(_) => Err(Status::NotYet(Later::Tokens)),
+        Err(fault) => Err(Status::TokensRefused(TokenCause::Fault(fault))),
     }
 }
 

@@ -3,6 +3,7 @@ ghost use Rattle.pisdf_program.specs.Codes.{code_of};
 
 use firing_board::Refusal;
 use param_expr::Name;
+use token_text::TokenFault;
 
 /// How a call of the program ended.
 #[derive(Drop)]
@@ -41,6 +42,8 @@ pub enum GraphFault {
 #[derive(Drop)]
 pub enum TokenCause {
     TooLong,
+    /// The first fault of its rows, which is never want of memory.
+    Fault(TokenFault),
     /// An iteration began with fewer tokens left in a stream than it needs.
     Short { stream: Name, has: u64, needs: u32 },
 }
@@ -61,8 +64,6 @@ pub enum Later {
     Workers,
     /// A graph other than one kernel `pass` between one input and one output, or a graph file with a fault.
     Graph,
-    /// A token file with a fault.
-    Tokens,
 }
 
 impl Status {

@@ -1,7 +1,11 @@
+use crate::iterate::{drive, opened};
+use crate::load::load_graph;
 use crate::program::run_program;
+use firing_board::{BoardEnd, Entry, Item, first_delays};
 use kernel_library::Library;
 use outer_world::{MemoryShelf, MemorySink};
-use std::alloc::Global;
+use sdf_level::List;
+use std::alloc::{AllocError, Global};
 use std::process::Abort;
 use std::test::Fail;
 
@@ -292,7 +296,7 @@ fn later_commands_are_refused_before_any_file(rt: HostRuntime) -> Result<(), Fai
 }
 
 /// Files of later stages.
-const FORMS: [(&str, Graph, &str, &str, &str, u8); 11] = [
+const FORMS: [(&str, Graph, &str, &str, &str, u8); 7] = [
     ("run g t 1 1", Graph::Empty, "x,5", "", "notyet graph\n", 8),
     ("run g t 1 1", Graph::Fast, "x,5", "", "notyet graph\n", 8),
     ("run g t 1 1", Graph::Named, "x,5", "", "notyet graph\n", 8),
@@ -321,36 +325,89 @@ const FORMS: [(&str, Graph, &str, &str, &str, u8); 11] = [
         "notyet graph\n",
         8,
     ),
-    ("run g t 1 1", Graph::One, "z,1", "", "notyet tokens\n", 8),
+];
+
+#[test]
+fn later_files_are_refused(rt: HostRuntime) -> Result<(), Fail> {
+    for (words, graph, tokens, out, err, code) in FORMS {
+        let answer = answer_on(rt.alloc(), words, graph, tokens)?;
+        expect(&rt, answer, out, err, code, words);
+    }
+    Ok(())
+}
+
+/// Token files with a fault, told before any iteration.
+const TOKENS: [(&str, Graph, &str, &str, &str, u8); 9] = [
+    ("run g t 1 1", Graph::One, "z,1", "", "tokens: name 1\n", 3),
     (
         "run g t 1 1",
         Graph::One,
         "x,1\nx,2",
         "",
-        "notyet tokens\n",
-        8,
+        "tokens: repeated 2\n",
+        3,
     ),
     (
         "run g t 1 1",
         Graph::One,
         "x,1,+2",
         "",
-        "notyet tokens\n",
-        8,
+        "tokens: number 1 3\n",
+        3,
     ),
     (
         "run g t 1 1",
         Graph::One,
         "x,9223372036854775808",
         "",
-        "notyet tokens\n",
-        8,
+        "tokens: number 1 2\n",
+        3,
+    ),
+    (
+        "run g t 1 1",
+        Graph::One,
+        "x,1\nz,+",
+        "",
+        "tokens: name 2\n",
+        3,
+    ),
+    (
+        "run g t 1 1",
+        Graph::One,
+        "x,1\nx,+",
+        "",
+        "tokens: repeated 2\n",
+        3,
+    ),
+    (
+        "run g t 1 1",
+        Graph::One,
+        "x,1,,2",
+        "",
+        "tokens: number 1 3\n",
+        3,
+    ),
+    (
+        "run g t 0 1",
+        Graph::One,
+        "x,1\n\nx,2",
+        "",
+        "tokens: repeated 2\n",
+        3,
+    ),
+    (
+        "run g t 1 1",
+        Graph::One,
+        "x, 1",
+        "",
+        "tokens: number 1 2\n",
+        3,
     ),
 ];
 
 #[test]
-fn later_files_are_refused(rt: HostRuntime) -> Result<(), Fail> {
-    for (words, graph, tokens, out, err, code) in FORMS {
+fn token_files_with_a_fault_are_refused_with_its_place(rt: HostRuntime) -> Result<(), Fail> {
+    for (words, graph, tokens, out, err, code) in TOKENS {
         let answer = answer_on(rt.alloc(), words, graph, tokens)?;
         expect(&rt, answer, out, err, code, words);
     }
@@ -460,5 +517,79 @@ fn a_graph_file_is_read_up_to_its_greatest_length(rt: HostRuntime) -> Result<(),
         none_failing(alloc),
     )?;
     expect(&rt, longer, "", "graph: 0 length\n", 2, "a byte more");
+    Ok(())
+}
+
+/// An entry of a journal in a few words.
+fn entry_text(alloc: Global, entry: &Entry) -> Result<String, AllocError> {
+    match entry {
+        Entry::Claim { worker, path, item } => {
+            let path = path.text().text();
+            match item {
+                Item::Configure(actor) => {
+                    format!(in alloc; "claim {worker} {path} configure {actor};")
+                }
+                Item::Compile => format!(in alloc; "claim {worker} {path} compile;"),
+                Item::Node(node) => format!(in alloc; "claim {worker} {path} node {node};"),
+            }
+        }
+        Entry::Finish { worker } => format!(in alloc; "finish {worker};"),
+    }
+}
+
+fn journal_text(alloc: Global, entries: &[Entry]) -> Result<String, AllocError> {
+    let mut text = String::new(alloc);
+    for entry in entries {
+        let line = entry_text(alloc, entry)?;
+        text.push_str(line.as_str())?;
+    }
+    Ok(text)
+}
+
+/// What a board for one firing of the top graph of `ONE` on the token 5 tells, once its one worker is done: the
+/// journal, and the tokens of its output.
+fn told_by_board(alloc: Global) -> Result<String, Fail> {
+    let files = vec![in alloc;
+        (
+            String::from_str(alloc, "g")?,
+            Vec::from_slice(alloc, ONE.as_bytes())?
+        ),
+    ]?;
+    let mut shelf = MemoryShelf::new(alloc, files, Vec::new(alloc));
+    let Ok(loaded) = load_graph(alloc, &mut shelf, "g") else {
+        return Err(Fail::new("the graph file isn't read"));
+    };
+    let delays = first_delays(alloc, &loaded.graphs)?;
+    let ins = vec![in alloc; List::new(vec![in alloc; 5i64]?)]?;
+    let board = opened(alloc, &loaded.graphs, &delays, ins.as_slice(), &Library)?;
+    let before = board.journal().len();
+    let board = drive(board, &Library);
+    let entries = journal_text(alloc, board.journal());
+    match board.outcome()? {
+        BoardEnd::Done {
+            iteration,
+            delays,
+            journal,
+        } => {
+            let entries = entries?;
+            let again = journal_text(alloc, journal.items())?;
+            let lists = delays.lists.items().len();
+            let tokens = match iteration.outs.items() {
+                [tokens] => tokens.items(),
+                _ => return Err(Fail::new("the graph has one output")),
+            };
+            Ok(format!(in alloc; "{before}: {entries} {again} {tokens:?} {lists}")?)
+        }
+        BoardEnd::Refused { .. } => Err(Fail::new("the board is refused")),
+        BoardEnd::Starved => Err(Fail::new("the board is starved")),
+    }
+}
+
+#[test]
+fn a_board_keeps_each_claim_and_finish(rt: HostRuntime) -> Result<(), Fail> {
+    let told = told_by_board(rt.alloc())?;
+    let entries = "claim 0 g compile;finish 0;claim 0 g node 0;finish 0;";
+    let wanted = format!(in rt.alloc(); "0: {entries} {entries} [5] 3")?;
+    assert_eq!(rt; told.as_str(), wanted.as_str());
     Ok(())
 }

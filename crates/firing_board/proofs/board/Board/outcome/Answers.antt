@@ -4,6 +4,7 @@ use Rattle.firing_board.specs.declared.outcome.TraceRow.{TraceRow}
 use Rattle.firing_board.specs.declared.outcome.Iteration.{Iteration}
 use Rattle.firing_board.specs.declared.stage.JobEnd.{JobEnd}
 use Rattle.firing_board.specs.declared.stage.JobEnd.TheVariants as end
+use Rattle.firing_board.specs.declared.ticket.BoardEnd.TheVariants as board
 use Rattle.firing_board.specs.declared.board.Board.TheInside.{Inside}
 use Rattle.firing_board.specs.View.{BoardView, now}
 use Rattle.firing_board.specs.Core.{IsQuiet}
@@ -13,6 +14,7 @@ use Rattle.firing_board.specs.Meaning as one
 use Rattle.firing_board.specs.Meaning.{Meaning, meaning}
 use Rattle.firing_board.proofs.Facts.{counted}
 use Rattle.firing_board.proofs.Outcomes.{as_meaning, means, quiet_open}
+use Rattle.firing_board.proofs.Passes.{passed}
 use Rattle.firing_board.proofs.board.Board.outcome.Goals as goal
 
 ended_of : (b : Inside) (v : BoardView) → board_view b ≡ v → (v.starved ≡ true) ⊎ IsQuiet v.key (now v) → ((board_view b).starved ≡ true) ⊎ IsQuiet (board_view b).key (now (board_view b))
@@ -51,3 +53,9 @@ returns-in-Fault-clause-tells c =
       means_for b c.args.self c.self.view_is c.self.invariant c.if-starved.false c.requires.ended e ends,
       c.new-journal.ensures ∙ ap (λ (v : BoardView). v.journal) c.self.view_is,
     )
+
+pub returns-in-Done-clause-passes : goal.returns-in-Done-clause-passes
+returns-in-Done-clause-passes c = λ p tokens graphs ins fits. passed c.args.self (board.Done record { outs = c.in-Done.outs; trace = c.new-trace.result } c.self.inside.delays c.new-journal.result) (returns-in-Done-clause-tells c) p tokens graphs ins fits
+
+pub returns-in-Fault-clause-passes : goal.returns-in-Fault-clause-passes
+returns-in-Fault-clause-passes c = λ p tokens graphs ins fits. passed c.args.self (board.Refused record { path = c.self.inside.path; cause = c.in-Fault.cause } c.new-journal.result) (returns-in-Fault-clause-tells c) p tokens graphs ins fits
