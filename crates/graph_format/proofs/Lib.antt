@@ -1,0 +1,5 @@
+pub mod Points
+pub mod Walked
+pub mod Stated
+pub mod StatedActors
+pub mod StatedFiles

@@ -1,0 +1,13 @@
+pub mod Canonical
+pub mod Kernels
+pub mod Means
+pub mod Named
+pub mod Objects
+pub mod Placed
+pub mod Pointer
+pub mod References
+pub mod Scope
+pub mod States
+pub mod Texts
+pub mod Values
+pub mod Walk

@@ -1,0 +1,66 @@
+-- The references of a file that name nothing of the kind that their place asks for.
+use Rattle.std.specs.Prelude.{ℕ, List, [], ◌∷◌, ◌++◌, is_none, if◌then◌else◌, codes}
+use Rattle.std.specs.List.{flat_map}
+use Rattle.param_expr.specs.Named.{NamedTree}
+use Rattle.param_expr.specs.Bind.{place_of, names_of}
+use Rattle.graph_format.specs.declared.actor.FileActor.{FileActor}
+use Rattle.graph_format.specs.declared.actor.FileBody.{FileBody}
+use Rattle.graph_format.specs.declared.actor.FileBody.TheVariants.{Kernel, Config, Child}
+use Rattle.graph_format.specs.declared.fifo.FileEnd.{FileEnd}
+use Rattle.graph_format.specs.declared.fifo.FileEnd.TheVariants as file_end
+use Rattle.graph_format.specs.declared.fifo.FileFifo.{FileFifo}
+use Rattle.graph_format.specs.declared.file.File.{File}
+use Rattle.graph_format.specs.declared.file.FileGraph.{FileGraph}
+use Rattle.graph_format.specs.declared.param.FileParam.{FileParam}
+use Rattle.graph_format.specs.declared.param.FileParamKind.{FileParamKind}
+use Rattle.graph_format.specs.declared.param.FileParamKind.TheVariants.{Inherited, Derived, Chosen}
+use Rattle.graph_format.specs.declared.port.FilePort.{FilePort}
+use Rattle.graph_format.specs.Scope.{Scope, scope_of, names_of_graphs}
+use Rattle.graph_format.specs.Placed.{ports_named}
+
+-- the name, where it isn't among these
+abbrev pub missing : List (List ℕ) → List ℕ → List (List ℕ)
+missing known w = if is_none (place_of known w) then w ∷ [] else []
+
+-- in an expression from the left
+abbrev pub unknown_in_expr : Scope → NamedTree → List (List ℕ)
+unknown_in_expr s expr = flat_map (missing s.params) (names_of expr)
+
+abbrev pub unknown_in_port : Scope → FilePort → List (List ℕ)
+unknown_in_port s p = unknown_in_expr s p.rate
+
+abbrev pub unknown_in_kind : Scope → FileParamKind → List (List ℕ)
+unknown_in_kind s Inherited = []
+unknown_in_kind s (Derived expr) = unknown_in_expr s expr
+unknown_in_kind s Chosen = []
+
+abbrev pub unknown_in_param : Scope → FileParam → List (List ℕ)
+unknown_in_param s p = unknown_in_kind s p.kind
+
+abbrev pub unknown_in_body : Scope → FileBody → List (List ℕ)
+unknown_in_body s (Kernel kernel args ins outs) = flat_map (unknown_in_expr s) args ++ flat_map (unknown_in_port s) ins ++ flat_map (unknown_in_port s) outs
+unknown_in_body s (Config kernel args ins outs sets) = flat_map (unknown_in_expr s) args ++ flat_map (unknown_in_port s) outs ++ flat_map (missing s.params) sets
+unknown_in_body s (Child graph args) = missing s.graphs graph ++ flat_map (unknown_in_expr s) args
+
+abbrev pub unknown_in_actor : Scope → FileActor → List (List ℕ)
+unknown_in_actor s a = unknown_in_body s a.body
+
+-- the actor's name and the port's, joined by `.`
+abbrev pub end_text : List ℕ → List ℕ → List ℕ
+end_text actor port = actor ++ codes "." ++ port
+
+-- the whole text of an end that names no interface or port
+abbrev pub unknown_in_end : Scope → FileEnd → List (List ℕ)
+unknown_in_end s (file_end.Interface w) = missing s.interfaces w
+unknown_in_end s (file_end.Port actor port) = if is_none (place_of (ports_named s actor) port) then end_text actor port ∷ [] else []
+
+abbrev pub unknown_in_fifo : Scope → FileFifo → List (List ℕ)
+unknown_in_fifo s f = unknown_in_end s f.from ++ unknown_in_end s f.to
+
+abbrev pub unknown_in_graph : Scope → FileGraph → List (List ℕ)
+unknown_in_graph s g =
+    flat_map (unknown_in_param s) g.params ++ flat_map (unknown_in_port s) g.inputs ++ flat_map (unknown_in_port s) g.outputs ++ flat_map (unknown_in_actor s) g.actors ++ flat_map (unknown_in_fifo s) g.fifos
+
+-- All of them, in the order of the file. Kernels are not looked for here, so any names of kernels serve.
+abbrev pub unknown_in_file : File → List (List ℕ)
+unknown_in_file file = missing (names_of_graphs file.graphs) file.top ++ flat_map (λ g. unknown_in_graph (scope_of [] file.graphs g) g) file.graphs

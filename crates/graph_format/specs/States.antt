@@ -1,0 +1,135 @@
+-- Which file a JSON value states, by the table of the format's objects: an object has the members of its row and no others, and a member that is left out stands for its default.
+use Rattle.std.specs.Prelude.{◌≡◌, ℕ, pos, List, [], ◌∷◌, true, Some, codes}
+use Rattle.serde_json.specs.Data.{Data}
+use Rattle.serde_json.specs.Find.{get}
+use Rattle.param_expr.specs.Named.{NamedTree}
+use Rattle.graph_format.specs.Walk.{has_form, whole_of}
+use Rattle.graph_format.specs.Values.{HasMember, StatesOr, IsList, IsWhole, IsWithin, IsText, StatesName, StatesKernel, StatesExpression, StatesEnd}
+use Rattle.graph_format.specs.Objects.{derived_names, given_names, bound_names, port_names, kernel_names, config_names, child_names, fifo_names, fifo_options, graph_names, file_names}
+use Rattle.graph_format.specs.declared.param.TheConstants.{GREATEST_BOUND}
+use Rattle.graph_format.specs.declared.param.FileParam.{FileParam}
+use Rattle.graph_format.specs.declared.param.FileParamKind.{FileParamKind}
+use Rattle.graph_format.specs.declared.param.FileParamKind.TheVariants.{Inherited, Derived, Chosen}
+use Rattle.graph_format.specs.declared.port.FilePort.{FilePort}
+use Rattle.graph_format.specs.declared.actor.FileActor.{FileActor}
+use Rattle.graph_format.specs.declared.actor.FileBody.{FileBody}
+use Rattle.graph_format.specs.declared.actor.FileBody.TheVariants.{Kernel, Config, Child}
+use Rattle.graph_format.specs.declared.fifo.FileDelay.{FileDelay}
+use Rattle.graph_format.specs.declared.fifo.FileDelay.TheVariants.{Zeros, Tokens}
+use Rattle.graph_format.specs.declared.fifo.FileFifo.{FileFifo}
+use Rattle.graph_format.specs.declared.file.FileGraph.{FileGraph}
+use Rattle.graph_format.specs.declared.file.File.{File}
+
+-- ---- parameters
+
+abbrev pub kind_text : FileParamKind → List ℕ
+kind_text Inherited = codes "in"
+kind_text (Derived expr) = codes "is"
+kind_text Chosen = codes "set"
+
+-- an expression stands exactly where the kind is `is`
+abbrev pub param_names : FileParamKind → List (List ℕ)
+param_names Inherited = given_names
+param_names (Derived expr) = derived_names
+param_names Chosen = given_names
+
+abbrev pub StatesRule : Data → FileParamKind → Type 0
+StatesRule d Inherited = Unit {0}
+StatesRule d (Derived expr) = HasMember StatesExpression d (codes "expr") expr
+StatesRule d Chosen = Unit {0}
+
+pub record StatesParam (d : Data) (param : FileParam) : Type 0 where
+  pub members : has_form (param_names param.kind) bound_names d ≡ true
+  pub name : HasMember StatesName d (codes "name") param.name
+  pub kind : HasMember IsText d (codes "kind") (kind_text param.kind)
+  pub expr : StatesRule d param.kind
+  pub low : StatesOr (IsWithin (pos 0) GREATEST_BOUND) (pos 0) (get (codes "low") d) param.low
+  pub high : StatesOr (IsWithin param.low GREATEST_BOUND) GREATEST_BOUND (get (codes "high") d) param.high
+
+-- ---- interfaces and ports
+
+pub record StatesPort (d : Data) (port : FilePort) : Type 0 where
+  pub members : has_form port_names [] d ≡ true
+  pub name : HasMember StatesName d (codes "name") port.name
+  pub rate : HasMember StatesExpression d (codes "rate") port.rate
+
+-- an input of a configuration actor, which has a name alone
+pub record StatesInput (d : Data) (input : List ℕ) : Type 0 where
+  pub members : has_form (codes "name" ∷ []) [] d ≡ true
+  pub name : HasMember StatesName d (codes "name") input
+
+-- ---- actors
+
+abbrev pub body_text : FileBody → List ℕ
+body_text (Kernel kernel args ins outs) = codes "kernel"
+body_text (Config kernel args ins outs sets) = codes "config"
+body_text (Child graph args) = codes "graph"
+
+abbrev pub body_names : FileBody → List (List ℕ)
+body_names (Kernel kernel args ins outs) = kernel_names
+body_names (Config kernel args ins outs sets) = config_names
+body_names (Child graph args) = child_names
+
+pub record StatesKernelBody (d : Data) (k : List ℕ) (exprs : List NamedTree) (inputs outputs : List FilePort) : Type 0 where
+  pub kernel : HasMember StatesKernel d (codes "kernel") k
+  pub args : HasMember (IsList StatesExpression) d (codes "args") exprs
+  pub ins : HasMember (IsList StatesPort) d (codes "ins") inputs
+  pub outs : HasMember (IsList StatesPort) d (codes "outs") outputs
+
+pub record StatesConfigBody (d : Data) (k : List ℕ) (exprs : List NamedTree) (inputs : List (List ℕ)) (outputs : List FilePort) (params : List (List ℕ)) : Type 0 where
+  pub kernel : HasMember StatesKernel d (codes "kernel") k
+  pub args : HasMember (IsList StatesExpression) d (codes "args") exprs
+  pub ins : HasMember (IsList StatesInput) d (codes "ins") inputs
+  pub outs : HasMember (IsList StatesPort) d (codes "outs") outputs
+  pub sets : HasMember (IsList StatesName) d (codes "sets") params
+
+pub record StatesChildBody (d : Data) (child : List ℕ) (exprs : List NamedTree) : Type 0 where
+  pub graph : HasMember StatesName d (codes "graph") child
+  pub args : HasMember (IsList StatesExpression) d (codes "args") exprs
+
+abbrev pub StatesBody : Data → FileBody → Type 0
+StatesBody d (Kernel kernel args ins outs) = StatesKernelBody d kernel args ins outs
+StatesBody d (Config kernel args ins outs sets) = StatesConfigBody d kernel args ins outs sets
+StatesBody d (Child graph args) = StatesChildBody d graph args
+
+pub record StatesActor (d : Data) (actor : FileActor) : Type 0 where
+  pub members : has_form (body_names actor.body) [] d ≡ true
+  pub name : HasMember StatesName d (codes "name") actor.name
+  pub kind : HasMember IsText d (codes "kind") (body_text actor.body)
+  pub body : StatesBody d actor.body
+
+-- ---- FIFOs
+
+-- a number of tokens 0, or a list of tokens
+abbrev pub StatesDelay : Data → FileDelay → Type 0
+StatesDelay d (Zeros count) = IsWhole d (pos count)
+StatesDelay d (Tokens tokens) = IsList IsWhole d tokens
+
+pub record StatesFifo (version : ℕ) (d : Data) (fifo : FileFifo) : Type 0 where
+  pub members : has_form fifo_names (fifo_options version) d ≡ true
+  pub from : HasMember StatesEnd d (codes "from") fifo.from
+  pub to : HasMember StatesEnd d (codes "to") fifo.to
+  pub delay : StatesOr StatesDelay (Zeros 0) (get (codes "delay") d) fifo.delay
+
+-- ---- graphs
+
+pub record StatesGraph (version : ℕ) (d : Data) (graph : FileGraph) : Type 0 where
+  pub members : has_form graph_names [] d ≡ true
+  pub name : HasMember StatesName d (codes "name") graph.name
+  pub params : HasMember (IsList StatesParam) d (codes "params") graph.params
+  pub inputs : HasMember (IsList StatesPort) d (codes "inputs") graph.inputs
+  pub outputs : HasMember (IsList StatesPort) d (codes "outputs") graph.outputs
+  pub actors : HasMember (IsList StatesActor) d (codes "actors") graph.actors
+  pub fifos : HasMember (IsList (StatesFifo version)) d (codes "fifos") graph.fifos
+
+-- the whole number that is the version
+pub record StatesVersion (version : ℕ) (d : Data) (stated : ℕ) : Type 0 where
+  pub number : whole_of d ≡ Some (pos stated)
+  pub is_version : stated ≡ version
+
+-- the value states the file in this version of the format
+pub record States (version : ℕ) (d : Data) (file : File) : Type 0 where
+  pub members : has_form file_names [] d ≡ true
+  pub pisdf : HasMember (StatesVersion version) d (codes "pisdf") file.version
+  pub top : HasMember StatesName d (codes "top") file.top
+  pub graphs : HasMember (IsList (StatesGraph version)) d (codes "graphs") file.graphs

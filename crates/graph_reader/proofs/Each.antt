@@ -1,0 +1,58 @@
+-- Resolving the parts of a list one after the other, as a loop does.
+use Rattle.std.proofs.Common.{◌≡◌, ℕ, suc, ◌+◌, ◌≤◌, ◌<◌, List, [], ◌∷◌, ◌++◌, length, get_or, take, drop, map, Option, Some, None, Result, Ok, Err, refl, sym, ap, subst, ◌∙◌, add-one}
+use Rattle.std.specs.List.{flat_map}
+use Rattle.std.proofs.lemmas.List.{take_more, drop_more, take_all, take-append-drop, map_push}
+use Rattle.std.proofs.lemmas.List.Concat.{flat_map-append}
+use Rattle.std.proofs.lemmas.List.{append-nil}
+use Rattle.graph_reader.specs.Resolves.{Fails, Resolves, head}
+use Rattle.graph_reader.specs.declared.unresolved.Unresolved.{Unresolved}
+use Rattle.graph_reader.specs.declared.unresolved.Unresolved.TheVariants.{Unknown, Memory}
+
+-- no reference so far names nothing, and these are the parts so far
+pub record Stands {A B : Type 0} (unknown : A → List (List ℕ)) (placed : A → B) (xs : List A) (i : ℕ) (done : List B) : Type 0 where
+  pub known : flat_map unknown (take i xs) ≡ []
+  pub made : done ≡ map placed (take i xs)
+
+pub head-append : {A : Type 0} (xs ys : List A) (x : A) → head xs ≡ Some x → head (xs ++ ys) ≡ Some x
+head-append [] ys x h = absurd cc
+head-append (z ∷ xs) ys x h = h
+
+-- the first of all stands in the front, where the front has one
+pub front_fails : (front rest : List (List ℕ)) (e : Unresolved) → Fails front e → Fails (front ++ rest) e
+front_fails front rest Memory h = tt
+front_fails front rest (Unknown w) h = head-append front rest w h
+
+-- and in what comes after the front, where the front has none
+pub rest_fails : (front rest : List (List ℕ)) (e : Unresolved) → front ≡ [] → Fails rest e → Fails (front ++ rest) e
+rest_fails front rest e none h = rw none h
+
+-- where neither has one, there is none
+pub none_in_both : (front rest : List (List ℕ)) → front ≡ [] → rest ≡ [] → front ++ rest ≡ []
+none_in_both front rest none nothing = rw (none, nothing) refl
+
+pub starts : {A B : Type 0} (unknown : A → List (List ℕ)) (placed : A → B) (xs : List A) → Stands unknown placed xs 0 []
+starts unknown placed xs = record { known = refl; made = refl }
+
+take_next : {A : Type 0} (xs : List A) (i : ℕ) (x : A) → i < length xs → x ≡ get_or xs i x → take (i + 1) xs ≡ take i xs ++ x ∷ []
+take_next xs i x lt is = take_more xs i x lt ∙ ap (λ y. take i xs ++ y ∷ []) (sym is)
+
+pub goes_on : {A B : Type 0} (unknown : A → List (List ℕ)) (placed : A → B) (xs : List A) (i : ℕ) (x : A) (y : B) (done : List B) → i < length xs → x ≡ get_or xs i x → Resolves (unknown x) (placed x) (Ok y) → Stands unknown placed xs i done
+    → Stands unknown placed xs (i + 1) (done ++ y ∷ [])
+goes_on unknown placed xs i x y done lt is h stands = record {
+  known = ap (flat_map unknown) (take_next xs i x lt is) ∙ flat_map-append unknown (take i xs) (x ∷ []) ∙ ap (λ f. f ++ (unknown x ++ [])) stands.known ∙ ap (λ u. u ++ []) h.0;
+  made = ap (λ d. d ++ y ∷ []) stands.made ∙ ap (λ z. map placed (take i xs) ++ z ∷ []) h.1 ∙ sym (map_push placed (take i xs) x) ∙ sym (ap (map placed) (take_next xs i x lt is));
+}
+
+split_at : {A : Type 0} (xs : List A) (i : ℕ) (x : A) → i < length xs → x ≡ get_or xs i x → take i xs ++ x ∷ drop (i + 1) xs ≡ xs
+split_at xs i x lt is = ap (λ y. take i xs ++ y ∷ drop (i + 1) xs) is ∙ ap (λ d. take i xs ++ d) (sym (drop_more xs i x lt)) ∙ take-append-drop i xs
+
+-- the first of all stands at a part, where no part before it has one
+pub first_at : {A : Type 0} (unknown : A → List (List ℕ)) (xs : List A) (i : ℕ) (x : A) (e : Unresolved) → i < length xs → x ≡ get_or xs i x → flat_map unknown (take i xs) ≡ [] → Fails (unknown x) e → Fails (flat_map unknown xs) e
+first_at unknown xs i x e lt is none h =
+    let all : flat_map unknown xs ≡ flat_map unknown (take i xs) ++ (unknown x ++ flat_map unknown (drop (i + 1) xs)) = ap (flat_map unknown) (sym (split_at xs i x lt is)) ∙ flat_map-append unknown (take i xs) (x ∷ drop (i + 1) xs) in
+    subst (λ (u : List (List ℕ)). Fails u e) (sym all) (rest_fails (flat_map unknown (take i xs)) (unknown x ++ flat_map unknown (drop (i + 1) xs)) e none (front_fails (unknown x) (flat_map unknown (drop (i + 1) xs)) e h))
+
+pub is_done : {A B : Type 0} (unknown : A → List (List ℕ)) (placed : A → B) (xs : List A) (i : ℕ) (done : List B) → length xs ≤ i → Stands unknown placed xs i done → Resolves (flat_map unknown xs) (map placed xs) (Ok done)
+is_done unknown placed xs i done le stands =
+    let whole : take i xs ≡ xs = take_all i xs le in
+    (ap (flat_map unknown) (sym whole) ∙ stands.known, stands.made ∙ ap (map placed) whole)

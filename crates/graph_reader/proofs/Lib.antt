@@ -1,0 +1,9 @@
+pub mod Bound
+pub mod Each
+pub mod InPlace
+pub mod Items
+pub mod Known
+pub mod Named
+pub mod Numbered
+pub mod Placing
+pub mod Readings

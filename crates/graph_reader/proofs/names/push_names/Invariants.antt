@@ -1,0 +1,5 @@
+use Rattle.std.proofs.Common.{◌≡◌, ◌++◌, map, take}
+use Rattle.graph_reader.proofs.names.push_names.Given as goal
+
+abbrev pub invariant-loop-item : goal.invariant-loop-item
+invariant-loop-item g l = l.names.items ≡ l.initial.names.items ++ map g.T.Named.named (take l.item-index l.items)

@@ -1,0 +1,5 @@
+pub mod Gives
+pub mod Place
+pub mod Reading
+pub mod Resolves
+pub mod Setting

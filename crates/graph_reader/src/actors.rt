@@ -1,0 +1,148 @@
+// Actors, with places for names.
+ghost use Rattle.std.specs.Prelude.{◌≡◌, IfOk};
+ghost use Rattle.graph_format.specs.declared.actor.FileBody.{FileBody};
+ghost use Rattle.graph_format.specs.Placed.{placed_body};
+ghost use Rattle.graph_format.specs.References.{unknown_in_body};
+ghost use Rattle.graph_reader.specs.Resolves.{Resolves};
+ghost use Rattle.graph_reader.specs.Setting.{setting_of};
+
+use crate::names::{Named, push_names};
+use crate::parts::reference;
+use crate::resolved::{Resolved, resolve_each};
+use crate::surroundings::Surroundings;
+use crate::unresolved::Unresolved;
+use graph_format::{FileActor, FileBody, FilePort};
+use param_expr::{Name, Parsed};
+use pisdf_model::{Actor, Body};
+use sdf_level::List;
+use std::alloc::{AllocError, Global};
+
+fn kernel_actor(
+    alloc: Global,
+    surroundings: &Surroundings<'_>,
+    kernel: &Name,
+    args: &List<Parsed>,
+    ins: &List<FilePort>,
+    outs: &List<FilePort>,
+) -> Result<Body, Unresolved>
+    ensures { let body = FileBody.Kernel kernel.now args.now ins.now outs.now in let s = (setting_of surroundings.now).scope in Resolves (unknown_in_body s body) (placed_body s body) result }
+{
+    let args = resolve_each(alloc, &*surroundings, args.items())?;
+    let ins = resolve_each(alloc, &*surroundings, ins.items())?;
+    let outs = resolve_each(alloc, &*surroundings, outs.items())?;
+    Ok(Body::Kernel {
+        kernel: surroundings.kernels.first_place(kernel),
+        args,
+        ins,
+        outs,
+    })
+}
+
+/// The names, in their order.
+fn copied_names(alloc: Global, names: &[Name]) -> Result<List<Name>, AllocError>
+    ensures { IfOk result (λ copy. copy ≡ names.now) }
+{
+    let mut copy = Vec::new(alloc);
+    push_names(&mut copy, names)?;
+    Ok(List::new(copy))
+}
+
+fn configuration_actor(
+    alloc: Global,
+    surroundings: &Surroundings<'_>,
+    kernel: &Name,
+    args: &List<Parsed>,
+    ins: &List<Name>,
+    outs: &List<FilePort>,
+    sets: &List<Name>,
+) -> Result<Body, Unresolved>
+    ensures { let body = FileBody.Config kernel.now args.now ins.now outs.now sets.now in let s = (setting_of surroundings.now).scope in Resolves (unknown_in_body s body) (placed_body s body) result }
+{
+    let args = resolve_each(alloc, &*surroundings, args.items())?;
+    let outs = resolve_each(alloc, &*surroundings, outs.items())?;
+    let sets = resolve_each(alloc, &*surroundings, sets.items())?;
+    let ins = copied_names(alloc, ins.items())?;
+    Ok(Body::Config {
+        kernel: surroundings.kernels.first_place(kernel),
+        args,
+        ins,
+        outs,
+        sets,
+    })
+}
+
+fn hierarchical_actor(
+    alloc: Global,
+    surroundings: &Surroundings<'_>,
+    graph: &Name,
+    args: &List<Parsed>,
+) -> Result<Body, Unresolved>
+    ensures { let body = FileBody.Child graph.now args.now in let s = (setting_of surroundings.now).scope in Resolves (unknown_in_body s body) (placed_body s body) result }
+{
+    let graph = reference(surroundings.graphs, graph)?;
+    let args = resolve_each(alloc, &*surroundings, args.items())?;
+    Ok(Body::Child { graph, args })
+}
+
+impl Resolved for Body {
+    type Source = FileBody;
+
+    ghost use Rattle.graph_format.specs.Placed.{placed_body};
+    ghost use Rattle.graph_format.specs.References.{unknown_in_body};
+
+    ghost unknown = { λ s body. unknown_in_body s.scope body };
+
+    ghost placed = { λ s body. placed_body s.scope body };
+
+    fn resolve(
+        alloc: Global,
+        surroundings: &Surroundings<'_>,
+        source: &FileBody,
+    ) -> Result<Body, Unresolved> {
+        match source {
+            FileBody::Kernel {
+                kernel,
+                args,
+                ins,
+                outs,
+            } => kernel_actor(alloc, surroundings, kernel, args, ins, outs),
+            FileBody::Config {
+                kernel,
+                args,
+                ins,
+                outs,
+                sets,
+            } => configuration_actor(alloc, surroundings, kernel, args, ins, outs, sets),
+            FileBody::Child { graph, args } => hierarchical_actor(alloc, surroundings, graph, args),
+        }
+    }
+}
+
+impl Resolved for Actor {
+    type Source = FileActor;
+
+    ghost use Rattle.graph_format.specs.Placed.{placed_actor};
+    ghost use Rattle.graph_format.specs.References.{unknown_in_actor};
+
+    ghost unknown = { λ s actor. unknown_in_actor s.scope actor };
+
+    ghost placed = { λ s actor. placed_actor s.scope actor };
+
+    fn resolve(
+        alloc: Global,
+        surroundings: &Surroundings<'_>,
+        source: &FileActor,
+    ) -> Result<Actor, Unresolved> {
+        let body = Body::resolve(alloc, &*surroundings, &source.body)?;
+        let name = source.name.clone()?;
+        Ok(Actor { name, body })
+    }
+}
+
+impl Named for FileActor {
+    ghost named = { λ actor. actor.name };
+
+    fn name(&self) -> &Name {
+        &self.name
+    }
+}

@@ -1,0 +1,118 @@
+ghost use Rattle.std.specs.Prelude.{◌≡◌, IfOk, List as Seq, map};
+ghost use Rattle.kernel_gate.specs.Signed.{signature_view};
+ghost use Rattle.param_expr.specs.Bind.{place_of};
+ghost use Rattle.graph_format.specs.declared.file.FileGraph.{FileGraph};
+ghost use Rattle.graph_format.specs.Kernels.{kernel_names};
+ghost use Rattle.graph_format.specs.Scope.{interfaces_of, names_at, ports_of};
+ghost use Rattle.graph_reader.specs.Setting.{AreOf, lent_names, ports_view};
+
+use crate::names::{Named, Names, names_of, push_names};
+use crate::surroundings::Ports;
+use graph_format::{FileBody, FileGraph};
+use kernel_gate::Signature;
+use param_expr::Name;
+use sdf_level::List;
+use std::alloc::{AllocError, Global};
+
+/// The names that the parts of all graphs of a file can refer to.
+#[derive(Drop)]
+pub(crate) struct FileNames {
+    pub(crate) kernels: Names,
+    pub(crate) graphs: Names,
+    /// For each graph, its inputs, then its outputs.
+    pub(crate) interfaces: List<Names>,
+}
+
+impl Named for FileGraph {
+    ghost named = { λ graph. graph.name };
+
+    fn name(&self) -> &Name {
+        &self.name
+    }
+}
+
+/// The names of the kernels.
+fn names_of_kernels(alloc: Global, signatures: &[Signature]) -> Result<Names, AllocError>
+    ensures { IfOk result (λ names. names ≡ kernel_names (map signature_view signatures.now)) }
+{
+    let mut names = Vec::new(alloc);
+    for signature in signatures {
+        let text = String::from_str(alloc, signature.name)?;
+        names.push(Name::new(text))?;
+    }
+    Names::new(names)
+}
+
+/// A graph's inputs, then its outputs.
+fn interfaces_of(alloc: Global, graph: &FileGraph) -> Result<Names, AllocError>
+    ensures { IfOk result (λ names. names ≡ interfaces_of graph.now) }
+{
+    let mut names = Vec::new(alloc);
+    push_names(&mut names, graph.inputs.items())?;
+    push_names(&mut names, graph.outputs.items())?;
+    Names::new(names)
+}
+
+/// The interfaces of each graph.
+fn all_interfaces(alloc: Global, graphs: &[FileGraph]) -> Result<List<Names>, AllocError>
+    ensures { IfOk result (λ all. all ≡ map interfaces_of graphs.now) }
+{
+    let mut all = Vec::new(alloc);
+    for graph in graphs {
+        let one = interfaces_of(alloc, graph)?;
+        all.push(one)?;
+    }
+    Ok(List::new(all))
+}
+
+impl FileNames {
+    /// The names of these kernels and graphs.
+    pub(crate) fn new(
+        alloc: Global,
+        signatures: &[Signature],
+        graphs: &[FileGraph],
+    ) -> Result<FileNames, AllocError>
+        ensures kernels { IfOk result (λ names. names.kernels ≡ kernel_names (map signature_view signatures.now)) }
+        ensures graphs { IfOk result (λ names. AreOf graphs.now names) }
+    {
+        let kernels = names_of_kernels(alloc, signatures)?;
+        let interfaces = all_interfaces(alloc, graphs)?;
+        let graphs = names_of(alloc, graphs)?;
+        Ok(FileNames {
+            kernels,
+            graphs,
+            interfaces,
+        })
+    }
+
+    /// The interfaces of the first graph of that name.
+    fn interfaces_named<'a>(&'a self, name: &Name) -> Option<&'a Names>
+        ensures { lent_names result ≡ names_at self.now.interfaces (place_of self.now.graphs name.now) }
+    {
+        let place = self.graphs.place_of(name)?;
+        self.interfaces.items().get(place as usize)
+    }
+
+    /// The ports of an actor.
+    pub(crate) fn ports_of(&self, alloc: Global, body: &FileBody) -> Result<Ports<'_>, AllocError>
+        ensures { (graphs : Seq FileGraph) → AreOf graphs self.now → IfOk result (λ ports. ports_view ports ≡ ports_of graphs body.now) }
+    {
+        let mut names = Vec::new(alloc);
+        match body {
+            FileBody::Kernel { ins, outs, .. } => {
+                push_names(&mut names, ins.items())?;
+                push_names(&mut names, outs.items())?;
+            }
+            FileBody::Config { ins, outs, .. } => {
+                push_names(&mut names, ins.items())?;
+                push_names(&mut names, outs.items())?;
+            }
+            FileBody::Child { graph, .. } => {
+                if let Some(interfaces) = self.interfaces_named(graph) {
+                    return Ok(Ports::Child(interfaces));
+                }
+            }
+        }
+        Ok(Ports::Own(Names::new(names)?))
+    }
+}

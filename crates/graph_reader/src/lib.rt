@@ -1,0 +1,27 @@
+//! Reads graph files from JSON: the file that a JSON value states, and the graphs that the file means.
+#![tactic(auto)]
+
+mod actor;
+mod actors;
+mod fifo;
+mod fifos;
+mod file_names;
+mod kernels;
+mod misfit;
+#[cfg(test)]
+mod name_tests;
+mod names;
+mod param;
+mod parts;
+mod place;
+mod port;
+mod reading;
+mod resolved;
+mod resolving;
+mod root;
+mod shape;
+mod surroundings;
+#[cfg(test)]
+mod tests;
+mod text;
+mod unresolved;

@@ -1,0 +1,182 @@
+// Expressions, ports, interfaces and parameters, with places for names.
+ghost use Rattle.std.specs.Prelude.{◌≡◌};
+ghost use Rattle.graph_format.specs.Placed.{first_place};
+ghost use Rattle.graph_format.specs.References.{missing};
+ghost use Rattle.graph_reader.specs.Resolves.{Resolves};
+
+use crate::names::{Named, Names};
+use crate::resolved::Resolved;
+use crate::surroundings::Surroundings;
+use crate::unresolved::Unresolved;
+use graph_format::{FileParam, FileParamKind, FilePort};
+use param_expr::{Expr, Name, Parsed, bind};
+use pisdf_model::{Interface, Param, ParamKind, Port};
+use std::alloc::Global;
+
+/// The first place of a name, which has to be there.
+pub(crate) fn reference(names: &Names, name: &Name) -> Result<u32, Unresolved>
+    ensures { Resolves (missing names.now name.now) (first_place names.now name.now) result }
+{
+    match names.place_of(name) {
+        Some(place) => Ok(place),
+        None => Err(Unresolved::Unknown(name.clone()?)),
+    }
+}
+
+/// The place of a parameter.
+impl Resolved for u32 {
+    type Source = Name;
+
+    ghost use Rattle.graph_format.specs.Placed.{first_place};
+    ghost use Rattle.graph_format.specs.References.{missing};
+
+    ghost unknown = { λ s name. missing s.scope.params name };
+
+    ghost placed = { λ s name. first_place s.scope.params name };
+
+    fn resolve(
+        _alloc: Global,
+        surroundings: &Surroundings<'_>,
+        source: &Name,
+    ) -> Result<u32, Unresolved> {
+        reference(&surroundings.params, source)
+    }
+}
+
+impl Resolved for Expr {
+    type Source = Parsed;
+
+    ghost use Rattle.param_expr.specs.Bind.{placed_in};
+    ghost use Rattle.graph_format.specs.References.{unknown_in_expr};
+
+    ghost unknown = { λ s expr. unknown_in_expr s.scope expr };
+
+    ghost placed = { λ s expr. placed_in s.scope.params expr };
+
+    fn resolve(
+        alloc: Global,
+        surroundings: &Surroundings<'_>,
+        source: &Parsed,
+    ) -> Result<Expr, Unresolved> {
+        let expr = bind(alloc, source, surroundings.params.as_slice())?;
+        Ok(expr)
+    }
+}
+
+impl Resolved for Port {
+    type Source = FilePort;
+
+    ghost use Rattle.graph_format.specs.Placed.{placed_port};
+    ghost use Rattle.graph_format.specs.References.{unknown_in_port};
+
+    ghost unknown = { λ s port. unknown_in_port s.scope port };
+
+    ghost placed = { λ s port. placed_port s.scope port };
+
+    fn resolve(
+        alloc: Global,
+        surroundings: &Surroundings<'_>,
+        source: &FilePort,
+    ) -> Result<Port, Unresolved> {
+        let rate = Expr::resolve(alloc, &*surroundings, &source.rate)?;
+        let name = source.name.clone()?;
+        Ok(Port { name, rate })
+    }
+}
+
+impl Resolved for Interface {
+    type Source = FilePort;
+
+    ghost use Rattle.graph_format.specs.Placed.{placed_interface};
+    ghost use Rattle.graph_format.specs.References.{unknown_in_port};
+
+    ghost unknown = { λ s port. unknown_in_port s.scope port };
+
+    ghost placed = { λ s port. placed_interface s.scope port };
+
+    fn resolve(
+        alloc: Global,
+        surroundings: &Surroundings<'_>,
+        source: &FilePort,
+    ) -> Result<Interface, Unresolved> {
+        let rate = Expr::resolve(alloc, &*surroundings, &source.rate)?;
+        let name = source.name.clone()?;
+        Ok(Interface { name, rate })
+    }
+}
+
+impl Resolved for ParamKind {
+    type Source = FileParamKind;
+
+    ghost use Rattle.graph_format.specs.Placed.{placed_kind};
+    ghost use Rattle.graph_format.specs.References.{unknown_in_kind};
+
+    ghost unknown = { λ s kind. unknown_in_kind s.scope kind };
+
+    ghost placed = { λ s kind. placed_kind s.scope kind };
+
+    fn resolve(
+        alloc: Global,
+        surroundings: &Surroundings<'_>,
+        source: &FileParamKind,
+    ) -> Result<ParamKind, Unresolved> {
+        match source {
+            FileParamKind::Inherited => Ok(ParamKind::Inherited),
+            FileParamKind::Derived(expr) => {
+                let expr = Expr::resolve(alloc, &*surroundings, expr)?;
+                Ok(ParamKind::Derived(expr))
+            }
+            FileParamKind::Chosen => Ok(ParamKind::Chosen),
+        }
+    }
+}
+
+impl Resolved for Param {
+    type Source = FileParam;
+
+    ghost use Rattle.graph_format.specs.Placed.{placed_param};
+    ghost use Rattle.graph_format.specs.References.{unknown_in_param};
+
+    ghost unknown = { λ s param. unknown_in_param s.scope param };
+
+    ghost placed = { λ s param. placed_param s.scope param };
+
+    fn resolve(
+        alloc: Global,
+        surroundings: &Surroundings<'_>,
+        source: &FileParam,
+    ) -> Result<Param, Unresolved> {
+        let kind = ParamKind::resolve(alloc, &*surroundings, &source.kind)?;
+        let name = source.name.clone()?;
+        Ok(Param {
+            name,
+            kind,
+            low: source.low,
+            high: source.high,
+        })
+    }
+}
+
+impl Named for Name {
+    ghost named = { λ name. name };
+
+    fn name(&self) -> &Name {
+        self
+    }
+}
+
+impl Named for FilePort {
+    ghost named = { λ port. port.name };
+
+    fn name(&self) -> &Name {
+        &self.name
+    }
+}
+
+impl Named for FileParam {
+    ghost named = { λ param. param.name };
+
+    fn name(&self) -> &Name {
+        &self.name
+    }
+}

@@ -1,0 +1,46 @@
+ghost use Rattle.graph_format.specs.Objects.{input_at, port_at};
+
+use crate::misfit::Misfit;
+use crate::place::Place;
+use crate::shape::{Form, has_form, member};
+use crate::text::{Expression, PlainName};
+use graph_format::FilePort;
+use param_expr::Name;
+use serde_json::Value;
+use std::alloc::Global;
+
+/// An interface or a port.
+pub(crate) struct Port;
+
+impl Form for Port {
+    type Stated = FilePort;
+
+    ghost reads = { port_at };
+
+    #[tactic(auto, unfolding(graph_format::specs::Objects::port_at, graph_format::specs::Objects::port_members_at))]
+    fn read_at(alloc: Global, place: &Place<'_>, value: &Value) -> Result<FilePort, Misfit> {
+        if !has_form(value, &["name", "rate"], &[]) {
+            return Err(place.misshapen(alloc));
+        }
+        let name = member::<PlainName>(alloc, place, value, "name")?;
+        let rate = member::<Expression>(alloc, place, value, "rate")?;
+        Ok(FilePort { name, rate })
+    }
+}
+
+/// An input of a configuration actor, which has a name alone.
+pub(crate) struct Input;
+
+impl Form for Input {
+    type Stated = Name;
+
+    ghost reads = { input_at };
+
+    #[tactic(auto, unfolding(graph_format::specs::Objects::input_at))]
+    fn read_at(alloc: Global, place: &Place<'_>, value: &Value) -> Result<Name, Misfit> {
+        if !has_form(value, &["name"], &[]) {
+            return Err(place.misshapen(alloc));
+        }
+        member::<PlainName>(alloc, place, value, "name")
+    }
+}

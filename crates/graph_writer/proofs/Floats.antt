@@ -1,0 +1,72 @@
+-- A canonical value has no float.
+use Rattle.std.proofs.Common.{◌≡◌, ℕ, ℤ, pos, negsuc, List, [], ◌∷◌, map, Bool, true, false, codes, if◌then◌else◌, refl}
+use Rattle.serde_json.specs.Data.{Data, Members, member, string}
+use Rattle.serde_json.specs.View.{items_of}
+use Rattle.serde_json.specs.Written.{has_float, items_have_float, members_have_float}
+use Rattle.graph_format.specs.Canonical.{whole_value, expression_value, with_rule, param_value, port_value, input_value, body_members, actor_value, delay_value, fifo_value, graph_value, file_value, is_no_delay}
+use Rattle.graph_format.specs.declared.param.FileParam.{FileParam}
+use Rattle.graph_format.specs.declared.param.FileParamKind.{FileParamKind}
+use Rattle.graph_format.specs.declared.param.FileParamKind.TheVariants.{Inherited, Derived, Chosen}
+use Rattle.graph_format.specs.declared.port.FilePort.{FilePort}
+use Rattle.graph_format.specs.declared.actor.FileActor.{FileActor}
+use Rattle.graph_format.specs.declared.actor.FileBody.{FileBody}
+use Rattle.graph_format.specs.declared.actor.FileBody.TheVariants.{Kernel, Config, Child}
+use Rattle.graph_format.specs.declared.fifo.FileDelay.{FileDelay}
+use Rattle.graph_format.specs.declared.fifo.FileDelay.TheVariants.{Zeros, Tokens}
+use Rattle.graph_format.specs.declared.fifo.FileFifo.{FileFifo}
+use Rattle.graph_format.specs.declared.file.FileGraph.{FileGraph}
+use Rattle.graph_format.specs.declared.file.File.{File}
+
+each : {A : Type 0} (value : A → Data) → ((x : A) → has_float (value x) ≡ false) → (xs : List A) → items_have_float (items_of (map value xs)) ≡ false
+each value none [] = refl
+each value none (x ∷ xs) = rw (none x) (each value none xs)
+
+whole : (z : ℤ) → has_float (whole_value z) ≡ false
+whole (pos n) = refl
+whole (negsuc n) = refl
+
+rule : (kind : FileParamKind) (ms : Members) → members_have_float ms ≡ false → members_have_float (with_rule kind ms) ≡ false
+rule Inherited ms none = none
+rule (Derived expr) ms none = none
+rule Chosen ms none = none
+
+param : (p : FileParam) → has_float (param_value p) ≡ false
+unfolding param_value
+param p = rule p.kind _ (rw (whole p.high, whole p.low) refl)
+
+port : (p : FilePort) → has_float (port_value p) ≡ false
+unfolding port_value
+port p = refl
+
+input : (name : List ℕ) → has_float (input_value name) ≡ false
+unfolding input_value
+input name = refl
+
+body : (name : List ℕ) (b : FileBody) → members_have_float (body_members name b) ≡ false
+body name (Kernel kernel args ins outs) = rw (each expression_value (λ e. refl) args, each port_value port ins, each port_value port outs) refl
+body name (Config kernel args ins outs sets) = rw (each expression_value (λ e. refl) args, each input_value input ins, each port_value port outs, each string (λ s. refl) sets) refl
+body name (Child graph args) = rw (each expression_value (λ e. refl) args) refl
+
+actor : (a : FileActor) → has_float (actor_value a) ≡ false
+unfolding actor_value
+actor a = body a.name a.body
+
+delay : (d : FileDelay) → has_float (delay_value d) ≡ false
+delay (Zeros count) = refl
+delay (Tokens tokens) = each whole_value whole tokens
+
+unless : (b : Bool) (k : List ℕ) (d : Data) (ms : Members) → has_float d ≡ false → members_have_float ms ≡ false → members_have_float (if b then ms else member k d ms) ≡ false
+unless true k d ms none more = more
+unless false k d ms none more = rw none more
+
+fifo : (f : FileFifo) → has_float (fifo_value f) ≡ false
+unfolding fifo_value
+fifo f = unless (is_no_delay f.delay) (codes "delay") (delay_value f.delay) _ (delay f.delay) refl
+
+graph : (g : FileGraph) → has_float (graph_value g) ≡ false
+unfolding graph_value
+graph g = rw (each actor_value actor g.actors, each fifo_value fifo g.fifos, each port_value port g.inputs, each port_value port g.outputs, each param_value param g.params) refl
+
+pub no_float : (file : File) → has_float (file_value file) ≡ false
+unfolding file_value
+no_float file = rw (each graph_value graph file.graphs) refl

@@ -1,0 +1,4 @@
+pub mod Listed
+pub mod Floats
+pub mod Depths
+pub mod Delays

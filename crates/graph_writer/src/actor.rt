@@ -1,0 +1,113 @@
+ghost use Rattle.std.specs.Prelude.{◌≡◌, IfOk};
+ghost use Rattle.serde_json.specs.Data.{object};
+ghost use Rattle.serde_json.specs.View.{view};
+ghost use Rattle.graph_format.specs.Canonical.{actor_value, child_members, config_members, kernel_members};
+ghost use Rattle.graph_format.specs.Named.{named_actor};
+ghost use Rattle.graph_writer.specs.Writable.{IsWritableActor};
+
+use crate::list::{Writer, list};
+use crate::names::{graph_name, kernel_name};
+use crate::param::Sets;
+use crate::port::{Expressions, Inputs, Ports};
+use graph_format::FileActor;
+use kernel_gate::Signature;
+use param_expr::Name;
+use pisdf_model::{Actor, Body, Graphs};
+use serde_json::{Value, json};
+use std::alloc::{AllocError, Global};
+
+/// A kernel actor.
+fn kernel_actor(
+    alloc: Global,
+    name: &str,
+    kernel: &str,
+    args: Value,
+    ins: Value,
+    outs: Value,
+) -> Result<Value, AllocError>
+    ensures { IfOk result (λ v. view v ≡ object (kernel_members name.now kernel.now (view args) (view ins) (view outs))) }
+{
+    json!(in alloc; {"name": name, "kind": "kernel", "kernel": kernel, "args": args, "ins": ins, "outs": outs})
+}
+
+/// A configuration actor.
+fn config_actor(
+    alloc: Global,
+    name: &str,
+    kernel: &str,
+    args: Value,
+    ins: Value,
+    outs: Value,
+    sets: Value,
+) -> Result<Value, AllocError>
+    ensures { IfOk result (λ v. view v ≡ object (config_members name.now kernel.now (view args) (view ins) (view outs) (view sets))) }
+{
+    json!(in alloc; {"name": name, "kind": "config", "kernel": kernel, "args": args, "ins": ins, "outs": outs, "sets": sets})
+}
+
+/// A hierarchical actor.
+fn child_actor(alloc: Global, name: &str, graph: &str, args: Value) -> Result<Value, AllocError>
+    ensures { IfOk result (λ v. view v ≡ object (child_members name.now graph.now (view args))) }
+{
+    json!(in alloc; {"name": name, "kind": "graph", "graph": graph, "args": args})
+}
+
+/// Writes actors of a graph whose parameters have these names.
+#[derive(Clone, Copy)]
+pub(crate) struct Actors<'a> {
+    /// The kernels that actors name by places.
+    pub(crate) signatures: &'a [Signature],
+    /// The graphs that hierarchical actors name by places.
+    pub(crate) graphs: &'a Graphs,
+    pub(crate) names: &'a [Name],
+}
+
+impl Writer for Actors<'_> {
+    type Part = Actor;
+
+    type Stated = FileActor;
+
+    ghost IsWritable = { λ w actor. IsWritableActor w.names.now actor };
+
+    ghost named = { λ w actor. named_actor w.signatures.now w.graphs.now w.names.now actor };
+
+    ghost shown = { actor_value };
+
+    #[tactic(auto, unfolding(graph_format::specs::Canonical::actor_value))]
+    fn value(&self, alloc: Global, actor: &Actor) -> Result<Value, AllocError> {
+        let name = actor.name.text();
+        match &actor.body {
+            Body::Kernel {
+                kernel,
+                args,
+                ins,
+                outs,
+            } => {
+                let kernel = kernel_name(self.signatures, *kernel);
+                let args = list(alloc, &Expressions { names: self.names }, args.items())?;
+                let ins = list(alloc, &Ports { names: self.names }, ins.items())?;
+                let outs = list(alloc, &Ports { names: self.names }, outs.items())?;
+                kernel_actor(alloc, name, kernel, args, ins, outs)
+            }
+            Body::Config {
+                kernel,
+                args,
+                ins,
+                outs,
+                sets,
+            } => {
+                let kernel = kernel_name(self.signatures, *kernel);
+                let args = list(alloc, &Expressions { names: self.names }, args.items())?;
+                let ins = list(alloc, &Inputs, ins.items())?;
+                let outs = list(alloc, &Ports { names: self.names }, outs.items())?;
+                let sets = list(alloc, &Sets { names: self.names }, sets.items())?;
+                config_actor(alloc, name, kernel, args, ins, outs, sets)
+            }
+            Body::Child { graph, args } => {
+                let graph = graph_name(self.graphs, *graph);
+                let args = list(alloc, &Expressions { names: self.names }, args.items())?;
+                child_actor(alloc, name, graph, args)
+            }
+        }
+    }
+}

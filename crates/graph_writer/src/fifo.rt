@@ -1,0 +1,98 @@
+ghost use Rattle.std.specs.Prelude.{◌≡◌, IfOk, pos, codes, string_bytes};
+ghost use Rattle.std.specs.List.{list_all};
+ghost use Rattle.std.specs.Ordering.{int_eq};
+ghost use Rattle.serde_json.specs.Data.{member, object};
+ghost use Rattle.serde_json.specs.View.{view};
+ghost use Rattle.graph_format.specs.Canonical.{delay_value, fifo_value, whole_value};
+ghost use Rattle.graph_format.specs.Named.{named_fifo, stated_delay};
+ghost use Rattle.graph_writer.specs.Objects.{end_members};
+
+use crate::list::{Writer, list};
+use crate::names::end_text;
+use graph_format::FileFifo;
+use pisdf_model::{Fifo, Graph, Graphs};
+use serde_json::{Value, json};
+use std::alloc::{AllocError, Global};
+
+/// Writes tokens.
+#[derive(Clone, Copy)]
+struct Tokens;
+
+impl Writer for Tokens {
+    type Part = i64;
+
+    type Stated = i64;
+
+    ghost IsWritable = { λ w token. Unit {0} };
+
+    ghost named = { λ w token. token };
+
+    ghost shown = { whole_value };
+
+    fn value(&self, _alloc: Global, token: &i64) -> Result<Value, AllocError> {
+        Ok(Value::from(*token))
+    }
+}
+
+/// Whether each token is 0.
+fn are_zeros(tokens: &[i64]) -> bool
+    ensures { result ≡ list_all (λ token. int_eq token (pos 0)) tokens.now }
+{
+    tokens.iter().all(|token| *token == 0)
+}
+
+/// A delay: a number where all its tokens are 0, else a list.
+fn delay(alloc: Global, tokens: &[i64]) -> Result<Value, AllocError>
+    ensures { IfOk result (λ v. view v ≡ delay_value (stated_delay tokens.now)) }
+{
+    if are_zeros(tokens) {
+        Ok(Value::from(tokens.len()))
+    } else {
+        list(alloc, &Tokens, tokens)
+    }
+}
+
+/// A FIFO without a delay.
+fn undelayed(alloc: Global, from: String, to: String) -> Result<Value, AllocError>
+    ensures { IfOk result (λ v. view v ≡ object (end_members (string_bytes from) (string_bytes to))) }
+{
+    json!(in alloc; {"from": from, "to": to})
+}
+
+/// A FIFO with a delay.
+fn delayed(alloc: Global, from: String, to: String, delay: Value) -> Result<Value, AllocError>
+    ensures { IfOk result (λ v. view v ≡ object (member (codes "delay") (view delay) (end_members (string_bytes from) (string_bytes to)))) }
+{
+    json!(in alloc; {"from": from, "to": to, "delay": delay})
+}
+
+/// Writes FIFOs of a graph.
+#[derive(Clone, Copy)]
+pub(crate) struct Fifos<'a> {
+    pub(crate) graphs: &'a Graphs,
+    pub(crate) graph: &'a Graph,
+}
+
+impl Writer for Fifos<'_> {
+    type Part = Fifo;
+
+    type Stated = FileFifo;
+
+    ghost IsWritable = { λ w fifo. Unit {0} };
+
+    ghost named = { λ w fifo. named_fifo w.graphs.now w.graph.now fifo };
+
+    ghost shown = { fifo_value };
+
+    #[tactic(auto, using(crate::proofs::Delays::only_empty), unfolding(graph_format::specs::Canonical::fifo_value))]
+    fn value(&self, alloc: Global, fifo: &Fifo) -> Result<Value, AllocError> {
+        let from = end_text(alloc, self.graphs, self.graph, fifo.tail)?;
+        let to = end_text(alloc, self.graphs, self.graph, fifo.head)?;
+        let tokens = fifo.delay.items();
+        if tokens.is_empty() {
+            return undelayed(alloc, from, to);
+        }
+        let delay = delay(alloc, tokens)?;
+        delayed(alloc, from, to, delay)
+    }
+}

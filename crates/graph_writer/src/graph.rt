@@ -1,0 +1,75 @@
+ghost use Rattle.std.specs.Prelude.{◌≡◌, IfOk};
+ghost use Rattle.serde_json.specs.Data.{object};
+ghost use Rattle.serde_json.specs.View.{view};
+ghost use Rattle.graph_format.specs.Canonical.{graph_value};
+ghost use Rattle.graph_format.specs.Named.{named_graph};
+ghost use Rattle.graph_writer.specs.Objects.{graph_members};
+ghost use Rattle.graph_writer.specs.Writable.{IsWritableGraph};
+
+use crate::actor::Actors;
+use crate::fifo::Fifos;
+use crate::list::{Writer, list};
+use crate::names::param_names;
+use crate::param::Params;
+use crate::port::Interfaces;
+use graph_format::FileGraph;
+use kernel_gate::Signature;
+use pisdf_model::{Graph, Graphs};
+use serde_json::{Value, json};
+use std::alloc::{AllocError, Global};
+
+/// A graph.
+fn graph_object(
+    alloc: Global,
+    name: &str,
+    params: Value,
+    inputs: Value,
+    outputs: Value,
+    actors: Value,
+    fifos: Value,
+) -> Result<Value, AllocError>
+    ensures { IfOk result (λ v. view v ≡ object (graph_members name.now (view params) (view inputs) (view outputs) (view actors) (view fifos))) }
+{
+    json!(in alloc; {"name": name, "params": params, "inputs": inputs, "outputs": outputs, "actors": actors, "fifos": fifos})
+}
+
+/// Writes graphs.
+#[derive(Clone, Copy)]
+pub(crate) struct GraphList<'a> {
+    pub(crate) signatures: &'a [Signature],
+    pub(crate) graphs: &'a Graphs,
+}
+
+impl Writer for GraphList<'_> {
+    type Part = Graph;
+
+    type Stated = FileGraph;
+
+    ghost IsWritable = { λ w graph. IsWritableGraph graph };
+
+    ghost named = { λ w graph. named_graph w.signatures.now w.graphs.now graph };
+
+    ghost shown = { graph_value };
+
+    #[tactic(auto, unfolding(graph_format::specs::Canonical::graph_value, graph_format::specs::Named::named_graph))]
+    fn value(&self, alloc: Global, graph: &Graph) -> Result<Value, AllocError> {
+        let names = param_names(alloc, graph.params.items())?;
+        let names = names.as_slice();
+        let params = list(alloc, &Params { names }, graph.params.items())?;
+        let inputs = list(alloc, &Interfaces { names }, graph.inputs.items())?;
+        let outputs = list(alloc, &Interfaces { names }, graph.outputs.items())?;
+        let actors = Actors {
+            signatures: self.signatures,
+            graphs: self.graphs,
+            names,
+        };
+        let actors = list(alloc, &actors, graph.actors.items())?;
+        let fifos = Fifos {
+            graphs: self.graphs,
+            graph,
+        };
+        let fifos = list(alloc, &fifos, graph.fifos.items())?;
+        let name = graph.name.text();
+        graph_object(alloc, name, params, inputs, outputs, actors, fifos)
+    }
+}

@@ -1,0 +1,16 @@
+//! Writes graphs as graph files, in the canonical form: compact JSON with all members, in the order of their bytes.
+#![tactic(auto)]
+
+mod actor;
+mod fifo;
+mod graph;
+mod list;
+mod names;
+mod param;
+mod port;
+mod root;
+
+pub use root::write;
+
+#[cfg(test)]
+mod tests;

@@ -1,0 +1,58 @@
+ghost use Rattle.std.specs.Prelude.{◌≡◌, Some, IfOk, All};
+ghost use Rattle.serde_json.specs.Data.{object};
+ghost use Rattle.serde_json.specs.Read.{read};
+ghost use Rattle.serde_json.specs.View.{view};
+ghost use Rattle.serde_json.specs.Written.{compact_text};
+ghost use Rattle.graph_format.specs.Canonical.{canonical};
+ghost use Rattle.graph_writer.specs.Objects.{root_members};
+ghost use Rattle.graph_writer.specs.Writable.{IsWritableGraph};
+
+use crate::graph::GraphList;
+use crate::list::list;
+use crate::names::graph_name;
+use kernel_gate::Signature;
+use pisdf_model::Graphs;
+use serde_json::{Value, json};
+use std::alloc::{AllocError, Global};
+
+/// The root of a file.
+fn root_object(alloc: Global, version: u32, top: &str, graphs: Value) -> Result<Value, AllocError>
+    ensures { IfOk result (λ v. view v ≡ object (root_members version top.now (view graphs))) }
+{
+    json!(in alloc; {"pisdf": version, "top": top, "graphs": graphs})
+}
+
+/// The canonical value of graphs.
+#[tactic(auto, unfolding(graph_format::specs::Canonical::file_value, graph_format::specs::Named::named_file))]
+fn root(alloc: Global, graphs: &Graphs, signatures: &[Signature]) -> Result<Value, AllocError>
+    requires { All IsWritableGraph graphs.now.graphs }
+    ensures { IfOk result (λ v. view v ≡ canonical signatures.now graphs.now) }
+{
+    let version = graphs.version;
+    let top = graph_name(graphs, graphs.top);
+    let list_of_graphs = GraphList { signatures, graphs };
+    let graphs = list(alloc, &list_of_graphs, graphs.graphs.items())?;
+    root_object(alloc, version, top, graphs)
+}
+
+/// The canonical graph file: compact JSON, all members in the order of their bytes. Each place is replaced by the name
+/// that stands there, a kernel's place by the name of its signature. A parameter's `low` and `high` always stand there;
+/// `delay` is left out where it is empty, a number where all its tokens are 0, and a list else. Expressions are printed
+/// with the fewest parentheses.
+///
+/// # Errors
+///
+/// Want of memory.
+#[tactic(auto, using(crate::proofs::Floats::no_float, crate::proofs::Depths::nests_little))]
+pub fn write(
+    alloc: Global,
+    graphs: &Graphs,
+    signatures: &[Signature],
+) -> Result<Vec<u8>, AllocError>
+    requires writable { All IsWritableGraph graphs.now.graphs }
+    ensures canonical { IfOk result (λ bytes. bytes.items ≡ compact_text (canonical signatures.now graphs.now)) }
+    // Read as JSON, it is that value again.
+    ensures reads { IfOk result (λ bytes. read bytes.items ≡ Some (canonical signatures.now graphs.now)) }
+{
+    root(alloc, graphs, signatures)?.to_vec(alloc)
+}
