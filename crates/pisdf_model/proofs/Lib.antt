@@ -6,7 +6,10 @@ pub mod Holding
 pub mod InOrder
 pub mod Late
 pub mod Lists
+pub mod MarkedFaults
 pub mod Marking
 pub mod Nested
+pub mod Numbers
+pub mod Referring
 pub mod Searching
 pub mod Walking

@@ -2,6 +2,7 @@ pub mod Arrows
 pub mod Count
 pub mod Details
 pub mod InterfaceWires
+pub mod Marked
 pub mod Names
 pub mod Nesting
 pub mod ParamOrder
@@ -9,4 +10,5 @@ pub mod Parts
 pub mod Ports
 pub mod Range
 pub mod Search
+pub mod WellFormed
 pub mod Wires

@@ -2,7 +2,7 @@
 use Rattle.std.specs.Prelude.{ℕ, zero, suc, ◌+◌, ◌<◌, nat_lt, max, List, [], ◌∷◌, length, map, slice_index_or, All}
 use Rattle.std.specs.List.{filter, flat_map, range_with_len}
 use Rattle.pisdf_model.specs.Arrows.{to_of, on_cycles}
-use Rattle.pisdf_model.specs.declared.nesting_limit.TheConstants.{MAX_NESTING}
+use Rattle.pisdf_model.specs.declared.limits.TheConstants.{MAX_NESTING}
 use Rattle.pisdf_model.specs.declared.actor.Actor.{Actor}
 use Rattle.pisdf_model.specs.declared.actor.Body.{Body}
 use Rattle.pisdf_model.specs.declared.actor.Body.TheVariants.{Kernel, Config, Child}

@@ -15,12 +15,12 @@ mod limits;
 mod named_params;
 mod names;
 mod nesting;
-mod nesting_limit;
 mod ordering;
 mod param;
 mod parts;
 mod port_counts;
 mod range;
+mod rules;
 mod wires;
 
 pub use actor::{Actor, Body, Port};
@@ -31,15 +31,16 @@ pub use fifo::{End, Fifo, Life};
 pub use graph::{Graph, Graphs, Interface};
 pub use interface_wires::{FifoPlace, interface_wire};
 pub use limits::{
-    MAX_ACTORS, MAX_DELAY_TOKENS, MAX_FIFOS, MAX_GRAPHS, MAX_INPUTS, MAX_OUTPUTS, MAX_PARAMS,
+    MAX_ACTORS, MAX_DELAY_TOKENS, MAX_FIFOS, MAX_GRAPHS, MAX_INPUTS, MAX_NESTING, MAX_OUTPUTS,
+    MAX_PARAMS,
 };
 pub use names::{Scope, ScopedName, repeat};
 pub use nesting::{depth, graph_cycle};
-pub use nesting_limit::MAX_NESTING;
 pub use ordering::param_order;
 pub use param::{Param, ParamKind};
 pub use port_counts::{AnyCounts, Counts, ports};
 pub use range::in_range;
+pub use rules::{ModelFault, well_formed};
 pub use wires::wire;
 
 #[cfg(test)]

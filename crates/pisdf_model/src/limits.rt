@@ -18,3 +18,6 @@ pub const MAX_FIFOS: usize = 128;
 
 /// The most tokens of a delay.
 pub const MAX_DELAY_TOKENS: usize = 65_536;
+
+/// The most graphs nested in each other, the outermost counted.
+pub const MAX_NESTING: usize = 8;

@@ -8,7 +8,7 @@ use crate::actor::Body;
 use crate::arrows::{first_marked, first_on_cycle};
 use crate::detail_fault::DetailFault;
 use crate::graph::{Graph, Graphs};
-use crate::nesting_limit::MAX_NESTING;
+use crate::limits::MAX_NESTING;
 use param_expr::Name;
 use sdf_level::List;
 use std::alloc::{AllocError, Global};

@@ -1,5 +1,4 @@
-use Rattle.std.proofs.Common.{◌≡◌, ◌<◌, length, false, sym, ap, ◌∙◌, arith, get_or}
-use Rattle.std.proofs.lemmas.List.{get_or_default}
+use Rattle.std.proofs.Common.{length, false, sym, ap, arith, get_or}
 use Rattle.pisdf_model.specs.Details.{first}
 use Rattle.pisdf_model.proofs.Firsts.{first_place, nowhere}
 use Rattle.pisdf_model.proofs.arrows.first_marked.Goals as goal

@@ -1,4 +1,4 @@
-use Rattle.std.proofs.Common.{◌≡◌, ◌<◌, length, sym, ap, ◌∙◌, arith, below_more}
+use Rattle.std.proofs.Common.{length, sym, ap, ◌∙◌, arith, below_more}
 use Rattle.pisdf_model.specs.Details.{first}
 use Rattle.pisdf_model.specs.Arrows.{leads}
 use Rattle.pisdf_model.proofs.Firsts.{first_place, nowhere}

@@ -1,4 +1,4 @@
-use Rattle.std.proofs.Common.{◌≡◌, ℕ, ◌<◌, length, [], false, sym, ◌∙◌, arith, All, List, get_or}
+use Rattle.std.proofs.Common.{ℕ, ◌<◌, length, [], false, ◌∙◌, arith, All, List}
 use Rattle.std.proofs.lemmas.List.{get_or_default}
 use Rattle.std.proofs.lemmas.List.Elements.{All-get_or}
 use Rattle.pisdf_model.proofs.Cycles.{told_by_mark}

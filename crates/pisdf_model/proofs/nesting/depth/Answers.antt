@@ -1,4 +1,4 @@
-use Rattle.std.proofs.Common.{◌≡◌, ◌∙◌, length}
+use Rattle.std.proofs.Common.{length}
 use Rattle.pisdf_model.specs.Nesting.{holds, nested_over}
 use Rattle.pisdf_model.proofs.Holding.{inside_holds, read_holds, place_inside, as_many, first_deep}
 use Rattle.pisdf_model.proofs.nesting.depth.Goals as goal

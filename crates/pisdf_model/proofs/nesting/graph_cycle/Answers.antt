@@ -1,4 +1,3 @@
-use Rattle.std.proofs.Common.{◌≡◌}
 use Rattle.pisdf_model.proofs.Holding.{inside_holds, read_holds}
 use Rattle.pisdf_model.proofs.nesting.graph_cycle.Goals as goal
 

@@ -1,4 +1,4 @@
-use Rattle.std.proofs.Common.{◌≡◌, false, slice_index_or, ◌∙◌}
+use Rattle.std.proofs.Common.{false, slice_index_or, ◌∙◌}
 use Rattle.std.specs.List.{list_any}
 use Rattle.pisdf_model.proofs.Nested.{mapped_next}
 use Rattle.pisdf_model.proofs.nesting.with_marked_child.Goals as goal

@@ -1,5 +1,5 @@
-use Rattle.std.proofs.Common.{◌≡◌, ◌<◌, length, false, ◌&&◌, sym, ap, ◌∙◌, arith, get_or}
-use Rattle.std.specs.List.{list_any, range_with_len}
+use Rattle.std.proofs.Common.{◌<◌, length, false, ◌&&◌, sym, ◌∙◌, arith, get_or}
+use Rattle.std.specs.List.{range_with_len}
 use Rattle.pisdf_model.specs.ParamOrder.{is_chosen}
 use Rattle.pisdf_model.proofs.Lists.{any_by, range_has, none_among}
 use Rattle.pisdf_model.proofs.ordering.any_chosen.Goals as goal

@@ -1,4 +1,4 @@
-use Rattle.std.proofs.Common.{◌≡◌, ◌∙◌}
+use Rattle.std.proofs.Common.{◌∙◌}
 use Rattle.pisdf_model.proofs.Late.{late_by_marks}
 use Rattle.pisdf_model.proofs.ordering.any_late.Goals as goal
 

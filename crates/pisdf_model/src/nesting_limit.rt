@@ -1,2 +1,0 @@
-/// The most graphs nested in each other, the outermost counted.
-pub const MAX_NESTING: usize = 8;
