@@ -1,11 +1,11 @@
 -- Warshall's closure tells exactly whether a path leads from one place to another.
-use Rattle.std.proofs.Common.{◌≡◌, ℕ, zero, suc, ◌+◌, ◌<◌, ◌≤◌, ◌⊎◌, inl, inr, ⊎_elim, ◌↔◌, ◌&&◌, ◌||◌, ◌==◌, Bool, true, false, List, [], ◌∷◌, ◌++◌, length, Contains, refl, sym, ap, ◌∙◌, arith, get_or}
+use Rattle.std.proofs.Common.{◌≡◌, ℕ, zero, suc, ◌<◌, ◌≤◌, ⊎_elim, ◌↔◌, ◌&&◌, ◌==◌, true, List, [], ◌∷◌, ◌++◌, length, Contains, arith}
 use Rattle.std.specs.List.{list_any}
 use Rattle.std.proofs.lemmas.Bool.{cases_lt, and_parts, and_from, or_cases, or_left, or_right, eqb-true}
 use Rattle.std.proofs.lemmas.Cmp.{nat_eq_equiv}
 use Rattle.std.proofs.lemmas.List.{get_or_past}
 use Rattle.std.proofs.lemmas.Map.Views.{Contains-from_any, list_any-from_Contains}
-use Rattle.pisdf_model.specs.Arrows.{to_of, Leads, Reaches, has_arrow, leads_below, leads}
+use Rattle.pisdf_model.specs.Arrows.{to_of, Leads, Reaches, leads_below, leads}
 
 contains_of_any : (xs : List ℕ) (w : ℕ) → list_any (λ u. w == u) xs ≡ true → Contains xs w
 contains_of_any xs w any = Contains-from_any eqb-true w xs any

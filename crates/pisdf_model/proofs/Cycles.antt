@@ -1,6 +1,6 @@
 -- Whether a path leads from a place back to it, by the places that are reached from those behind it.
-use Rattle.std.proofs.Common.{◌≡◌, ℕ, ◌<◌, ◌⊎◌, inl, inr, ⊎_elim, ◌↔◌, Bool, true, false, List, [], ◌∷◌, length, Contains, All, refl, sym, ap, ◌∙◌, arith, get_or}
-use Rattle.pisdf_model.specs.Arrows.{to_of, Leads, Reaches, IsReached, IsMarked, leads, LeadsInside}
+use Rattle.std.proofs.Common.{◌≡◌, ℕ, inl, inr, ◌↔◌, Bool, true, false, List, [], ◌∷◌, refl, sym, get_or}
+use Rattle.pisdf_model.specs.Arrows.{to_of, Leads, Reaches, IsReached, IsMarked, leads}
 use Rattle.pisdf_model.proofs.Closure.{closure}
 
 pub same_test : (a b : Bool) → ((a ≡ true) ↔ (b ≡ true)) → a ≡ b

@@ -1,10 +1,10 @@
 -- Late parameters of a graph none of whose parameters depends on itself: references lead from them to a chosen one.
-use Rattle.std.proofs.Common.{◌≡◌, ℕ, ◌+◌, ◌<◌, ◌≤◌, ◌⊎◌, inl, inr, ⊎_elim, ◌↔◌, Bool, true, false, ◌&&◌, ◌||◌, List, [], ◌∷◌, length, map, Contains, All, refl, sym, ap, ◌∙◌, arith, get_or}
+use Rattle.std.proofs.Common.{◌≡◌, ℕ, ◌<◌, ◌≤◌, ◌⊎◌, inl, inr, ⊎_elim, ◌↔◌, Bool, true, false, ◌&&◌, List, [], length, map, Contains, All, sym, ◌∙◌, get_or}
 use Rattle.std.specs.List.{list_any, range_with_len}
 use Rattle.std.proofs.lemmas.Bool.{cases_lt, and_parts, and_from, or_cases, or_left, or_right, true≢false, false≢true}
 use Rattle.std.proofs.lemmas.List.{get_or_past, length-map}
 use Rattle.std.proofs.lemmas.List.Elements.{All-contains}
-use Rattle.pisdf_model.specs.Arrows.{LeadsInside, Leads, Reaches, IsReached, IsMarked, leads, on_cycles}
+use Rattle.pisdf_model.specs.Arrows.{Reaches, IsReached, IsMarked, leads, on_cycles}
 use Rattle.pisdf_model.specs.ParamOrder.{references, is_chosen_kind, is_chosen, ends_late, is_late}
 use Rattle.pisdf_model.specs.declared.graph.Graph.{Graph}
 use Rattle.pisdf_model.specs.declared.param.Param.{Param}

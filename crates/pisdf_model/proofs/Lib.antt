@@ -1,3 +1,4 @@
+pub mod Alike
 pub mod Closure
 pub mod Cycles
 pub mod EachGraph

@@ -5,7 +5,7 @@ use Rattle.std.specs.List.{flat_map}
 use Rattle.std.proofs.lemmas.Bool.{lt-ltb}
 use Rattle.std.proofs.lemmas.Option.{slice_get-map}
 use Rattle.pisdf_model.specs.Arrows.{on_cycles}
-use Rattle.pisdf_model.specs.Details.{from_number, of_each, unless}
+use Rattle.pisdf_model.specs.Details.{of_each, unless}
 use Rattle.pisdf_model.specs.InterfaceWires.{fifo_misplaced, graph_misplaced, has_delay, interface_wire_faults, is_at_configuration, is_at_input, is_at_interface, is_at_output, is_misplaced}
 use Rattle.pisdf_model.specs.Marked.{marked, marked_fifo, marked_graph, marked_graphs}
 use Rattle.pisdf_model.specs.Names.{duplicate_faults, graph_walk, repeats}
@@ -22,25 +22,7 @@ use Rattle.pisdf_model.specs.declared.fifo.End.TheVariants.{Interface, Port}
 use Rattle.pisdf_model.specs.declared.fifo.Fifo.{Fifo}
 use Rattle.pisdf_model.specs.declared.graph.Graph.{Graph}
 use Rattle.pisdf_model.specs.declared.graph.Graphs.{Graphs}
-use Rattle.pisdf_model.specs.declared.param.Param.{Param}
-
--- ---- lists of details
-
-alike_from : {X Y D : Type 0} (m : X → Y) (f : ℕ → Y → List D) (g : ℕ → X → List D) → ((n : ℕ) (x : X) → f n (m x) ≡ g n x) → (n : ℕ) (xs : List X) → from_number n f (map m xs) ≡ from_number n g xs
-alike_from m f g alike n [] = refl
-alike_from m f g alike n (x ∷ xs) = ap (λ ds. ds ++ from_number (n + 1) f (map m xs)) (alike n x) ∙ ap (λ ds. g n x ++ ds) (alike_from m f g alike (n + 1) xs)
-
-same_from : {X D : Type 0} (f g : ℕ → X → List D) → ((n : ℕ) (x : X) → f n x ≡ g n x) → (n : ℕ) (xs : List X) → from_number n f xs ≡ from_number n g xs
-same_from f g same n [] = refl
-same_from f g same n (x ∷ xs) = ap (λ ds. ds ++ from_number (n + 1) f xs) (same n x) ∙ ap (λ ds. g n x ++ ds) (same_from f g same (n + 1) xs)
-
-alike_each : {X Y D : Type 0} (m : X → Y) (f : ℕ → Y → List D) (g : ℕ → X → List D) → ((n : ℕ) (x : X) → f n (m x) ≡ g n x) → (xs : List X) → of_each f (map m xs) ≡ of_each g xs
-alike_each m f g alike xs = alike_from m f g alike 0 xs
-
--- what is the same of each graph and of the marked one
-of_mapped : {A B : Type 0} (m : A → A) (f : A → B) → ((x : A) → f (m x) ≡ f x) → (xs : List A) → map f (map m xs) ≡ map f xs
-of_mapped m f same [] = refl
-of_mapped m f same (x ∷ xs) = ap (λ y. y ∷ map f (map m xs)) (same x) ∙ ap (λ ys. f x ∷ ys) (of_mapped m f same xs)
+use Rattle.pisdf_model.proofs.Alike.{alike_each, of_mapped, same_from}
 
 -- ---- the graph at a place
 
@@ -205,10 +187,10 @@ module _ (graphs : Graphs) where
   param_orders_marked = each_order_alike graphs.graphs
 
   names_marked : map (λ (g : Graph). g.name) (map marked_graph graphs.graphs) ≡ map (λ (g : Graph). g.name) graphs.graphs
-  names_marked = of_mapped marked_graph (λ (g : Graph). g.name) (λ g. refl) graphs.graphs
+  names_marked = of_mapped marked_graph (λ (g : Graph). g.name) (λ (g : Graph). g.name) (λ g. refl) graphs.graphs
 
   holds_marked : holds (marked_graphs graphs) ≡ holds graphs
-  holds_marked = of_mapped marked_graph children (λ g. refl) graphs.graphs
+  holds_marked = of_mapped marked_graph children children (λ g. refl) graphs.graphs
 
   -- the names of graphs at places that depend on what the graphs hold
   at_places : (places : List (List ℕ) → List ℕ) → map (λ place. slice_index_or (map (λ (g : Graph). g.name) (map marked_graph graphs.graphs)) place []) (places (holds (marked_graphs graphs)))

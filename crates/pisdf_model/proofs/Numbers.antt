@@ -1,5 +1,5 @@
 -- The first of faults that are told list by list.
-use Rattle.std.proofs.Common.{◌≡◌, ℕ, true, List, [], ◌∷◌, ◌++◌, map, Option, Some, None, Result, Ok, Err, sym, ap, ◌∙◌, subst}
+use Rattle.std.proofs.Common.{◌≡◌, ℕ, true, List, [], ◌∷◌, ◌++◌, map, Some, Result, sym, ap, subst}
 use Rattle.pisdf_model.specs.Count.{count_faults, word_of}
 use Rattle.pisdf_model.specs.Details.{first}
 use Rattle.pisdf_model.specs.InterfaceWires.{interface_wire_faults}

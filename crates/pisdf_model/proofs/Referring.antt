@@ -1,5 +1,5 @@
 -- In graphs whose numbers are in range, each actor names graphs that are there, and each expression parameters that are there.
-use Rattle.std.proofs.Common.{◌≡◌, ◌==◌, ℕ, ◌<◌, List, [], ◌∷◌, ◌++◌, length, map, Bool, sym, subst}
+use Rattle.std.proofs.Common.{◌==◌, ℕ, ◌<◌, List, [], ◌∷◌, ◌++◌, length, Bool, sym, subst}
 use Rattle.std.specs.Prelude.{slice_index_or}
 use Rattle.std.specs.List.{All, flat_map}
 use Rattle.std.proofs.lemmas.List.{length-map}

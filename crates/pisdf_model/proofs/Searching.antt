@@ -1,9 +1,9 @@
 -- What a search for the places that paths lead to keeps, and what it has found in the end.
-use Rattle.std.proofs.Common.{◌≡◌, ℕ, ◌+◌, ◌<◌, ◌≤◌, ◌⊎◌, inl, inr, ⊎_elim, ◌↔◌, Bool, true, false, List, [], ◌∷◌, ◌++◌, length, replicate, take, drop, All, Contains, refl, sym, ap, ◌∙◌, arith, get_or}
+use Rattle.std.proofs.Common.{◌≡◌, ℕ, ◌<◌, ◌⊎◌, inl, inr, ⊎_elim, ◌↔◌, Bool, false, List, [], ◌∷◌, ◌++◌, length, replicate, take, drop, All, Contains, sym, ◌∙◌, arith, get_or}
 use Rattle.std.proofs.lemmas.Bool.{false≢true}
 use Rattle.std.proofs.Math.Seq.{take-append_seam}
 use Rattle.std.proofs.lemmas.List.{get_or_default, get_or-replicate, length-replicate}
-use Rattle.std.proofs.lemmas.List.Elements.{Contains-append_left, Contains-push, Contains-push_cases, All-get_or, All-contains}
+use Rattle.std.proofs.lemmas.List.Elements.{Contains-append_left, Contains-push, Contains-push_cases, All-get_or}
 use Rattle.pisdf_model.specs.Arrows.{to_of, LeadsInside, Leads, Reaches, IsReached, IsMarked}
 use Rattle.pisdf_model.specs.Search.{Notes}
 use Rattle.pisdf_model.proofs.Marking.{inside_of_mark}

@@ -1,5 +1,5 @@
 -- The parts of a graph.
-use Rattle.std.specs.Prelude.{ℕ, ◌+◌, List, [], ◌++◌, map, length, Option, Some, None, slice_get}
+use Rattle.std.specs.Prelude.{ℕ, ◌+◌, List, [], map, length, Option, Some, None, slice_get}
 use Rattle.pisdf_model.specs.declared.actor.Port.{Port}
 use Rattle.pisdf_model.specs.declared.actor.Body.{Body}
 use Rattle.pisdf_model.specs.declared.actor.Body.TheVariants.{Kernel, Config, Child}

@@ -1,5 +1,5 @@
 -- FIFOs that run the wrong way, and interfaces and ports that don't stand at one FIFO end.
-use Rattle.std.specs.Prelude.{ℕ, ◌==◌, ◌&&◌, nat_lt, nat_le, Bool, true, false, List, [], ◌∷◌, ◌++◌, length, count_by, Option, Some, None, slice_get}
+use Rattle.std.specs.Prelude.{ℕ, ◌==◌, ◌&&◌, nat_lt, nat_le, Bool, false, List, [], ◌∷◌, ◌++◌, length, count_by, Option, Some, None, slice_get}
 use Rattle.pisdf_model.specs.Details.{of_each, unless}
 use Rattle.pisdf_model.specs.Parts.{interface_names, input_names, output_names, input_count, port_count}
 use Rattle.pisdf_model.specs.declared.actor.Actor.{Actor}

@@ -1,6 +1,6 @@
 ghost use Rattle.std.specs.Prelude.{◌≡◌};
 ghost use Rattle.pisdf_model.specs.Details.{first};
-ghost use Rattle.pisdf_model.specs.Count.{count_faults, graph_counts, word_of, has_long_delay};
+ghost use Rattle.pisdf_model.specs.Count.{count_faults, counts_of, excess_of, has_long_delay, word_of};
 
 use crate::fifo::Fifo;
 use crate::graph::{Graph, Graphs};
@@ -46,23 +46,51 @@ fn has_long_delay(fifos: &[Fifo]) -> bool
         .any(|fifo| fifo.delay.items().len() > MAX_DELAY_TOKENS)
 }
 
-fn graph_count(graph: &Graph) -> Option<Counted>
-    ensures { result ≡ first (graph_counts graph.now) }
+/// How many parts a graph has.
+#[derive(Clone, Copy, Debug)]
+pub struct PartCounts {
+    pub params: usize,
+    pub inputs: usize,
+    pub outputs: usize,
+    pub actors: usize,
+    pub fifos: usize,
+    /// Whether some delay has more tokens than it may have.
+    pub has_long_delay: bool,
+}
+
+impl PartCounts {
+    /// The first of what there are too many of.
+    pub fn excess(self) -> Option<Counted>
+        ensures { result ≡ first (excess_of self) }
+    {
+        if self.params > MAX_PARAMS {
+            Some(Counted::Params)
+        } else if self.inputs > MAX_INPUTS {
+            Some(Counted::Inputs)
+        } else if self.outputs > MAX_OUTPUTS {
+            Some(Counted::Outputs)
+        } else if self.actors > MAX_ACTORS {
+            Some(Counted::Actors)
+        } else if self.fifos > MAX_FIFOS {
+            Some(Counted::Fifos)
+        } else if self.has_long_delay {
+            Some(Counted::Delay)
+        } else {
+            None
+        }
+    }
+}
+
+fn counts_of(graph: &Graph) -> PartCounts
+    ensures { result ≡ counts_of graph.now }
 {
-    if graph.params.items().len() > MAX_PARAMS {
-        Some(Counted::Params)
-    } else if graph.inputs.items().len() > MAX_INPUTS {
-        Some(Counted::Inputs)
-    } else if graph.outputs.items().len() > MAX_OUTPUTS {
-        Some(Counted::Outputs)
-    } else if graph.actors.items().len() > MAX_ACTORS {
-        Some(Counted::Actors)
-    } else if graph.fifos.items().len() > MAX_FIFOS {
-        Some(Counted::Fifos)
-    } else if has_long_delay(graph.fifos.items()) {
-        Some(Counted::Delay)
-    } else {
-        None
+    PartCounts {
+        params: graph.params.items().len(),
+        inputs: graph.inputs.items().len(),
+        outputs: graph.outputs.items().len(),
+        actors: graph.actors.items().len(),
+        fifos: graph.fifos.items().len(),
+        has_long_delay: has_long_delay(graph.fifos.items()),
     }
 }
 
@@ -75,7 +103,7 @@ pub fn count(graphs: &Graphs) -> Option<Counted>
         return Some(Counted::Graphs);
     }
     for graph in graphs.graphs.items() {
-        let counted = graph_count(graph);
+        let counted = counts_of(graph).excess();
         if counted.is_some() {
             return counted;
         }

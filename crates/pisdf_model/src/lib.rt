@@ -24,7 +24,7 @@ mod rules;
 mod wires;
 
 pub use actor::{Actor, Body, Port};
-pub use counting::{Counted, count};
+pub use counting::{Counted, PartCounts, count};
 pub use detail_fault::DetailFault;
 pub use duplicates::duplicate;
 pub use fifo::{End, Fifo, Life};
@@ -34,14 +34,14 @@ pub use limits::{
     MAX_ACTORS, MAX_DELAY_TOKENS, MAX_FIFOS, MAX_GRAPHS, MAX_INPUTS, MAX_NESTING, MAX_OUTPUTS,
     MAX_PARAMS,
 };
-pub use names::{Scope, ScopedName, repeat};
+pub use names::{Scope, ScopedName, push_name, repeat};
 pub use nesting::{depth, graph_cycle};
 pub use ordering::param_order;
 pub use param::{Param, ParamKind};
 pub use port_counts::{AnyCounts, Counts, ports};
-pub use range::in_range;
+pub use range::{in_range, life_of};
 pub use rules::{ModelFault, well_formed};
-pub use wires::wire;
+pub use wires::{port_text, wire};
 
 #[cfg(test)]
 mod inside;

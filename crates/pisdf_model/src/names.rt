@@ -71,12 +71,8 @@ pub fn repeat(names: &[ScopedName]) -> Result<(), DetailFault<Name>>
     Ok(())
 }
 
-/// Puts a name behind others.
-pub(crate) fn push_name(
-    names: &mut Vec<ScopedName>,
-    scope: Scope,
-    name: &Name,
-) -> Result<(), AllocError>
+/// Puts a name behind others. The error is want of memory.
+pub fn push_name(names: &mut Vec<ScopedName>, scope: Scope, name: &Name) -> Result<(), AllocError>
     ensures { OnOk result (names.new.items ≡ names.old.items ++ record { scope = scope; name = name.now } ∷ []) }
 {
     let name = name.clone()?;

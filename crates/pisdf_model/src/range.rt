@@ -128,8 +128,8 @@ fn end_in_range(end: &End, graphs: &[Graph], graph: &Graph) -> bool
     }
 }
 
-/// The life that version 1 gives a delay.
-fn life_of(is_top: bool, delay: &[i64]) -> Life
+/// The life that version 1 of the format gives a delay.
+pub fn life_of(is_top: bool, delay: &[i64]) -> Life
     ensures { result ≡ life_of is_top delay.now }
 {
     if is_top && !delay.is_empty() {

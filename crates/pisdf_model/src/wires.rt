@@ -66,7 +66,8 @@ fn text_or_none(alloc: Global, name: Option<&Name>) -> Result<Name, AllocError>
     }
 }
 
-fn port_text(alloc: Global, actor: &Name, port: &Name) -> Result<Name, AllocError>
+/// The text of an end at a port: the actor's name and the port's, joined by a point. The error is want of memory.
+pub fn port_text(alloc: Global, actor: &Name, port: &Name) -> Result<Name, AllocError>
     ensures { IfOk result (λ text. text ≡ port_text actor.now port.now) }
 {
     let mut text = String::from_str(alloc, actor.text())?;
