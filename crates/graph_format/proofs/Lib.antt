@@ -3,3 +3,4 @@ pub mod Walked
 pub mod Stated
 pub mod StatedActors
 pub mod StatedFiles
+pub mod Laws

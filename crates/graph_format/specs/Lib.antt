@@ -1,10 +1,13 @@
 pub mod Canonical
+pub mod Faults
+pub mod FileNames
 pub mod Kernels
 pub mod Means
 pub mod Named
 pub mod Objects
 pub mod Placed
 pub mod Pointer
+pub mod Reads
 pub mod References
 pub mod Scope
 pub mod States

@@ -2,8 +2,6 @@
 use Rattle.std.specs.Prelude.{ℕ, ℤ, pos, List, [], ◌++◌, map, length, slice_index_or, if◌then◌else◌}
 use Rattle.std.specs.List.{list_all}
 use Rattle.std.specs.Ordering.{int_eq}
-use Rattle.param_expr.specs.Tree.{Tree}
-use Rattle.param_expr.specs.Named.{NamedTree}
 use Rattle.param_expr.specs.Print.{with_names}
 use Rattle.kernel_gate.specs.declared.signature.Signature.{Signature}
 use Rattle.pisdf_model.specs.declared.param.Param.{Param}

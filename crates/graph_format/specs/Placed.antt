@@ -4,6 +4,8 @@ use Rattle.std.specs.List.{enumerate_from}
 use Rattle.param_expr.specs.Tree.{Tree}
 use Rattle.param_expr.specs.Named.{NamedTree}
 use Rattle.param_expr.specs.Bind.{place_of, placed_in}
+use Rattle.pisdf_model.specs.Marked.{marked}
+use Rattle.pisdf_model.specs.Range.{life_of}
 use Rattle.pisdf_model.specs.declared.actor.Actor.{Actor}
 use Rattle.pisdf_model.specs.declared.actor.Body.{Body}
 use Rattle.pisdf_model.specs.declared.actor.Body.TheVariants as body
@@ -11,8 +13,6 @@ use Rattle.pisdf_model.specs.declared.actor.Port.{Port}
 use Rattle.pisdf_model.specs.declared.fifo.End.{End}
 use Rattle.pisdf_model.specs.declared.fifo.End.TheVariants as end
 use Rattle.pisdf_model.specs.declared.fifo.Fifo.{Fifo}
-use Rattle.pisdf_model.specs.declared.fifo.Life.{Life}
-use Rattle.pisdf_model.specs.declared.fifo.Life.TheVariants.{Firing, Permanent}
 use Rattle.pisdf_model.specs.declared.graph.Graph.{Graph}
 use Rattle.pisdf_model.specs.declared.graph.Graphs.{Graphs}
 use Rattle.pisdf_model.specs.declared.graph.Interface.{Interface}
@@ -77,19 +77,10 @@ abbrev pub tokens_of : FileDelay → List ℤ
 tokens_of (Zeros n) = replicate n (pos 0)
 tokens_of (Tokens tokens) = tokens
 
-abbrev mark_if_any : List ℤ → List ℤ
-mark_if_any [] = []
-mark_if_any (t ∷ ts) = pos 0 ∷ []
-
 -- One token 0 in place of a delay that isn't empty, for what looks only at whether there is a delay.
 abbrev pub mark_of : FileDelay → List ℤ
 mark_of (Zeros n) = if n == 0 then [] else pos 0 ∷ []
-mark_of (Tokens tokens) = mark_if_any tokens
-
--- In version 1 the tokens of the top graph's delays live on, and those of the others start anew at each firing.
-abbrev pub life_of : Bool → List ℤ → Life
-life_of is_top [] = Firing
-life_of is_top (t ∷ ts) = if is_top then Permanent else Firing
+mark_of (Tokens tokens) = marked tokens
 
 -- each delay stands for what `tokens` gives of it
 abbrev pub placed_fifo : (FileDelay → List ℤ) → Bool → Scope → FileFifo → Fifo

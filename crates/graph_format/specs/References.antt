@@ -1,8 +1,9 @@
 -- The references of a file that name nothing of the kind that their place asks for.
-use Rattle.std.specs.Prelude.{ℕ, List, [], ◌∷◌, ◌++◌, is_none, if◌then◌else◌, codes}
+use Rattle.std.specs.Prelude.{ℕ, List, [], ◌∷◌, ◌++◌, is_none, if◌then◌else◌}
 use Rattle.std.specs.List.{flat_map}
 use Rattle.param_expr.specs.Named.{NamedTree}
 use Rattle.param_expr.specs.Bind.{place_of, names_of}
+use Rattle.pisdf_model.specs.Wires.{port_text}
 use Rattle.graph_format.specs.declared.actor.FileActor.{FileActor}
 use Rattle.graph_format.specs.declared.actor.FileBody.{FileBody}
 use Rattle.graph_format.specs.declared.actor.FileBody.TheVariants.{Kernel, Config, Child}
@@ -45,14 +46,10 @@ unknown_in_body s (Child graph args) = missing s.graphs graph ++ flat_map (unkno
 abbrev pub unknown_in_actor : Scope → FileActor → List (List ℕ)
 unknown_in_actor s a = unknown_in_body s a.body
 
--- the actor's name and the port's, joined by `.`
-abbrev pub end_text : List ℕ → List ℕ → List ℕ
-end_text actor port = actor ++ codes "." ++ port
-
 -- the whole text of an end that names no interface or port
 abbrev pub unknown_in_end : Scope → FileEnd → List (List ℕ)
 unknown_in_end s (file_end.Interface w) = missing s.interfaces w
-unknown_in_end s (file_end.Port actor port) = if is_none (place_of (ports_named s actor) port) then end_text actor port ∷ [] else []
+unknown_in_end s (file_end.Port actor port) = if is_none (place_of (ports_named s actor) port) then port_text actor port ∷ [] else []
 
 abbrev pub unknown_in_fifo : Scope → FileFifo → List (List ℕ)
 unknown_in_fifo s f = unknown_in_end s f.from ++ unknown_in_end s f.to

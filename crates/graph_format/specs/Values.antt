@@ -1,10 +1,11 @@
 -- What a JSON value states: relations between values and what stands in a graph file.
-use Rattle.std.specs.Prelude.{◌≡◌, ℕ, ◌++◌, ℤ, int_le, List, [], ◌∷◌, true, Option, Some, None, Ok}
+use Rattle.std.specs.Prelude.{◌≡◌, ℕ, ℤ, int_le, List, [], ◌∷◌, true, Option, Some, None, Ok}
 use Rattle.serde_json.specs.Data.{Data, Items, no_items, item}
 use Rattle.serde_json.specs.Find.{get, as_str, as_array}
 use Rattle.param_expr.specs.Named.{NamedTree}
 use Rattle.param_expr.specs.Words.{is_name}
 use Rattle.param_expr.specs.Parse.{Answers}
+use Rattle.pisdf_model.specs.Wires.{port_text}
 use Rattle.graph_format.specs.Walk.{whole_of}
 use Rattle.graph_format.specs.Texts.{is_kernel_name}
 use Rattle.graph_format.specs.declared.fifo.FileEnd.{FileEnd}
@@ -73,7 +74,7 @@ pub record StatesExpression (d : Data) (expr : NamedTree) : Type 0 where
 -- a name, or two names joined by `.`
 abbrev pub end_text : FileEnd → List ℕ
 end_text (Interface name) = name
-end_text (Port actor port) = actor ++ 46 ∷ port
+end_text (Port actor port) = port_text actor port
 
 abbrev pub HasNames : FileEnd → Type 0
 HasNames (Interface name) = is_name name ≡ true
