@@ -1,9 +1,27 @@
 -- Laws of the graphs that a file means.
-use Rattle.std.proofs.Common.{◌≡◌, ◌==◌, ℕ, zero, suc, ℤ, pos, List, [], ◌∷◌, ◌++◌, map, Bool, true, false, replicate, refl, sym, ap, ◌∙◌, arith}
+use Rattle.std.proofs.Common.{◌≡◌, ◌==◌, ℕ, zero, suc, ◌+◌, ℤ, pos, List, [], ◌∷◌, ◌++◌, map, Bool, true, false, replicate, refl, sym, ap, ◌∙◌, arith}
 use Rattle.std.specs.List.{enumerate_from}
 use Rattle.std.proofs.lemmas.Bool.{cond-false}
 use Rattle.std.proofs.lemmas.Bool.Decides.{nat_tests}
-use Rattle.pisdf_model.specs.Details.{of_each}
+use Rattle.pisdf_model.specs.Count.{count_faults}
+use Rattle.pisdf_model.specs.Details.{from_number, of_each, unless}
+use Rattle.pisdf_model.specs.WellFormed.{WellFormed}
+use Rattle.pisdf_model.specs.declared.actor.Body.TheVariants as body
+use Rattle.kernel_gate.specs.Signed.{SignatureView}
+use Rattle.graph_format.specs.Kernels.{kernel_names, unfit_in_file}
+use Rattle.graph_format.specs.References.{unknown_in_file}
+use Rattle.pisdf_model.specs.InterfaceWires.{interface_wire_faults}
+use Rattle.pisdf_model.specs.Nesting.{depth_faults, graph_cycle_faults}
+use Rattle.pisdf_model.specs.ParamOrder.{param_order_faults}
+use Rattle.pisdf_model.specs.Ports.{actor_ports, all_sets, body_fits, graph_ports, param_ports, ports_faults}
+use Rattle.pisdf_model.specs.Wires.{wire_faults}
+use Rattle.pisdf_model.specs.declared.actor.Actor.{Actor}
+use Rattle.pisdf_model.specs.declared.actor.Body.{Body}
+use Rattle.pisdf_model.specs.declared.graph.Graphs.{Graphs}
+use Rattle.pisdf_model.proofs.MarkedFaults.{cycles_marked, depths_marked, interface_wires_marked, param_orders_marked, ports_marked, wires_marked}
+use Rattle.graph_format.specs.Faults.{at_fifo, file_faults, fits_kernel, graphs_of, rule_faults, too_many}
+use Rattle.graph_format.specs.declared.graph_fault.GraphFault.TheVariants as fault
+use Rattle.graph_format.specs.declared.graph_fault.GraphFault.TheVariants.{Depth, Duplicate, GraphCycle, ParamOrder, Ports, Unknown, Wire}
 use Rattle.pisdf_model.specs.Marked.{marked, marked_fifo, marked_graph, marked_graphs}
 use Rattle.pisdf_model.specs.Names as model
 use Rattle.pisdf_model.specs.Range.{life_of}
@@ -106,3 +124,95 @@ placed_marked kernels file =
     let each : (FileDelay → List ℤ) → ℕ × FileGraph → Graph = λ tokens p. placed_graph tokens (p.0 == top_of file) (scope_of kernels file.graphs p.1) p.1 in
     ap (λ (graphs : List Graph). record { version = file.version; top = top_of file; graphs = graphs })
     (of_mapped (each tokens_of) marked_graph (each mark_of) (λ p. graph_marked (p.0 == top_of file) (scope_of kernels file.graphs p.1) p.1) (enumerate_from 0 file.graphs))
+
+-- and those change no fault of graphs but that of too many tokens
+pub rules_marked : (fits : Body → Bool) (graphs : Graphs) → rule_faults fits (marked_graphs graphs) ≡ rule_faults fits graphs
+rules_marked fits graphs =
+    let m = marked_graphs graphs in
+    ap (λ ds. map Ports ds ++ (map Wire (wire_faults m) ++ (map at_fifo (interface_wire_faults m) ++ (map ParamOrder (param_order_faults m) ++ (map GraphCycle (graph_cycle_faults m) ++ map Depth (depth_faults m)))))) (ports_marked graphs fits)
+    ∙ ap (λ ds. map Ports (ports_faults fits graphs) ++ (map Wire ds ++ (map at_fifo (interface_wire_faults m) ++ (map ParamOrder (param_order_faults m) ++ (map GraphCycle (graph_cycle_faults m) ++ map Depth (depth_faults m)))))) (wires_marked graphs)
+    ∙ ap (λ ds. map Ports (ports_faults fits graphs) ++ (map Wire (wire_faults graphs) ++ (map at_fifo ds ++ (map ParamOrder (param_order_faults m) ++ (map GraphCycle (graph_cycle_faults m) ++ map Depth (depth_faults m)))))) (interface_wires_marked graphs)
+    ∙ ap (λ ds. map Ports (ports_faults fits graphs) ++ (map Wire (wire_faults graphs) ++ (map at_fifo (interface_wire_faults graphs) ++ (map ParamOrder ds ++ (map GraphCycle (graph_cycle_faults m) ++ map Depth (depth_faults m)))))) (param_orders_marked graphs)
+    ∙ ap (λ ds. map Ports (ports_faults fits graphs) ++ (map Wire (wire_faults graphs) ++ (map at_fifo (interface_wire_faults graphs) ++ (map ParamOrder (param_order_faults graphs) ++ (map GraphCycle ds ++ map Depth (depth_faults m)))))) (cycles_marked graphs)
+    ∙ ap (λ ds. map Ports (ports_faults fits graphs) ++ (map Wire (wire_faults graphs) ++ (map at_fifo (interface_wire_faults graphs) ++ (map ParamOrder (param_order_faults graphs) ++ (map GraphCycle (graph_cycle_faults graphs) ++ map Depth ds))))) (depths_marked graphs)
+
+-- ---- files without a fault
+
+left_none : {A : Type 0} (xs ys : List A) → xs ++ ys ≡ [] → xs ≡ []
+left_none [] ys none = refl
+left_none (x ∷ xs) ys none = absurd cc
+
+right_none : {A : Type 0} (xs ys : List A) → xs ++ ys ≡ [] → ys ≡ []
+right_none [] ys none = none
+right_none (x ∷ xs) ys none = absurd cc
+
+unmapped : {A B : Type 0} (f : A → B) (xs : List A) → map f xs ≡ [] → xs ≡ []
+unmapped f [] none = refl
+unmapped f (x ∷ xs) none = absurd cc
+
+-- actors that fit their kernels fit where kernels aren't looked at
+fit_any : (fits : Body → Bool) (graphs : List Graph) (b : Body) (name : List ℕ) → unless (body_fits fits graphs b) name ≡ [] → unless (body_fits (λ body. true) graphs b) name ≡ []
+fit_any fits graphs (body.Kernel kernel args ins outs) name none = refl
+fit_any fits graphs (body.Config kernel args ins outs sets) name none = refl
+fit_any fits graphs (body.Child graph args) name none = none
+
+actors_fit_any : (fits : Body → Bool) (graphs : List Graph) (n : ℕ) (actors : List Actor) → from_number n (λ a actor. actor_ports fits graphs actor) actors ≡ [] → from_number n (λ a actor. actor_ports (λ body. true) graphs actor) actors ≡ []
+actors_fit_any fits graphs n [] none = refl
+actors_fit_any fits graphs n (actor ∷ actors) none =
+    let here = actor_ports fits graphs actor in
+    let rest = from_number (n + 1) (λ a actor. actor_ports fits graphs actor) actors in
+    rw (fit_any fits graphs actor.body actor.name (left_none here rest none), actors_fit_any fits graphs (n + 1) actors (right_none here rest none)) refl
+
+graph_fits_any : (fits : Body → Bool) (graphs : List Graph) (is_top : Bool) (g : Graph) → graph_ports fits graphs is_top g ≡ [] → graph_ports (λ body. true) graphs is_top g ≡ []
+graph_fits_any fits graphs is_top g none =
+    let actors = of_each (λ a actor. actor_ports fits graphs actor) g.actors in
+    let params = of_each (λ i p. param_ports is_top (all_sets g.actors) i p) g.params in
+    rw (actors_fit_any fits graphs 0 g.actors (left_none actors params none), right_none actors params none) refl
+
+graphs_fit_any : (fits : Body → Bool) (graphs : List Graph) (top n : ℕ) (some : List Graph) → from_number n (λ n g. graph_ports fits graphs (n == top) g) some ≡ [] → from_number n (λ n g. graph_ports (λ body. true) graphs (n == top) g) some ≡ []
+graphs_fit_any fits graphs top n [] none = refl
+graphs_fit_any fits graphs top n (g ∷ some) none =
+    let here = graph_ports fits graphs (n == top) g in
+    let rest = from_number (n + 1) (λ n g. graph_ports fits graphs (n == top) g) some in
+    rw (graph_fits_any fits graphs (n == top) g (left_none here rest none), graphs_fit_any fits graphs top (n + 1) some (right_none here rest none)) refl
+
+all_none : (fits : Body → Bool) (g : Graphs) → model.duplicate_faults g ≡ [] → rule_faults fits g ≡ [] → count_faults g ≡ [] → WellFormed g
+all_none fits g duplicates rules counts =
+    let ports = map Ports (ports_faults fits g) in
+    let wires = map Wire (wire_faults g) in
+    let fifos = map at_fifo (interface_wire_faults g) in
+    let orders = map ParamOrder (param_order_faults g) in
+    let cycles = map GraphCycle (graph_cycle_faults g) in
+    let depths = map Depth (depth_faults g) in
+    let from_depths = depths in
+    let from_cycles = cycles ++ from_depths in
+    let from_orders = orders ++ from_cycles in
+    let from_fifos = fifos ++ from_orders in
+    let from_wires = wires ++ from_fifos in
+    let none_wires : from_wires ≡ [] = right_none ports from_wires rules in
+    let none_fifos : from_fifos ≡ [] = right_none wires from_fifos none_wires in
+    let none_orders : from_orders ≡ [] = right_none fifos from_orders none_fifos in
+    let none_cycles : from_cycles ≡ [] = right_none orders from_cycles none_orders in
+    let e7 = graphs_fit_any fits g.graphs g.top 0 g.graphs (unmapped Ports (ports_faults fits g) (left_none ports from_wires rules)) in
+    let e8 = unmapped Wire (wire_faults g) (left_none wires from_fifos none_wires) in
+    let e9 = unmapped at_fifo (interface_wire_faults g) (left_none fifos from_orders none_fifos) in
+    let e10 = unmapped ParamOrder (param_order_faults g) (left_none orders from_cycles none_orders) in
+    let e11 = unmapped GraphCycle (graph_cycle_faults g) (left_none cycles from_depths none_cycles) in
+    let e12 = unmapped Depth (depth_faults g) (right_none cycles from_depths none_cycles) in
+    rw (duplicates, e7, e8, e9, e10, e11, e12, counts) refl
+
+-- the graphs of a file without a fault are well formed
+pub well_formed : (signatures : List SignatureView) (file : File) → file_faults signatures file ≡ [] → WellFormed (graphs_of signatures file)
+well_formed signatures file none =
+    let g = graphs_of signatures file in
+    let fits = fits_kernel signatures in
+    let duplicates = map Duplicate (model.repeats (names_of_file file)) in
+    let unknown = map Unknown (unknown_in_file file) in
+    let kernels = map fault.Kernel (unfit_in_file signatures file) in
+    let rules = rule_faults fits g in
+    let counts = map too_many (count_faults g) in
+    let from_rules : rules ++ counts ≡ [] = right_none kernels (rules ++ counts) (right_none unknown (kernels ++ (rules ++ counts)) (right_none duplicates (unknown ++ (kernels ++ (rules ++ counts))) none)) in
+    all_none fits g
+    (ap model.repeats (names_kept tokens_of (kernel_names signatures) file) ∙ unmapped Duplicate (model.repeats (names_of_file file)) (left_none duplicates (unknown ++ (kernels ++ (rules ++ counts))) none))
+    (left_none rules counts from_rules)
+    (unmapped too_many (count_faults g) (right_none rules counts from_rules))

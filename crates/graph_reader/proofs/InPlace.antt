@@ -1,5 +1,5 @@
 -- Where no reference names nothing, each place is that of a part that is there.
-use Rattle.std.proofs.Common.{◌≡◌, ℕ, ◌<◌, List, [], ◌∷◌, ◌++◌, length, get_or, map, Bool, cond, Option, Some, None, refl, sym, ap, ◌∙◌, subst, bytes_eq}
+use Rattle.std.proofs.Common.{◌≡◌, ℕ, ◌<◌, List, [], ◌∷◌, ◌++◌, length, map, cond, Option, Some, None, refl, sym, ◌∙◌, bytes_eq}
 use Rattle.std.specs.Prelude.{is_none, unwrap_or}
 use Rattle.std.specs.List.{All, flat_map}
 use Rattle.std.proofs.lemmas.List.Concat.{flat_map-append}
@@ -12,8 +12,9 @@ use Rattle.pisdf_model.specs.declared.fifo.End.{End}
 use Rattle.pisdf_model.specs.declared.fifo.End.TheVariants as end
 use Rattle.graph_format.specs.declared.fifo.FileEnd.{FileEnd}
 use Rattle.graph_format.specs.declared.fifo.FileEnd.TheVariants as file_end
-use Rattle.graph_format.specs.Placed.{first_place, placed_end, ports_named}
-use Rattle.graph_format.specs.References.{end_text, missing, unknown_in_end, unknown_in_expr}
+use Rattle.graph_format.specs.Placed.{first_place, placed_end}
+use Rattle.pisdf_model.specs.Wires.{port_text}
+use Rattle.graph_format.specs.References.{missing, unknown_in_end, unknown_in_expr}
 use Rattle.graph_format.specs.Scope.{Scope, names_at}
 
 -- ---- lists of references
@@ -34,7 +35,7 @@ each_there unknown placed P h (x ∷ xs) none =
 
 -- ---- names
 
-at_place : (o : Option ℕ) (known : List (List ℕ)) (w : List ℕ) (some : List (List ℕ)) (v : List ℕ) → place_of known w ≡ o → cond (is_none o) (v ∷ some) [] ≡ [] → (place_of known w ≡ Some (unwrap_or o 0)) × (unwrap_or o 0 < length known)
+pub at_place : (o : Option ℕ) (known : List (List ℕ)) (w : List ℕ) (some : List (List ℕ)) (v : List ℕ) → place_of known w ≡ o → cond (is_none o) (v ∷ some) [] ≡ [] → (place_of known w ≡ Some (unwrap_or o 0)) × (unwrap_or o 0 < length known)
 at_place None known w some v e h = absurd cc
 at_place (Some i) known w some v e h = (e, (position-Some (bytes_eq w) known i [] e).0)
 
@@ -60,11 +61,11 @@ IsEndThere s (end.Port a p) = (a < length s.actors) × (p < length (names_at s.p
 no_name : (w : List ℕ) → place_of [] w ≡ None
 no_name w = refl
 
-port_there : (s : Scope) (actor port : List ℕ) (o : Option ℕ) → place_of s.actors actor ≡ o → cond (is_none (place_of (names_at s.ports o) port)) (end_text actor port ∷ []) [] ≡ []
+port_there : (s : Scope) (actor port : List ℕ) (o : Option ℕ) → place_of s.actors actor ≡ o → cond (is_none (place_of (names_at s.ports o) port)) (port_text actor port ∷ []) [] ≡ []
     → (unwrap_or o 0 < length s.actors) × (first_place (names_at s.ports o) port < length (names_at s.ports (Some (unwrap_or o 0))))
-port_there s actor port None e h = let no : end_text actor port ∷ [] ≡ [] = h in absurd cc
+port_there s actor port None e h = let no : port_text actor port ∷ [] ≡ [] = h in absurd cc
 port_there s actor port (Some i) e h =
-    ((position-Some (bytes_eq actor) s.actors i [] e).0, (at_place (place_of (names_at s.ports (Some i)) port) (names_at s.ports (Some i)) port [] (end_text actor port) refl h).1)
+    ((position-Some (bytes_eq actor) s.actors i [] e).0, (at_place (place_of (names_at s.ports (Some i)) port) (names_at s.ports (Some i)) port [] (port_text actor port) refl h).1)
 
 pub end_there : (s : Scope) (e : FileEnd) → unknown_in_end s e ≡ [] → IsEndThere s (placed_end s e)
 end_there s (file_end.Interface w) h = place_there s.interfaces w h

@@ -1,9 +1,14 @@
+pub mod Answering
 pub mod Bound
 pub mod Each
+pub mod FileCounts
 pub mod InPlace
 pub mod Items
 pub mod Known
 pub mod Named
 pub mod Numbered
 pub mod Placing
+pub mod Pushed
+pub mod Ranged
 pub mod Readings
+pub mod Telling

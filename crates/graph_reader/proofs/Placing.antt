@@ -1,5 +1,5 @@
 -- A file's graphs, from the graphs of its parts.
-use Rattle.std.proofs.Common.{◌≡◌, ◌==◌, ℕ, List, [], ◌++◌, map, Bool, Result, Ok, refl, sym, ap, ◌∙◌, subst}
+use Rattle.std.proofs.Common.{◌≡◌, ◌==◌, ℕ, List, [], map, Bool, Result, Ok, refl, sym, ap, ◌∙◌, subst}
 use Rattle.std.specs.List.{enumerate_from, flat_map}
 use Rattle.pisdf_model.specs.declared.graph.Graph.{Graph}
 use Rattle.pisdf_model.specs.declared.graph.Graphs.{Graphs}

@@ -8,7 +8,8 @@ use Rattle.graph_format.specs.Objects.{stated_version, file_at}
 use Rattle.graph_format.specs.States.{States}
 use Rattle.graph_format.proofs.StatedFiles.{file_reads}
 use Rattle.graph_format.specs.declared.file.File.{File}
-use Rattle.graph_reader.specs.Reading.{IsJson, other_version, walked, unless_other, reading_of, FileGives, ReadsAs, Reads}
+use Rattle.graph_format.specs.Reads.{IsJson, other_version}
+use Rattle.graph_reader.specs.Reading.{walked, unless_other, reading_of, FileGives, ReadsAs, Reads}
 use Rattle.graph_reader.specs.declared.reading.FileFault.{FileFault}
 use Rattle.graph_reader.specs.declared.reading.FileFault.TheVariants.{NotJson, Shape, Version, Memory}
 

@@ -1,3 +1,5 @@
+pub mod Checks
+pub mod FileCounts
 pub mod Gives
 pub mod Place
 pub mod Reading

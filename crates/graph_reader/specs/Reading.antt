@@ -1,8 +1,8 @@
 -- What reading the bytes of a file gives.
-use Rattle.std.specs.Prelude.{◌≡◌, ℕ, ℤ, pos, negsuc, ◌==◌, List, [], if◌then◌else◌, Option, Some, None, Result, Ok, Err, IsUtf8}
+use Rattle.std.specs.Prelude.{◌≡◌, ℕ, ℤ, List, [], Option, Some, None, Result, Ok, Err}
 use Rattle.serde_json.specs.Data.{Data}
-use Rattle.serde_json.specs.Read.{read}
 use Rattle.graph_format.specs.Objects.{stated_version, file_at}
+use Rattle.graph_format.specs.Reads.{IsJson, other_version}
 use Rattle.graph_format.specs.declared.file.File.{File}
 use Rattle.graph_reader.specs.declared.misfit.Misfit.{Misfit}
 use Rattle.graph_reader.specs.declared.misfit.Misfit.TheVariants as misfit
@@ -12,16 +12,6 @@ use Rattle.graph_reader.specs.declared.reading.FileFault.TheVariants.{NotJson, S
 abbrev pub fault_of : Misfit → FileFault
 fault_of (misfit.Shape text) = Shape text
 fault_of misfit.Memory = Memory
-
--- the bytes are text that `serde_json` reads as this value
-abbrev pub IsJson : List ℕ → Data → Type 0
-IsJson bytes d = IsUtf8 bytes × (read bytes ≡ Some d)
-
--- a stated version that isn't this one
-abbrev pub other_version : ℕ → Option ℤ → Option ℤ
-other_version version None = None
-other_version version (Some (pos n)) = if n == version then None else Some (pos n)
-other_version version (Some (negsuc n)) = Some (negsuc n)
 
 abbrev pub walked : Result File (List ℕ) → Result File FileFault
 walked (Ok file) = Ok file

@@ -1,7 +1,5 @@
 // FIFOs, with places for names.
 ghost use Rattle.std.specs.Prelude.{◌≡◌, IfOk};
-ghost use Rattle.graph_format.specs.Placed.{life_of};
-ghost use Rattle.graph_format.specs.References.{end_text};
 ghost use Rattle.graph_reader.specs.Setting.{delays_by};
 
 use crate::parts::reference;
@@ -9,20 +7,9 @@ use crate::resolved::Resolved;
 use crate::surroundings::{Delays, Surroundings};
 use crate::unresolved::Unresolved;
 use graph_format::{FileDelay, FileEnd, FileFifo};
-use param_expr::Name;
-use pisdf_model::{End, Fifo, Life};
+use pisdf_model::{End, Fifo, life_of, port_text};
 use sdf_level::List;
 use std::alloc::{AllocError, Global};
-
-/// The text of an end that is a port.
-fn port_text(alloc: Global, actor: &Name, port: &Name) -> Result<Name, AllocError>
-    ensures { IfOk result (λ text. text ≡ end_text actor.now port.now) }
-{
-    let mut text = String::from_str(alloc, actor.text())?;
-    text.push_str(".")?;
-    text.push_str(port.text())?;
-    Ok(Name::new(text))
-}
 
 impl Resolved for End {
     type Source = FileEnd;
@@ -75,17 +62,6 @@ fn mark(alloc: Global, delay: &FileDelay) -> Result<Vec<i64>, AllocError>
         tokens.push(0)?;
     }
     Ok(tokens)
-}
-
-/// How long tokens live in version 1.
-fn life_of(is_top: bool, tokens: &[i64]) -> Life
-    ensures { result ≡ life_of is_top tokens.now }
-{
-    match tokens {
-        [] => Life::Firing,
-        [..] if is_top => Life::Permanent,
-        [..] => Life::Firing,
-    }
 }
 
 impl Resolved for Fifo {

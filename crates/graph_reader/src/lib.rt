@@ -3,9 +3,13 @@
 
 mod actor;
 mod actors;
+mod checks;
 mod fifo;
 mod fifos;
+mod file_counts;
 mod file_names;
+mod file_walk;
+mod kernel_counts;
 mod kernels;
 mod misfit;
 #[cfg(test)]
@@ -15,6 +19,7 @@ mod param;
 mod parts;
 mod place;
 mod port;
+mod reader;
 mod reading;
 mod resolved;
 mod resolving;
@@ -25,3 +30,5 @@ mod surroundings;
 mod tests;
 mod text;
 mod unresolved;
+
+pub use reader::read;

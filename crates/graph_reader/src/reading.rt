@@ -2,9 +2,10 @@ ghost use Rattle.std.specs.Prelude.{◌≡◌, IfOk, MatchResult};
 ghost use Rattle.serde_json.specs.Data.{Data};
 ghost use Rattle.serde_json.specs.View.{view};
 ghost use Rattle.graph_format.specs.Objects.{stated_version};
+ghost use Rattle.graph_format.specs.Reads.{IsJson, other_version};
 ghost use Rattle.graph_format.specs.States.{States};
 ghost use Rattle.graph_format.specs.declared.file.File.{File};
-ghost use Rattle.graph_reader.specs.Reading.{FileGives, IsJson, Reads, other_version, reading_of};
+ghost use Rattle.graph_reader.specs.Reading.{FileGives, Reads, reading_of};
 ghost use Rattle.graph_reader.specs.declared.reading.FileFault.TheVariants.{Memory};
 
 use crate::misfit::Misfit;

@@ -1,0 +1,217 @@
+-- Where no reference of a file names nothing, each number in its graphs refers to a part that is there.
+use Rattle.std.proofs.Common.{◌≡◌, ◌==◌, ℕ, zero, suc, ◌+◌, ◌<◌, ℤ, List, [], ◌∷◌, ◌++◌, length, map, Bool, Option, Some, refl, sym, ap, ◌∙◌, subst, arith, zero-add}
+use Rattle.std.specs.Prelude.{slice_get, slice_index_or}
+use Rattle.std.specs.List.{All, enumerate_from, flat_map}
+use Rattle.std.proofs.lemmas.List.{length-append, length-map}
+use Rattle.std.proofs.lemmas.List.FromFn.{length-enumerate_from}
+use Rattle.param_expr.specs.Bind.{place_of, placed_in}
+use Rattle.param_expr.specs.Eval.{RefersBelow}
+use Rattle.param_expr.specs.Named.{NamedTree}
+use Rattle.pisdf_model.specs.Parts.{inputs_of, interface_names, outputs_of, port_count}
+use Rattle.pisdf_model.specs.Range.{HasPort, InRange, IsActorInRange, IsBodyInRange, IsEndInRange, IsFifoInRange, IsGraphInRange, IsInterfaceInRange, IsKindInRange, IsParamInRange, IsPortInRange}
+use Rattle.pisdf_model.specs.declared.graph.Graph.{Graph}
+use Rattle.pisdf_model.specs.declared.graph.Interface.{Interface}
+use Rattle.pisdf_model.specs.declared.actor.Port.{Port}
+use Rattle.graph_format.specs.Placed.{first_place, placed, placed_actor, placed_body, placed_end, placed_exprs, placed_fifo, placed_graph, placed_interface, placed_kind, placed_param, placed_port, ports_named, top_of}
+use Rattle.graph_format.specs.References.{missing, unknown_in_actor, unknown_in_body, unknown_in_end, unknown_in_expr, unknown_in_fifo, unknown_in_file, unknown_in_graph, unknown_in_kind, unknown_in_param, unknown_in_port}
+use Rattle.graph_format.specs.Scope.{Scope, interfaces_of, names_at, names_of_actors, names_of_graphs, names_of_ports, ports_of, scope_of}
+use Rattle.graph_format.specs.declared.actor.FileActor.{FileActor}
+use Rattle.graph_format.specs.declared.actor.FileBody.{FileBody}
+use Rattle.graph_format.specs.declared.actor.FileBody.TheVariants.{Kernel, Config, Child}
+use Rattle.graph_format.specs.declared.fifo.FileDelay.{FileDelay}
+use Rattle.graph_format.specs.declared.fifo.FileEnd.{FileEnd}
+use Rattle.graph_format.specs.declared.fifo.FileEnd.TheVariants as file_end
+use Rattle.graph_format.specs.declared.fifo.FileFifo.{FileFifo}
+use Rattle.graph_format.specs.declared.file.File.{File}
+use Rattle.graph_format.specs.declared.file.FileGraph.{FileGraph}
+use Rattle.graph_format.specs.declared.param.FileParam.{FileParam}
+use Rattle.graph_format.specs.declared.param.FileParamKind.{FileParamKind}
+use Rattle.graph_format.specs.declared.param.FileParamKind.TheVariants.{Inherited, Derived, Chosen}
+use Rattle.graph_format.specs.declared.port.FilePort.{FilePort}
+use Rattle.graph_reader.proofs.InPlace.{at_place, each_there, end_there, expr_there, left_none, place_there, right_none}
+
+-- as many parts as there were, whatever is told of each
+as_many : {A B C D : Type 0} (m : A → B) (f : B → C) (g : A → D) (xs : List A) → length (map f (map m xs)) ≡ length (map g xs)
+as_many m f g xs = length-map (map m xs) f ∙ length-map xs m ∙ sym (length-map xs g)
+
+-- a graph's inputs and outputs, in places as in the file
+abbrev interface_count : Option Graph → ℕ
+interface_count g = length (interface_names (inputs_of g)) + length (interface_names (outputs_of g))
+
+-- ---- one graph of a file, which is part of these graphs
+
+module _ (tokens : FileDelay → List ℤ) (kernels : List (List ℕ)) (file_graphs : List FileGraph) (graphs : List Graph) (long : length graphs ≡ length (names_of_graphs file_graphs))
+    (child : (k : ℕ) → k < length (names_of_graphs file_graphs) → interface_count (slice_get graphs k) ≡ length (slice_index_or (map interfaces_of file_graphs) k []))
+    (is_top : Bool) (g : FileGraph) where
+  abbrev s : Scope
+  s = scope_of kernels file_graphs g
+
+  abbrev made : Graph
+  made = placed_graph tokens is_top s g
+
+  abbrev n : ℕ
+  n = length made.params
+
+  params_long : length s.params ≡ n
+  params_long = length-map g.params (λ (p : FileParam). p.name) ∙ sym (length-map g.params (placed_param s))
+
+  expr_in : (e : NamedTree) → unknown_in_expr s e ≡ [] → RefersBelow n (placed_in s.params e)
+  expr_in e none = subst (λ m. RefersBelow m (placed_in s.params e)) params_long (expr_there s e none)
+
+  exprs_in : (es : List NamedTree) → flat_map (unknown_in_expr s) es ≡ [] → All (λ e. RefersBelow n e) (placed_exprs s es)
+  exprs_in es none = each_there (unknown_in_expr s) (placed_in s.params) (λ e. RefersBelow n e) expr_in es none
+
+  kind_in : (kind : FileParamKind) → unknown_in_kind s kind ≡ [] → IsKindInRange n (placed_kind s kind)
+  kind_in Inherited none = tt
+  kind_in (Derived expr) none = expr_in expr none
+  kind_in Chosen none = tt
+
+  params_in : (params : List FileParam) → flat_map (unknown_in_param s) params ≡ [] → All (λ p. IsParamInRange n p) (map (placed_param s) params)
+  params_in params none = each_there (unknown_in_param s) (placed_param s) (λ p. IsParamInRange n p) (λ p none_here. kind_in p.kind none_here) params none
+
+  ports_in : (ports : List FilePort) → flat_map (unknown_in_port s) ports ≡ [] → All (λ p. IsPortInRange n p) (map (placed_port s) ports)
+  ports_in ports none = each_there (unknown_in_port s) (placed_port s) (λ p. IsPortInRange n p) (λ p none_here. expr_in p.rate none_here) ports none
+
+  interfaces_in : (ports : List FilePort) → flat_map (unknown_in_port s) ports ≡ [] → All (λ x. IsInterfaceInRange n x) (map (placed_interface s) ports)
+  interfaces_in ports none = each_there (unknown_in_port s) (placed_interface s) (λ x. IsInterfaceInRange n x) (λ p none_here. expr_in p.rate none_here) ports none
+
+  sets_in : (sets : List (List ℕ)) → flat_map (missing s.params) sets ≡ [] → All (λ i. i < n) (map (first_place s.params) sets)
+  sets_in sets none = each_there (missing s.params) (first_place s.params) (λ i. i < n) (λ w none_here. subst (λ m. first_place s.params w < m) params_long (place_there s.params w none_here)) sets none
+
+  body_in : (b : FileBody) → unknown_in_body s b ≡ [] → IsBodyInRange (length graphs) n (placed_body s b)
+  body_in (Kernel kernel args ins outs) none =
+      let exprs = flat_map (unknown_in_expr s) args in
+      let inputs = flat_map (unknown_in_port s) ins in
+      let outputs = flat_map (unknown_in_port s) outs in
+      let front : exprs ++ inputs ≡ [] = left_none (exprs ++ inputs) outputs none in
+      (exprs_in args (left_none exprs inputs front), ports_in ins (right_none exprs inputs front), ports_in outs (right_none (exprs ++ inputs) outputs none))
+  body_in (Config kernel args ins outs sets) none =
+      let exprs = flat_map (unknown_in_expr s) args in
+      let outputs = flat_map (unknown_in_port s) outs in
+      let params = flat_map (missing s.params) sets in
+      let front : exprs ++ outputs ≡ [] = left_none (exprs ++ outputs) params none in
+      (exprs_in args (left_none exprs outputs front), ports_in outs (right_none exprs outputs front), sets_in sets (right_none (exprs ++ outputs) params none))
+  body_in (Child graph args) none =
+      let exprs = flat_map (unknown_in_expr s) args in
+      (subst (λ m. first_place s.graphs graph < m) (sym long) (place_there s.graphs graph (left_none (missing s.graphs graph) exprs none)), exprs_in args (right_none (missing s.graphs graph) exprs none))
+
+  actors_in : (actors : List FileActor) → flat_map (unknown_in_actor s) actors ≡ [] → All (λ a. IsActorInRange (length graphs) n a) (map (placed_actor s) actors)
+  actors_in actors none = each_there (unknown_in_actor s) (placed_actor s) (λ a. IsActorInRange (length graphs) n a) (λ a none_here. body_in a.body none_here) actors none
+
+  -- ---- ends
+
+  names_long : (ports : List FilePort) → length (map (λ (p : Port). p.name) (map (placed_port s) ports)) ≡ length (names_of_ports ports)
+  names_long ports = as_many (placed_port s) (λ (p : Port). p.name) (λ (p : FilePort). p.name) ports
+
+  ports_long : (b : FileBody) → unknown_in_body s b ≡ [] → port_count graphs (placed_body s b) ≡ length (ports_of file_graphs b)
+  ports_long (Kernel kernel args ins outs) none =
+      ap (λ m. m + length (map (λ (p : Port). p.name) (map (placed_port s) outs))) (names_long ins) ∙ ap (λ m. length (names_of_ports ins) + m) (names_long outs) ∙ sym (length-append (names_of_ports ins) (names_of_ports outs))
+  ports_long (Config kernel args ins outs sets) none = ap (λ m. length ins + m) (names_long outs) ∙ sym (length-append ins (names_of_ports outs))
+  ports_long (Child graph args) none =
+      let known : missing s.graphs graph ≡ [] = left_none (missing s.graphs graph) (flat_map (unknown_in_expr s) args) none in
+      let at = at_place (place_of s.graphs graph) s.graphs graph [] graph refl known in
+      child (first_place s.graphs graph) at.1 ∙ ap (λ o. length (names_at (map interfaces_of file_graphs) o)) (sym at.0)
+
+  has_port : (actors : List FileActor) (a p : ℕ) → flat_map (unknown_in_actor s) actors ≡ [] → a < length (names_of_actors actors) → p < length (slice_index_or (map (λ (x : FileActor). ports_of file_graphs x.body) actors) a [])
+      → HasPort graphs p (slice_get (map (placed_actor s) actors) a)
+  has_port [] a p none inside below = absurd (omega arith)
+  has_port (x ∷ actors) zero p none inside below = subst (λ m. p < m) (sym (ports_long x.body (left_none (unknown_in_actor s x) (flat_map (unknown_in_actor s) actors) none))) below
+  has_port (x ∷ actors) (suc a) p none inside below = has_port actors a p (right_none (unknown_in_actor s x) (flat_map (unknown_in_actor s) actors) none) (omega arith) below
+
+  interfaces_long : length s.interfaces ≡ length made.inputs + length made.outputs
+  interfaces_long =
+      length-append (names_of_ports g.inputs) (names_of_ports g.outputs)
+      ∙ ap (λ m. m + length (names_of_ports g.outputs)) (length-map g.inputs (λ (p : FilePort). p.name) ∙ sym (length-map g.inputs (placed_interface s)))
+      ∙ ap (λ m. length made.inputs + m) (length-map g.outputs (λ (p : FilePort). p.name) ∙ sym (length-map g.outputs (placed_interface s)))
+
+  module _ (actors_known : flat_map (unknown_in_actor s) g.actors ≡ []) where
+    end_in : (e : FileEnd) → unknown_in_end s e ≡ [] → IsEndInRange graphs made (placed_end s e)
+    end_in (file_end.Interface w) none = subst (λ m. first_place s.interfaces w < m) interfaces_long (end_there s (file_end.Interface w) none)
+    end_in (file_end.Port actor port) none =
+        let there = end_there s (file_end.Port actor port) none in
+        has_port g.actors (first_place s.actors actor) (first_place (ports_named s actor) port) actors_known there.0 there.1
+
+    fifo_in : (f : FileFifo) → unknown_in_fifo s f ≡ [] → IsFifoInRange graphs is_top made (placed_fifo tokens is_top s f)
+    fifo_in f none = record {
+      tail = end_in f.from (left_none (unknown_in_end s f.from) (unknown_in_end s f.to) none);
+      head = end_in f.to (right_none (unknown_in_end s f.from) (unknown_in_end s f.to) none);
+      life = refl;
+    }
+
+    fifos_in : (fifos : List FileFifo) → flat_map (unknown_in_fifo s) fifos ≡ [] → All (λ f. IsFifoInRange graphs is_top made f) (map (placed_fifo tokens is_top s) fifos)
+    fifos_in fifos none = each_there (unknown_in_fifo s) (placed_fifo tokens is_top s) (λ f. IsFifoInRange graphs is_top made f) fifo_in fifos none
+
+  graph_in : unknown_in_graph s g ≡ [] → IsGraphInRange graphs is_top made
+  graph_in none =
+      let params = flat_map (unknown_in_param s) g.params in
+      let inputs = flat_map (unknown_in_port s) g.inputs in
+      let outputs = flat_map (unknown_in_port s) g.outputs in
+      let actors = flat_map (unknown_in_actor s) g.actors in
+      let fifos = flat_map (unknown_in_fifo s) g.fifos in
+      let to_inputs = params ++ inputs in
+      let to_outputs = params ++ inputs ++ outputs in
+      let to_actors = params ++ inputs ++ outputs ++ actors in
+      let none_to_actors : to_actors ≡ [] = left_none to_actors fifos none in
+      let none_to_outputs : to_outputs ≡ [] = left_none to_outputs actors none_to_actors in
+      let none_to_inputs : to_inputs ≡ [] = left_none to_inputs outputs none_to_outputs in
+      let known : actors ≡ [] = right_none to_outputs actors none_to_actors in
+      record {
+        params = params_in g.params (left_none params inputs none_to_inputs);
+        inputs = interfaces_in g.inputs (right_none params inputs none_to_inputs);
+        outputs = interfaces_in g.outputs (right_none to_inputs outputs none_to_outputs);
+        actors = actors_in g.actors known;
+        fifos = fifos_in known g.fifos (right_none to_actors fifos none);
+      }
+
+-- ---- all graphs of a file
+
+-- what holds of what each graph becomes at its number
+at_each : (P : ℕ → Graph → Type 0) (unknown : FileGraph → List (List ℕ)) (made : ℕ × FileGraph → Graph) → ((k : ℕ) (g : FileGraph) → unknown g ≡ [] → P k (made (k, g))) → (m : ℕ) (gs : List FileGraph) → flat_map unknown gs ≡ [] → (k : ℕ) (d : Graph)
+    → k < length (map made (enumerate_from m gs)) → P (m + k) (slice_index_or (map made (enumerate_from m gs)) k d)
+at_each P unknown made each m [] none k d inside = absurd (omega arith)
+at_each P unknown made each m (g ∷ gs) none zero d inside =
+    let same : m ≡ m + 0 = omega arith in
+    subst (λ k. P k (made (m, g))) same (each m g (left_none (unknown g) (flat_map unknown gs) none))
+at_each P unknown made each m (g ∷ gs) none (suc k) d inside =
+    let same : m + 1 + k ≡ m + suc k = omega arith in
+    subst (λ j. P j (slice_index_or (map made (enumerate_from (m + 1) gs)) k d)) same (at_each P unknown made each (m + 1) gs (right_none (unknown g) (flat_map unknown gs) none) k d (omega arith))
+
+-- the interfaces of what each graph becomes
+child_long : (made : ℕ × FileGraph → Graph) → ((k : ℕ) (g : FileGraph) → interface_count (Some (made (k, g))) ≡ length (interfaces_of g)) → (m : ℕ) (gs : List FileGraph) (k : ℕ) → k < length (names_of_graphs gs)
+    → interface_count (slice_get (map made (enumerate_from m gs)) k) ≡ length (slice_index_or (map interfaces_of gs) k [])
+child_long made each m [] k inside = absurd (omega arith)
+child_long made each m (g ∷ gs) zero inside = each m g
+child_long made each m (g ∷ gs) (suc k) inside = child_long made each (m + 1) gs k (omega arith)
+
+module _ (tokens : FileDelay → List ℤ) (kernels : List (List ℕ)) (file : File) where
+  abbrev each_made : ℕ × FileGraph → Graph
+  each_made p = placed_graph tokens (p.0 == top_of file) (scope_of kernels file.graphs p.1) p.1
+
+  abbrev all_made : List Graph
+  all_made = map each_made (enumerate_from 0 file.graphs)
+
+  all_long : length all_made ≡ length (names_of_graphs file.graphs)
+  all_long = length-map (enumerate_from 0 file.graphs) each_made ∙ length-enumerate_from 0 file.graphs ∙ sym (length-map file.graphs (λ (g : FileGraph). g.name))
+
+  interfaces_made : (k : ℕ) (g : FileGraph) → interface_count (Some (each_made (k, g))) ≡ length (interfaces_of g)
+  interfaces_made k g =
+      let s = scope_of kernels file.graphs g in
+      let name : Interface → List ℕ = λ i. i.name in
+      let stated : FilePort → List ℕ = λ p. p.name in
+      ap (λ m. m + length (map name (map (placed_interface s) g.outputs))) (as_many (placed_interface s) name stated g.inputs)
+      ∙ ap (λ m. length (names_of_ports g.inputs) + m) (as_many (placed_interface s) name stated g.outputs)
+      ∙ sym (length-append (names_of_ports g.inputs) (names_of_ports g.outputs))
+
+  pub file_in_range : file.version ≡ 1 → unknown_in_file file ≡ [] → InRange (placed tokens kernels file)
+  file_in_range version none =
+      let unknown : FileGraph → List (List ℕ) = λ g. unknown_in_graph (scope_of kernels file.graphs g) g in
+      let top_unknown = missing (names_of_graphs file.graphs) file.top in
+      let known : flat_map unknown file.graphs ≡ [] = right_none top_unknown (flat_map unknown file.graphs) none in
+      record {
+        version = version;
+        top = subst (λ m. top_of file < m) (sym all_long) (place_there (names_of_graphs file.graphs) file.top (left_none top_unknown (flat_map unknown file.graphs) none));
+        each_graph = λ k d inside.
+            subst (λ j. IsGraphInRange all_made (j == top_of file) (slice_index_or all_made k d)) (zero-add k)
+            (at_each (λ j made. IsGraphInRange all_made (j == top_of file) made) unknown each_made
+            (λ j g none_here. graph_in tokens kernels file.graphs all_made all_long (child_long each_made interfaces_made 0 file.graphs) (j == top_of file) g none_here) 0 file.graphs known k d inside);
+      }

@@ -1,0 +1,142 @@
+ghost use Rattle.std.specs.Prelude.{◌≡◌, IfOk, map};
+ghost use Rattle.serde_json.specs.Data.{Data};
+ghost use Rattle.kernel_gate.specs.Signed.{signature_view};
+ghost use Rattle.pisdf_model.specs.Range.{InRange};
+ghost use Rattle.pisdf_model.specs.WellFormed.{WellFormed};
+ghost use Rattle.pisdf_model.specs.Names.{repeats};
+ghost use Rattle.graph_format.specs.Faults.{Tells, file_faults, graphs_of};
+ghost use Rattle.graph_format.specs.FileNames.{names_of_file};
+ghost use Rattle.graph_format.specs.Kernels.{kernel_names};
+ghost use Rattle.graph_format.specs.Means.{Means};
+ghost use Rattle.graph_format.specs.Placed.{placed};
+ghost use Rattle.graph_format.specs.Reads.{IsJson, Reads};
+ghost use Rattle.graph_format.specs.References.{unknown_in_file};
+ghost use Rattle.graph_format.specs.States.{States};
+ghost use Rattle.graph_format.specs.declared.file.File.{File};
+ghost use Rattle.graph_format.specs.declared.graph_fault.GraphFault.TheVariants.{Duplicate, Unknown};
+ghost use Rattle.graph_reader.specs.Checks.{fault_of_file, fault_of_reference};
+ghost use Rattle.graph_reader.specs.Setting.{delays_by};
+
+use crate::checks::{Check, follow_rules, told_count, told_kernel};
+use crate::file_counts::count;
+use crate::file_walk::names_of_file;
+use crate::kernels::unfit_kernel;
+use crate::reading::{FileFault, file_of_bytes};
+use crate::resolving::graphs_of;
+use crate::surroundings::Delays;
+use crate::unresolved::Unresolved;
+use graph_format::{File, GraphFault};
+use kernel_gate::Signature;
+use pisdf_model::{Graphs, repeat};
+use std::alloc::Global;
+
+/// The faults of text, shape and version.
+fn fault_of_file(fault: FileFault) -> GraphFault
+    ensures { result ≡ fault_of_file fault }
+{
+    match fault {
+        FileFault::NotJson => GraphFault::NotJson,
+        FileFault::Shape(pointer) => GraphFault::Shape(pointer),
+        FileFault::Version(version) => GraphFault::Version(version),
+        FileFault::Memory => GraphFault::Memory,
+    }
+}
+
+fn fault_of_reference(unresolved: Unresolved) -> GraphFault
+    ensures { result ≡ fault_of_reference unresolved }
+{
+    match unresolved {
+        Unresolved::Unknown(name) => GraphFault::Unknown(name),
+        Unresolved::Memory => GraphFault::Memory,
+    }
+}
+
+fn no_duplicate(alloc: Global, file: &File) -> Result<(), GraphFault>
+    ensures { Tells (map Duplicate (repeats (names_of_file file.now))) result }
+{
+    match names_of_file(alloc, file) {
+        Ok(names) => Check::Duplicate.told(repeat(names.as_slice())),
+        Err(_) => Err(GraphFault::Memory),
+    }
+}
+
+/// The graphs of a file whose references are known, with its delays as they are or marked.
+fn resolved(
+    alloc: Global,
+    file: &File,
+    signatures: &[Signature],
+    delays: Delays,
+) -> Result<Graphs, GraphFault>
+    ensures tells { Tells (map Unknown (unknown_in_file file.now)) result }
+    ensures graphs { IfOk result (λ graphs. graphs ≡ placed (delays_by delays) (kernel_names (map signature_view signatures.now)) file.now) }
+{
+    match graphs_of(alloc, file, signatures, delays) {
+        Ok(graphs) => Ok(graphs),
+        Err(unresolved) => Err(fault_of_reference(unresolved)),
+    }
+}
+
+/// Whether a file has none of the faults 4 to 13. Delays are marked for that, and not made: a number of tokens may be far
+/// over its limit.
+fn check(alloc: Global, file: &File, signatures: &[Signature]) -> Result<(), GraphFault>
+    requires { file.now.version ≡ 1 }
+    ensures { Tells (file_faults (map signature_view signatures.now) file.now) result }
+{
+    no_duplicate(alloc, file)?;
+    let marked = resolved(alloc, file, signatures, Delays::Marks)?;
+    told_kernel(unfit_kernel(signatures, file))?;
+    follow_rules(alloc, signatures, &marked)?;
+    told_count(alloc, count(file))
+}
+
+/// The graphs that a file means.
+fn graphs_of_file(
+    alloc: Global,
+    file: &File,
+    signatures: &[Signature],
+) -> Result<Graphs, GraphFault>
+    requires { file.now.version ≡ 1 }
+    ensures tells { Tells (file_faults (map signature_view signatures.now) file.now) result }
+    ensures graphs { IfOk result (λ graphs. graphs ≡ graphs_of (map signature_view signatures.now) file.now) }
+{
+    check(alloc, file, signatures)?;
+    resolved(alloc, file, signatures, Delays::Tokens)
+}
+
+/// The graphs that the bytes of a graph file mean, where kernels are places of these signatures.
+///
+/// # Errors
+///
+/// The first of these, in this order:
+///
+/// - `NotJson`: `serde_json` has no reading of the bytes.
+/// - `Shape`: the first value in the walk that has not the form of version 1, unless the file is of another version.
+/// - `Version`: the root is an object whose `pisdf` is a whole number other than 1.
+/// - `Duplicate`: the first name in the walk that is equal to an earlier one of its scope.
+/// - `Unknown`: the first reference in the walk that names nothing of the kind that its place asks for.
+/// - `Kernel`: the first kernel of an actor that has no signature, or whose first signature is of the other kind.
+/// - `Ports`: graph by graph, the first actor whose numbers of arguments, ports or sets don't fit, then the first
+///   parameter that isn't set as its kind says.
+/// - `Wire`: graph by graph, the first end of a FIFO at which tokens run the wrong way, then the first interface or port
+///   that doesn't stand at one FIFO end.
+/// - `InterfaceWire`: the first FIFO that may not be where it is, at interfaces or at a configuration actor.
+/// - `ParamOrder`: graph by graph, the first parameter that depends on itself, then the first late one that is named
+///   where an early one must be.
+/// - `GraphCycle`: the first graph that holds itself.
+/// - `Depth`: the first graph that is nested too deep.
+/// - `Count`: the first of what there are too many of.
+/// - `Memory`: want of memory, at any time.
+pub fn read(alloc: Global, bytes: &[u8], signatures: &[Signature]) -> Result<Graphs, GraphFault>
+    // What is read is what a value states and means.
+    ensures means { IfOk result (λ graphs. (d : Data) × IsJson bytes.now d × ((file : File) × States 1 d file × Means (map signature_view signatures.now) file graphs)) }
+    ensures in_range { IfOk result (λ graphs. InRange graphs) }
+    ensures well_formed { IfOk result (λ graphs. WellFormed graphs) }
+    // It is read exactly where it has no fault, and else the first fault is answered, unless memory runs out.
+    ensures exact { Reads 1 (map signature_view signatures.now) bytes.now result }
+{
+    let file = match file_of_bytes(alloc, bytes) {
+        Ok(file) => file,
+        Err(fault) => return Err(fault_of_file(fault)),
+    };
+    graphs_of_file(alloc, &file, signatures)
+}
