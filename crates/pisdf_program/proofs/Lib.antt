@@ -1,9 +1,7 @@
 pub mod Numbers
 pub mod Passes
+pub mod Pass
 pub mod Reading
 pub mod Rows
 pub mod Runs
-pub mod Strips
 pub mod Working
-pub mod Items
-pub mod Known

@@ -1,6 +1,6 @@
 -- The kernel `pass` takes the one firing of a graph of this form.
-use Rattle.std.proofs.Common.{◌≡◌, ℕ, zero, suc, ◌<◌, List, [], ◌∷◌, map, refl, sym, ◌∙◌, ap, subst, arith, Some}
-use Rattle.std.specs.Prelude.{All, slice_get}
+use Rattle.std.proofs.Common.{◌≡◌, zero, suc, List, [], ◌∷◌, map, refl, sym, ◌∙◌, ap, subst, arith}
+use Rattle.std.specs.Prelude.{All}
 use Rattle.kernel_gate.specs.Signed.{Counts, SignatureView, counts_of, signature_view, unnamed}
 use Rattle.kernel_gate.specs.Kernels.{plain_counts}
 use Rattle.kernel_gate.specs.Table.{the_signatures}

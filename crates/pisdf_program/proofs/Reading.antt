@@ -1,92 +1,28 @@
 -- Reading the two files.
-use Rattle.std.proofs.Common.{◌≡◌, ◌≢◌, ℕ, ◌≤◌, ◌<◌, ◌&&◌, ℤ, List, [], ◌∷◌, length, map, Bool, true, false, Option, Some, None, Result, Ok, Err, refl, sym, ap, ◌∙◌, subst, cond, arith}
-use Rattle.std.specs.Prelude.{nat_le, nat_lt, not, codes, if◌then◌else◌, IsUtf8}
-use Rattle.std.specs.Str.{bytes_eq, is_utf8}
-use Rattle.std.specs.List.{list_all}
+use Rattle.std.proofs.Common.{◌≡◌, ◌≢◌, ℕ, ◌≤◌, ◌<◌, ℤ, List, [], length, Bool, true, false, Option, Some, None, Ok, Err, refl, sym, ap, ◌∙◌, arith, inl, inr}
+use Rattle.std.specs.Prelude.{nat_lt, if◌then◌else◌, IsUtf8}
+use Rattle.std.specs.Str.{is_utf8}
 use Rattle.std.proofs.lemmas.Bool.Decides.{nat_tests}
-use Rattle.std.proofs.lemmas.Slice.Eq.{bytes_eq-Decides}
 use Rattle.std.proofs.lemmas.Str.{IsUtf8-from_is_utf8, is_utf8-from_IsUtf8}
 use Rattle.std.proofs.lemmas.List.{length-map}
 use Rattle.serde_json.specs.Data.{Data}
 use Rattle.serde_json.specs.Read.{read}
+use Rattle.kernel_gate.specs.Table.{the_signatures}
+use Rattle.graph_format.specs.Reads.{AreReadAs, IsJson, Reads}
+use Rattle.graph_format.specs.declared.graph_fault.GraphFault.{GraphFault}
+use Rattle.graph_format.specs.declared.graph_fault.GraphFault.TheVariants.{Memory}
 use Rattle.token_text.specs.Streams.{read_of, fault_or, first_fault, streams_of}
 use Rattle.token_text.specs.Records.{records_of}
 use Rattle.token_text.specs.declared.fault.TokenFault.{TokenFault}
 use Rattle.pisdf_model.specs.declared.graph.Graphs.{Graphs}
-use Rattle.firing_board.specs.OnePass.{OnePass, IsSound}
 use Rattle.firing_board.specs.Run.{needs_of}
-use Rattle.pisdf_program.specs.Number.{number_within, number_of, is_digit}
-use Rattle.pisdf_program.specs.Json.{json_of, only_in, says}
-use Rattle.pisdf_program.specs.FirstForm.{◌>>=◌, PassGraph, first_form, pass_graph, if_top, with_rate, one_pass, rate_of, names_differ, is_root, are_same}
-use Rattle.pisdf_program.specs.Result.{read_graph, read_streams, graph_in_json, streams_in, input_names}
-use Rattle.pisdf_program.specs.declared.status.Status.{Status}
+use Rattle.pisdf_program.specs.Result.{graph_in_json, graph_in_reading, if_runs, input_names, json_of, read_graph, read_streams, streams_in}
 use Rattle.pisdf_program.specs.declared.status.Status.TheVariants.{GraphRefused, TokensRefused}
 use Rattle.pisdf_program.specs.declared.status.GraphCause.TheVariants as graph
 use Rattle.pisdf_program.specs.declared.status.TokenCause.TheVariants as tokens
 
--- ---- a graph of the first form is sound
-
-pub bind_some : {A B : Type 0} (o : Option A) (f : A → Option B) (y : B) → (o >>= f) ≡ Some y → (x : A) × (o ≡ Some x) × (f x ≡ Some y)
-bind_some None f y h = absurd cc
-bind_some (Some x) f y h = (x, refl, h)
-
-pub if_some : {A : Type 0} (b : Bool) (o : Option A) (y : A) → (if b then o else None) ≡ Some y → (b ≡ true) × (o ≡ Some y)
-if_some true o y h = (refl, h)
-if_some false o y h = absurd cc
-
-pub and_both : (a b : Bool) → (a && b) ≡ true → (a ≡ true) × (b ≡ true)
-and_both true b h = (refl, h)
-and_both false b h = absurd cc
-
-differ : (a b : List ℕ) → not (bytes_eq a b) ≡ true → a ≢ b
-differ a b h = λ e. let t : bytes_eq a b ≡ true = (bytes_eq-Decides a b).1 e in let no : not true ≡ true = ap not (sym t) ∙ h in absurd cc
-
 pub same_some : {A : Type 0} (x y : A) → Some x ≡ Some y → x ≡ y
 same_some x y h = cc
-
-within : (digits low high n : ℕ) (text : List ℕ) → number_within digits low high text ≡ Some n → (low ≤ n) × (n ≤ high)
-unfolding number_within
-within digits low high n text h =
-    let all = if_some (nat_le 1 (length text) && nat_le (length text) digits && list_all is_digit text && nat_le low (number_of text) && nat_le (number_of text) high) (Some (number_of text)) n h in
-    let last = and_both (nat_le 1 (length text) && nat_le (length text) digits && list_all is_digit text && nat_le low (number_of text)) (nat_le (number_of text) high) all.0 in
-    let before = and_both (nat_le 1 (length text) && nat_le (length text) digits && list_all is_digit text) (nat_le low (number_of text)) last.0 in
-    let is : number_of text ≡ n = same_some (number_of text) n all.1 in
-    let le : low ≤ number_of text = let t = before.1 in grind (arith, nat_tests) in
-    let ge : number_of text ≤ high = let t = last.1 in grind (arith, nat_tests) in
-    (omega arith, omega arith)
-
-rate_within : (g : PassGraph) (n : ℕ) → rate_of g ≡ Some n → (1 ≤ n) × (n ≤ 1024)
-unfolding rate_of
-rate_within g n h = within 4 1 1024 n g.input.rate (if_some (are_same g.input.rate g) (number_within 4 1 1024 g.input.rate) n h).1
-
-sound_parts : (g : PassGraph) (n : ℕ) → names_differ g ≡ true → (1 ≤ n) × (n ≤ 1024) → IsSound (one_pass g n)
-unfolding names_differ
-sound_parts g n h r =
-    let a = not (bytes_eq g.input.name g.output.name) in
-    let b = not (bytes_eq g.input.name g.actor.name) in
-    let c = not (bytes_eq g.output.name g.actor.name) in
-    let d = not (bytes_eq g.actor.input.name g.actor.output.name) in
-    let three = and_both (a && b && c) d h in
-    let two = and_both (a && b) c three.0 in
-    let one = and_both a b two.0 in
-    record {
-      input_output = differ g.input.name g.output.name one.0;
-      input_actor = differ g.input.name g.actor.name one.1;
-      output_actor = differ g.output.name g.actor.name two.1;
-      ports = differ g.actor.input.name g.actor.output.name three.1;
-      low = r.0;
-      high = r.1;
-    }
-
-pub first_form-sound : (d : Data) (p : OnePass) → first_form d ≡ Some p → IsSound p
-unfolding first_form
-first_form-sound d p h =
-    let root = if_some (is_root d) (only_in (codes "graphs") d >>= pass_graph >>= if_top d) p h in
-    let g = bind_some (only_in (codes "graphs") d >>= pass_graph) (if_top d) p root.1 in
-    let top = if_some (says (codes "top") g.0.name d && names_differ g.0) (with_rate g.0) p g.2 in
-    let rate = bind_some (rate_of g.0) (λ n. Some (one_pass g.0 n)) p top.1 in
-    let is : one_pass g.0 rate.0 ≡ p = same_some (one_pass g.0 rate.0) p rate.2 in
-    subst IsSound is (sound_parts g.0 rate.0 (and_both (says (codes "top") g.0.name d) (names_differ g.0) top.0).1 (rate_within g.0 rate.0 rate.1))
 
 -- ---- bytes as JSON
 
@@ -99,6 +35,23 @@ json_at false bytes e h = refl
 
 pub json_none : (bytes : List ℕ) → (IsUtf8 bytes → read bytes ≡ None) → json_of bytes ≡ None
 json_none bytes h = json_at (is_utf8 bytes) bytes refl h
+
+no_json : (bytes : List ℕ) → ((d : Data) → IsJson bytes d → ⊥) → json_of bytes ≡ None
+no_json bytes none = json_none bytes (λ text. read_nothing bytes text (read bytes) refl none)
+  where
+    read_nothing : (bytes : List ℕ) → IsUtf8 bytes → (o : Option Data) → read bytes ≡ o → ((d : Data) → IsJson bytes d → ⊥) → read bytes ≡ None
+    read_nothing bytes text None is none = is
+    read_nothing bytes text (Some d) is none = absurd (none d (text, is))
+
+-- ---- what is read
+
+pub graphs_read : (bytes : List ℕ) (graphs : Graphs) → AreReadAs 1 the_signatures bytes (Ok graphs) → graph_in_json (json_of bytes) ≡ if_runs graphs
+graphs_read bytes graphs h = ap graph_in_json (json_some bytes h.0 h.1.0 h.1.1) ∙ ap graph_in_reading h.2
+
+pub fault_read : (bytes : List ℕ) (fault : GraphFault) → Reads 1 the_signatures bytes (Err fault) → fault ≢ Memory → graph_in_json (json_of bytes) ≡ Err (GraphRefused (graph.Fault fault))
+fault_read bytes fault (inl memory) not_memory = absurd (not_memory memory)
+fault_read bytes fault (inr (inl not_json)) not_memory = ap graph_in_json (no_json bytes not_json.1) ∙ ap (λ f. Err (GraphRefused (graph.Fault f))) (sym not_json.0)
+fault_read bytes fault (inr (inr h)) not_memory = ap graph_in_json (json_some bytes h.0 h.1.0 h.1.1) ∙ ap graph_in_reading h.2
 
 -- ---- lengths
 

@@ -1,5 +1,5 @@
 -- A run, iteration by iteration.
-use Rattle.std.proofs.Common.{◌≡◌, ℕ, suc, ◌+◌, ◌-◌, ◌*◌, ◌≤◌, ◌<◌, ℤ, List, [], ◌∷◌, ◌++◌, length, take, drop, Option, Some, None, refl, sym, ap, ◌∙◌, subst, append_assoc, arith, ◌⊎◌, inl, inr, map, length-append, zero}
+use Rattle.std.proofs.Common.{◌≡◌, ℕ, suc, ◌+◌, ◌-◌, ◌*◌, ◌≤◌, ◌<◌, ℤ, List, [], ◌∷◌, ◌++◌, length, take, drop, Option, Some, None, refl, sym, ap, ◌∙◌, subst, append_assoc, arith, inl, inr, map, length-append, zero}
 use Rattle.std.proofs.lemmas.List.{append-nil, take-append-le}
 use Rattle.std.proofs.Math.Seq.{drop-nil, take-append_seam, take-append-add}
 use Rattle.outer_world.specs.Sink.{Grows}
@@ -12,7 +12,7 @@ use Rattle.firing_board.specs.Job.{top_of}
 use Rattle.firing_board.specs.Meaning as one
 use Rattle.firing_board.specs.Run as run
 use Rattle.pisdf_program.specs.Calls.{GrowsPartly, GrowsByFirst, EndsRun}
-use Rattle.pisdf_program.specs.Iterated.{Gives, IsRefused, Steps, EndsAt}
+use Rattle.pisdf_program.specs.Iterated.{Gives, IsRefused, EndsAt}
 use Rattle.pisdf_program.specs.Streams.{rest_of}
 use Rattle.pisdf_program.specs.Texts.{joined, texts_from, iteration_text}
 use Rattle.pisdf_program.specs.declared.run.RunEnd.{RunEnd}

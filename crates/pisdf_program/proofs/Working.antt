@@ -1,5 +1,5 @@
 -- What a call of the program has done, from what its parts did.
-use Rattle.std.proofs.Common.{◌≡◌, ◌≢◌, ◌⊎◌, inl, inr, ℕ, ◌≤◌, ℤ, List, [], ◌∷◌, length, take, Bool, true, false, Option, Some, None, Result, Ok, Err, String, Global, string_bytes, refl, sym, ap, ◌∙◌, subst, arith}
+use Rattle.std.proofs.Common.{◌≡◌, ◌≢◌, inl, inr, ℕ, ◌≤◌, ℤ, List, [], length, take, true, false, Option, Some, None, Result, Ok, Err, String, Global, string_bytes, refl, sym, ap, ◌∙◌, subst, arith}
 use Rattle.std.specs.Prelude.{option_and_then, option_map, ◌==◌, if◌then◌else◌, IfErr}
 use Rattle.std.proofs.lemmas.Bool.Decides.{nat_tests}
 use Rattle.std.proofs.Math.Seq.{take-length}
@@ -10,10 +10,10 @@ use Rattle.firing_board.specs.Job.{top_of}
 use Rattle.firing_board.specs.Run as run
 use Rattle.pisdf_program.specs.Calls.{GrowsPartly, GrowsByFirst, EndsRun}
 use Rattle.pisdf_program.specs.Loaded.{is_answer, FaultsOnly}
-use Rattle.pisdf_program.specs.Result.{Outcome, refused, read_graph, read_streams, run_graph, run_streams, outcome_of, status_of, line_of_end, short_of, result_of_command}
-use Rattle.pisdf_program.specs.Texts.{joined, texts_from, left_lines, line_of, memory_line, read_line}
+use Rattle.pisdf_program.specs.Result.{Outcome, refused, read_graph, read_streams, run_graph, run_streams, outcome_of, status_of, line_of_end, result_of_command}
+use Rattle.pisdf_program.specs.Texts.{joined, texts_from, line_of, memory_line, read_line}
 use Rattle.pisdf_program.specs.Words.{Command, Run}
-use Rattle.pisdf_program.specs.Worked.{Reports, Decided, Stopped, Works, PutsLine, Tells, TellsUnlessCut, Concludes, CountRose, RoseAt, file_in, file_of, Completes, IsResult, IsStarved, MayTell, IsCut, IsUnread, Ended}
+use Rattle.pisdf_program.specs.Worked.{Reports, Decided, Stopped, Works, PutsLine, Concludes, CountRose, RoseAt, file_in, Completes, MayTell, Ended}
 use Rattle.pisdf_program.specs.declared.run.RunEnd.{RunEnd}
 use Rattle.pisdf_program.specs.declared.run.RunEnd.TheVariants as end
 use Rattle.pisdf_program.specs.declared.status.Status.{Status}

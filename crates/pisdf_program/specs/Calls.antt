@@ -1,11 +1,9 @@
 -- What the calls of the program say.
-use Rattle.std.specs.Prelude.{◌≡◌, ℕ, ◌≤◌, List, [], length, take, Bool, true, false, Option, Some, Result, Ok, Err, ◌⊎◌, string_bytes, Vec, ℤ}
-use Rattle.std.specs.declared.alloc.Global.{Global}
+use Rattle.std.specs.Prelude.{◌≡◌, ℕ, ◌≤◌, List, length, take, Option}
 use Rattle.outer_world.specs.Faults.{Rose}
 use Rattle.outer_world.specs.Sink.{Grows}
 use Rattle.firing_board.specs.Run as run
 use Rattle.pisdf_model.specs.declared.graph.Graphs.{Graphs}
-use Rattle.firing_board.specs.declared.refusal.Refusal.{Refusal}
 use Rattle.firing_board.specs.Job.{top_of}
 use Rattle.pisdf_program.specs.Texts.{joined, texts_from}
 use Rattle.pisdf_program.specs.declared.run.RunEnd.{RunEnd}

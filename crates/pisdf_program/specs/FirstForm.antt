@@ -1,158 +1,101 @@
--- JSON values that are graphs of one kernel `pass` between one input and one output.
-use Rattle.std.specs.Prelude.{ℕ, ◌&&◌, ◌||◌, not, List, [], ◌∷◌, ◌++◌, Bool, true, false, Option, Some, None, option_and_then, codes, if◌then◌else◌}
-use Rattle.std.specs.Str.{bytes_eq}
-use Rattle.serde_json.specs.Data.{Data, Items, no_items, item}
-use Rattle.serde_json.specs.Find.{get, as_array}
-use Rattle.param_expr.specs.Words.{is_name}
-use Rattle.firing_board.specs.OnePass.{OnePass}
-use Rattle.pisdf_program.specs.Number.{number_within}
-use Rattle.pisdf_program.specs.Json.{has_form, says, text_in, is_whole, is_empty_list, if_there, only_in}
+-- Graphs of one kernel `pass` between one input and one output, where all four rates are one number.
+use Rattle.std.specs.Prelude.{ℕ, ◌==◌, ◌&&◌, nat_le, pos, negsuc, List, [], ◌∷◌, Bool, true, false, Option, Some, None, option_and_then, if◌then◌else◌}
+use Rattle.param_expr.specs.Tree.{Tree, number, param, binary}
+use Rattle.pisdf_model.specs.Wires.{is_interface, is_port}
+use Rattle.pisdf_model.specs.declared.actor.Actor.{Actor}
+use Rattle.pisdf_model.specs.declared.actor.Body.{Body}
+use Rattle.pisdf_model.specs.declared.actor.Body.TheVariants.{Kernel, Config, Child}
+use Rattle.pisdf_model.specs.declared.actor.Port.{Port}
+use Rattle.pisdf_model.specs.declared.fifo.Fifo.{Fifo}
+use Rattle.pisdf_model.specs.declared.fifo.Life.{Life}
+use Rattle.pisdf_model.specs.declared.fifo.Life.TheVariants.{Firing, Permanent}
+use Rattle.pisdf_model.specs.declared.graph.Interface.{Interface}
+use Rattle.pisdf_model.specs.declared.graph.Graph.{Graph}
+use Rattle.pisdf_model.specs.declared.graph.Graphs.{Graphs}
+use Rattle.firing_board.specs.OnePass.{pass_place}
 
-infixl 10 ◌>>=◌
-abbrev pub ◌>>=◌ : {A B : Type 0} → Option A → (A → Option B) → Option B
-None >>= f = None
-(Some x) >>= f = f x
+-- ---- lists
 
-abbrev pub name_from : List ℕ → Option (List ℕ)
-name_from bytes = if is_name bytes then Some bytes else None
+abbrev pub is_empty : {A : Type 0} → List A → Bool
+is_empty [] = true
+is_empty (x ∷ xs) = false
 
--- a member that is a name
-abbrev pub name_in : List ℕ → Data → Option (List ℕ)
-name_in key d = text_in key d >>= name_from
+-- the item of a list of one
+abbrev pub the_only : {A : Type 0} → List A → Option A
+the_only [] = None
+the_only (x ∷ []) = Some x
+the_only (x ∷ y ∷ xs) = None
 
--- an interface or a port: its name, and the text of its rate
-pub record RatedName : Type 0 where
-  pub name : List ℕ
-  pub rate : List ℕ
+abbrev pub if_there : {A : Type 0} → (A → Bool) → Option A → Bool
+if_there test None = false
+if_there test (Some x) = test x
 
-abbrev pub rated_of : Data → Option RatedName
-rated_of d = do
-  name ← name_in (codes "name") d
-  rate ← text_in (codes "rate") d
-  Some (record { name = name; rate = rate })
+-- ---- rates
 
-unfoldable pub rated : Data → Option RatedName
-rated d = if has_form (codes "name" ∷ codes "rate" ∷ []) [] d then rated_of d else None
+-- the number from 1 to 1,024 that an expression is
+abbrev pub rate_in : Tree → Option ℕ
+rate_in (number (pos n)) = if nat_le 1 n && nat_le n 1024 then Some n else None
+rate_in (number (negsuc n)) = None
+rate_in (param i) = None
+rate_in (binary op a b) = None
 
--- the kernel actor
-pub record PassActor : Type 0 where
-  pub name : List ℕ
-  pub input : RatedName
-  pub output : RatedName
+-- an expression is this number
+abbrev pub is_rate : ℕ → Tree → Bool
+is_rate rate (number (pos n)) = n == rate
+is_rate rate (number (negsuc n)) = false
+is_rate rate (param i) = false
+is_rate rate (binary op a b) = false
 
--- the members of a kernel actor `pass` without arguments
-abbrev pub is_pass : Data → Bool
-is_pass d =
-    has_form (codes "name" ∷ codes "kind" ∷ codes "kernel" ∷ codes "args" ∷ codes "ins" ∷ codes "outs" ∷ []) [] d
-    && says (codes "kind") (codes "kernel") d
-    && says (codes "kernel") (codes "pass") d
-    && if_there is_empty_list false (get (codes "args") d)
+-- ---- actors
 
-abbrev pub actor_of : Data → Option PassActor
-actor_of d = do
-  name ← name_in (codes "name") d
-  input ← only_in (codes "ins") d >>= rated
-  output ← only_in (codes "outs") d >>= rated
-  Some (record { name = name; input = input; output = output })
+-- a kernel actor `pass` without arguments, whose input and output have this rate
+abbrev pub is_pass : ℕ → Body → Bool
+is_pass rate (Kernel kernel args ins outs) =
+    kernel == pass_place && is_empty args && if_there (λ (p : Port). is_rate rate p.rate) (the_only ins) && if_there (λ (p : Port). is_rate rate p.rate) (the_only outs)
+is_pass rate (Config kernel args ins outs sets) = false
+is_pass rate (Child graph args) = false
 
-unfoldable pub pass_actor : Data → Option PassActor
-pass_actor d = if is_pass d then actor_of d else None
+-- ---- FIFOs
 
--- an actor's port as the end of a FIFO
-abbrev pub port_end : List ℕ → List ℕ → List ℕ
-port_end actor port = actor ++ 46 ∷ port
+abbrev pub is_of_firing : Life → Bool
+is_of_firing Firing = true
+is_of_firing Permanent = false
 
--- no token, written as 0 or as an empty list
-abbrev pub is_no_delay : Data → Bool
-is_no_delay d = is_whole 0 d || is_empty_list d
+-- without a delay
+abbrev pub is_plain : Fifo → Bool
+is_plain f = is_empty f.delay && is_of_firing f.life
 
--- the members of a FIFO without a delay
-unfoldable pub is_queue : Data → Bool
-is_queue d = has_form (codes "from" ∷ codes "to" ∷ []) (codes "delay" ∷ []) d && if_there is_no_delay true (get (codes "delay") d)
+-- from the input to the actor's input port
+abbrev pub is_fifo_in : Fifo → Bool
+is_fifo_in f = is_plain f && is_interface 0 f.tail && is_port 0 0 f.head
 
--- a FIFO from one end to another without a delay
-unfoldable pub is_fifo : List ℕ → List ℕ → Data → Bool
-is_fifo tail head d = is_queue d && says (codes "from") tail d && says (codes "to") head d
+-- from the actor's output port to the output
+abbrev pub is_fifo_out : Fifo → Bool
+is_fifo_out f = is_plain f && is_port 0 1 f.tail && is_interface 1 f.head
 
--- the graph
-pub record PassGraph : Type 0 where
-  pub name : List ℕ
-  pub input : RatedName
-  pub output : RatedName
-  pub actor : PassActor
+-- these two, in this order
+abbrev pub are_wires : List Fifo → Bool
+are_wires [] = false
+are_wires (f ∷ []) = false
+are_wires (f ∷ h ∷ []) = is_fifo_in f && is_fifo_out h
+are_wires (f ∷ h ∷ i ∷ fifos) = false
 
--- two FIFOs: from the input to the actor, and from the actor to the output
-abbrev pub are_wires : PassGraph → Items → Bool
-are_wires g no_items = false
-are_wires g (item d no_items) = false
-are_wires g (item d (item e no_items)) =
-    is_fifo g.input.name (port_end g.actor.name g.actor.input.name) d && is_fifo (port_end g.actor.name g.actor.output.name) g.output.name e
-are_wires g (item d (item e (item f ds))) = false
+-- ---- graphs
 
-abbrev pub is_wired : PassGraph → Option Items → Bool
-is_wired g None = false
-is_wired g (Some ds) = are_wires g ds
+-- a graph of one such actor, whose input has this rate, and its output too
+abbrev pub is_pass_graph : ℕ → Graph → Bool
+is_pass_graph rate g =
+    is_empty g.params
+    && if_there (λ (o : Interface). is_rate rate o.rate) (the_only g.outputs)
+    && if_there (λ (a : Actor). is_pass rate a.body) (the_only g.actors)
+    && are_wires g.fifos
 
--- the members of a graph without parameters
-abbrev pub is_plain_graph : Data → Bool
-is_plain_graph d =
-    has_form (codes "name" ∷ codes "params" ∷ codes "inputs" ∷ codes "outputs" ∷ codes "actors" ∷ codes "fifos" ∷ []) [] d
-    && if_there is_empty_list false (get (codes "params") d)
+abbrev pub rate_if_pass : Graph → Interface → Option ℕ
+rate_if_pass g input = option_and_then (λ rate. if is_pass_graph rate g then Some rate else None) (rate_in input.rate)
 
--- the parts of such a graph, whatever its FIFOs are
-unfoldable pub parts_of : Data → Option PassGraph
-parts_of d = do
-  name ← name_in (codes "name") d
-  input ← only_in (codes "inputs") d >>= rated
-  output ← only_in (codes "outputs") d >>= rated
-  actor ← only_in (codes "actors") d >>= pass_actor
-  Some (record { name = name; input = input; output = output; actor = actor })
+abbrev pub rate_of_graph : Graph → Option ℕ
+rate_of_graph g = option_and_then (rate_if_pass g) (the_only g.inputs)
 
-abbrev pub if_wired : Data → PassGraph → Option PassGraph
-if_wired d g = if is_wired g (option_and_then as_array (get (codes "fifos") d)) then Some g else None
-
-unfoldable pub pass_graph : Data → Option PassGraph
-pass_graph d = if is_plain_graph d then parts_of d >>= if_wired d else None
-
--- the names of each scope differ
-unfoldable pub names_differ : PassGraph → Bool
-names_differ g =
-    not (bytes_eq g.input.name g.output.name)
-    && not (bytes_eq g.input.name g.actor.name)
-    && not (bytes_eq g.output.name g.actor.name)
-    && not (bytes_eq g.actor.input.name g.actor.output.name)
-
-abbrev pub are_same : List ℕ → PassGraph → Bool
-are_same rate g = bytes_eq g.output.rate rate && bytes_eq g.actor.input.rate rate && bytes_eq g.actor.output.rate rate
-
--- the rate, where its text is the same at all four places: from 1 to 1,024, in 1 to 4 digits
-unfoldable pub rate_of : PassGraph → Option ℕ
-rate_of g = if are_same g.input.rate g then number_within 4 1 1024 g.input.rate else None
-
-abbrev pub one_pass : PassGraph → ℕ → OnePass
-one_pass g rate = record {
-  name = g.name;
-  input = g.input.name;
-  output = g.output.name;
-  actor = g.actor.name;
-  in_port = g.actor.input.name;
-  out_port = g.actor.output.name;
-  rate = rate;
-}
-
-abbrev pub with_rate : PassGraph → Option OnePass
-with_rate g = rate_of g >>= λ rate. Some (one_pass g rate)
-
--- a file of version 1
-abbrev pub is_root : Data → Bool
-is_root d =
-    has_form (codes "pisdf" ∷ codes "top" ∷ codes "graphs" ∷ []) [] d
-    && if_there (is_whole 1) false (get (codes "pisdf") d)
-
--- the top is this graph, whose names differ
-abbrev pub if_top : Data → PassGraph → Option OnePass
-if_top d g = if says (codes "top") g.name d && names_differ g then with_rate g else None
-
--- the graph that a value is, where it is one of this form
-unfoldable pub first_form : Data → Option OnePass
-first_form d = if is_root d then only_in (codes "graphs") d >>= pass_graph >>= if_top d else None
+-- the rate of graphs of this form
+unfoldable pub pass_rate : Graphs → Option ℕ
+pass_rate graphs = option_and_then rate_of_graph (the_only graphs.graphs)

@@ -7,7 +7,7 @@ use Rattle.firing_board.specs.declared.outcome.Delays.{Delays}
 use Rattle.firing_board.specs.declared.outcome.Iteration.{Iteration}
 use Rattle.firing_board.specs.Job.{top_of}
 use Rattle.firing_board.specs.Meaning as one
-use Rattle.firing_board.specs.Run.{first_lack, taken, needs_of, Lack}
+use Rattle.firing_board.specs.Run.{first_lack, taken, needs_of}
 use Rattle.pisdf_program.specs.Calls.{GrowsPartly}
 use Rattle.pisdf_program.specs.Texts.{iteration_text}
 use Rattle.pisdf_program.specs.declared.iterate.IterationFault.{IterationFault}

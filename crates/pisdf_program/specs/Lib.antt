@@ -3,9 +3,7 @@ pub mod Number
 pub mod Words
 pub mod WordsSeen
 pub mod Worked
-pub mod Json
 pub mod FirstForm
-pub mod FormSeen
 pub mod LackSeen
 pub mod Streams
 pub mod Calls

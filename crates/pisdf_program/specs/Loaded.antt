@@ -1,5 +1,5 @@
 -- What loading a file gives.
-use Rattle.std.specs.Prelude.{◌≡◌, ℕ, ◌≤◌, ℤ, List, Bool, true, false, Result, Ok, Err}
+use Rattle.std.specs.Prelude.{◌≡◌, ℕ, Bool, true, false, Result, Ok, Err}
 use Rattle.std.specs.Arc.{arc_value}
 use Rattle.outer_world.specs.Faults.{Rose}
 use Rattle.pisdf_model.specs.declared.graph.Graphs.{Graphs}

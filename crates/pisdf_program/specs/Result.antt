@@ -1,22 +1,24 @@
 -- The result of a command: what it writes and how it ends, from the words and the files that they name.
-use Rattle.std.specs.Prelude.{◌≡◌, ℕ, ◌*◌, ◌==◌, nat_lt, ℤ, List, [], ◌∷◌, map, length, slice_index_or, Bool, true, false, Option, Some, None, option_map, option_and_then, Result, Ok, Err, if◌then◌else◌}
+use Rattle.std.specs.Prelude.{ℕ, ◌==◌, nat_lt, ℤ, List, [], map, length, slice_index_or, Option, Some, None, is_some, option_map, option_and_then, Result, Ok, Err, if◌then◌else◌}
+use Rattle.std.specs.Str.{is_utf8}
 use Rattle.serde_json.specs.Data.{Data}
+use Rattle.serde_json.specs.Read.{read}
+use Rattle.kernel_gate.specs.Table.{the_signatures}
 use Rattle.token_text.specs.Streams.{read_of}
 use Rattle.token_text.specs.declared.fault.TokenFault.{TokenFault}
 use Rattle.pisdf_model.specs.declared.graph.Interface.{Interface}
-use Rattle.pisdf_model.specs.declared.graph.Graph.{Graph}
 use Rattle.pisdf_model.specs.declared.graph.Graphs.{Graphs}
-use Rattle.firing_board.specs.OnePass.{OnePass, graphs_of}
+use Rattle.graph_format.specs.Reads.{reading}
+use Rattle.graph_format.specs.declared.graph_fault.GraphFault.{GraphFault}
+use Rattle.graph_format.specs.declared.graph_fault.GraphFault.TheVariants.{NotJson}
 use Rattle.firing_board.specs.Job.{top_of}
 use Rattle.firing_board.specs.Run as run
 use Rattle.pisdf_program.specs.Words.{Command, command_of, Run, Plain, Plan, Journal, Soak}
-use Rattle.pisdf_program.specs.Json.{json_of}
-use Rattle.pisdf_program.specs.FirstForm.{first_form}
+use Rattle.pisdf_program.specs.FirstForm.{pass_rate}
 use Rattle.pisdf_program.specs.Texts.{texts_from, left_lines, line_of}
 use Rattle.pisdf_program.specs.declared.status.Status.{Status}
 use Rattle.pisdf_program.specs.declared.status.Status.TheVariants.{Done, Usage, GraphRefused, TokensRefused, RunRefused, NotYet}
 use Rattle.pisdf_program.specs.declared.status.GraphCause.TheVariants as graph
-use Rattle.pisdf_program.specs.declared.status.GraphFault.TheVariants.{NotJson}
 use Rattle.pisdf_program.specs.declared.status.TokenCause.TheVariants as tokens
 use Rattle.pisdf_program.specs.declared.status.Later.TheVariants as later
 
@@ -32,13 +34,21 @@ refused status = record { texts = []; line = line_of status; status = status }
 
 -- ---- the graph file
 
-abbrev pub graph_in_form : Option OnePass → Result Graphs Status
-graph_in_form None = Err (NotYet later.Graph)
-graph_in_form (Some pass) = Ok (graphs_of pass)
+-- the value that `serde_json` reads in bytes that are text
+abbrev pub json_of : List ℕ → Option Data
+json_of bytes = if is_utf8 bytes then read bytes else None
+
+-- graphs that the program runs in this stage
+abbrev pub if_runs : Graphs → Result Graphs Status
+if_runs graphs = if is_some (pass_rate graphs) then Ok graphs else Err (NotYet later.Graph)
+
+abbrev pub graph_in_reading : Result Graphs GraphFault → Result Graphs Status
+graph_in_reading (Ok graphs) = if_runs graphs
+graph_in_reading (Err fault) = Err (GraphRefused (graph.Fault fault))
 
 abbrev pub graph_in_json : Option Data → Result Graphs Status
 graph_in_json None = Err (GraphRefused (graph.Fault NotJson))
-graph_in_json (Some value) = graph_in_form (first_form value)
+graph_in_json (Some value) = graph_in_reading (reading 1 the_signatures value)
 
 -- the graphs in the bytes of a file, or the refusal
 unfoldable pub read_graph : List ℕ → Result Graphs Status

@@ -1,10 +1,12 @@
 -- The texts that a command writes.
 use Rattle.std.specs.Prelude.{ℕ, ◌+◌, ◌==◌, ℤ, List, [], ◌∷◌, ◌++◌, codes, if◌then◌else◌}
-use Rattle.std.specs.Fmt.{decimal}
+use Rattle.std.specs.Fmt.{decimal, signed_decimal}
 use Rattle.token_text.specs.Rows.{tokens_text, param_text}
 use Rattle.token_text.specs.declared.fault.TokenFault.{TokenFault}
 use Rattle.token_text.specs.declared.fault.TokenFault.TheVariants as fault
 use Rattle.pisdf_model.specs.declared.graph.Interface.{Interface}
+use Rattle.graph_format.specs.declared.graph_fault.GraphFault.{GraphFault}
+use Rattle.graph_format.specs.declared.graph_fault.GraphFault.TheVariants as format
 use Rattle.firing_board.specs.declared.outcome.Iteration.{Iteration}
 use Rattle.firing_board.specs.declared.outcome.TraceRow.{TraceRow}
 use Rattle.firing_board.specs.declared.refusal.Cause.{Cause}
@@ -13,8 +15,6 @@ use Rattle.pisdf_program.specs.declared.status.Status.{Status}
 use Rattle.pisdf_program.specs.declared.status.Status.TheVariants.{Done, Usage, GraphRefused, TokensRefused, RunRefused, ReadFault, WriteFault, WantOfMemory, NotYet}
 use Rattle.pisdf_program.specs.declared.status.GraphCause.{GraphCause}
 use Rattle.pisdf_program.specs.declared.status.GraphCause.TheVariants as graph
-use Rattle.pisdf_program.specs.declared.status.GraphFault.{GraphFault}
-use Rattle.pisdf_program.specs.declared.status.GraphFault.TheVariants.{NotJson}
 use Rattle.pisdf_program.specs.declared.status.TokenCause.{TokenCause}
 use Rattle.pisdf_program.specs.declared.status.TokenCause.TheVariants as tokens
 use Rattle.pisdf_program.specs.declared.status.Which.{Which}
@@ -70,9 +70,30 @@ abbrev pub read_line : Which → List ℕ
 read_line which.Graph = codes "read: graph\n"
 read_line which.Tokens = codes "read: tokens\n"
 
+-- words and a name
+abbrev pub named_line : List ℕ → List ℕ → List ℕ
+named_line words name = joined (words ∷ name ∷ codes "\n" ∷ [])
+
+-- the number of a graph file's fault, and its detail
+abbrev pub graph_fault_line : GraphFault → List ℕ
+graph_fault_line format.NotJson = codes "graph: 1 json\n"
+graph_fault_line (format.Shape pointer) = named_line (codes "graph: 2 shape ") pointer
+graph_fault_line (format.Version version) = joined (codes "graph: 3 version " ∷ signed_decimal version ∷ codes "\n" ∷ [])
+graph_fault_line (format.Duplicate name) = named_line (codes "graph: 4 duplicate ") name
+graph_fault_line (format.Unknown name) = named_line (codes "graph: 5 unknown ") name
+graph_fault_line (format.Kernel name) = named_line (codes "graph: 6 kernel ") name
+graph_fault_line (format.Ports name) = named_line (codes "graph: 7 ports ") name
+graph_fault_line (format.Wire end) = named_line (codes "graph: 8 wire ") end
+graph_fault_line (format.InterfaceWire name fifo) = joined (codes "graph: 9 interface " ∷ name ∷ codes " " ∷ decimal fifo ∷ codes "\n" ∷ [])
+graph_fault_line (format.ParamOrder name) = named_line (codes "graph: 10 order ") name
+graph_fault_line (format.GraphCycle name) = named_line (codes "graph: 11 cycle ") name
+graph_fault_line (format.Depth name) = named_line (codes "graph: 12 depth ") name
+graph_fault_line (format.Count what) = named_line (codes "graph: 13 count ") what
+graph_fault_line format.Memory = memory_line
+
 abbrev pub graph_line : GraphCause → List ℕ
 graph_line graph.TooLong = codes "graph: 0 length\n"
-graph_line (graph.Fault NotJson) = codes "graph: 1 json\n"
+graph_line (graph.Fault fault) = graph_fault_line fault
 
 -- the line of the first fault of the rows, which are counted from 1, as are their fields
 abbrev pub fault_line : TokenFault → List ℕ

@@ -1,16 +1,15 @@
 -- What a call of the program has done.
-use Rattle.std.specs.Prelude.{◌≡◌, ◌≢◌, ◌⊎◌, ◌==◌, if◌then◌else◌, ℕ, Bool, true, None, List, [], Option, Some, Result, Ok, Err, String, string_bytes}
+use Rattle.std.specs.Prelude.{◌≡◌, ◌≢◌, ◌⊎◌, ◌==◌, if◌then◌else◌, ℕ, true, None, List, [], Option, Some, Result, Ok, Err, String, string_bytes}
 use Rattle.std.specs.declared.alloc.Global.{Global}
 use Rattle.outer_world.specs.Faults.{Rose}
 use Rattle.outer_world.specs.Sink.{Grows}
 use Rattle.pisdf_model.specs.declared.graph.Graphs.{Graphs}
 use Rattle.firing_board.specs.Job.{top_of}
-use Rattle.firing_board.specs.Run as run
 use Rattle.pisdf_program.specs.Calls.{GrowsPartly, GrowsByFirst}
 use Rattle.pisdf_program.specs.Loaded.{is_answer}
 use Rattle.pisdf_program.specs.Result.{Outcome, short_of}
 use Rattle.pisdf_program.specs.Texts.{joined, left_lines, line_of, memory_line, read_line}
-use Rattle.pisdf_program.specs.Words.{Command, Run, Plain, Plan, Journal, Soak}
+use Rattle.pisdf_program.specs.Words.{Command, Run}
 use Rattle.pisdf_program.specs.declared.run.RunEnd.{RunEnd}
 use Rattle.pisdf_program.specs.declared.run.RunEnd.TheVariants as end
 use Rattle.pisdf_program.specs.declared.status.Status.{Status}

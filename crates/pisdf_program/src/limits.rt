@@ -21,7 +21,5 @@ pub const GENERATED: u32 = 65_535;
 
 pub const GENERATED_DIGITS: usize = 5;
 
-/// The rate of a graph of one kernel `pass`, and the digits of its text.
+/// The rate of a graph of one kernel `pass`.
 pub const PASS_RATE: u32 = 1_024;
-
-pub const PASS_RATE_DIGITS: usize = 4;

@@ -1,10 +1,11 @@
 // The lines that a status puts to standard error.
 ghost use Rattle.std.specs.Prelude.{◌≡◌, ◌==◌, ◌++◌, [], if◌then◌else◌, IfOk, OnOk, IsOk, string_bytes};
 ghost use Rattle.pisdf_program.specs.LineSeen.{line_text};
-ghost use Rattle.pisdf_program.specs.Texts.{graph_line, later_line, left_line, left_lines, line_of, read_line, refusal_line, tokens_line};
+ghost use Rattle.pisdf_program.specs.Texts.{graph_fault_line, graph_line, later_line, left_line, left_lines, line_of, named_line, read_line, refusal_line, tokens_line};
 
-use crate::status::{GraphCause, GraphFault, Later, Status, TokenCause, Which};
+use crate::status::{GraphCause, Later, Status, TokenCause, Which};
 use firing_board::{Cause, Refusal};
+use graph_format::GraphFault;
 use param_expr::Name;
 use pisdf_model::Interface;
 use std::alloc::{AllocError, Global};
@@ -36,12 +37,55 @@ impl Line {
     }
 }
 
-fn graph_line(cause: &GraphCause) -> &'static str
-    ensures { result.now ≡ graph_line cause.now }
+/// Words and a name.
+fn named_line(alloc: Global, words: &str, name: &Name) -> Result<String, AllocError>
+    ensures { IfOk result (λ s. string_bytes s ≡ named_line words.now name.now) }
+{
+    let name = name.text();
+    format!(in alloc; "{words}{name}\n")
+}
+
+fn version_line(alloc: Global, version: i64) -> Result<String, AllocError>
+    ensures { IfOk result (λ s. string_bytes s ≡ graph_fault_line (GraphFault.Version version)) }
+{
+    format!(in alloc; "graph: 3 version {version}\n")
+}
+
+fn fifo_line(alloc: Global, graph: &Name, fifo: u32) -> Result<String, AllocError>
+    ensures { IfOk result (λ s. string_bytes s ≡ graph_fault_line (GraphFault.InterfaceWire graph.now fifo)) }
+{
+    let graph = graph.text();
+    format!(in alloc; "graph: 9 interface {graph} {fifo}\n")
+}
+
+fn graph_fault_line(alloc: Global, fault: &GraphFault) -> Result<Line, AllocError>
+    ensures { IfOk result (λ l. line_text l ≡ graph_fault_line fault.now) }
+{
+    let line = match fault {
+        GraphFault::NotJson => return Ok(Line::Fixed("graph: 1 json\n")),
+        GraphFault::Shape(pointer) => named_line(alloc, "graph: 2 shape ", pointer)?,
+        GraphFault::Version(version) => version_line(alloc, *version)?,
+        GraphFault::Duplicate(name) => named_line(alloc, "graph: 4 duplicate ", name)?,
+        GraphFault::Unknown(name) => named_line(alloc, "graph: 5 unknown ", name)?,
+        GraphFault::Kernel(name) => named_line(alloc, "graph: 6 kernel ", name)?,
+        GraphFault::Ports(name) => named_line(alloc, "graph: 7 ports ", name)?,
+        GraphFault::Wire(end) => named_line(alloc, "graph: 8 wire ", end)?,
+        GraphFault::InterfaceWire { graph, fifo } => fifo_line(alloc, graph, *fifo)?,
+        GraphFault::ParamOrder(name) => named_line(alloc, "graph: 10 order ", name)?,
+        GraphFault::GraphCycle(name) => named_line(alloc, "graph: 11 cycle ", name)?,
+        GraphFault::Depth(name) => named_line(alloc, "graph: 12 depth ", name)?,
+        GraphFault::Count(what) => named_line(alloc, "graph: 13 count ", what)?,
+        GraphFault::Memory => return Ok(Line::Fixed(MEMORY)),
+    };
+    Ok(Line::Written(line))
+}
+
+fn graph_line(alloc: Global, cause: &GraphCause) -> Result<Line, AllocError>
+    ensures { IfOk result (λ l. line_text l ≡ graph_line cause.now) }
 {
     match cause {
-        GraphCause::TooLong => "graph: 0 length\n",
-        GraphCause::Fault(GraphFault::NotJson) => "graph: 1 json\n",
+        GraphCause::TooLong => Ok(Line::Fixed("graph: 0 length\n")),
+        GraphCause::Fault(fault) => graph_fault_line(alloc, fault),
     }
 }
 
@@ -131,7 +175,7 @@ pub(crate) fn line_of(alloc: Global, status: &Status) -> Result<Line, AllocError
     match status {
         Status::Done | Status::WriteFault => Ok(Line::Fixed("")),
         Status::Usage => Ok(Line::Fixed(USAGE)),
-        Status::GraphRefused(cause) => Ok(Line::Fixed(graph_line(cause))),
+        Status::GraphRefused(cause) => graph_line(alloc, cause),
         Status::TokensRefused(cause) => tokens_line(alloc, cause),
         Status::RunRefused(refusal) => Ok(Line::Written(refusal_line(alloc, refusal)?)),
         Status::ReadFault(which) => Ok(Line::Fixed(read_line(*which))),

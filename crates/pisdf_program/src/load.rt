@@ -1,25 +1,27 @@
 // Loading the two files of a run.
-ghost use Rattle.std.specs.Prelude.{◌≡◌, ◌<◌, ◌≤◌, ℕ, List as Seq, Some, length, map, IfOk, IfErr};
+ghost use Rattle.std.specs.Prelude.{◌≡◌, ◌<◌, ◌≤◌, ◌↔◌, ℕ, [], ◌∷◌, List as Seq, Some, length, map, IfOk, IfErr, IsTrue};
 ghost use Rattle.std.specs.Arc.{arc_value};
+ghost use Rattle.firing_board.specs.OnePass.{IsOnePass};
 ghost use Rattle.firing_board.specs.Run.{needs_of};
 ghost use Rattle.token_text.specs.Streams.{read_of};
-ghost use Rattle.pisdf_program.specs.FormSeen.{pass_seen};
-ghost use Rattle.pisdf_program.specs.Json.{json_of};
 ghost use Rattle.pisdf_program.specs.Loaded.{CanRun, FaultsOnly, GraphSettles, NoFault, Settles};
-ghost use Rattle.pisdf_program.specs.Result.{graph_in_json, input_names, read_graph, read_streams, streams_in};
-ghost use Rattle.firing_board.specs.OnePass as one;
-ghost use Rattle.serde_json.specs.View.{view};
+ghost use Rattle.pisdf_program.specs.Result.{graph_in_json, if_runs, input_names, json_of, read_graph, read_streams, streams_in};
+ghost use Rattle.kernel_gate.specs.Signed.{signature_view};
+ghost use Rattle.kernel_gate.specs.Table.{the_signatures};
+ghost use Rattle.pisdf_model.specs.Range.{InRange};
+ghost use Rattle.pisdf_model.specs.WellFormed.{WellFormed};
 
-use crate::first_form::{Pass, first_form};
-use crate::graph::graphs_of;
+use crate::first_form::pass_rate;
 use crate::limits;
 use crate::run::top_of;
-use crate::status::{GraphCause, GraphFault, Later, Status, TokenCause, Which};
+use crate::status::{GraphCause, Later, Status, TokenCause, Which};
+use graph_format::GraphFault;
+use graph_reader::read;
+use kernel_gate::Signature;
 use outer_world::{LoadFault, Shelf};
 use param_expr::Name;
 use pisdf_model::{Graphs, Interface};
 use sdf_level::List;
-use serde_json::Value;
 use std::alloc::{AllocError, Global};
 use std::sync::Arc;
 use token_text::{TokenFault, read_tokens};
@@ -32,39 +34,52 @@ pub(crate) struct Runnable {
     pub(crate) needs: List<u32>,
 }
 
-/// The graphs of a file with this graph alone.
-fn loaded(alloc: Global, pass: &Pass<'_>) -> Result<Runnable, AllocError>
-    requires { one.IsSound (pass_seen pass.now) }
-    ensures graphs { IfOk result (λ l. arc_value l.graphs ≡ one.graphs_of (pass_seen pass.now)) }
+/// Graphs of this rate, which is what an iteration takes.
+fn with_needs(alloc: Global, graphs: Graphs, rate: u32) -> Result<Runnable, AllocError>
+    requires { IsOnePass graphs × (rate ∷ [] ≡ needs_of graphs) }
+    ensures graphs { IfOk result (λ l. arc_value l.graphs ≡ graphs) }
     ensures can_run { IfOk result CanRun }
 {
-    let graphs = Arc::new(alloc, graphs_of(alloc, pass)?)?;
-    let needs = List::new(vec![in alloc; pass.rate]?);
+    let needs = List::new(vec![in alloc; rate]?);
+    let graphs = Arc::new(alloc, graphs)?;
     Ok(Runnable { graphs, needs })
 }
 
-/// The graphs that a JSON value is.
-fn graph_in(alloc: Global, value: &Value) -> Result<Runnable, Status>
-    ensures settles { GraphSettles (graph_in_json (Some (view value.now))) result }
+/// The graphs, if they can be run.
+fn prepare(alloc: Global, graphs: Graphs) -> Result<Runnable, Status>
+    requires in_range { InRange graphs }
+    requires well_formed { WellFormed graphs }
+    ensures settles { GraphSettles (if_runs graphs) result }
     ensures can_run { IfOk result CanRun }
     ensures faults { IfErr result NoFault }
 {
-    match first_form(value) {
-        Some(pass) => loaded(alloc, &pass).map_err(|_| Status::WantOfMemory),
+    match pass_rate(&graphs) {
+        Some(rate) => with_needs(alloc, graphs, rate).map_err(|_| Status::WantOfMemory),
         None => Err(Status::NotYet(Later::Graph)),
     }
 }
 
+fn is_memory(fault: &GraphFault) -> bool
+    ensures { IsTrue result ↔ (fault.now ≡ GraphFault.Memory) }
+{
+    matches!(fault, GraphFault::Memory)
+}
+
 /// The graphs in the bytes of a file.
-fn parse_graph(alloc: Global, bytes: &[u8]) -> Result<Runnable, Status>
+fn parse_graph(alloc: Global, bytes: &[u8], signatures: &[Signature]) -> Result<Runnable, Status>
+    requires { map signature_view signatures.now ≡ the_signatures }
     ensures settles { GraphSettles (graph_in_json (json_of bytes.now)) result }
     ensures can_run { IfOk result CanRun }
     ensures faults { IfErr result NoFault }
 {
-    match Value::from_slice(alloc, bytes) {
-        Ok(value) => graph_in(alloc, &value),
-        Err(error) if error.is_memory() => Err(Status::WantOfMemory),
-        Err(_) => Err(Status::GraphRefused(GraphCause::Fault(GraphFault::NotJson))),
+    match read(alloc, bytes, signatures) {
+        Ok(graphs) => prepare(alloc, graphs),
+        Err(fault) => {
+            if is_memory(&fault) {
+                return Err(Status::WantOfMemory);
+            }
+            Err(Status::GraphRefused(GraphCause::Fault(fault)))
+        }
     }
 }
 
@@ -73,7 +88,9 @@ pub(crate) fn load_graph<S: Shelf>(
     alloc: Global,
     shelf: &mut S,
     name: &str,
+    signatures: &[Signature],
 ) -> Result<Runnable, Status>
+    requires { map signature_view signatures.now ≡ the_signatures }
     ensures settles { (told : Seq ℕ) → S.holds shelf.old name.now ≡ Some told → GraphSettles (read_graph told) result }
     ensures can_run { IfOk result CanRun }
     ensures faults { IfErr result (FaultsOnly Which.Graph (S.faults shelf.old name.now) (S.faults shelf.new name.now)) }
@@ -81,7 +98,7 @@ pub(crate) fn load_graph<S: Shelf>(
     ensures never_falls { (other : Seq ℕ) → S.faults shelf.old other ≤ S.faults shelf.new other }
 {
     match shelf.load(name, limits::GRAPH_BYTES) {
-        Ok(bytes) => parse_graph(alloc, bytes.as_slice()),
+        Ok(bytes) => parse_graph(alloc, bytes.as_slice(), signatures),
         Err(LoadFault::Failed) => Err(Status::ReadFault(Which::Graph)),
         Err(LoadFault::TooLong) => Err(Status::GraphRefused(GraphCause::TooLong)),
         Err(LoadFault::Memory) => Err(Status::WantOfMemory),

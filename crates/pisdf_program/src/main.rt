@@ -2,9 +2,9 @@
 #![tactic(auto)]
 
 mod first_form;
-mod graph;
+#[cfg(test)]
+mod graph_fault_tests;
 mod iterate;
-mod json;
 mod limits;
 mod line;
 mod load;

@@ -66,7 +66,7 @@ fn run<S: Shelf, O: Sink, K: Gate>(
     ensures read { IfErr result (CountRose (Some (table.Run graph.now tokens.now iterations 1)) (S.faults shelf.old) (S.faults shelf.new)) }
     ensures usage { result ≢ Err Status.Usage }
 {
-    let loaded = match load_graph(alloc, shelf, graph) {
+    let loaded = match load_graph(alloc, shelf, graph, gate.signatures()) {
         Ok(loaded) => loaded,
         Err(status) => return Err(status),
     };

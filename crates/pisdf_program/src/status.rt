@@ -2,6 +2,7 @@ ghost use Rattle.std.specs.Prelude.{◌≡◌};
 ghost use Rattle.pisdf_program.specs.Codes.{code_of};
 
 use firing_board::Refusal;
+use graph_format::GraphFault;
 use param_expr::Name;
 use token_text::TokenFault;
 
@@ -28,14 +29,8 @@ pub enum Status {
 #[derive(Drop)]
 pub enum GraphCause {
     TooLong,
+    /// Its first fault, which is never want of memory.
     Fault(GraphFault),
-}
-
-/// What is wrong in a graph file.
-#[derive(Clone, Copy, Debug, PartialEq, Eq)]
-pub enum GraphFault {
-    /// Its bytes are no JSON text.
-    NotJson,
 }
 
 /// Why a token file was refused.
@@ -62,7 +57,7 @@ pub enum Later {
     Command,
     /// More than one worker.
     Workers,
-    /// A graph other than one kernel `pass` between one input and one output, or a graph file with a fault.
+    /// A graph other than one kernel `pass` between one input and one output.
     Graph,
 }
 

@@ -2,6 +2,7 @@ use crate::iterate::{drive, opened};
 use crate::load::load_graph;
 use crate::program::run_program;
 use firing_board::{BoardEnd, Entry, Item, first_delays};
+use kernel_gate::Gate;
 use kernel_library::Library;
 use outer_world::{MemoryShelf, MemorySink};
 use sdf_level::List;
@@ -34,7 +35,7 @@ const OTHER: &str =
 const CHAIN: &str =
     "{\"pisdf\":1,\"top\":\"g\",\"graphs\":[{\"name\":\"g\",\"params\":[],\"inputs\":[{\"name\":\"x\",\"rate\":\"1\"}],\"outputs\":[{\"name\":\"y\",\"rate\":\"1\"}],\"actors\":[{\"name\":\"a\",\"kind\":\"kernel\",\"kernel\":\"pass\",\"args\":[],\"ins\":[{\"name\":\"i\",\"rate\":\"1\"}],\"outs\":[{\"name\":\"o\",\"rate\":\"1\"}]},{\"name\":\"b\",\"kind\":\"kernel\",\"kernel\":\"pass\",\"args\":[],\"ins\":[{\"name\":\"i\",\"rate\":\"1\"}],\"outs\":[{\"name\":\"o\",\"rate\":\"1\"}]}],\"fifos\":[{\"from\":\"x\",\"to\":\"a.i\"},{\"from\":\"a.o\",\"to\":\"b.i\"},{\"from\":\"b.o\",\"to\":\"y\"}]}]}";
 
-/// A delay of one token.
+/// A delay of one token at an interface.
 const DELAYED: &str =
     "{\"pisdf\":1,\"top\":\"g\",\"graphs\":[{\"name\":\"g\",\"params\":[],\"inputs\":[{\"name\":\"x\",\"rate\":\"1\"}],\"outputs\":[{\"name\":\"y\",\"rate\":\"1\"}],\"actors\":[{\"name\":\"a\",\"kind\":\"kernel\",\"kernel\":\"pass\",\"args\":[],\"ins\":[{\"name\":\"i\",\"rate\":\"1\"}],\"outs\":[{\"name\":\"o\",\"rate\":\"1\"}]}],\"fifos\":[{\"from\":\"x\",\"to\":\"a.i\",\"delay\":1},{\"from\":\"a.o\",\"to\":\"y\"}]}]}";
 
@@ -44,7 +45,7 @@ const SWAPPED: &str =
 
 /// What a call wrote, and its exit code.
 #[derive(Drop)]
-struct Answer {
+pub(crate) struct Answer {
     out: MemorySink,
     err: MemorySink,
     code: u8,
@@ -107,7 +108,7 @@ fn answer_to(
     })
 }
 
-fn expect(rt: &impl Abort, answer: Answer, out: &str, err: &str, code: u8, case: &str) {
+pub(crate) fn expect(rt: &impl Abort, answer: Answer, out: &str, err: &str, code: u8, case: &str) {
     assert_eq!(rt;
         answer.out.bytes(),
         out.as_bytes(),
@@ -123,7 +124,7 @@ fn expect(rt: &impl Abort, answer: Answer, out: &str, err: &str, code: u8, case:
 
 /// The graph files of the cases.
 #[derive(Clone, Copy)]
-enum Graph {
+pub(crate) enum Graph {
     One,
     Canonical,
     Two,
@@ -134,6 +135,7 @@ enum Graph {
     Swapped,
     Delayed,
     Empty,
+    Later,
     Broken,
 }
 
@@ -149,6 +151,7 @@ fn file_of(graph: Graph) -> &'static str {
         Graph::Swapped => SWAPPED,
         Graph::Delayed => DELAYED,
         Graph::Empty => "{}",
+        Graph::Later => "{\"pisdf\":-2}",
         Graph::Broken => "{",
     }
 }
@@ -156,7 +159,12 @@ fn file_of(graph: Graph) -> &'static str {
 const USAGE: &str = "usage: run GRAPH TOKENS ITERATIONS WORKERS\n";
 
 /// The answer where nothing fails.
-fn answer_on(alloc: Global, words: &str, graph: Graph, tokens: &str) -> Result<Answer, Fail> {
+pub(crate) fn answer_on(
+    alloc: Global,
+    words: &str,
+    graph: Graph,
+    tokens: &str,
+) -> Result<Answer, Fail> {
     answer_to(
         alloc,
         words,
@@ -295,11 +303,9 @@ fn later_commands_are_refused_before_any_file(rt: HostRuntime) -> Result<(), Fai
     Ok(())
 }
 
-/// Files of later stages.
-const FORMS: [(&str, Graph, &str, &str, &str, u8); 7] = [
-    ("run g t 1 1", Graph::Empty, "x,5", "", "notyet graph\n", 8),
+/// Graphs of later stages.
+const FORMS: [(&str, Graph, &str, &str, &str, u8); 4] = [
     ("run g t 1 1", Graph::Fast, "x,5", "", "notyet graph\n", 8),
-    ("run g t 1 1", Graph::Named, "x,5", "", "notyet graph\n", 8),
     (
         "run g t 1 1",
         Graph::Other,
@@ -312,14 +318,6 @@ const FORMS: [(&str, Graph, &str, &str, &str, u8); 7] = [
     (
         "run g t 1 1",
         Graph::Swapped,
-        "x,5",
-        "",
-        "notyet graph\n",
-        8,
-    ),
-    (
-        "run g t 1 1",
-        Graph::Delayed,
         "x,5",
         "",
         "notyet graph\n",
@@ -556,7 +554,7 @@ fn told_by_board(alloc: Global) -> Result<String, Fail> {
         ),
     ]?;
     let mut shelf = MemoryShelf::new(alloc, files, Vec::new(alloc));
-    let Ok(loaded) = load_graph(alloc, &mut shelf, "g") else {
+    let Ok(loaded) = load_graph(alloc, &mut shelf, "g", Library.signatures()) else {
         return Err(Fail::new("the graph file isn't read"));
     };
     let delays = first_delays(alloc, &loaded.graphs)?;

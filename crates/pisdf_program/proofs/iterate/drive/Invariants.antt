@@ -1,5 +1,4 @@
-use Rattle.std.proofs.Common.{◌≡◌, None, ℕ}
-use Rattle.kernel_gate.specs.Signed.{unnamed}
+use Rattle.std.proofs.Common.{◌≡◌, None}
 use Rattle.firing_board.specs.Core.{running_at, unclaimed}
 use Rattle.firing_board.specs.View.{now}
 use Rattle.pisdf_program.proofs.iterate.drive.Given as goal

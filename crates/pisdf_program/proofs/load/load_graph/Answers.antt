@@ -1,9 +1,8 @@
-use Rattle.std.proofs.Common.{sym, ap, subst, ◌∙◌, Result, length, arith, refl, ℕ}
+use Rattle.std.proofs.Common.{sym, ap, subst, ◌∙◌, Result, length, arith, ℕ}
 use Rattle.pisdf_model.specs.declared.graph.Graphs.{Graphs}
 use Rattle.pisdf_program.specs.declared.status.Status.{Status}
-use Rattle.pisdf_program.specs.Json.{json_of}
 use Rattle.pisdf_program.specs.Loaded.{GraphSettles}
-use Rattle.pisdf_program.specs.Result.{graph_in_json}
+use Rattle.pisdf_program.specs.Result.{graph_in_json, json_of}
 use Rattle.pisdf_program.proofs.Reading.{read_graph_short, read_graph_long}
 use Rattle.pisdf_program.proofs.load.load_graph.Goals as goal
 

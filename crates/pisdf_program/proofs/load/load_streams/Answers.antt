@@ -1,4 +1,4 @@
-use Rattle.std.proofs.Common.{sym, ap, subst, ◌∙◌, Result, length, arith, refl, ℕ, ℤ, List}
+use Rattle.std.proofs.Common.{sym, ap, subst, ◌∙◌, Result, length, arith, ℕ, ℤ, List}
 use Rattle.token_text.specs.Streams.{read_of}
 use Rattle.pisdf_program.specs.declared.status.Status.{Status}
 use Rattle.pisdf_program.specs.Loaded.{Settles}

@@ -1,8 +1,7 @@
-use Rattle.std.proofs.Common.{sym, ap, subst, ◌∙◌, Ok, List, ℕ, ℤ, Result}
+use Rattle.std.proofs.Common.{sym, ap, subst, ◌∙◌, Ok, List, ℤ}
 use Rattle.std.specs.Arc.{arc_value}
 use Rattle.pisdf_model.specs.declared.graph.Graphs.{Graphs}
 use Rattle.firing_board.specs.Run.{run_of}
-use Rattle.pisdf_program.specs.declared.status.Status.{Status}
 use Rattle.pisdf_program.specs.declared.status.Which.TheVariants.{Graph, Tokens}
 use Rattle.pisdf_program.specs.Result.{read_streams, result_of_command}
 use Rattle.pisdf_program.specs.Words.{Run}

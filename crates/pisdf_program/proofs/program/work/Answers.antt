@@ -1,10 +1,10 @@
-use Rattle.std.proofs.Common.{sym, ap, subst, ◌∙◌, Some, Option, refl, map, string_bytes}
-use Rattle.pisdf_program.specs.Words.{Command, Run, Plain, Plan, Journal, Soak, command_of}
+use Rattle.std.proofs.Common.{sym, ap, ◌∙◌, Some, refl, map, string_bytes}
+use Rattle.pisdf_program.specs.Words.{command_of}
 use Rattle.pisdf_program.specs.WordsSeen.{seen}
 use Rattle.pisdf_program.specs.declared.words.Command.{Command as Here}
-use Rattle.pisdf_program.specs.declared.status.Status.TheVariants.{Usage, NotYet}
-use Rattle.pisdf_program.specs.declared.status.Later.TheVariants.{Workers, Command as AnyCommand}
-use Rattle.pisdf_program.proofs.Working.{decided_as, few_workers, works_as, rose_as}
+use Rattle.pisdf_program.specs.declared.status.Status.TheVariants.{NotYet}
+use Rattle.pisdf_program.specs.declared.status.Later.TheVariants.{Command as AnyCommand}
+use Rattle.pisdf_program.proofs.Working.{decided_as}
 use Rattle.pisdf_program.proofs.program.work.Goals as goal
 
 pub returns-in-Plain-clause-works : goal.returns-in-Plain-clause-works

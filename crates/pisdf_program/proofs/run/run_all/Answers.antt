@@ -1,7 +1,7 @@
-use Rattle.std.proofs.Common.{sym, ap, ◌∙◌, length, arith, ℕ}
+use Rattle.std.proofs.Common.{ap, ◌∙◌, length, arith, ℕ}
 use Rattle.std.specs.Arc.{arc_value}
-use Rattle.firing_board.specs.Run.{run_of, needs_of, first_delays}
-use Rattle.pisdf_program.proofs.Runs.{starts, goes_on, ends_at, first_written, finished}
+use Rattle.firing_board.specs.Run.{run_of, first_delays}
+use Rattle.pisdf_program.proofs.Runs.{starts, goes_on, ends_at, first_written}
 use Rattle.pisdf_program.proofs.run.run_all.Goals as goal
 
 pub loop-number-init : goal.loop-number-init

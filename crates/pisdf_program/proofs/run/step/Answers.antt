@@ -1,4 +1,4 @@
-use Rattle.std.proofs.Common.{sym, ap, ◌∙◌}
+use Rattle.std.proofs.Common.{ap, ◌∙◌}
 use Rattle.std.specs.Arc.{arc_value}
 use Rattle.pisdf_model.specs.declared.graph.Graph.{Graph}
 use Rattle.firing_board.specs.Job.{top_of}
