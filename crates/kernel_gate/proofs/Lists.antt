@@ -1,10 +1,8 @@
 -- Lists of lists behind Vecs of Vecs.
-use Rattle.std.proofs.Common.{◌≡◌, ℕ, ◌<◌, ◌≤◌, ◌++◌, take, drop, List, [], length, map, set, get_or, Vec, Global, sym, ◌∙◌, ap, arith}
+use Rattle.std.proofs.Common.{◌≡◌, ℕ, ◌<◌, ◌++◌, take, drop, List, [], length, map, set, get_or, Vec, Global, sym, ◌∙◌, ap, arith}
 use Rattle.std.specs.Prelude.{ℤ}
 use Rattle.std.proofs.lemmas.List.{get_or-map, map-set, length-map}
 use Rattle.std.specs.Vec.{with_items}
-use Rattle.std.proofs.Math.Seq.{take-length}
-use Rattle.std.proofs.lemmas.List.{take-append-le}
 use Rattle.kernel_gate.specs.Value.{refit}
 
 abbrev pub items_of : Vec ℤ Global → List ℤ
@@ -16,12 +14,6 @@ list_at vs i v lists e lt at =
     let len : length (map items_of vs) ≡ length lists = ap length e in
     let lt' : i < length vs = omega (arith, length-map vs items_of) in
     ap items_of at ∙ (sym (get_or-map items_of vs i v [] lt') ∙ ap (λ (l : List (List ℤ)). get_or l i []) e)
-
--- a list of the length that was there is written as it is
-pub refit_same : (old w : List ℤ) → length w ≡ length old → refit old w ≡ w
-refit_same old w e =
-    let le : length old ≤ length w = omega arith in
-    take-append-le (length old) w (drop (length w) old) le ∙ (ap (λ n. take n w) (sym e) ∙ take-length w)
 
 -- what is behind a Vec after a write through its slice
 pub write_at : (vs : List (Vec ℤ Global)) (i : ℕ) (v : Vec ℤ Global) (w : List ℤ) (lists : List (List ℤ)) → map items_of vs ≡ lists → i < length lists → v ≡ get_or vs i v

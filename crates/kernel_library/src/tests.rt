@@ -68,18 +68,16 @@ fn frame_for(
     Ok(Some(frame))
 }
 
-/// The place of a kernel's name in the table, or a place past it.
+/// The place of a kernel's name in the table, or the number of kernels where none has it.
 fn place_of(name: &str) -> u32 {
-    let mut place = 0;
-    for signature in Library.signatures() {
-        if signature.name == name {
+    let signatures = Library.signatures();
+    let count = signatures.len() as u32;
+    for place in 0..count {
+        if signatures[place as usize].name == name {
             return place;
         }
-        if place < 100 {
-            place += 1;
-        }
     }
-    place
+    count
 }
 
 /// Whether two lists of lists of tokens are equal.

@@ -55,7 +55,7 @@ bin_is low width t d w b wide width_is t_is =
 pub counted_same : (p : ℤ → Bool) (xs : List ℤ) (i : ℕ) (n : ℤ) → i < length xs → p (get_or xs i (pos 0)) ≡ false → n ≡ pos (count_by p (take i xs)) → n ≡ pos (count_by p (take (i + 1) xs))
 counted_same p xs i n lt out so_far = so_far ∙ ap pos (sym (count_by_more_no p xs i (pos 0) lt out))
 
-pub counted_more : (p : ℤ → Bool) (xs : List ℤ) (i : ℕ) (n : ℤ) → i < length xs → p (get_or xs i (pos 0)) ≡ true → n ≡ pos (count_by p (take i xs)) → n +ℤ pos 1 ≡ pos (count_by p (take (i + 1) xs))
+counted_more : (p : ℤ → Bool) (xs : List ℤ) (i : ℕ) (n : ℤ) → i < length xs → p (get_or xs i (pos 0)) ≡ true → n ≡ pos (count_by p (take i xs)) → n +ℤ pos 1 ≡ pos (count_by p (take (i + 1) xs))
 counted_more p xs i n lt into so_far = ap (λ (m : ℤ). m +ℤ pos 1) so_far ∙ ap pos (sym (count_by_more_yes p xs i (pos 0) lt into))
 
 -- a token in a bin that is counted, and in one past them

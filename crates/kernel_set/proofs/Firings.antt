@@ -2,16 +2,17 @@
 use Rattle.std.proofs.Common.{◌≡◌, ◌≢◌, ℕ, ◌≤◌, List, [], ◌∷◌, length, slice_set, suc, take, drop, map, refl, sym, ap, ◌∙◌, arith, Bool, true, false, ◌&&◌}
 use Rattle.std.specs.Prelude.{ℤ, Result, Ok, Err}
 use Rattle.std.proofs.lemmas.Bool.Decides.{nat_tests}
-use Rattle.std.proofs.lemmas.List.{take-append-le}
+use Rattle.std.proofs.lemmas.List.{nil_from_length, take-append-le}
 use Rattle.std.proofs.Math.Seq.{take-length}
 use Rattle.kernel_gate.specs.Value.{Answer, Gives, Faults, FrameView, told_by, with_output, refit, lengths, port}
 use Rattle.kernel_gate.specs.Kernels.{shaped, one_output, one_token, size, pairs_shaped, if_shape, if_value}
 use Rattle.kernel_gate.specs.Tokens.{each, prepend}
 use Rattle.kernel_gate.specs.declared.fault.KernelFault.{KernelFault}
 use Rattle.kernel_set.specs.Written.{Writes, alone}
+use Rattle.kernel_set.proofs.Steps.{only_written}
 
 -- a list of the length that was there is written as it is
-pub refit_same : (old w : List ℤ) → length w ≡ length old → refit old w ≡ w
+refit_same : (old w : List ℤ) → length w ≡ length old → refit old w ≡ w
 refit_same old w e =
     let le : length old ≤ length w = omega arith in
     take-append-le (length old) w (drop (length w) old) le ∙ (ap (λ n. take n w) (sym e) ∙ take-length w)
@@ -59,17 +60,7 @@ each_total f (x ∷ xs) = ap (prepend (f x ∷ [])) (each_total f xs)
 
 -- the outputs of a frame with one, after a write of its length
 pub one_written : (outs : List (List ℤ)) (w : List ℤ) → length outs ≡ 1 → length w ≡ length (port outs 0) → slice_set outs 0 (refit (port outs 0) w) ≡ w ∷ []
-one_written [] w len e = absurd (omega arith)
-one_written (o ∷ []) w len e = ap (λ (v : List ℤ). v ∷ []) (refit_same o w e)
-one_written (o ∷ p ∷ ps) w len e = absurd (omega arith)
-
-pub no_sets : (sets : List ℤ) → length sets ≤ 0 → sets ≡ []
-no_sets [] le = refl
-no_sets (x ∷ xs) le = absurd (omega arith)
-
-pub no_outputs : (outs : List (List ℤ)) → length outs ≡ 0 → outs ≡ []
-no_outputs [] e = refl
-no_outputs (o ∷ os) e = absurd (omega arith)
+one_written outs w len e = only_written outs (refit (port outs 0) w) len ∙ ap (λ (v : List ℤ). v ∷ []) (refit_same (port outs 0) w e)
 
 -- a kernel with one output, whose tokens were written or refused
 pub tells_one : (f : FrameView) (w : List ℤ) (r : Result (Unit {0}) KernelFault) (v : Result (List ℤ) KernelFault) (a : Answer)
@@ -77,7 +68,7 @@ pub tells_one : (f : FrameView) (w : List ℤ) (r : Result (Unit {0}) KernelFaul
     → told_by (with_output f 0 w) r ≡ a
 tells_one f w (Ok x) v a outs sets len is wrote =
     sym
-    (is ∙ (ap one_output wrote ∙ (ap (λ (o : List (List ℤ)). Gives o []) (sym (one_written f.outputs w outs len)) ∙ ap (λ (s : List ℤ). Gives (slice_set f.outputs 0 (refit (port f.outputs 0) w)) s) (sym (no_sets f.sets sets)))))
+    (is ∙ (ap one_output wrote ∙ (ap (λ (o : List (List ℤ)). Gives o []) (sym (one_written f.outputs w outs len)) ∙ ap (λ (s : List ℤ). Gives (slice_set f.outputs 0 (refit (port f.outputs 0) w)) s) (sym (nil_from_length f.sets (omega arith))))))
 tells_one f w (Err e) v a outs sets len is wrote = sym (is ∙ ap one_output wrote)
 
 -- a kernel with one output of one token, which was written or refused

@@ -3,7 +3,7 @@ use Rattle.std.proofs.Common.{◌≡◌, ℕ, ◌+◌, ◌<◌, ◌≤◌, List,
 use Rattle.std.proofs.lemmas.List.{get_or-reverse}
 use Rattle.std.proofs.lemmas.Int.{ints}
 use Rattle.std.proofs.lemmas.Bool.{lt-ltb}
-use Rattle.std.specs.Prelude.{find, Some, ℤ, pos, negsuc, FitsSigned, ◌+ℤ◌, ◌*ℤ◌, Bool, true, false, cond, Result, Ok, Err}
+use Rattle.std.specs.Prelude.{ℤ, pos, negsuc, FitsSigned, ◌+ℤ◌, ◌*ℤ◌, Bool, true, false, cond, Result, Ok, Err}
 use Rattle.std.proofs.lemmas.List.{at_drop_more, at_drop_all, take_more_set}
 use Rattle.std.proofs.lemmas.Slice.Zip.{get_or-zip, length-zip}
 use Rattle.std.proofs.Math.IntN.{suc_ℤ, suc_ℤ-*ℤ}
@@ -32,7 +32,7 @@ written_start f xs o = nothing (each f xs)
     nothing (Ok zs) = refl
     nothing (Err e) = refl
 
-pub written_more : {A : Type 0} (f : A → Result ℤ KernelFault) (xs : List A) (i : ℕ) (o : List ℤ) (d : A) (y : ℤ) → i < length xs → i < length o → WrittenTo f xs i o → f (get_or xs i d) ≡ Ok y
+written_more : {A : Type 0} (f : A → Result ℤ KernelFault) (xs : List A) (i : ℕ) (o : List ℤ) (d : A) (y : ℤ) → i < length xs → i < length o → WrittenTo f xs i o → f (get_or xs i d) ≡ Ok y
     → WrittenTo f xs (i + 1) (set o i y)
 written_more f xs i o d y in_xs in_o so_far e =
     so_far
@@ -40,11 +40,11 @@ written_more f xs i o d y in_xs in_o so_far e =
     ∙ (prepend-prepend (take i o) y (each f (drop (i + 1) xs))
     ∙ ap (λ ys. prepend ys (each f (drop (i + 1) xs))) (sym (take_more_set o i y in_o))))
 
-pub written_fault : {A : Type 0} (f : A → Result ℤ KernelFault) (xs : List A) (i : ℕ) (o : List ℤ) (d : A) (e : KernelFault) → i < length xs → WrittenTo f xs i o → f (get_or xs i d) ≡ Err e → each f xs ≡ Err e
+written_fault : {A : Type 0} (f : A → Result ℤ KernelFault) (xs : List A) (i : ℕ) (o : List ℤ) (d : A) (e : KernelFault) → i < length xs → WrittenTo f xs i o → f (get_or xs i d) ≡ Err e → each f xs ≡ Err e
 written_fault f xs i o d e in_xs so_far at =
     so_far ∙ ap (prepend (take i o)) (at_drop_more (each f) xs i d in_xs ∙ ap (λ v. before v (each f (drop (i + 1) xs))) at)
 
-pub written_all : {A : Type 0} (f : A → Result ℤ KernelFault) (xs : List A) (i : ℕ) (o : List ℤ) → length xs ≤ i → length o ≡ i → WrittenTo f xs i o → each f xs ≡ Ok o
+written_all : {A : Type 0} (f : A → Result ℤ KernelFault) (xs : List A) (i : ℕ) (o : List ℤ) → length xs ≤ i → length o ≡ i → WrittenTo f xs i o → each f xs ≡ Ok o
 written_all f xs i o le len so_far =
     so_far
     ∙ (ap (prepend (take i o)) (at_drop_all (each f) xs i le)
@@ -64,22 +64,27 @@ pair_fault f xs zs i o d e fault in_xs same so_far at =
 pub pair_all : (f : ℤ × ℤ → Result ℤ KernelFault) (xs zs : List ℤ) (i : ℕ) (o : List ℤ) → length xs ≤ i → i ≤ length xs → length zs ≡ length xs → length o ≡ length xs → WrittenTo f (zip xs zs) i o → each f (zip xs zs) ≡ Ok o
 pair_all f xs zs i o le ge same same_o so_far = written_all f (zip xs zs) i o (omega (arith, length-zip xs zs)) (omega arith) so_far
 
+pub length_places : (n : ℕ) → length (places n) ≡ n
+length_places n = length-range_with_len 0 n
+
+pub place_at : (n i d : ℕ) → i < n → get_or (places n) i d ≡ i
+place_at n i d lt = get_or-range_with_len 0 n i d lt ∙ zero-add i
+
 -- the same over the places of the tokens that are written
 pub placed_more : (f : ℕ → Result ℤ KernelFault) (i : ℕ) (o : List ℤ) (y : ℤ) → i < length o → WrittenTo f (places (length o)) i o → f i ≡ Ok y → WrittenTo f (places (length (set o i y))) (i + 1) (set o i y)
 placed_more f i o y in_o so_far at =
-    let in_places : i < length (places (length o)) = omega (arith, length-range_with_len 0 (length o)) in
+    let in_places : i < length (places (length o)) = omega (arith, length_places (length o)) in
     rw length-set
-    (written_more f (places (length o)) i o 0 y in_places in_o so_far (ap f (get_or-range_with_len 0 (length o) i 0 in_o ∙ zero-add i) ∙ at))
+    (written_more f (places (length o)) i o 0 y in_places in_o so_far (ap f (place_at (length o) i 0 in_o) ∙ at))
 
 pub placed_fault : (f : ℕ → Result ℤ KernelFault) (s i : ℕ) (o : List ℤ) (e : KernelFault) → s ≡ length o → i < length o → WrittenTo f (places (length o)) i o → f i ≡ Err e → each f (places s) ≡ Err e
 placed_fault f s i o e same in_o so_far at =
-    let in_places : i < length (places (length o)) = omega (arith, length-range_with_len 0 (length o)) in
-    ap (λ n. each f (places n)) same
-    ∙ written_fault f (places (length o)) i o 0 e in_places so_far (ap f (get_or-range_with_len 0 (length o) i 0 in_o ∙ zero-add i) ∙ at)
+    let in_places : i < length (places (length o)) = omega (arith, length_places (length o)) in
+    ap (λ n. each f (places n)) same ∙ written_fault f (places (length o)) i o 0 e in_places so_far (ap f (place_at (length o) i 0 in_o) ∙ at)
 
 pub placed_all : (f : ℕ → Result ℤ KernelFault) (s i : ℕ) (o : List ℤ) → s ≡ length o → length o ≤ i → i ≤ length o → WrittenTo f (places (length o)) i o → each f (places s) ≡ Ok o
 placed_all f s i o same le ge so_far =
-    ap (λ n. each f (places n)) same ∙ written_all f (places (length o)) i o (omega (arith, length-range_with_len 0 (length o))) (omega arith) so_far
+    ap (λ n. each f (places n)) same ∙ written_all f (places (length o)) i o (omega (arith, length_places (length o))) (omega arith) so_far
 
 -- the last tokens up to a place are a part of the list
 pub last_is : (w n : ℕ) (xs : List ℤ) → n < length xs → between (n + 1 - w) (n + 1) xs ≡ last w (take (n + 1) xs)
@@ -103,8 +108,8 @@ running_fault f a e xs i d r lt so_far at =
 pub running_all : {A : Type 0} (f : ℤ → A → Result ℤ KernelFault) (a : ℤ) (xs : List A) (i : ℕ) (r : Result ℤ KernelFault) → length xs ≤ i → running f a (drop i xs) ≡ r → Ok a ≡ r
 running_all f a xs i r le so_far = sym (at_drop_all (running f a) xs i le) ∙ so_far
 
--- the only token, once written
-pub only_written : (o : List ℤ) (y : ℤ) → length o ≡ 1 → set o 0 y ≡ y ∷ []
+-- the only element, once written
+pub only_written : {A : Type 0} (o : List A) (y : A) → length o ≡ 1 → set o 0 y ≡ y ∷ []
 only_written [] y len = absurd (omega arith)
 only_written (x ∷ []) y len = refl
 only_written (x ∷ z ∷ zs) y len = absurd (omega arith)
@@ -113,11 +118,8 @@ only_written (x ∷ z ∷ zs) y len = absurd (omega arith)
 pub from_the_end : (xs : List ℤ) (i n : ℕ) → n ≡ length xs → i < n → get_or (reverse xs) i (pos 0) ≡ get_or xs (n - 1 - i) (pos 0)
 from_the_end xs i n len lt = get_or-reverse xs i (pos 0) (omega arith) ∙ ap (λ k. get_or xs k (pos 0)) (omega arith)
 
-pub place_at : (n i d : ℕ) → i < n → get_or (places n) i d ≡ i
-place_at n i d lt = get_or-range_with_len 0 n i d lt ∙ zero-add i
-
 -- a number that is a token is that token
-pub bounded_is : (z y : ℤ) → bounded z ≡ Ok y → y ≡ z
+bounded_is : (z y : ℤ) → bounded z ≡ Ok y → y ≡ z
 bounded_is z y = same (in_i64 z)
   where
     same : (b : Bool) → cond b (Ok z) (Err (fault 1)) ≡ Ok y → y ≡ z
@@ -125,7 +127,7 @@ bounded_is z y = same (in_i64 z)
     same false e = cc
 
 -- a step further
-pub next_step : (start step : ℤ) (n : ℕ) → 1 ≤ n → (start +ℤ (pos (n - 1) *ℤ step)) +ℤ step ≡ start +ℤ (pos n *ℤ step)
+next_step : (start step : ℤ) (n : ℕ) → 1 ≤ n → (start +ℤ (pos (n - 1) *ℤ step)) +ℤ step ≡ start +ℤ (pos n *ℤ step)
 next_step start step n le =
     let n_is : pos n ≡ suc_ℤ (pos (n - 1)) = ap pos (omega arith) in
     let times : pos n *ℤ step ≡ (pos (n - 1) *ℤ step) +ℤ step = ap (λ (m : ℤ). m *ℤ step) n_is ∙ suc_ℤ-*ℤ (pos (n - 1)) step in
@@ -149,9 +151,6 @@ pieces_more f xs i k o piece d lt so_far is len le =
     take-put_mid (i * k) ((i + 1) * k - i * k) o piece ((i + 1) * k) end within
     ∙ (ap (λ (l : List ℤ). l ++ piece) so_far ∙ (ap (λ (l : List ℤ). flat_map f (take i xs) ++ l) is ∙ sym (flat_map_step f xs i d lt)))
 
-pub length_places : (n : ℕ) → length (places n) ≡ n
-length_places n = length-range_with_len 0 n
-
 -- a list that is written piece by piece, at its end
 pub pieces_all : {A : Type 0} (f : A → List ℤ) (xs : List A) (i k : ℕ) (o : List ℤ) → length xs ≤ i → length o ≤ i * k → take (i * k) o ≡ flat_map f (take i xs) → o ≡ flat_map f xs
 pieces_all f xs i k o le len so_far = sym (take_all (i * k) o len) ∙ (so_far ∙ ap (flat_map f) (take_all i xs le))
@@ -164,7 +163,7 @@ piece_length i k o le =
 below_bound : {A : Type 0} (n : ℕ) (a b : A) → n < 2 ^ 63 → cond (nat_lt n (2 ^ 63)) a b ≡ a
 below_bound n a b lt = rw (lt-ltb n (2 ^ 63) lt)
 
-pub bounded_fits : (z : ℤ) → FitsSigned w64 z → bounded z ≡ Ok z
+bounded_fits : (z : ℤ) → FitsSigned w64 z → bounded z ≡ Ok z
 bounded_fits (pos n) h = below_bound n (Ok (pos n)) (Err (fault 1)) h.sfits
 bounded_fits (negsuc n) h = below_bound n (Ok (negsuc n)) (Err (fault 1)) h.sfits
 
@@ -183,13 +182,3 @@ ramp_next start step token n le here = ap (λ (m : ℤ). bounded (m +ℤ step)) 
 
 pub ramp_here : (start step y : ℤ) (n : ℕ) → ramp_at start step n ≡ Ok y → y ≡ start +ℤ (pos (n + 1 - 1) *ℤ step)
 ramp_here start step y n at = bounded_is (start +ℤ (pos n *ℤ step)) y at ∙ ap (λ k. start +ℤ (pos k *ℤ step)) (omega arith)
-
--- the first item that passes
-find_step : {A : Type 0} (p : A → Bool) (xs : List A) (i : ℕ) (d : A) → i < length xs → find p (drop i xs) ≡ cond (p (get_or xs i d)) (Some (get_or xs i d)) (find p (drop (i + 1) xs))
-find_step p xs i d lt = at_drop_more (find p) xs i d lt
-
-pub find_here : {A : Type 0} (p : A → Bool) (xs : List A) (i : ℕ) (d : A) → i < length xs → p (get_or xs i d) ≡ true → find p (drop i xs) ≡ Some (get_or xs i d)
-find_here p xs i d lt passes = find_step p xs i d lt ∙ ap (λ (b : Bool). cond b (Some (get_or xs i d)) (find p (drop (i + 1) xs))) passes
-
-pub find_later : {A : Type 0} (p : A → Bool) (xs : List A) (i : ℕ) (d : A) → i < length xs → p (get_or xs i d) ≡ false → find p (drop (i + 1) xs) ≡ find p (drop i xs)
-find_later p xs i d lt fails = sym (find_step p xs i d lt ∙ ap (λ (b : Bool). cond b (Some (get_or xs i d)) (find p (drop (i + 1) xs))) fails)

@@ -5,7 +5,7 @@ ghost use Rattle.kernel_gate.specs.Signed.{Fits};
 ghost use Rattle.kernel_gate.specs.Tokens.{places};
 ghost use Rattle.kernel_gate.specs.Counted.{larger, in_the_middle, in_bin, median_signature, median_answer, histogram_signature, histogram_answer, count_above_signature, count_above_answer};
 
-use kernel_gate::{Frame, KernelFault};
+use kernel_gate::{Frame, KernelFault, MAX_MEDIAN_TOKENS};
 
 /// The number of tokens greater than a limit.
 fn above(limit: i64, x: &[i64]) -> usize
@@ -21,12 +21,13 @@ fn above(limit: i64, x: &[i64]) -> usize
 }
 
 /// The token in the middle by size: of the tokens in order, the one with as many before it as after it.
+#[tactic(auto, using(crate::proofs::Middles::middle_found))]
 fn middle(x: &[i64]) -> i64
     requires odd { length x.now % 2 ≡ 1 }
-    requires few { length x.now ≤ 255 }
+    requires few { length x.now ≤ MAX_MEDIAN_TOKENS }
     ensures { find (in_the_middle x.now) x.now ≡ Some result }
 {
-    let mut room = [0i64; 255];
+    let mut room = [0i64; MAX_MEDIAN_TOKENS];
     let tokens = &mut room[..x.len()];
     tokens.copy_from_slice(x);
     tokens.sort_unstable();
@@ -77,13 +78,13 @@ pub fn count_above(frame: &mut Frame) -> Result<(), KernelFault>
 }
 
 /// The token in the middle by size: at most half of the others are smaller, and at most half are larger. Shape
-/// unless the output has one token and the input an odd number, at most 255.
+/// unless the output has one token and the input an odd number, at most `MAX_MEDIAN_TOKENS`.
 #[tactic(auto, using(crate::proofs::Firings::fitting, crate::proofs::Firings::not_fitting, crate::proofs::Firings::size_at, crate::proofs::Firings::tells_one), unfolding(kernel_gate::specs::Counted::median_answer))]
 pub fn median(frame: &mut Frame) -> Result<(), KernelFault>
     requires { Fits median_signature.counts frame.old }
     ensures same { SameFrame frame.old frame.new }
     ensures value { told_by frame.new result ≡ answer_of median_answer frame.old }
-    ensures exists { length (port frame.old.outputs 0) ≡ 1 → length (port frame.old.inputs 0) % 2 ≡ 1 → length (port frame.old.inputs 0) ≤ 255 → IsOk result }
+    ensures exists { length (port frame.old.outputs 0) ≡ 1 → length (port frame.old.inputs 0) % 2 ≡ 1 → length (port frame.old.inputs 0) ≤ MAX_MEDIAN_TOKENS → IsOk result }
     ensures only { IfOk result (λ _. (u : ℤ) → in_the_middle (port frame.old.inputs 0) u ≡ true → frame.new.outputs ≡ (u ∷ []) ∷ []) }
 {
     let (_, x, o) = frame.ports(0, 0);
@@ -93,7 +94,7 @@ pub fn median(frame: &mut Frame) -> Result<(), KernelFault>
     if x.len() % 2 != 1 {
         return Err(KernelFault::SHAPE);
     }
-    if 255 < x.len() {
+    if MAX_MEDIAN_TOKENS < x.len() {
         return Err(KernelFault::SHAPE);
     }
     o[0] = middle(x);

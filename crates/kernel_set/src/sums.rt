@@ -8,7 +8,7 @@ ghost use Rattle.kernel_set.specs.Written.{Writes, alone};
 
 use crate::maps::Plus;
 use crate::tokens::{checked_product, checked_quotient, checked_sum, fold};
-use kernel_gate::{Frame, KernelFault};
+use kernel_gate::{Frame, KernelFault, MAX_MOVING_WIDTH};
 
 /// The token as the only one of an output.
 fn write_token(token: Result<i64, KernelFault>, o: &mut [i64]) -> Result<(), KernelFault>
@@ -178,8 +178,8 @@ pub fn fir(frame: &mut Frame) -> Result<(), KernelFault>
 }
 
 /// The moving average: at each place the mean of the last tokens up to it, as many as the argument says, fewer at
-/// the front. Shape unless the output is as long as the input; Value unless the argument is 1 to 64; Overflow at
-/// the first partial sum outside i64, each sum being made from the oldest token.
+/// the front. Shape unless the output is as long as the input; Value unless the argument is 1 to `MAX_MOVING_WIDTH`;
+/// Overflow at the first partial sum outside i64, each sum being made from the oldest token.
 #[tactic(auto, using(crate::proofs::Firings::shaped_same, crate::proofs::Firings::shaped_not, crate::proofs::Firings::taken, crate::proofs::Firings::not_taken, crate::proofs::Firings::size_at, crate::proofs::Firings::tells_one), unfolding(kernel_gate::specs::Sums::moving_answer))]
 pub fn moving(frame: &mut Frame) -> Result<(), KernelFault>
     requires { Fits moving_signature.counts frame.old }
@@ -194,7 +194,7 @@ pub fn moving(frame: &mut Frame) -> Result<(), KernelFault>
     if width < 1 {
         return Err(KernelFault::VALUE);
     }
-    if 64 < width {
+    if MAX_MOVING_WIDTH < width {
         return Err(KernelFault::VALUE);
     }
     write_means(width.unsigned_abs() as usize, x, o)
