@@ -1,3 +1,4 @@
-pub mod Starving
+pub mod Adjacency
+pub mod Counting
 pub mod Remaining
 pub mod Progress

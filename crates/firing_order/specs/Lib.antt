@@ -1,3 +1,4 @@
 pub mod Answers
 pub mod SameTokens
-pub mod Marks
+pub mod Adjacent
+pub mod Lacking

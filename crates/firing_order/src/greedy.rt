@@ -1,9 +1,10 @@
 ghost use Rattle.std.specs.Prelude.{ℕ, ◌≡◌, ◌≤◌, ◌<◌, ◌↔◌, List as Seq, length, slice_index, IfOk, IfErr, IsErr, IsTrue};
 ghost use Rattle.sdf_level.specs.Orders.{IsDeadlocked, IsLeft, IsTurnOrder};
 ghost use Rattle.firing_order.specs.Answers.{IfLeft};
-ghost use Rattle.firing_order.specs.Marks.{IsRest};
+ghost use Rattle.firing_order.specs.Lacking.{IsRest};
 
-use crate::marks::{mark, next};
+use crate::adjacent::links_at;
+use crate::lacking::{count, fire, next};
 use crate::stuck::Stuck;
 use sdf_level::{Level, List, Turn};
 use std::alloc::{AllocError, Global};
@@ -13,7 +14,8 @@ use std::alloc::{AllocError, Global};
 /// the answer one entry for each firing.
 ///
 /// This decides deadlock (Lee and Messerschmitt 1987): where an actor fires as soon as it can, the firings only stop short
-/// of the counts where no order could fire them all. It takes a step for each link and each actor in every firing.
+/// of the counts where no order could fire them all. A firing takes a step for each link from or into the actor that fires,
+/// and the choice of that actor one for each actor.
 ///
 /// # Errors
 ///
@@ -29,18 +31,19 @@ pub fn order(alloc: Global, level: &Level, counts: &[u32]) -> Result<List<Turn>,
     ensures left { IfErr result (IfLeft (IsLeft level.now counts.now)) }
     ensures only_left { IfErr result (IfLeft (λ left. (other : Seq ℕ) → IsLeft level.now counts.now other → other ≡ left)) }
 {
+    let links = level.inner_links(alloc)?;
+    let lists = links_at(alloc, level.actors, &links)?;
     let mut fired = vec![in alloc; 0u32; counts.len()]?;
-    let mut starved = vec![in alloc; false; counts.len()]?;
+    let mut lacking = vec![in alloc; 0usize; counts.len()]?;
     let mut turns = Vec::new(alloc);
-    mark(level, &fired, &mut starved);
-    while let Some(actor) = next(level, counts, &fired, &starved) {
+    count(&links, &fired, &mut lacking);
+    while let Some(actor) = next(level, counts, &fired, &lacking) {
         let before = fired[actor as usize];
         turns.push(Turn {
             actor,
             turn: before,
         })?;
-        fired[actor as usize] = before + 1;
-        mark(level, &fired, &mut starved);
+        fire(actor, &lists[actor as usize], &mut fired, &mut lacking);
     }
     if is_done(counts, &fired) {
         Ok(List::new(turns))

@@ -1,9 +1,10 @@
 //! In which order the actors of a level fire in one thread, or what is left where they can't all fire.
 #![tactic(auto)]
 
+mod adjacent;
 mod greedy;
+mod lacking;
 mod law;
-mod marks;
 mod stuck;
 
 pub use greedy::order;

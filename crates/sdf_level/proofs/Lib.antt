@@ -1,4 +1,5 @@
 pub mod InnerLinks
+pub mod InnerList
 pub mod FiringLists
 pub mod Deadlock
 pub mod OnlyOne

@@ -1,7 +1,7 @@
 -- Links whose ports are numbered in their order are those of a level.
-use Rattle.std.proofs.Common.{◌≡◌, ◌≢◌, ℕ, ◌+◌, ◌<◌, ◌≤◌, ◌^◌, ⊎_elim, Bool, true, false, ◌==◌, ◌&&◌, if◌then◌else◌, List, [], ◌∷◌, ◌++◌, length, set, map, slice_index, get_or, take, replicate, refl, ap, sym, ◌∙◌, append_assoc, arith}
+use Rattle.std.proofs.Common.{◌≡◌, ◌≢◌, ℕ, ◌+◌, ◌<◌, ◌≤◌, ◌^◌, ⊎_elim, Bool, true, false, ◌==◌, ◌&&◌, if◌then◌else◌, List, [], ◌∷◌, ◌++◌, length, set, map, slice_index, get_or, take, replicate, refl, ap, sym, ◌∙◌, arith}
 use Rattle.std.proofs.lemmas.Bool.{cases_eq, cases_lt, eq-eqb, ne_eqb}
-use Rattle.std.proofs.lemmas.List.{append-nil, get_or-set_same, get_or-set_other, length-set, length-append, take_more, map-append, get_or-replicate, get_or_past, length-replicate}
+use Rattle.std.proofs.lemmas.List.{get_or-set_same, get_or-set_other, length-set, length-append, take_more, map-append, get_or-replicate, get_or_past, length-replicate}
 use Rattle.std.proofs.lemmas.List.Elements.{All-from_recursion}
 use Rattle.std.specs.List.{AllByRecursion}
 use Rattle.sdf_level.specs.declared.TheConstants.{RATE_LIMIT}
@@ -14,7 +14,8 @@ use Rattle.sdf_level.specs.declared.link.Head.TheVariants as head
 use Rattle.sdf_level.specs.View.{LevelView}
 use Rattle.sdf_level.specs.Kept.{TailIsThere, HeadIsThere, TouchesActor, HasSoundDelay, HasTailRateWithin, HasHeadRateWithin, how_many, is_from_port, is_into_port, IsLevel}
 use Rattle.sdf_level.specs.Links.{Inner}
-use Rattle.sdf_level.specs.Numbered.{IsBetween, inner_of, inner_at, inner_links}
+use Rattle.sdf_level.specs.Numbered.{IsBetween, inner_of, inner_links}
+use Rattle.sdf_level.proofs.InnerList.{inner_links-snoc}
 
 -- a link between two of n actors, with its rates within the limit
 abbrev pub IsSound : ℕ → Tail → Head → Type 0
@@ -45,10 +46,6 @@ how_many-snoc test (l ∷ links) link = let e = how_many-snoc test links link in
 All-snoc : (P : Link → Type 0) (links : List Link) (link : Link) → AllByRecursion P links → P link → AllByRecursion P (links ++ link ∷ [])
 All-snoc P [] link all here = (here, tt)
 All-snoc P (l ∷ links) link all here = (all.0, All-snoc P links link all.1 here)
-
-inner_links-snoc : (links : List Link) (link : Link) → inner_links (links ++ link ∷ []) ≡ inner_links links ++ inner_at link.tail link.head link.delay
-inner_links-snoc [] link = append-nil (inner_at link.tail link.head link.delay)
-inner_links-snoc (l ∷ links) link = rw (inner_links-snoc links link) (sym (append_assoc (inner_at l.tail l.head l.delay) (inner_links links) (inner_at link.tail link.head link.delay)))
 
 abbrev one_if : Bool → ℕ
 one_if b = if b then 1 else 0

@@ -107,5 +107,22 @@ fn ports_are_numbered_in_the_order_of_the_links(rt: HostRuntime) -> Result<(), F
     assert_eq!(rt; links[2].delay, 6);
     assert_eq!(rt; links[3].tail, output(1, 1, 1));
     assert_eq!(rt; links[3].head, input(1, 2, 1));
+    let inner = level.inner_links(rt.alloc())?;
+    assert_eq!(rt; inner.as_slice(), [there, there, back, own].as_slice());
+    Ok(())
+}
+
+#[test]
+fn only_links_between_two_actors_are_inner(rt: HostRuntime) -> Result<(), Fail> {
+    let level = doubled(rt.alloc())?;
+    let between = InnerLink {
+        tail: 0,
+        produced: 2,
+        head: 1,
+        consumed: 3,
+        delay: 0,
+    };
+    let inner = level.inner_links(rt.alloc())?;
+    assert_eq!(rt; inner.as_slice(), [between].as_slice());
     Ok(())
 }

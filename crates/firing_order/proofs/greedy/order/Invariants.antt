@@ -1,13 +1,11 @@
-use Rattle.std.proofs.Common.{◌≡◌, length}
-use Rattle.firing_order.specs.Marks.{AreStarved}
+use Rattle.firing_order.specs.Lacking.{AreLacking}
 use Rattle.firing_order.proofs.Progress.{HasFired}
 use Rattle.firing_order.proofs.Remaining.{remaining}
 use Rattle.firing_order.proofs.greedy.order.Given as goal
 
 abbrev pub invariant-loop-actor : goal.invariant-loop-actor
 invariant-loop-actor l = record {
-  marks : AreStarved l.level.links l.fired.items l.starved.items;
-  one_each : length l.starved.items ≡ l.level.actors;
+  counted : AreLacking l.links.items l.fired.items l.lacking.items;
   fired : HasFired l.level l.counts l.fired.items l.turns.items;
 }
 

@@ -1,6 +1,0 @@
-use Rattle.std.proofs.Common.{ℕ, ◌<◌}
-use Rattle.firing_order.specs.Marks.{IsFree}
-use Rattle.firing_order.proofs.marks.next.Given as goal
-
-abbrev pub invariant-loop-actor : goal.invariant-loop-actor
-invariant-loop-actor l = (c : ℕ) → c < l.actor → IsFree l.counts l.fired l.starved c → ⊥
