@@ -38,6 +38,14 @@ uneven = record { actors = 2; sources = 1 ∷ []; sinks = 1 ∷ []; links = from
 abbrev pub ramp : ℕ → LevelView
 ramp n = record { actors = 2; sources = []; sinks = 1 ∷ []; links = between 0 0 n 1 0 1 0 ∷ into_sink 1 0 1 0 ∷ [] }
 
+-- the same over four links
+abbrev pub four_links : ℕ → LevelView
+four_links n = record { actors = 2; sources = []; sinks = []; links = between 0 0 n 1 0 1 0 ∷ between 0 1 n 1 1 1 0 ∷ between 0 2 n 1 2 1 0 ∷ between 0 3 n 1 3 1 0 ∷ [] }
+
+-- an actor that takes back, at the greatest rate, what it gives, and this delay
+abbrev pub own_link : ℕ → LevelView
+own_link d = record { actors = 1; sources = []; sinks = []; links = between 0 0 262144 0 0 262144 d ∷ [] }
+
 -- an actor takes one token in each firing, of a source of 4, and gives one to a sink of 1
 abbrev pub keep_last : LevelView
 keep_last = record { actors = 1; sources = 4 ∷ []; sinks = 1 ∷ []; links = from_source 0 0 0 1 ∷ into_sink 0 0 1 0 ∷ [] }

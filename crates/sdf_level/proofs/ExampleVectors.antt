@@ -3,8 +3,8 @@ use Rattle.std.proofs.Common.{◌≡◌, ℕ, zero, suc, ◌*◌, ◌≤◌, ◌
 use Rattle.sdf_level.specs.Balance.{Solves, IsBase, HasNoVector}
 use Rattle.sdf_level.specs.Components.{AreConnected}
 use Rattle.sdf_level.specs.Repetition.{IsLeastFactor, IsMultiplied, IsRepetition, IsFirstMismatch}
-use Rattle.sdf_level.specs.Limits.{IsWithinLimits, HasTooManyFirings, firing_count, link_count, token_count}
-use Rattle.sdf_level.proofs.ExampleLevels.{pairs, doubled, keep_last, uneven, ramp, filters, growing, silent, mute, starved}
+use Rattle.sdf_level.specs.Limits.{IsWithinLimits, HasTooManyFirings, HasTooManyLinks, HasTooManyTokens, firing_count, link_count, token_count}
+use Rattle.sdf_level.proofs.ExampleLevels.{pairs, doubled, keep_last, uneven, ramp, four_links, own_link, filters, growing, silent, mute, starved}
 
 doubled_solved : Solves doubled (3 ∷ 2 ∷ [])
 doubled_solved = record { one_each = refl; at_least_one = some; within = small; balanced = (tt, (refl, (tt, tt))) }
@@ -112,6 +112,26 @@ ramp_firings = refl
 
 ramp_too_long : HasTooManyFirings (1 ∷ 1024 ∷ [])
 ramp_too_long = omega arith
+
+-- links up to their limit, and past it
+most_links : link_count (four_links 1021) (1 ∷ 1021 ∷ []) ≡ 4096
+most_links = refl
+
+most_links_within : IsWithinLimits (four_links 1021) (1 ∷ 1021 ∷ [])
+most_links_within = record { firings = omega arith; links = omega arith; tokens = omega arith }
+
+too_many_links : HasTooManyLinks (four_links 1022) (1 ∷ 1022 ∷ [])
+too_many_links = record { firings = omega arith; over = omega arith }
+
+-- tokens up to their limit, and past it
+most_tokens : token_count (own_link 0) (4 ∷ []) ≡ 1048576
+most_tokens = refl
+
+most_tokens_within : IsWithinLimits (own_link 0) (4 ∷ [])
+most_tokens_within = record { firings = omega arith; links = omega arith; tokens = omega arith }
+
+too_many_tokens : HasTooManyTokens (own_link 1) (4 ∷ [])
+too_many_tokens = record { firings = omega arith; links = omega arith; over = omega arith }
 
 -- rates of 0 on both sides: each actor fires once
 silent_base : IsBase silent (1 ∷ 1 ∷ [])
