@@ -1,4 +1,5 @@
 pub mod Euclid
+pub mod Scaling
 pub mod Uniting
 pub mod Between
 pub mod Solved

@@ -5,8 +5,8 @@ use Rattle.sdf_level.specs.declared.link.Link.{Link}
 use Rattle.sdf_level.specs.Links.{Inner, OfInner}
 use Rattle.sdf_level.specs.Balance.{IsBalanced}
 use Rattle.balance_solver.specs.Pair.{IsLeastPair}
-use Rattle.sdf_level.specs.Groups.{new_group}
-use Rattle.sdf_level.proofs.Regrouped.{moved, unmoved}
+use Rattle.sdf_level.specs.Groups.{united}
+use Rattle.sdf_level.proofs.Regrouped.{united-first, united-second, united-other, united-origin}
 use Rattle.balance_solver.specs.Scaled.{factor, IsScaled, IsTooLarge}
 use Rattle.balance_solver.specs.Joined.{IsJoined, SolvesLinks, AreJoined, IsMultipleOn, Adds, Refutes}
 use Rattle.std.proofs.Math.Nat.{mul_comm}
@@ -64,9 +64,6 @@ pair_even u v p c x y e = rw (moved_factor u x p, moved_factor v y c) e
     moved_factor : (u f p : ℕ) → u * f * p ≡ f * (u * p)
     moved_factor u f p = grind arith
 
-origin : (into from g : ℕ) → new_group from into g ≡ into → (g ≡ into) ⊎ (g ≡ from)
-origin into from g e = ⊎_elim (λ (f : g ≡ from). inr f) (λ (f : g ≢ from). inl (sym (unmoved from into g f) ∙ e)) (cases_eq g from)
-
 -- what balances a multiple balances the vector
 cancel : (m u p v c : ℕ) → 1 ≤ m * u → m * u * p ≡ m * v * c → u * p ≡ v * c
 cancel zero u p v c some e = omega arith
@@ -96,8 +93,8 @@ module _ (n : ℕ) (link : Link) (k : Inner) (group q : List ℕ) (only : (P : I
 
   module _ (into from x y : ℕ) (is_into : slice_index group k.tail ≡ into) (is_from : slice_index group k.head ≡ from) (apart : from ≢ into) (pair : IsLeastPair (slice_index q k.tail * k.produced) (slice_index q k.head * k.consumed) x y) where
     -- on both groups a solving vector is one multiple of the scaled one
-    united : (links : List Link) → AreJoined n links group q → (other : List ℕ) → SolvesLinks n (links ++ link ∷ []) other → (times : ℕ) × ((a : ℕ) → a < n → (slice_index group a ≡ into) ⊎ (slice_index group a ≡ from) → slice_index other a ≡ times * (slice_index q a * factor into from x y (slice_index group a)))
-    united links j other s =
+    multiple_of_both : (links : List Link) → AreJoined n links group q → (other : List ℕ) → SolvesLinks n (links ++ link ∷ []) other → (times : ℕ) × ((a : ℕ) → a < n → (slice_index group a ≡ into) ⊎ (slice_index group a ≡ from) → slice_index other a ≡ times * (slice_index q a * factor into from x y (slice_index group a)))
+    multiple_of_both links j other s =
         let t = j.multiple other (front n links link other s) into in
         let h = j.multiple other (front n links link other s) from in
         let e : t.0 * (slice_index q k.tail * k.produced) ≡ h.0 * (slice_index q k.head * k.consumed) =
@@ -114,7 +111,7 @@ module _ (n : ℕ) (link : Link) (k : Inner) (group q : List ℕ) (only : (P : I
     refutes_large large long links j other s =
         let a = large.0 in
         let in' : a < n = let l = large.1 in omega arith in
-        let u = united links j other s in
+        let u = multiple_of_both links j other s in
         let beyond : (slice_index group a ≡ into) ⊎ (slice_index group a ≡ from) → ⊥ = λ w. (
         let e = u.1 a in' w in
         let low = at_most_multiple u.0 (slice_index q a * factor into from x y (slice_index group a)) (rw e at (s.at_least_one a in')) in
@@ -133,6 +130,9 @@ module _ (n : ℕ) (link : Link) (k : Inner) (group q : List ℕ) (only : (P : I
       inside : (a : ℕ) → a < n → a < length q
       inside a h = omega arith
 
+      now : (a : ℕ) → a < n → slice_index group' a ≡ united into from scaled.united.kept (slice_index group a)
+      now a h = scaled.united.each a (let l = scaled.one_each in omega arith)
+
       some_factor : (g : ℕ) → 1 ≤ factor into from x y g
       some_factor g = ⊎_elim
           (λ (i : g ≡ into). rw (i, factor_into into from x y) pair.x_some)
@@ -145,8 +145,8 @@ module _ (n : ℕ) (link : Link) (k : Inner) (group q : List ℕ) (only : (P : I
         tail_there = h.tail_there;
         head_there = h.head_there;
         either = ⊎_elim (λ z. inl z) (λ (b : (slice_index group l.tail ≡ slice_index group l.head) × IsBalanced q l). inr (
-          scaled.all.groups l.tail (inside l.tail h.tail_there) ∙ ap (new_group from into) b.0 ∙ sym (scaled.all.groups l.head (inside l.head h.head_there)),
-          rw (scaled.all.entries l.tail (inside l.tail h.tail_there), scaled.all.entries l.head (inside l.head h.head_there), b.0)
+          now l.tail h.tail_there ∙ ap (united into from scaled.united.kept) b.0 ∙ sym (now l.head h.head_there),
+          rw (scaled.entries l.tail (inside l.tail h.tail_there), scaled.entries l.head (inside l.head h.head_there), b.0)
               (scaled_even (slice_index q l.tail) (slice_index q l.head) l.produced l.consumed (factor into from x y (slice_index group l.head)) b.1),
         )) h.either;
       }
@@ -156,31 +156,32 @@ module _ (n : ℕ) (link : Link) (k : Inner) (group q : List ℕ) (only : (P : I
         tail_there = tail_there;
         head_there = head_there;
         either = inr (
-          scaled.all.groups k.tail (inside k.tail tail_there) ∙ ap (new_group from into) is_into ∙ unmoved from into into (λ e. apart (sym e)) ∙ sym (scaled.all.groups k.head (inside k.head head_there) ∙ ap (new_group from into) is_from ∙ moved from into),
-          rw (scaled.all.entries k.tail (inside k.tail tail_there), scaled.all.entries k.head (inside k.head head_there), is_into, is_from, factor_into into from x y, factor_from into from x y apart)
+          now k.tail tail_there ∙ ap (united into from scaled.united.kept) is_into ∙ united-first into from scaled.united.kept ∙ sym (now k.head head_there ∙ ap (united into from scaled.united.kept) is_from ∙ united-second into from scaled.united.kept),
+          rw (scaled.entries k.tail (inside k.tail tail_there), scaled.entries k.head (inside k.head head_there), is_into, is_from, factor_into into from x y, factor_from into from x y apart)
               (pair_even (slice_index q k.tail) (slice_index q k.head) k.produced k.consumed x y pair.even),
         );
       }
 
-      -- a group that is neither of the two
-      other_group : (other : List ℕ) (g : ℕ) → g ≢ into → IsMultipleOn n group q other g → IsMultipleOn n group' q' other g
+      -- a group that is not the new one
+      other_group : (other : List ℕ) (g : ℕ) → g ≢ scaled.united.kept → IsMultipleOn n group q other g → IsMultipleOn n group' q' other g
       other_group other g apart_too all = (
         all.0,
         λ a in' e.
-            let came : new_group from into (slice_index group a) ≡ g = sym (scaled.all.groups a (inside a in')) ∙ e in
-            let not_from : slice_index group a ≢ from = λ f. apart_too (sym came ∙ ap (new_group from into) f ∙ moved from into) in
-            let stays : slice_index group a ≡ g = sym (unmoved from into (slice_index group a) not_from) ∙ came in
-            let one : factor into from x y (slice_index group a) ≡ 1 = factor_none into from x y (slice_index group a) (λ i. apart_too (sym stays ∙ i)) not_from in
-            all.1 a in' stays ∙ sym (ap (λ (v : ℕ). all.0 * v) (scaled.all.entries a (inside a in') ∙ ap (λ (v : ℕ). slice_index q a * v) one ∙ omega arith)),
+            let came : united into from scaled.united.kept (slice_index group a) ≡ g = sym (now a in') ∙ e in
+            let not_into : slice_index group a ≢ into = λ f. apart_too (sym came ∙ ap (united into from scaled.united.kept) f ∙ united-first into from scaled.united.kept) in
+            let not_from : slice_index group a ≢ from = λ f. apart_too (sym came ∙ ap (united into from scaled.united.kept) f ∙ united-second into from scaled.united.kept) in
+            let stays : slice_index group a ≡ g = sym (united-other into from scaled.united.kept (slice_index group a) not_into not_from) ∙ came in
+            let one : factor into from x y (slice_index group a) ≡ 1 = factor_none into from x y (slice_index group a) not_into not_from in
+            all.1 a in' stays ∙ sym (ap (λ (v : ℕ). all.0 * v) (scaled.entries a (inside a in') ∙ ap (λ (v : ℕ). slice_index q a * v) one ∙ omega arith)),
       )
 
       pub adds_united : Adds n link group q group' q'
       adds_united links j = record {
-        at_least_one = λ a h. rw (scaled.all.entries a (inside a h)) (some_product (slice_index q a) (factor into from x y (slice_index group a)) (j.at_least_one a h) (some_factor (slice_index group a)));
+        at_least_one = λ a h. rw (scaled.entries a (inside a h)) (some_product (slice_index q a) (factor into from x y (slice_index group a)) (j.at_least_one a h) (some_factor (slice_index group a)));
         within = λ a h. scaled.within a (inside a h) (j.within a h);
         joined = EachInner-snoc (IsJoined n group' q') links link (EachInner-map {P = IsJoined n group q} {Q = IsJoined n group' q'} keeps links j.joined) (back (IsJoined n group' q') here);
         multiple = λ other s g. ⊎_elim
-            (λ (e : g ≡ into). let u = united links j other s in (u.0, λ a in' at. u.1 a in' (origin into from (slice_index group a) (sym (scaled.all.groups a (inside a in')) ∙ at ∙ e)) ∙ sym (ap (λ (v : ℕ). u.0 * v) (scaled.all.entries a (inside a in')))))
-            (λ (e : g ≢ into). other_group other g e (j.multiple other (front n links link other s) g))
-            (cases_eq g into);
+            (λ (e : g ≡ scaled.united.kept). let u = multiple_of_both links j other s in (u.0, λ a in' at. u.1 a in' (united-origin into from scaled.united.kept (slice_index group a) scaled.united.either (sym (now a in') ∙ at ∙ e)) ∙ sym (ap (λ (v : ℕ). u.0 * v) (scaled.entries a (inside a in')))))
+            (λ (e : g ≢ scaled.united.kept). other_group other g e (j.multiple other (front n links link other s) g))
+            (cases_eq g scaled.united.kept);
       }

@@ -3,7 +3,7 @@ ghost use Rattle.sdf_level.specs.Balance.{IsBase, HasNoVector};
 
 use crate::join::join;
 use crate::unsolved::Unsolved;
-use sdf_level::{Level, List};
+use sdf_level::{Groups, Level, List};
 use std::alloc::Global;
 
 /// The base vector (Lee and Messerschmitt 1987): for each actor, how often it fires in the least vector with entries from
@@ -18,13 +18,10 @@ pub fn repetition(alloc: Global, level: &Level) -> Result<List<u32>, Unsolved>
     ensures no_vector { IsErrOf result Unsolved.NoVector → HasNoVector level.now }
     ensures refused { HasNoVector level.now → IsErr result }
 {
-    let mut group = Vec::new(alloc);
-    for actor in 0..level.actors {
-        group.push(actor)?;
-    }
+    let mut groups = Groups::apart(alloc, level.actors)?;
     let mut q = vec![in alloc; 1u32; level.actors as usize]?;
     for link in level.links.items() {
-        if !join(link, &mut group, &mut q) {
+        if !join(alloc, link, &mut groups, &mut q)? {
             return Err(Unsolved::NoVector);
         }
     }

@@ -13,7 +13,7 @@ use Rattle.sdf_level.specs.declared.link.Head.{Head}
 use Rattle.sdf_level.specs.declared.link.Tail.TheVariants as tail
 use Rattle.sdf_level.specs.declared.link.Head.TheVariants as head
 use Rattle.sdf_level.proofs.InnerLinks.{EachOuter-map}
-use Rattle.interface_rules.specs.Groups.{AreGrouped}
+use Rattle.interface_rules.specs.Connections.{AreGrouped}
 use Rattle.interface_rules.specs.Served.{IsServed, IsLeastFor, AreServed}
 
 actors_there : (level : LevelView) (links : List Link) → AllByRecursion (λ link. TailIsThere level link.tail) links → AllByRecursion (λ link. HeadIsThere level link.head) links → EachOuter (λ o. o.actor < level.actors) level links

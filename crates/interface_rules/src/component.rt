@@ -1,40 +1,44 @@
 // The components of a level, as a number for each actor that connected actors share.
-ghost use Rattle.std.specs.Prelude.{ℕ, ◌≡◌, ◌<◌, length, slice_index, IfOk};
+ghost use Rattle.std.specs.Prelude.{◌<◌, length, IfOk, OnOk};
+ghost use Rattle.sdf_level.specs.Groups.{IsGrouping};
 ghost use Rattle.sdf_level.specs.Within.{IsWithin};
-ghost use Rattle.interface_rules.specs.Groups.{AreGrouped, IsRelabelled, Groups, GroupsBetween};
+ghost use Rattle.interface_rules.specs.Connections.{AreGrouped, Connects, ConnectsBetween};
 
-use sdf_level::{Head, Level, Link, Tail};
+use sdf_level::{Groups, Head, Level, Link, Tail};
 use std::alloc::{AllocError, Global};
 
-/// Gives each actor of the group `from` the number `into`.
-fn relabel(group: &mut [u32], from: u32, into: u32)
-    ensures { IsRelabelled (length group.old) group.old group.new from into }
-{
-    for a in 0..group.len() {
-        if group[a] == from {
-            group[a] = into;
-        }
-    }
-}
-
 /// Adds a link of these rates between two actors.
-fn join_ports(tail: u32, put: u32, head: u32, taken: u32, group: &mut [u32])
-    requires tail { tail < length group.old }
-    requires head { head < length group.old }
-    ensures { GroupsBetween (length group.old) tail put head taken group.old group.new }
+fn join_ports(
+    alloc: Global,
+    tail: u32,
+    put: u32,
+    head: u32,
+    taken: u32,
+    groups: &mut Groups,
+) -> Result<(), AllocError>
+    requires grouped { IsGrouping (length groups.old.number.items) groups.old }
+    requires tail { tail < length groups.old.number.items }
+    requires head { head < length groups.old.number.items }
+    ensures joined { OnOk result (ConnectsBetween (length groups.old.number.items) tail put head taken groups.old.number.items groups.new.number.items) }
+    ensures grouped { OnOk result (IsGrouping (length groups.old.number.items) groups.new) }
 {
     if put == 0 || taken == 0 {
-        return;
+        return Ok(());
     }
-    let from = group[head as usize];
-    let into = group[tail as usize];
-    relabel(group, from, into);
+    let first = groups.number[tail as usize];
+    let second = groups.number[head as usize];
+    if first == second {
+        return Ok(());
+    }
+    groups.unite(alloc, first, second)
 }
 
 /// Adds a link; one with a source or sink joins nothing.
-fn join(link: &Link, group: &mut [u32])
-    requires { IsWithin (length group.old) link.now }
-    ensures { Groups (length group.old) link.now group.old group.new }
+fn join(alloc: Global, link: &Link, groups: &mut Groups) -> Result<(), AllocError>
+    requires link { IsWithin (length groups.old.number.items) link.now }
+    requires grouped { IsGrouping (length groups.old.number.items) groups.old }
+    ensures joined { OnOk result (Connects (length groups.old.number.items) link.now groups.old.number.items groups.new.number.items) }
+    ensures grouped { OnOk result (IsGrouping (length groups.old.number.items) groups.new) }
 {
     let Tail::Port {
         actor: tail,
@@ -42,7 +46,7 @@ fn join(link: &Link, group: &mut [u32])
         ..
     } = link.tail
     else {
-        return;
+        return Ok(());
     };
     let Head::Port {
         actor: head,
@@ -50,21 +54,18 @@ fn join(link: &Link, group: &mut [u32])
         ..
     } = link.head
     else {
-        return;
+        return Ok(());
     };
-    join_ports(tail, put, head, taken, group);
+    join_ports(alloc, tail, put, head, taken, groups)
 }
 
 /// For each actor the number of its component, which is below the count of actors.
 pub(crate) fn components(alloc: Global, level: &Level) -> Result<Vec<u32>, AllocError>
     ensures { IfOk result (λ v. AreGrouped level.now.actors level.now.links v.items) }
 {
-    let mut group = Vec::new(alloc);
-    for actor in 0..level.actors {
-        group.push(actor)?;
-    }
+    let mut groups = Groups::apart(alloc, level.actors)?;
     for link in level.links.items() {
-        join(link, &mut group);
+        join(alloc, link, &mut groups)?;
     }
-    Ok(group)
+    Ok(groups.number)
 }

@@ -3,7 +3,7 @@ ghost use Rattle.std.specs.Prelude.{ℕ, ◌≡◌, ◌<◌, ◌≤◌, length, 
 ghost use Rattle.std.specs.Bool.{OnTrue, OnFalse};
 ghost use Rattle.sdf_level.specs.Balance.{IsBase};
 ghost use Rattle.sdf_level.specs.Repetition.{AgreesOnZero, IsFirstMismatch};
-ghost use Rattle.interface_rules.specs.Groups.{AreGrouped};
+ghost use Rattle.interface_rules.specs.Connections.{AreGrouped};
 ghost use Rattle.interface_rules.specs.Served.{IsSound, HasBase, HasGroups, IsServedOnce, Serves, Disagrees, AreServed};
 
 use crate::fault::InterfaceFault;

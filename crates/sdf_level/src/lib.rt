@@ -2,6 +2,7 @@
 //! definitions that the other crates cite.
 #![tactic(auto)]
 
+mod groups;
 mod inner_link;
 mod level;
 mod link;
@@ -12,6 +13,7 @@ mod single_rate;
 mod token_name;
 mod turn;
 
+pub use groups::Groups;
 pub use inner_link::InnerLink;
 pub use level::Level;
 pub use link::{Head, Link, Tail};

@@ -1,4 +1,4 @@
-use super::{Head, InnerLink, Level, Link, List, Tail};
+use super::{Groups, Head, InnerLink, Level, Link, List, Tail};
 use std::alloc::{AllocError, Global};
 use std::test::Fail;
 
@@ -124,5 +124,23 @@ fn only_links_between_two_actors_are_inner(rt: HostRuntime) -> Result<(), Fail> 
     };
     let inner = level.inner_links(rt.alloc())?;
     assert_eq!(rt; inner.as_slice(), [between].as_slice());
+    Ok(())
+}
+
+/// Actors 3 and 1 keep the number of the one named first, and then the larger group keeps its number.
+#[test]
+fn the_larger_group_keeps_its_number(rt: HostRuntime) -> Result<(), Fail> {
+    let alloc = rt.alloc();
+    let mut groups = Groups::apart(alloc, 4)?;
+    assert_eq!(rt; groups.number.as_slice(), [0, 1, 2, 3].as_slice());
+    groups.unite(alloc, 3, 1)?;
+    assert_eq!(rt; groups.number.as_slice(), [0, 3, 2, 3].as_slice());
+    groups.unite(alloc, 0, 3)?;
+    assert_eq!(rt; groups.number.as_slice(), [3, 3, 2, 3].as_slice());
+    let mut sizes = Vec::new(alloc);
+    for actors in &groups.actors {
+        sizes.push(actors.len())?;
+    }
+    assert_eq!(rt; sizes.as_slice(), [0, 0, 1, 3].as_slice());
     Ok(())
 }

@@ -1,5 +1,4 @@
-use Rattle.std.proofs.Common.{◌≡◌, ◌<◌, ◌++◌, length, ap, arith, ◌∙◌, take, drop}
-use Rattle.std.proofs.lemmas.Grind.{common_steps}
+use Rattle.std.proofs.Common.{◌≡◌, ◌<◌, length, ap, ◌∙◌}
 use Rattle.sdf_level.specs.View.{LevelView}
 use Rattle.interface_rules.proofs.Grouping.{grouped_at_start, grouped_next}
 use Rattle.interface_rules.proofs.component.components.Goals as goal
@@ -7,11 +6,18 @@ use Rattle.interface_rules.proofs.component.components.Goals as goal
 pub loop-link-init : goal.loop-link-init
 loop-link-init c =
     let actors : c.level.inside.actors ≡ c.args.level.now.actors = ap (λ (v : LevelView). v.actors) c.level.view_is in
-    grouped_at_start c.args.level.now.actors c.loop-actor.group.items (let h = c.loop-actor.invariant.long in let f = c.loop-actor-test.false in omega arith) (λ a h. c.loop-actor.invariant.own a (let f = c.loop-actor-test.false in omega arith))
+    let grouping = rw actors at c.in_ok-groups.ensures.grouped in
+    record {
+      grouping = grouping;
+      grouped = grouped_at_start c.args.level.now.actors c.in_ok-groups.groups.number.items grouping.one_number (rw actors at c.in_ok-groups.ensures.own);
+    }
 
 pub loop-link-preserved : goal.loop-link-preserved
 loop-link-preserved c =
     let links : c.items-link-items.result.now ≡ c.args.level.now.links = c.items-link-items.ensures ∙ ap (λ (v : LevelView). v.links) c.level.view_is in
     let inside : c.loop-link.link-index < length c.args.level.now.links = rw (← links) c.loop-link-test.true in
-    let whole : take c.loop-link.group.len (c.join.new.group ++ drop (length c.join.new.group) c.loop-link.group.items) ≡ c.join.new.group = grind (arith, common_steps) in
-    rw whole (grouped_next c.args.level.now c.loop-link.link-index _ c.loop-link.group.items c.join.new.group inside c.loop-link.invariant (rw (links, c.deref_mut.ensures.value, c.loop-link.invariant.one_each) at c.join.ensures))
+    let long = c.loop-link.invariant.grouping.one_number in
+    record {
+      grouping = rw long at c.in_ok-join.ensures.grouped;
+      grouped = grouped_next c.args.level.now c.loop-link.link-index _ c.loop-link.groups.number.items c.join.new.groups.number.items inside c.loop-link.invariant.grouped (rw (links, long) at c.in_ok-join.ensures.joined);
+    }

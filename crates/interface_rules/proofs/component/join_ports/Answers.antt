@@ -1,10 +1,24 @@
-use Rattle.std.proofs.Common.{inl, inr, length, arith}
-use Rattle.interface_rules.proofs.Grouping.{between_none, groups_joined}
+use Rattle.std.proofs.Common.{◌≡◌, ◌<◌, inl, inr, length, slice_index, sym, ◌∙◌, arith}
+use Rattle.std.proofs.lemmas.List.{get_or_read}
+use Rattle.sdf_level.proofs.Branches.{OnOk-map}
+use Rattle.interface_rules.proofs.Grouping.{between_none, groups_joined, united_own}
 use Rattle.interface_rules.proofs.component.join_ports.Goals as goal
 
-pub returns-then-put-eq0 : goal.returns-then-put-eq0
-returns-then-put-eq0 c = between_none (length c.args.group.now) c.args.tail c.args.put c.args.head c.args.taken c.args.group.now (elim c.then-put-eq0.either [ inl none ↦ inl none | inr other ↦ inr other.1 ])
+pub returns-then-put-eq0-clause-joined : goal.returns-then-put-eq0-clause-joined
+returns-then-put-eq0-clause-joined c = between_none (length c.args.groups.now.number.items) c.args.tail c.args.put c.args.head c.args.taken c.args.groups.now.number.items (elim c.then-put-eq0.either [ inl none ↦ inl none | inr other ↦ inr other.1 ])
 
-pub returns : goal.returns
-returns c i j d =
-    groups_joined (length c.args.group.now) c.args.tail i c.args.put c.args.head j c.args.taken d c.args.group.now c.relabel.new.group c.requires.tail c.requires.head (let h = c.if-put-eq0.false in omega arith) (let h = c.if-taken-eq0.false in omega arith) c.relabel.auto.group c.relabel.ensures
+pub returns-then-first-second-clause-joined : goal.returns-then-first-second-clause-joined
+returns-then-first-second-clause-joined c i j d =
+    let first : c.index-first.result.now ≡ slice_index c.args.groups.now.number.items c.args.tail = get_or_read c.args.groups.now.number.items c.args.tail c.index-first.result.now c.requires.tail c.index-first.ensures 0 in
+    let second : c.index-second.result.now ≡ slice_index c.args.groups.now.number.items c.args.head = get_or_read c.args.groups.now.number.items c.args.head c.index-second.result.now c.requires.head c.index-second.ensures 0 in
+    let puts : 0 < c.args.put = let h = c.if-put-eq0.false in omega arith in
+    let takes : 0 < c.args.taken = let h = c.if-taken-eq0.false in omega arith in
+    groups_joined (length c.args.groups.now.number.items) c.args.tail i c.args.put c.args.head j c.args.taken d c.args.groups.now.number.items c.args.groups.now.number.items c.requires.tail c.requires.head puts takes (united_own c.args.groups.now.number.items _ _ (sym first ∙ c.if-first-second.true ∙ second))
+
+pub returns-clause-joined : goal.returns-clause-joined
+returns-clause-joined c =
+    let first : c.index-first.result.now ≡ slice_index c.args.groups.now.number.items c.args.tail = get_or_read c.args.groups.now.number.items c.args.tail c.index-first.result.now c.requires.tail c.index-first.ensures 0 in
+    let second : c.index-second.result.now ≡ slice_index c.args.groups.now.number.items c.args.head = get_or_read c.args.groups.now.number.items c.args.head c.index-second.result.now c.requires.head c.index-second.ensures 0 in
+    let puts : 0 < c.args.put = let h = c.if-put-eq0.false in omega arith in
+    let takes : 0 < c.args.taken = let h = c.if-taken-eq0.false in omega arith in
+    OnOk-map c.unite.result (λ united i j d. groups_joined (length c.args.groups.now.number.items) c.args.tail i c.args.put c.args.head j c.args.taken d c.args.groups.now.number.items c.unite.new.self.number.items c.requires.tail c.requires.head puts takes (rw (first, second) at united)) c.unite.ensures.united

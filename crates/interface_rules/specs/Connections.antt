@@ -1,7 +1,6 @@
 -- The components that some first links make, each with a number that its actors share.
 use Rattle.std.specs.Prelude.{◌≡◌, ℕ, ◌<◌, ◌↔◌, List, [], ◌∷◌, ◌++◌, length, slice_index}
 use Rattle.sdf_level.specs.Components.{AreConnected}
-use Rattle.sdf_level.specs.Groups.{new_group}
 use Rattle.sdf_level.specs.declared.link.Link.{Link}
 use Rattle.sdf_level.specs.declared.link.Tail.TheVariants as tail
 use Rattle.sdf_level.specs.declared.link.Head.TheVariants as head
@@ -12,14 +11,10 @@ pub record AreGrouped (n : ℕ) (links : List Link) (group : List ℕ) : Type 0 
   pub below : (a : ℕ) → a < n → slice_index group a < n
   pub same : (a b : ℕ) → a < n → b < n → (slice_index group a ≡ slice_index group b) ↔ AreConnected links a b
 
--- the first n actors have their new groups
-abbrev pub IsRelabelled : ℕ → List ℕ → List ℕ → ℕ → ℕ → Type 0
-IsRelabelled n group group' from into = (a : ℕ) → a < n → slice_index group' a ≡ new_group from into (slice_index group a)
-
 -- with one link more, these are the groups
-abbrev pub Groups : ℕ → Link → List ℕ → List ℕ → Type 0
-Groups n link group group' = (links : List Link) → AreGrouped n links group → AreGrouped n (links ++ link ∷ []) group'
+abbrev pub Connects : ℕ → Link → List ℕ → List ℕ → Type 0
+Connects n link group group' = (links : List Link) → AreGrouped n links group → AreGrouped n (links ++ link ∷ []) group'
 
 -- the same for a link between these ports, whatever its delay
-abbrev pub GroupsBetween : ℕ → ℕ → ℕ → ℕ → ℕ → List ℕ → List ℕ → Type 0
-GroupsBetween n a put b taken group group' = (i j delay : ℕ) → Groups n record { tail = tail.Port a i put; head = head.Port b j taken; delay = delay } group group'
+abbrev pub ConnectsBetween : ℕ → ℕ → ℕ → ℕ → ℕ → List ℕ → List ℕ → Type 0
+ConnectsBetween n a put b taken group group' = (i j delay : ℕ) → Connects n record { tail = tail.Port a i put; head = head.Port b j taken; delay = delay } group group'
