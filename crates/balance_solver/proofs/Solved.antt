@@ -4,10 +4,12 @@ use Rattle.std.proofs.lemmas.Bool.{cases_lt}
 use Rattle.std.proofs.lemmas.List.{get_or_past, get_or-replicate, take_more}
 use Rattle.sdf_level.specs.View.{LevelView}
 use Rattle.sdf_level.specs.Links.{Inner, EachInner}
-use Rattle.sdf_level.specs.Balance.{IsBalanced, IsBase, HasNoVector}
+use Rattle.sdf_level.specs.Balance.{IsBalanced, Solves, IsBase, HasNoVector}
 use Rattle.sdf_level.specs.declared.link.Link.{Link}
 use Rattle.balance_solver.specs.Joined.{IsJoined, AreJoined, Refutes}
 use Rattle.sdf_level.proofs.InnerLinks.{EachInner-map}
+use Rattle.sdf_level.specs.Numbered.{inner_links}
+use Rattle.sdf_level.proofs.InnerList.{EachInner-same}
 use Rattle.balance_solver.proofs.Uniting.{at_most_multiple}
 
 -- before any link each actor is a group
@@ -56,3 +58,20 @@ is_base level group q long j = record {
       (λ (past : level.actors ≤ a). let z = get_or_past q a 0 (let l = long in omega arith) in omega arith)
       (cases_lt a level.actors);
 }
+
+-- what solves one list of links solves each that has the same links between two actors
+module _ (level : LevelView) (links : List Link) (same : inner_links links ≡ inner_links level.links) where
+  abbrev pub over : LevelView
+  over = record level { links = links }
+
+  pub solves_from : (q : List ℕ) → Solves over q → Solves level q
+  solves_from q s = record { one_each = s.one_each; at_least_one = s.at_least_one; within = s.within; balanced = EachInner-same (IsBalanced q) links level.links same s.balanced }
+
+  pub solves_over : (q : List ℕ) → Solves level q → Solves over q
+  solves_over q s = record { one_each = s.one_each; at_least_one = s.at_least_one; within = s.within; balanced = EachInner-same (IsBalanced q) level.links links (sym same) s.balanced }
+
+  pub base_from : (q : List ℕ) → IsBase over q → IsBase level q
+  base_from q b = record { solves = solves_from q b.solves; least = λ other s. b.least other (solves_over other s) }
+
+  pub no_vector_from : HasNoVector over → HasNoVector level
+  no_vector_from none q s = none q (solves_over q s)

@@ -4,8 +4,6 @@ use Rattle.sdf_level.specs.Links.{Inner, EachInner}
 use Rattle.sdf_level.specs.Balance.{IsBalanced}
 use Rattle.sdf_level.specs.declared.TheConstants.{BASE_ENTRY_LIMIT}
 use Rattle.sdf_level.specs.declared.link.Link.{Link}
-use Rattle.sdf_level.specs.declared.link.Tail.TheVariants as tail
-use Rattle.sdf_level.specs.declared.link.Head.TheVariants as head
 
 -- the link carries no tokens, or joins actors of one group and is balanced
 pub record IsJoined (n : ℕ) (group q : List ℕ) (link : Inner) : Type 0 where
@@ -36,10 +34,3 @@ Adds n link group q group' q' = (links : List Link) → AreJoined n links group 
 -- with one link more, no vector solves
 abbrev pub Refutes : ℕ → Link → List ℕ → List ℕ → Type 0
 Refutes n link group q = (links : List Link) → AreJoined n links group q → (other : List ℕ) → SolvesLinks n (links ++ link ∷ []) other → ⊥
-
--- the same for a link between these ports, whatever its delay
-abbrev pub AddsBetween : ℕ → ℕ → ℕ → ℕ → ℕ → List ℕ → List ℕ → List ℕ → List ℕ → Type 0
-AddsBetween n a put b taken group q group' q' = (i j delay : ℕ) → Adds n record { tail = tail.Port a i put; head = head.Port b j taken; delay = delay } group q group' q'
-
-abbrev pub RefutesBetween : ℕ → ℕ → ℕ → ℕ → ℕ → List ℕ → List ℕ → Type 0
-RefutesBetween n a put b taken group q = (i j delay : ℕ) → Refutes n record { tail = tail.Port a i put; head = head.Port b j taken; delay = delay } group q

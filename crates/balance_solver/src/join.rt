@@ -3,12 +3,12 @@ ghost use Rattle.std.specs.Prelude.{ℕ, ◌≡◌, ◌≢◌, ◌<◌, ◌≤�
 ghost use Rattle.std.specs.Bool.{OnTrue, OnFalse};
 ghost use Rattle.std.specs.List.{All};
 ghost use Rattle.sdf_level.specs.Groups.{IsGrouping, occurrences};
-ghost use Rattle.sdf_level.specs.Within.{IsWithin};
+ghost use Rattle.sdf_level.specs.Numbered.{IsBetween, as_link};
 ghost use Rattle.balance_solver.specs.Scaled.{AreScaled, HasTooLarge, IsScaled, IsTooLarge};
-ghost use Rattle.balance_solver.specs.Joined.{Adds, Refutes, AddsBetween, RefutesBetween};
+ghost use Rattle.balance_solver.specs.Joined.{Adds, Refutes};
 
 use crate::pair::least_pair;
-use sdf_level::{BASE_ENTRY_LIMIT, Groups, Head, Link, RATE_LIMIT, Tail};
+use sdf_level::{BASE_ENTRY_LIMIT, Groups, InnerLink};
 use std::alloc::{AllocError, Global};
 
 /// Multiplies the entries of these actors. False where an entry would pass the limit.
@@ -33,7 +33,7 @@ fn scale(q: &mut [u32], actors: &[u32], times: u64) -> bool
 }
 
 /// Multiplies the entries of the one group by `x` and those of the other by `y`, and makes the two one. False where an
-/// entry would pass the limit. As entries are at most `BASE_ENTRY_LIMIT`, each is multiplied by more than 1 only a few
+/// entry would pass the limit. As entries are at most `BASE_ENTRY_LIMIT`, each is multiplied by more than 1 at most ten
 /// times.
 fn unite(
     alloc: Global,
@@ -64,70 +64,33 @@ fn unite(
     Ok(true)
 }
 
-/// Adds a link on which a firing of `tail` puts `put` tokens and a firing of `head` takes `taken`. False where no vector
-/// solves it with the links before.
-fn join_ports(
+/// Adds a link. False where no vector solves it with the links before.
+pub(crate) fn join(
     alloc: Global,
-    tail: u32,
-    put: u32,
-    head: u32,
-    taken: u32,
+    link: &InnerLink,
     groups: &mut Groups,
     q: &mut [u32],
 ) -> Result<bool, AllocError>
+    requires link { IsBetween (length q.old) link.now }
     requires grouped { IsGrouping (length q.old) groups.old }
-    requires tail { tail < length q.old }
-    requires head { head < length q.old }
-    requires put { put ≤ RATE_LIMIT }
-    requires taken { taken ≤ RATE_LIMIT }
     requires some { (a : ℕ) → a < length q.old → 1 ≤ slice_index q.old a }
     requires within { (a : ℕ) → a < length q.old → slice_index q.old a ≤ BASE_ENTRY_LIMIT }
-    ensures joined { IfOk result (λ b. OnTrue b (AddsBetween (length q.old) tail put head taken groups.old.number.items q.old groups.new.number.items q.new)) }
+    ensures joined { IfOk result (λ b. OnTrue b (Adds (length q.old) (as_link link.now) groups.old.number.items q.old groups.new.number.items q.new)) }
     ensures grouped { IfOk result (λ b. OnTrue b (IsGrouping (length q.old) groups.new)) }
-    ensures refused { IfOk result (λ b. OnFalse b (RefutesBetween (length q.old) tail put head taken groups.old.number.items q.old)) }
+    ensures refused { IfOk result (λ b. OnFalse b (Refutes (length q.old) (as_link link.now) groups.old.number.items q.old)) }
 {
+    let put = link.produced;
+    let taken = link.consumed;
     if put == 0 || taken == 0 {
         return Ok(put == taken);
     }
-    let all_put = q[tail as usize] as u64 * put as u64;
-    let all_taken = q[head as usize] as u64 * taken as u64;
-    let into = groups.number[tail as usize];
-    let from = groups.number[head as usize];
+    let all_put = q[link.tail as usize] as u64 * put as u64;
+    let all_taken = q[link.head as usize] as u64 * taken as u64;
+    let into = groups.number[link.tail as usize];
+    let from = groups.number[link.head as usize];
     if into == from {
         return Ok(all_put == all_taken);
     }
     let (x, y) = least_pair(all_put, all_taken);
     unite(alloc, groups, q, into, from, x, y)
-}
-
-/// Adds a link; one with a source or sink changes nothing. False where no vector solves it with the links before.
-pub(crate) fn join(
-    alloc: Global,
-    link: &Link,
-    groups: &mut Groups,
-    q: &mut [u32],
-) -> Result<bool, AllocError>
-    requires link { IsWithin (length q.old) link.now }
-    requires grouped { IsGrouping (length q.old) groups.old }
-    requires some { (a : ℕ) → a < length q.old → 1 ≤ slice_index q.old a }
-    requires within { (a : ℕ) → a < length q.old → slice_index q.old a ≤ BASE_ENTRY_LIMIT }
-    ensures joined { IfOk result (λ b. OnTrue b (Adds (length q.old) link.now groups.old.number.items q.old groups.new.number.items q.new)) }
-    ensures grouped { IfOk result (λ b. OnTrue b (IsGrouping (length q.old) groups.new)) }
-    ensures refused { IfOk result (λ b. OnFalse b (Refutes (length q.old) link.now groups.old.number.items q.old)) }
-{
-    match (link.tail, link.head) {
-        (
-            Tail::Port {
-                actor: tail,
-                rate: put,
-                ..
-            },
-            Head::Port {
-                actor: head,
-                rate: taken,
-                ..
-            },
-        ) => { join_ports(alloc, tail, put, head, taken, groups, q) }
-        _ => Ok(true),
-    }
 }

@@ -18,9 +18,10 @@ pub fn repetition(alloc: Global, level: &Level) -> Result<List<u32>, Unsolved>
     ensures no_vector { IsErrOf result Unsolved.NoVector → HasNoVector level.now }
     ensures refused { HasNoVector level.now → IsErr result }
 {
+    let links = level.inner_links(alloc)?;
     let mut groups = Groups::apart(alloc, level.actors)?;
     let mut q = vec![in alloc; 1u32; level.actors as usize]?;
-    for link in level.links.items() {
+    for link in &links {
         if !join(alloc, link, &mut groups, &mut q)? {
             return Err(Unsolved::NoVector);
         }

@@ -27,7 +27,7 @@ pub fn order(alloc: Global, level: &Level, counts: &[u32]) -> Result<List<Turn>,
 
     // Where there is no order the answer says so, and where it says so there is none.
     ensures each_deadlock { IsDeadlocked level.now counts.now → IsErr result }
-    ensures only_deadlock { IfErr result (IfLeft (λ _. IsDeadlocked level.now counts.now)) }
+    ensures left_is_deadlock { IfErr result (IfLeft (λ _. IsDeadlocked level.now counts.now)) }
     ensures left { IfErr result (IfLeft (IsLeft level.now counts.now)) }
     ensures only_left { IfErr result (IfLeft (λ left. (other : Seq ℕ) → IsLeft level.now counts.now other → other ≡ left)) }
 {

@@ -2,18 +2,18 @@
 use Rattle.std.proofs.Common.{◌≡◌, ◌≢◌, ℕ, ◌+◌, ◌<◌, ◌⊎◌, inl, inr, ⊎_elim, List, [], ◌∷◌, ◌++◌, length, slice_index, get_or, take, refl, ap, sym, ◌∙◌, arith}
 use Rattle.std.proofs.lemmas.Bool.{cases_eq}
 use Rattle.std.proofs.lemmas.List.{take_more}
-use Rattle.sdf_level.specs.View.{LevelView}
 use Rattle.sdf_level.specs.Links.{IsInnerWith}
+use Rattle.sdf_level.specs.Numbered.{as_link, inner_links}
+use Rattle.sdf_level.specs.declared.inner_link.InnerLink.{InnerLink}
+use Rattle.sdf_level.proofs.InnerList.{connected-same}
 use Rattle.sdf_level.specs.Components.{Joins, IsPath, AreConnected}
 use Rattle.sdf_level.specs.declared.link.Link.{Link}
-use Rattle.sdf_level.specs.declared.link.Tail.{Tail}
-use Rattle.sdf_level.specs.declared.link.Head.{Head}
 use Rattle.sdf_level.specs.declared.link.Tail.TheVariants as tail
 use Rattle.sdf_level.specs.declared.link.Head.TheVariants as head
 use Rattle.sdf_level.proofs.Connected.{connected-sym, connected-trans, connected-more, connected-new, connected-none, connected-split, IsNear}
 use Rattle.sdf_level.specs.Groups.{united, AreUnited}
 use Rattle.sdf_level.proofs.Regrouped.{united-first, united-second, united-other, united-origin, united-below}
-use Rattle.interface_rules.specs.Connections.{AreGrouped, Connects, ConnectsBetween}
+use Rattle.interface_rules.specs.Connections.{AreGrouped, Connects}
 
 -- before any link each actor is a group
 pub grouped_at_start : (n : ℕ) (group : List ℕ) → length group ≡ n → ((a : ℕ) → a < n → slice_index group a ≡ a) → AreGrouped n [] group
@@ -117,25 +117,19 @@ united_own group g h e = record {
 }
 
 -- a link with a rate of 0 joins nothing
-pub between_none : (n x put y taken : ℕ) (group : List ℕ) → (put ≡ 0) ⊎ (taken ≡ 0) → ConnectsBetween n x put y taken group group
-between_none n x put y taken group zero i j d = groups_same n record { tail = tail.Port x i put; head = head.Port y j taken; delay = d } group (λ a b joined. ⊎_elim
-    (λ (e : put ≡ 0). let p = joined.puts in omega arith)
-    (λ (e : taken ≡ 0). let p = joined.takes in omega arith)
+pub groups_apart : (n : ℕ) (link : InnerLink) (group : List ℕ) → (link.produced ≡ 0) ⊎ (link.consumed ≡ 0) → Connects n (as_link link) group group
+groups_apart n link group zero = groups_same n (as_link link) group (λ a b joined. ⊎_elim
+    (λ (e : link.produced ≡ 0). let p = joined.puts in omega arith)
+    (λ (e : link.consumed ≡ 0). let p = joined.takes in omega arith)
     zero)
 
--- a link with these ends
-pub groups_from_between : (n x i put y j taken delay : ℕ) (t : Tail) (h : Head) (group group' : List ℕ) → t ≡ tail.Port x i put → h ≡ head.Port y j taken → ConnectsBetween n x put y taken group group' → Connects n record { tail = t; head = h; delay = delay } group group'
-groups_from_between n x i put y j taken delay t h group group' e f between = rw (e, f) (between i j delay)
+pub grouped_next : (n : ℕ) (links : List Link) (i : ℕ) (d : Link) (group group' : List ℕ) → i < length links → AreGrouped n (take i links) group → Connects n (get_or links i d) group group' → AreGrouped n (take (i + 1) links) group'
+grouped_next n links i d group group' inside grouped connects = rw (take_more links i d inside) (connects (take i links) grouped)
 
-pub groups_from_source : (n s delay : ℕ) (t : Tail) (h : Head) (group : List ℕ) → t ≡ tail.Source s → Connects n record { tail = t; head = h; delay = delay } group group
-groups_from_source n s delay t h group e = rw e (groups_same n record { tail = tail.Source s; head = h; delay = delay } group (λ a b joined. joined))
-
-pub groups_to_sink : (n s delay : ℕ) (t : Tail) (h : Head) (group : List ℕ) → h ≡ head.Sink s → Connects n record { tail = t; head = h; delay = delay } group group
-groups_to_sink n s delay t h group e = rw e (groups_same n record { tail = t; head = head.Sink s; delay = delay } group (λ a b joined. none t a b joined))
-  where
-    none : (t : Tail) (a b : ℕ) → IsInnerWith (Joins a b) t (head.Sink s) delay → ⊥
-    none (tail.Source x) a b joined = joined
-    none (tail.Port x y z) a b joined = joined
-
-pub grouped_next : (level : LevelView) (i : ℕ) (d : Link) (group group' : List ℕ) → i < length level.links → AreGrouped level.actors (take i level.links) group → Connects level.actors (get_or level.links i d) group group' → AreGrouped level.actors (take (i + 1) level.links) group'
-grouped_next level i d group group' inside grouped groups = rw (take_more level.links i d inside) (groups (take i level.links) grouped)
+-- the groups of other links that are the same between actors
+pub grouped_same : (n : ℕ) (xs ys : List Link) (group : List ℕ) → inner_links xs ≡ inner_links ys → AreGrouped n xs group → AreGrouped n ys group
+grouped_same n xs ys group same g = record {
+  one_each = g.one_each;
+  below = g.below;
+  same = λ a b h k. ((λ e. connected-same xs ys same a b ((g.same a b h k).0 e)), (λ f. (g.same a b h k).1 (connected-same ys xs (sym same) a b f)));
+}

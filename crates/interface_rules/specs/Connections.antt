@@ -2,8 +2,6 @@
 use Rattle.std.specs.Prelude.{◌≡◌, ℕ, ◌<◌, ◌↔◌, List, [], ◌∷◌, ◌++◌, length, slice_index}
 use Rattle.sdf_level.specs.Components.{AreConnected}
 use Rattle.sdf_level.specs.declared.link.Link.{Link}
-use Rattle.sdf_level.specs.declared.link.Tail.TheVariants as tail
-use Rattle.sdf_level.specs.declared.link.Head.TheVariants as head
 
 -- n actors have one number exactly where these links connect them
 pub record AreGrouped (n : ℕ) (links : List Link) (group : List ℕ) : Type 0 where
@@ -14,7 +12,3 @@ pub record AreGrouped (n : ℕ) (links : List Link) (group : List ℕ) : Type 0 
 -- with one link more, these are the groups
 abbrev pub Connects : ℕ → Link → List ℕ → List ℕ → Type 0
 Connects n link group group' = (links : List Link) → AreGrouped n links group → AreGrouped n (links ++ link ∷ []) group'
-
--- the same for a link between these ports, whatever its delay
-abbrev pub ConnectsBetween : ℕ → ℕ → ℕ → ℕ → ℕ → List ℕ → List ℕ → Type 0
-ConnectsBetween n a put b taken group group' = (i j delay : ℕ) → Connects n record { tail = tail.Port a i put; head = head.Port b j taken; delay = delay } group group'

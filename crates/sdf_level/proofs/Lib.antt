@@ -15,6 +15,5 @@ pub mod ExampleVectors
 pub mod ExampleOrders
 pub mod ExampleRuns
 pub mod NumberedPorts
-pub mod LinksWithin
 pub mod Branches
 pub mod Regrouped

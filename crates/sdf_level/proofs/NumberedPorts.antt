@@ -18,10 +18,10 @@ use Rattle.sdf_level.specs.Numbered.{IsBetween, inner_of, inner_links}
 use Rattle.sdf_level.proofs.InnerList.{inner_links-snoc}
 
 -- a link between two of n actors, with its rates within the limit
-abbrev pub IsSound : ℕ → Tail → Head → Type 0
-IsSound n (tail.Source s) h = ⊥
-IsSound n (tail.Port a p r) (head.Sink t) = ⊥
-IsSound n (tail.Port a p r) (head.Port b j c) = ((a < n) × (r ≤ RATE_LIMIT)) × ((b < n) × (c ≤ RATE_LIMIT))
+abbrev pub AreBetween : ℕ → Tail → Head → Type 0
+AreBetween n (tail.Source s) h = ⊥
+AreBetween n (tail.Port a p r) (head.Sink t) = ⊥
+AreBetween n (tail.Port a p r) (head.Port b j c) = ((a < n) × (r ≤ RATE_LIMIT)) × ((b < n) × (c ≤ RATE_LIMIT))
 
 -- the ports of an actor are taken once each up to its count, and no others
 pub record AreTaken (test : ℕ → ℕ → Link → Bool) (links : List Link) (counts : List ℕ) : Type 0 where
@@ -34,7 +34,7 @@ pub record AreNumbered (n : ℕ) (inner : List InnerLink) (links : List Link) (o
   pub few_outputs : (a : ℕ) → slice_index outputs a ≤ length links
   pub few_inputs : (a : ℕ) → slice_index inputs a ≤ length links
   pub one_each : length links ≡ length inner
-  pub sound : AllByRecursion (λ link. IsSound n link.tail link.head) links
+  pub sound : AllByRecursion (λ link. AreBetween n link.tail link.head) links
   pub from : AreTaken is_from_port links outputs
   pub into : AreTaken is_into_port links inputs
   pub same : inner_links links ≡ map inner_of inner
@@ -148,7 +148,7 @@ numbered_more n inner links outputs inputs link is h =
       few_outputs = λ a. let k = few_more outputs link.tail (length links) out_there h.few_outputs a in let l = length-append links (new ∷ []) in omega arith;
       few_inputs = λ a. let k = few_more inputs link.head (length links) in_there h.few_inputs a in let l = length-append links (new ∷ []) in omega arith;
       one_each = length-append links (new ∷ []) ∙ ap (λ (m : ℕ). m + 1) h.one_each ∙ sym (length-append inner (link ∷ []));
-      sound = All-snoc (λ l. IsSound n l.tail l.head) links new h.sound ((is.tail_there, is.produced), (is.head_there, is.consumed));
+      sound = All-snoc (λ l. AreBetween n l.tail l.head) links new h.sound ((is.tail_there, is.produced), (is.head_there, is.consumed));
       from = taken_more is_from_port links outputs new link.tail (same_port link.tail (slice_index outputs link.tail)) (λ p m. apart_port link.tail p (slice_index outputs link.tail) m) (λ b p m. apart_actor link.tail b p (slice_index outputs link.tail) m) out_there h.from;
       into = taken_more is_into_port links inputs new link.head (same_port link.head (slice_index inputs link.head)) (λ p m. apart_port link.head p (slice_index inputs link.head) m) (λ b p m. apart_actor link.head b p (slice_index inputs link.head) m) in_there h.into;
       same = inner_links-snoc links new ∙ ap (λ (l : List Inner). l ++ inner_of link ∷ []) h.same ∙ sym (map-append inner_of inner (link ∷ []));
@@ -163,7 +163,7 @@ numbered_next n i inner d links outputs inputs outputs' inputs' link inside ther
     rw (take_more inner i d inside, e, f, g) (numbered_more n (take i inner) links outputs inputs (get_or inner i d) (All-from_recursion (IsBetween n) inner there i d inside) h)
 
 -- each link of a list, by its ends
-All-ends : (n : ℕ) (Q : Tail → Head → ℕ → Type 0) → ((t : Tail) (h : Head) (d : ℕ) → IsSound n t h → Q t h d) → (links : List Link) → AllByRecursion (λ link. IsSound n link.tail link.head) links → AllByRecursion (λ link. Q link.tail link.head link.delay) links
+All-ends : (n : ℕ) (Q : Tail → Head → ℕ → Type 0) → ((t : Tail) (h : Head) (d : ℕ) → AreBetween n t h → Q t h d) → (links : List Link) → AllByRecursion (λ link. AreBetween n link.tail link.head) links → AllByRecursion (λ link. Q link.tail link.head link.delay) links
 All-ends n Q f [] all = tt
 All-ends n Q f (link ∷ links) all = (f link.tail link.head link.delay all.0, All-ends n Q f links all.1)
 
@@ -204,32 +204,32 @@ numbered_level n inner links outputs inputs h few = record {
   few_links = let l = h.one_each in omega arith;
 }
   where
-    tail_there : (t : Tail) (h : Head) (d : ℕ) → IsSound n t h → TailIsThere (level_of n links) t
+    tail_there : (t : Tail) (h : Head) (d : ℕ) → AreBetween n t h → TailIsThere (level_of n links) t
     tail_there (tail.Source s) h d is = absurd is
     tail_there (tail.Port a p r) (head.Sink s) d is = absurd is
     tail_there (tail.Port a p r) (head.Port b j c) d is = is.0.0
 
-    head_there : (t : Tail) (h : Head) (d : ℕ) → IsSound n t h → HeadIsThere (level_of n links) h
+    head_there : (t : Tail) (h : Head) (d : ℕ) → AreBetween n t h → HeadIsThere (level_of n links) h
     head_there (tail.Source s) h d is = absurd is
     head_there (tail.Port a p r) (head.Sink s) d is = absurd is
     head_there (tail.Port a p r) (head.Port b j c) d is = is.1.0
 
-    touches : (t : Tail) (h : Head) (d : ℕ) → IsSound n t h → TouchesActor t h
+    touches : (t : Tail) (h : Head) (d : ℕ) → AreBetween n t h → TouchesActor t h
     touches (tail.Source s) h d is = absurd is
     touches (tail.Port a p r) (head.Sink s) d is = absurd is
     touches (tail.Port a p r) (head.Port b j c) d is = tt
 
-    delayed : (t : Tail) (h : Head) (d : ℕ) → IsSound n t h → HasSoundDelay t h d
+    delayed : (t : Tail) (h : Head) (d : ℕ) → AreBetween n t h → HasSoundDelay t h d
     delayed (tail.Source s) h d is = absurd is
     delayed (tail.Port a p r) (head.Sink s) d is = absurd is
     delayed (tail.Port a p r) (head.Port b j c) d is = tt
 
-    tail_rate : (t : Tail) (h : Head) (d : ℕ) → IsSound n t h → HasTailRateWithin RATE_LIMIT t
+    tail_rate : (t : Tail) (h : Head) (d : ℕ) → AreBetween n t h → HasTailRateWithin RATE_LIMIT t
     tail_rate (tail.Source s) h d is = absurd is
     tail_rate (tail.Port a p r) (head.Sink s) d is = absurd is
     tail_rate (tail.Port a p r) (head.Port b j c) d is = is.0.1
 
-    head_rate : (t : Tail) (h : Head) (d : ℕ) → IsSound n t h → HasHeadRateWithin RATE_LIMIT h
+    head_rate : (t : Tail) (h : Head) (d : ℕ) → AreBetween n t h → HasHeadRateWithin RATE_LIMIT h
     head_rate (tail.Source s) h d is = absurd is
     head_rate (tail.Port a p r) (head.Sink s) d is = absurd is
     head_rate (tail.Port a p r) (head.Port b j c) d is = is.1.1

@@ -60,13 +60,6 @@ pub record IsLevelRun {T F : Type 0} (level : LevelView) (q : List ℕ) (sources
   pub order : IsOrder level q list
   pub ends : RunEnds level q sources delays fire list end
 
--- each source has as many tokens as its rate
-abbrev pub HaveLengths : {T : Type 0} → List ℕ → List (List T) → Type 0
-HaveLengths [] [] = Unit {0}
-HaveLengths [] (line ∷ lines) = ⊥
-HaveLengths (n ∷ lengths) [] = ⊥
-HaveLengths (n ∷ lengths) (line ∷ lines) = (length line ≡ n) × HaveLengths lengths lines
-
 -- as many tokens on each link at the start as its delay
 abbrev pub HaveDelays : {T : Type 0} → List Link → List (List T) → Type 0
 HaveDelays [] [] = Unit {0}

@@ -11,5 +11,4 @@ pub mod Interfaces
 pub mod Run
 pub mod LevelRun
 pub mod Numbered
-pub mod Within
 pub mod Groups

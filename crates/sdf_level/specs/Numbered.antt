@@ -29,3 +29,7 @@ inner_at (tail.Port a p r) (head.Port b j c) d = record { tail = a; produced = r
 abbrev pub inner_links : List Link → List Inner
 inner_links [] = []
 inner_links (link ∷ links) = inner_at link.tail link.head link.delay ++ inner_links links
+
+-- a link with these ends, at ports of which nothing is known
+abbrev pub as_link : InnerLink → Link
+as_link link = record { tail = tail.Port link.tail 0 link.produced; head = head.Port link.head 0 link.consumed; delay = link.delay }

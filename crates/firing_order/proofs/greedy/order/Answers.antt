@@ -58,8 +58,8 @@ loop-actor-preserved c =
       fired = rw (c.in_ok-push.ensures.items, before, fires) (fired_more c.args.level.now c.args.counts.now c.in_ok-links.links.items c.in_ok-links.ensures.links c.loop-actor.fired.items c.loop-actor.turns.items c.loop-actor.lacking.items c.loop-actor.invariant.fired c.loop-actor.invariant.counted c.in-Some.actor free least);
     }
 
-pub returns-clause-only_deadlock : goal.returns-clause-only_deadlock
-returns-clause-only_deadlock c =
+pub returns-clause-left_is_deadlock : goal.returns-clause-left_is_deadlock
+returns-clause-left_is_deadlock c =
     let none : (x : ℕ) → IsFree c.args.counts.now c.loop-actor.fired.items c.loop-actor.lacking.items x → ⊥ = rw (← c.deref-in-loop-actor.ensures.value, ← c.deref-in-loop-actor-2.ensures.value) c.in_default.ensures.none in
     deadlocked_here c.args.level.now c.args.counts.now c.in_ok-links.links.items c.in_ok-links.ensures.links c.loop-actor.fired.items c.loop-actor.turns.items c.loop-actor.lacking.items c.loop-actor.invariant.fired c.loop-actor.invariant.counted none
     (λ e. let same : false ≡ true = rw c.if-is_done.false at (c.is_done.ensures.1 (e ∙ sym c.deref-4.ensures.value)) in cc)

@@ -1,5 +1,6 @@
-use Rattle.std.proofs.Common.{take}
+use Rattle.std.proofs.Common.{map, take}
 use Rattle.sdf_level.specs.Groups.{IsGrouping}
+use Rattle.sdf_level.specs.Numbered.{as_link}
 use Rattle.interface_rules.specs.Connections.{AreGrouped}
 use Rattle.interface_rules.proofs.component.components.Given as goal
 
@@ -7,5 +8,5 @@ use Rattle.interface_rules.proofs.component.components.Given as goal
 abbrev pub invariant-loop-link : goal.invariant-loop-link
 invariant-loop-link l = record {
   grouping : IsGrouping l.level.actors l.groups;
-  grouped : AreGrouped l.level.actors (take l.link-index l.level.links) l.groups.number.items;
+  grouped : AreGrouped l.level.actors (take l.link-index (map as_link l.link-items)) l.groups.number.items;
 }
