@@ -1,4 +1,4 @@
--- The faults 4 to 13 of a graph file, in the order of their numbers, and within a number in the order of the walk.
+-- The faults 4 to 13 of a graph file, in the order of their numbers, and within a number in the order stated for it.
 use Rattle.std.specs.Prelude.{◌≡◌, ℕ, ◌==◌, ◌&&◌, ◌⊎◌, nat_le, Bool, true, false, List, [], ◌++◌, length, map, Option, Some, None, slice_get, Result, Ok, Err}
 use Rattle.kernel_gate.specs.Signed.{Counts, SignatureView}
 use Rattle.pisdf_model.specs.Count.{count_faults, word_of}

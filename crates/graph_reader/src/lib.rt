@@ -31,4 +31,5 @@ mod tests;
 mod text;
 mod unresolved;
 
+pub use graph_format::GraphFault;
 pub use reader::read;

@@ -131,7 +131,10 @@ pub fn read(alloc: Global, bytes: &[u8], signatures: &[Signature]) -> Result<Gra
     ensures means { IfOk result (λ graphs. (d : Data) × IsJson bytes.now d × ((file : File) × States 1 d file × Means (map signature_view signatures.now) file graphs)) }
     ensures in_range { IfOk result (λ graphs. InRange graphs) }
     ensures well_formed { IfOk result (λ graphs. WellFormed graphs) }
-    // It is read exactly where it has no fault, and else the first fault is answered, unless memory runs out.
+    // What is stated is read where it has no fault, and else its first fault is answered, unless memory runs out.
+    ensures stated { (d : Data) (file : File) → IsJson bytes.now d → States 1 d file
+        → Tells (file_faults (map signature_view signatures.now) file) result × IfOk result (λ graphs. graphs ≡ graphs_of (map signature_view signatures.now) file) }
+    // Which answer it is for any bytes.
     ensures exact { Reads 1 (map signature_view signatures.now) bytes.now result }
 {
     let file = match file_of_bytes(alloc, bytes) {

@@ -262,3 +262,19 @@ needs_are graphs rate h range well =
     let top : graphs.top ≡ 0 = omega (arith, long, below) in
     let is : graphs ≡ graphs_of p = same_graphs graphs.version 1 graphs.top 0 graphs.graphs (graph_of p ∷ []) version top only in
     ap (λ n. n ∷ []) (sym g.2) ∙ sym (ap needs_of is)
+
+-- ---- the other way round
+
+within_limits : (rate : ℕ) → 1 ≤ rate → rate ≤ 1024 → (nat_le 1 rate && nat_le rate 1024) ≡ true
+within_limits rate low high =
+    let least : nat_le 1 rate ≡ true = grind (arith, nat_tests) in
+    let most : nat_le rate 1024 ≡ true = grind (arith, nat_tests) in
+    rw (least, most) refl
+
+same_rate : (rate : ℕ) → (rate == rate) ≡ true
+same_rate rate = grind (arith, nat_tests)
+
+-- each sound graph of one `pass` has its rate
+pub rate_found : (graphs : Graphs) (p : OnePass) → graphs ≡ graphs_of p → IsSound p → pass_rate graphs ≡ Some p.rate
+unfolding pass_rate
+rate_found graphs p is sound = rw (is, within_limits p.rate sound.low sound.high, same_rate p.rate) refl

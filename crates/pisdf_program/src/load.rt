@@ -1,5 +1,5 @@
 // Loading the two files of a run.
-ghost use Rattle.std.specs.Prelude.{◌≡◌, ◌<◌, ◌≤◌, ◌↔◌, ℕ, [], ◌∷◌, List as Seq, Some, length, map, IfOk, IfErr, IsTrue};
+ghost use Rattle.std.specs.Prelude.{◌≡◌, ◌≢◌, ◌<◌, ◌≤◌, ◌↔◌, Err, ℕ, [], ◌∷◌, List as Seq, Some, length, map, IfOk, IfErr, IsTrue};
 ghost use Rattle.std.specs.Arc.{arc_value};
 ghost use Rattle.firing_board.specs.OnePass.{IsOnePass};
 ghost use Rattle.firing_board.specs.Run.{needs_of};
@@ -51,6 +51,8 @@ fn prepare(alloc: Global, graphs: Graphs) -> Result<Runnable, Status>
     requires well_formed { WellFormed graphs }
     ensures settles { GraphSettles (if_runs graphs) result }
     ensures can_run { IfOk result CanRun }
+    // No graph of the first form is left for later.
+    ensures runs { IsOnePass graphs → result ≢ Err (Status.NotYet Later.Graph) }
     ensures faults { IfErr result NoFault }
 {
     match pass_rate(&graphs) {

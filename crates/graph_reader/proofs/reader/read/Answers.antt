@@ -1,11 +1,12 @@
-use Rattle.std.proofs.Common.{◌≡◌, ◌++◌, [], map, refl}
+use Rattle.std.proofs.Common.{◌≡◌, ◌++◌, [], map, refl, subst, inl, ap, ◌∙◌}
+use Rattle.std.specs.Prelude.{IfOk}
 use Rattle.serde_json.specs.Data.{Data}
 use Rattle.kernel_gate.specs.Signed.{signature_view}
 use Rattle.pisdf_model.specs.Count.{count_faults}
 use Rattle.pisdf_model.specs.Names.{repeats}
 use Rattle.pisdf_model.specs.Range.{InRange}
 use Rattle.pisdf_model.specs.WellFormed.{WellFormed}
-use Rattle.graph_format.specs.Faults.{file_faults, fits_kernel, graphs_of, rule_faults, too_many}
+use Rattle.graph_format.specs.Faults.{Tells, file_faults, fits_kernel, graphs_of, rule_faults, too_many}
 use Rattle.graph_format.specs.FileNames.{names_of_file}
 use Rattle.graph_format.specs.Kernels.{kernel_names, unfit_in_file}
 use Rattle.graph_format.specs.Means.{Means}
@@ -16,6 +17,7 @@ use Rattle.graph_format.specs.States.{States}
 use Rattle.graph_format.specs.declared.file.File.{File}
 use Rattle.graph_format.specs.declared.graph_fault.GraphFault.TheVariants.{Duplicate, Kernel, Unknown}
 use Rattle.graph_format.proofs.Laws.{well_formed}
+use Rattle.graph_reader.specs.Checks.{fault_of_file}
 use Rattle.graph_reader.proofs.Answering.{reads_file, when_ok}
 use Rattle.graph_reader.proofs.InPlace.{left_none, right_none}
 use Rattle.graph_reader.proofs.Ranged.{file_in_range}
@@ -69,3 +71,12 @@ returns-clause-well_formed c =
 pub returns-clause-exact : goal.returns-clause-exact
 returns-clause-exact c =
     reads_file (map signature_view c.args.signatures.now) c.args.bytes.now c.in-Ok.file c.graphs_of_file.result c.in-Ok.ensures.exact c.graphs_of_file.ensures.tells c.graphs_of_file.ensures.graphs
+
+pub returns-clause-stated : goal.returns-clause-stated
+returns-clause-stated c = λ d file json states.
+    let signatures = map signature_view c.args.signatures.now in
+    subst (λ (f : File). Tells (file_faults signatures f) c.graphs_of_file.result × IfOk c.graphs_of_file.result (λ graphs. graphs ≡ graphs_of signatures f)) (c.in-Ok.ensures.only d file json states)
+    (c.graphs_of_file.ensures.tells, c.graphs_of_file.ensures.graphs)
+
+pub returns-in-Err-clause-stated : goal.returns-in-Err-clause-stated
+returns-in-Err-clause-stated c = λ d file json states. (inl (c.fault_of_file.ensures ∙ ap fault_of_file (c.in-Err.ensures.only d file json states)), tt)
