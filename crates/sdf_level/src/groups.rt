@@ -77,7 +77,7 @@ impl Groups {
         Ok(())
     }
 
-    /// Makes two groups one, which keeps the number of the larger.
+    /// Makes two groups one, which has the number of one of them. The actors of the smaller are moved.
     ///
     /// # Errors
     ///
