@@ -59,7 +59,7 @@ module _ (arrows : List (List ℕ)) where
       (cases_lt u n)
 
   -- what an arrow leads on from is a place
-  inside_of_arrow : (v w : ℕ) → Contains (to_of arrows v) w → v < length arrows
+  pub inside_of_arrow : (v w : ℕ) → Contains (to_of arrows v) w → v < length arrows
   inside_of_arrow v w arrow = ⊎_elim
       (λ (inside : v < length arrows). inside)
       (λ (past : length arrows ≤ v). let none = rw (get_or_past arrows v [] past) at arrow.1 in absurd (omega arith))

@@ -12,5 +12,6 @@ pub mod Marking
 pub mod Nested
 pub mod Numbers
 pub mod Referring
+pub mod Rising
 pub mod Searching
 pub mod Walking

@@ -5,6 +5,7 @@ ghost use Rattle.pisdf_model.specs.Arrows.{LeadsInside, IsReached, IsMarked, lea
 ghost use Rattle.pisdf_model.specs.Details.{first};
 ghost use Rattle.pisdf_model.specs.Search.{Notes};
 
+use crate::ranks::{ranks, rise};
 use sdf_level::List;
 use std::alloc::{AllocError, Global};
 
@@ -61,6 +62,10 @@ pub(crate) fn first_on_cycle(
     ensures first { IfOk result (λ place. place ≡ first (on_cycles arrows.now)) }
     ensures inside { IfOk result (λ place. IfSome place (λ v. v < length arrows.now)) }
 {
+    let ranks = ranks(alloc, arrows)?;
+    if rise(arrows, &ranks) {
+        return Ok(None);
+    }
     for place in 0..arrows.len() {
         if is_on_cycle(alloc, arrows, place)? {
             return Ok(Some(place));

@@ -20,6 +20,7 @@ mod param;
 mod parts;
 mod port_counts;
 mod range;
+mod ranks;
 mod rules;
 mod wires;
 
