@@ -14,4 +14,5 @@ pub mod Numbers
 pub mod Referring
 pub mod Rising
 pub mod Searching
+pub mod Seen
 pub mod Walking

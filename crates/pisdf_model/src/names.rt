@@ -5,10 +5,11 @@ ghost use Rattle.pisdf_model.specs.Names.{is_among, repeats, same_scope, scoped}
 use crate::detail_fault::DetailFault;
 use crate::parts::Named;
 use param_expr::Name;
-use std::alloc::AllocError;
+use std::alloc::{AllocError, Global};
+use std::collections::BTreeSet;
 
 /// Within what a name stands once.
-#[derive(Clone, Copy, Debug, PartialEq, Eq)]
+#[derive(Clone, Copy, Debug, PartialEq, Eq, PartialOrd, Ord)]
 pub enum Scope {
     /// The graphs of a file.
     Graphs,
@@ -54,7 +55,8 @@ pub(crate) fn fault_at(name: &Name) -> DetailFault<Name>
     }
 }
 
-/// Whether each of these names differs from the earlier ones of its scope.
+/// Whether each of these names differs from the earlier ones of its scope. Each is compared with all of those: for few
+/// names.
 ///
 /// # Errors
 ///
@@ -65,6 +67,24 @@ pub fn repeat(names: &[ScopedName]) -> Result<(), DetailFault<Name>>
 {
     for (number, name) in names.iter().enumerate() {
         if is_among(&names[..number], name.scope, &name.name) {
+            return Err(fault_at(&name.name));
+        }
+    }
+    Ok(())
+}
+
+/// Whether each of these names differs from the earlier ones of its scope, by a set of those: for many names.
+///
+/// # Errors
+///
+/// - `Fault`: the first name that is equal to an earlier one of its scope.
+/// - `Memory`: want of memory.
+pub fn repeat_in(alloc: Global, names: &[ScopedName]) -> Result<(), DetailFault<Name>>
+    ensures { Answers (repeats names.now) result }
+{
+    let mut seen = BTreeSet::new(alloc);
+    for name in names {
+        if !seen.insert((name.scope, name.name.text()))? {
             return Err(fault_at(&name.name));
         }
     }
