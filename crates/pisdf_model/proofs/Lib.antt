@@ -15,4 +15,6 @@ pub mod Referring
 pub mod Rising
 pub mod Searching
 pub mod Seen
+pub mod Standing
+pub mod Tallied
 pub mod Walking

@@ -13,7 +13,7 @@ use Rattle.pisdf_model.specs.Nesting.{children, depth_faults, graph_cycle_faults
 use Rattle.pisdf_model.specs.ParamOrder.{is_late, order_faults, param_order_faults}
 use Rattle.pisdf_model.specs.Parts.{input_names, inputs_of, interface_names, output_names, outputs_of}
 use Rattle.pisdf_model.specs.Ports.{actor_ports, all_sets, body_fits, graph_ports, inherited_count, param_ports, ports_faults}
-use Rattle.pisdf_model.specs.Wires.{actor_wires, end_text, ends_of, fifo_wires, gives_tokens, graph_wires, interface_wires, is_input_port, is_output_port, names_of_interfaces, names_of_ports, port_text, port_wires, takes_tokens, text_at, text_or_none, wire_faults}
+use Rattle.pisdf_model.specs.Wires.{actor_wires, end_text, ends_of, fifo_wires, gives_tokens, graph_wires, interface_wires, is_input_port, is_output_port, names_of_interfaces, names_of_ports, port_text, port_wires, takes_tokens, text_at, text_or_none, times_of_interface, times_of_port, wire_faults}
 use Rattle.pisdf_model.specs.declared.actor.Actor.{Actor}
 use Rattle.pisdf_model.specs.declared.actor.Body.{Body}
 use Rattle.pisdf_model.specs.declared.actor.Body.TheVariants.{Kernel, Config, Child}
@@ -114,18 +114,18 @@ module _ (graphs : List Graph) where
   ends_alike : (fifos : List Fifo) → ends_of (map marked_fifo fifos) ≡ ends_of fifos
   ends_alike fifos = alike_each marked_fifo (λ n (f : Fifo). f.tail ∷ f.head ∷ []) (λ n (f : Fifo). f.tail ∷ f.head ∷ []) (λ n f. refl) fifos
 
-  actor_wires_alike : (ends : List End) (a : ℕ) (actor : Actor) → actor_wires ends all a actor ≡ actor_wires ends graphs a actor
-  actor_wires_alike ends a actor = ap (of_each (λ p name. port_wires ends a actor.name p name)) (port_names_alike actor)
+  actor_wires_alike : (ends : List End) (a : ℕ) (actor : Actor) → actor_wires (times_of_port ends) all a actor ≡ actor_wires (times_of_port ends) graphs a actor
+  actor_wires_alike ends a actor = ap (of_each (λ p name. port_wires (times_of_port ends) a actor.name p name)) (port_names_alike actor)
 
   -- the interfaces and ports at these ends
   abbrev standing : List End → List Graph → Graph → List (List ℕ)
-  standing ends gs g = of_each (λ i name. interface_wires ends i name) (names_of_interfaces g) ++ of_each (λ a actor. actor_wires ends gs a actor) g.actors
+  standing ends gs g = of_each (λ i name. interface_wires (times_of_interface ends) i name) (names_of_interfaces g) ++ of_each (λ a actor. actor_wires (times_of_port ends) gs a actor) g.actors
 
   standing_alike : (g : Graph) → standing (ends_of (map marked_fifo g.fifos)) all (marked_graph g) ≡ standing (ends_of g.fifos) graphs g
   standing_alike g =
       ap (λ ends. standing ends all g) (ends_alike g.fifos)
-      ∙ ap (λ ds. of_each (λ i name. interface_wires (ends_of g.fifos) i name) (names_of_interfaces g) ++ ds)
-      (same_from (λ a actor. actor_wires (ends_of g.fifos) all a actor) (λ a actor. actor_wires (ends_of g.fifos) graphs a actor) (actor_wires_alike (ends_of g.fifos)) 0 g.actors)
+      ∙ ap (λ ds. of_each (λ i name. interface_wires (times_of_interface (ends_of g.fifos)) i name) (names_of_interfaces g) ++ ds)
+      (same_from (λ a actor. actor_wires (times_of_port (ends_of g.fifos)) all a actor) (λ a actor. actor_wires (times_of_port (ends_of g.fifos)) graphs a actor) (actor_wires_alike (ends_of g.fifos)) 0 g.actors)
 
   graph_wires_alike : (g : Graph) → graph_wires all (marked_graph g) ≡ graph_wires graphs g
   graph_wires_alike g =

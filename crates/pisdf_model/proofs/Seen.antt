@@ -1,5 +1,5 @@
 -- The names of a list that a set has seen.
-use Rattle.std.proofs.Common.{◌≡◌, ℕ, ◌+◌, ◌<◌, ◌==◌, ◌&&◌, ◌||◌, Bool, true, false, not, cond, if◌then◌else◌, List, [], ◌∷◌, ◌++◌, length, take, get_or, refl, sym, ap, ◌∙◌, Bor, rules, arith}
+use Rattle.std.proofs.Common.{◌≡◌, ℕ, ◌+◌, ◌<◌, ◌==◌, ◌&&◌, ◌||◌, Bool, true, false, not, cond, List, [], ◌∷◌, ◌++◌, length, take, get_or, refl, sym, ap, ◌∙◌, Bor, rules}
 use Rattle.std.specs.BTreeSet as sorted
 use Rattle.std.specs.BTreeSet.{BTreeSet}
 use Rattle.std.specs.Cmp.Lexicographic.{slice_cmp}
@@ -12,21 +12,18 @@ use Rattle.std.proofs.lemmas.Bool.Decides.{nat_tests}
 use Rattle.std.proofs.lemmas.List.{take_more}
 use Rattle.std.proofs.lemmas.List.Folds.{list_any-append}
 use Rattle.std.proofs.lemmas.Map.Text.{is_eq-slice_cmp}
-use Rattle.pisdf_model.specs.Names.{same_scope, is_among, repeat_at, repeats}
-use Rattle.pisdf_model.specs.Details.{Refuses}
-use Rattle.pisdf_model.proofs.Walking.{Stands, goes_on, refuses}
-use Rattle.pisdf_model.specs.declared.detail_fault.DetailFault.{DetailFault}
+use Rattle.pisdf_model.specs.Names.{same_scope, is_among}
 use Rattle.pisdf_model.specs.contracts.names.ScopeOrd.TheImpl as block
 use Rattle.pisdf_model.specs.declared.names.Scope.{Scope}
 use Rattle.pisdf_model.specs.declared.names.Scope.TheVariants as scope
 use Rattle.pisdf_model.specs.declared.names.ScopedName.{ScopedName}
 
-is_eq_then : (o p : Ordering) → is_eq (ordering_then o p) ≡ (is_eq o && is_eq p)
+pub is_eq_then : (o p : Ordering) → is_eq (ordering_then o p) ≡ (is_eq o && is_eq p)
 is_eq_then Less p = refl
 is_eq_then Equal p = refl
 is_eq_then Greater p = refl
 
-same_numbers : (x y : ℕ) → is_eq (nat_cmp x y) ≡ (x == y)
+pub same_numbers : (x y : ℕ) → is_eq (nat_cmp x y) ≡ (x == y)
 same_numbers x y = search (rules, nat_tests)
 
 same_scopes : (s t : Scope) → is_eq (block.ghosts.cmp s t) ≡ same_scope s t
@@ -66,20 +63,8 @@ module _ (names : List ScopedName) (i : ℕ) (name : ScopedName) (inside : i < l
   among : sorted.contains key_cmp seen (name.scope, text) ≡ is_among (take i names) name.scope name.name
   among = so_far (name.scope, text) ∙ ap (is_among (take i names) name.scope) told
 
-  is_new : (added : Bool) → added ≡ not (sorted.contains key_cmp seen (name.scope, text)) → added ≡ true → repeat_at names i name ≡ []
-  is_new added was new = ap (λ b. if b then [] else name.name ∷ []) (ap not (sym among) ∙ sym was ∙ new)
-
-  is_repeat : (added : Bool) → added ≡ not (sorted.contains key_cmp seen (name.scope, text)) → added ≡ false → repeat_at names i name ≡ name.name ∷ []
-  is_repeat added was old = ap (λ b. if b then [] else name.name ∷ []) (ap not (sym among) ∙ sym was ∙ old)
-
-  at_i : 0 + i ≡ i
-  at_i = omega arith
-
-  pub walks_on : (added : Bool) → added ≡ not (sorted.contains key_cmp seen (name.scope, text)) → added ≡ true → Stands 0 (repeat_at names) i names → Stands 0 (repeat_at names) (i + 1) names
-  walks_on added was new stands = goes_on 0 (repeat_at names) i names name inside is (rw at_i (is_new added was new)) stands
-
-  pub told_again : (added : Bool) → added ≡ not (sorted.contains key_cmp seen (name.scope, text)) → added ≡ false → Stands 0 (repeat_at names) i names → (fault : DetailFault (List ℕ)) → Refuses (name.name ∷ []) fault → Refuses (repeats names) fault
-  told_again added was old stands fault refused = refuses 0 (repeat_at names) i names name fault inside is (rw (at_i, is_repeat added was old) refused) stands
+  pub is_new : (added : Bool) → added ≡ not (sorted.contains key_cmp seen (name.scope, text)) → not (is_among (take i names) name.scope name.name) ≡ added
+  is_new added was = ap not (sym among) ∙ sym was
 
   pub seen_more : (new : BTreeSet Key) → ((q : Key) → sorted.contains key_cmp new q ≡ cond (is_eq (key_cmp (name.scope, text) q)) true (sorted.contains key_cmp seen q)) → Seen new (take (i + 1) names)
   seen_more new updates q =

@@ -1,10 +1,10 @@
 -- Walking over the parts of a list, as a loop does, until one of them gives a detail.
-use Rattle.std.proofs.Common.{◌≡◌, ℕ, suc, ◌+◌, ◌≤◌, ◌<◌, List, [], ◌∷◌, ◌++◌, length, get_or, drop, Some, refl, sym, ap, ◌∙◌, add-one, arith}
+use Rattle.std.proofs.Common.{◌≡◌, ℕ, suc, ◌+◌, ◌≤◌, ◌<◌, Bool, true, false, List, [], ◌∷◌, ◌++◌, length, get_or, drop, Some, refl, sym, ap, ◌∙◌, add-one, arith}
 use Rattle.std.proofs.Math.Seq.{drop-cons}
 use Rattle.std.proofs.Math.ListN.{drop_of_length-le}
 use Rattle.pisdf_model.specs.declared.detail_fault.DetailFault.{DetailFault}
 use Rattle.pisdf_model.specs.declared.detail_fault.DetailFault.TheVariants.{Fault, Memory}
-use Rattle.pisdf_model.specs.Details.{first, from_number, Refuses}
+use Rattle.pisdf_model.specs.Details.{first, from_number, of_each, unless, Refuses}
 
 -- the parts before number i gave nothing: those from it on give what all of them give
 pub record Stands {X D : Type 0} (n : ℕ) (f : ℕ → X → List D) (i : ℕ) (xs : List X) : Type 0 where
@@ -50,3 +50,20 @@ pub refuses : {X D : Type 0} (n : ℕ) (f : ℕ → X → List D) (i : ℕ) (xs 
     → Refuses (f (n + i) x) e → Stands n f i xs → Refuses (from_number n f xs) e
 refuses n f i xs x (Fault d) lt is h stands = ends n f i xs x d lt is h stands
 refuses n f i xs x Memory lt is h stands = tt
+
+-- where a part is told unless it passes a test
+module _ {X D : Type 0} (f : ℕ → X → List D) (i : ℕ) (xs : List X) (x : X) (inside : i < length xs) (is : x ≡ get_or xs i x) (test : Bool) (d : D) (told : f i x ≡ unless test d) (stands : Stands 0 f i xs) where
+  at_i : 0 + i ≡ i
+  at_i = omega arith
+
+  pub passes_by : test ≡ true → Stands 0 f (i + 1) xs
+  passes_by passes = goes_on 0 f i xs x inside is (rw at_i (told ∙ ap (λ b. unless b d) passes)) stands
+
+  pub fails_by : test ≡ false → (fault : DetailFault D) → Refuses (d ∷ []) fault → Refuses (of_each f xs) fault
+  fails_by fails fault refused = refuses 0 f i xs x fault inside is (rw (at_i, told, fails) refused) stands
+
+-- where an answer at a part is passed on
+pub refuses_here : {X D : Type 0} (f : ℕ → X → List D) (i : ℕ) (xs : List X) (x : X) (fault : DetailFault D) → i < length xs → x ≡ get_or xs i x → Refuses (f i x) fault → Stands 0 f i xs → Refuses (of_each f xs) fault
+refuses_here f i xs x fault inside is refused stands =
+    let at_i : 0 + i ≡ i = omega arith in
+    refuses 0 f i xs x fault inside is (rw at_i refused) stands

@@ -1,6 +1,7 @@
 pub mod Arrows
 pub mod Count
 pub mod Details
+pub mod EndTimes
 pub mod InterfaceWires
 pub mod Marked
 pub mod Names

@@ -69,23 +69,31 @@ abbrev pub is_port : ℕ → ℕ → End → Bool
 is_port a p (Interface j) = false
 is_port a p (Port b q) = (b == a) && (q == p)
 
+-- at how many ends an interface stands
+abbrev pub times_of_interface : List End → ℕ → ℕ
+times_of_interface ends i = count_by (λ end. is_interface i end) ends
+
+-- and a port
+abbrev pub times_of_port : List End → ℕ → ℕ → ℕ
+times_of_port ends a p = count_by (λ end. is_port a p end) ends
+
 -- each interface stands at one end
-abbrev pub interface_wires : List End → ℕ → List ℕ → List (List ℕ)
-interface_wires ends i name = unless (count_by (λ end. is_interface i end) ends == 1) name
+abbrev pub interface_wires : (ℕ → ℕ) → ℕ → List ℕ → List (List ℕ)
+interface_wires times i name = unless (times i == 1) name
 
 -- and each port
-abbrev pub port_wires : List End → ℕ → List ℕ → ℕ → List ℕ → List (List ℕ)
-port_wires ends a actor p name = unless (count_by (λ end. is_port a p end) ends == 1) (port_text actor name)
+abbrev pub port_wires : (ℕ → ℕ → ℕ) → ℕ → List ℕ → ℕ → List ℕ → List (List ℕ)
+port_wires times a actor p name = unless (times a p == 1) (port_text actor name)
 
-abbrev pub actor_wires : List End → List Graph → ℕ → Actor → List (List ℕ)
-actor_wires ends graphs a actor = of_each (λ p name. port_wires ends a actor.name p name) (names_of_ports graphs actor)
+abbrev pub actor_wires : (ℕ → ℕ → ℕ) → List Graph → ℕ → Actor → List (List ℕ)
+actor_wires times graphs a actor = of_each (λ p name. port_wires times a actor.name p name) (names_of_ports graphs actor)
 
 -- the FIFOs, then the interfaces, then the ports actor by actor
 abbrev pub graph_wires : List Graph → Graph → List (List ℕ)
 graph_wires graphs g =
     of_each (λ n f. fifo_wires graphs g f) g.fifos
-    ++ (of_each (λ i name. interface_wires (ends_of g.fifos) i name) (names_of_interfaces g)
-    ++ of_each (λ a actor. actor_wires (ends_of g.fifos) graphs a actor) g.actors)
+    ++ (of_each (λ i name. interface_wires (times_of_interface (ends_of g.fifos)) i name) (names_of_interfaces g)
+    ++ of_each (λ a actor. actor_wires (times_of_port (ends_of g.fifos)) graphs a actor) g.actors)
 
 abbrev pub wire_faults : Graphs → List (List ℕ)
 wire_faults graphs = of_each (λ n g. graph_wires graphs.graphs g) graphs.graphs

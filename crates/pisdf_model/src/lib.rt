@@ -8,6 +8,7 @@ mod arrows;
 mod counting;
 mod detail_fault;
 mod duplicates;
+mod end_times;
 mod fifo;
 mod graph;
 mod interface_wires;
@@ -22,6 +23,7 @@ mod port_counts;
 mod range;
 mod ranks;
 mod rules;
+mod tally;
 mod wires;
 
 pub use actor::{Actor, Body, Port};

@@ -7,6 +7,7 @@ use crate::detail_fault::DetailFault;
 use crate::graph::{Graph, Graphs};
 use crate::names::fault_at;
 use crate::param::{Param, ParamKind};
+use crate::tally::times_of;
 use param_expr::Name;
 use std::alloc::{AllocError, Global};
 
@@ -95,12 +96,6 @@ fn all_sets(alloc: Global, actors: &[Actor]) -> Result<Vec<u32>, AllocError>
     Ok(sets)
 }
 
-fn times(sets: &[u32], place: usize) -> usize
-    ensures { result ≡ count_by (λ s. s == place) sets.now }
-{
-    sets.iter().filter(|set| **set as usize == place).count()
-}
-
 fn is_set_as_due(is_top: bool, kind: &ParamKind, times: usize) -> bool
     ensures { result ≡ is_set_as_due is_top kind.now times }
 {
@@ -111,11 +106,17 @@ fn is_set_as_due(is_top: bool, kind: &ParamKind, times: usize) -> bool
     }
 }
 
-fn params_set(is_top: bool, sets: &[u32], params: &[Param]) -> Result<(), DetailFault<Name>>
+fn params_set(
+    alloc: Global,
+    is_top: bool,
+    sets: &[u32],
+    params: &[Param],
+) -> Result<(), DetailFault<Name>>
     ensures { Answers (of_each (λ i p. param_ports is_top sets.now i p) params.now) result }
 {
+    let times = times_of(alloc, sets, params.len())?;
     for (place, param) in params.iter().enumerate() {
-        if !is_set_as_due(is_top, &param.kind, times(sets, place)) {
+        if !is_set_as_due(is_top, &param.kind, times[place]) {
             return Err(fault_at(&param.name));
         }
     }
@@ -133,7 +134,7 @@ fn graph_ports<C: Counts>(
 {
     actors_fit(counts, graphs, graph.actors.items())?;
     let sets = all_sets(alloc, graph.actors.items())?;
-    params_set(is_top, sets.as_slice(), graph.params.items())
+    params_set(alloc, is_top, sets.as_slice(), graph.params.items())
 }
 
 /// Whether each actor has as many arguments, ports and sets as it should, and each parameter is set as its kind says.

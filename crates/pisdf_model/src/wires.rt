@@ -1,10 +1,12 @@
-ghost use Rattle.std.specs.Prelude.{◌≡◌, ◌==◌, [], ◌∷◌, ◌++◌, IfOk, OnOk, count_by, map};
+ghost use Rattle.std.specs.Prelude.{◌≡◌, ◌==◌, [], ◌∷◌, ◌++◌, IfOk, OnOk, Some, None, map};
 ghost use Rattle.std.specs.Option.{option_copied};
 ghost use Rattle.pisdf_model.specs.Details.{Answers, Refuses, of_each};
-ghost use Rattle.pisdf_model.specs.Wires.{actor_wires, end_text, ends_of, fifo_wires, gives_tokens, graph_wires, interface_wires, is_interface, is_input_port, is_output_port, is_port, names_of_interfaces, names_of_ports, port_text, port_wires, takes_tokens, text_or_none, wire_faults};
+ghost use Rattle.pisdf_model.specs.EndTimes.{times_at};
+ghost use Rattle.pisdf_model.specs.Wires.{actor_wires, end_text, ends_of, fifo_wires, gives_tokens, graph_wires, interface_wires, is_input_port, is_output_port, names_of_interfaces, names_of_ports, port_text, port_wires, takes_tokens, text_or_none, wire_faults};
 
 use crate::actor::{Actor, Body};
 use crate::detail_fault::DetailFault;
+use crate::end_times::{EndTimes, stands_once, times_of_ends};
 use crate::fifo::{End, Fifo};
 use crate::graph::{Graph, Graphs};
 use crate::names::fault_at;
@@ -203,53 +205,11 @@ fn ends_of(alloc: Global, fifos: &[Fifo]) -> Result<Vec<End>, AllocError>
     Ok(ends)
 }
 
-fn is_interface(end: &End, place: usize) -> bool
-    ensures { result ≡ is_interface place end.now }
-{
-    match end {
-        End::Interface(other) => *other as usize == place,
-        End::Port { .. } => false,
-    }
-}
-
-fn times_of_interface(ends: &[End], place: usize) -> usize
-    ensures { result ≡ count_by (λ end. is_interface place end) ends.now }
-{
-    ends.iter().filter(|end| is_interface(*end, place)).count()
-}
-
-fn interface_stands_once(ends: &[End], place: usize) -> bool
-    ensures { result ≡ (count_by (λ end. is_interface place end) ends.now == 1) }
-{
-    times_of_interface(ends, place) == 1
-}
-
-fn is_port(end: &End, actor: usize, port: usize) -> bool
-    ensures { result ≡ is_port actor port end.now }
-{
-    match end {
-        End::Interface(_) => false,
-        End::Port { actor: a, port: p } => *a as usize == actor && *p as usize == port,
-    }
-}
-
-fn times_of_port(ends: &[End], actor: usize, port: usize) -> usize
-    ensures { result ≡ count_by (λ end. is_port actor port end) ends.now }
-{
-    ends.iter().filter(|end| is_port(*end, actor, port)).count()
-}
-
-fn port_stands_once(ends: &[End], actor: usize, port: usize) -> bool
-    ensures { result ≡ (count_by (λ end. is_port actor port end) ends.now == 1) }
-{
-    times_of_port(ends, actor, port) == 1
-}
-
-fn interfaces_stand(ends: &[End], names: &[Name]) -> Result<(), DetailFault<Name>>
-    ensures { Answers (of_each (λ i name. interface_wires ends.now i name) names.now) result }
+fn interfaces_stand(times: &EndTimes, names: &[Name]) -> Result<(), DetailFault<Name>>
+    ensures { Answers (of_each (λ i name. interface_wires (λ i. times_at times.now (None, i)) i name) names.now) result }
 {
     for (place, name) in names.iter().enumerate() {
-        if !interface_stands_once(ends, place) {
+        if !stands_once(times, None, place) {
             return Err(fault_at(name));
         }
     }
@@ -267,15 +227,15 @@ fn fault_at_port(alloc: Global, actor: &Name, port: &Name) -> DetailFault<Name>
 
 fn ports_stand(
     alloc: Global,
-    ends: &[End],
+    times: &EndTimes,
     number: usize,
     actor: &Name,
     names: &[Name],
 ) -> Result<(), DetailFault<Name>>
-    ensures { Answers (of_each (λ p name. port_wires ends.now number actor.now p name) names.now) result }
+    ensures { Answers (of_each (λ p name. port_wires (λ a p. times_at times.now (Some a, p)) number actor.now p name) names.now) result }
 {
     for (port, name) in names.iter().enumerate() {
-        if !port_stands_once(ends, number, port) {
+        if !stands_once(times, Some(number), port) {
             return Err(fault_at_port(alloc, actor, name));
         }
     }
@@ -284,27 +244,27 @@ fn ports_stand(
 
 fn actor_stands(
     alloc: Global,
-    ends: &[End],
+    times: &EndTimes,
     graphs: &[Graph],
     number: usize,
     actor: &Actor,
 ) -> Result<(), DetailFault<Name>>
-    ensures { Answers (actor_wires ends.now graphs.now number actor.now) result }
+    ensures { Answers (actor_wires (λ a p. times_at times.now (Some a, p)) graphs.now number actor.now) result }
 {
     let names = names_of_ports(alloc, graphs, actor)?;
-    ports_stand(alloc, ends, number, &actor.name, names.as_slice())
+    ports_stand(alloc, times, number, &actor.name, names.as_slice())
 }
 
 fn actors_stand(
     alloc: Global,
-    ends: &[End],
+    times: &EndTimes,
     graphs: &[Graph],
     actors: &[Actor],
 ) -> Result<(), DetailFault<Name>>
-    ensures { Answers (of_each (λ a actor. actor_wires ends.now graphs.now a actor) actors.now) result }
+    ensures { Answers (of_each (λ a actor. actor_wires (λ a p. times_at times.now (Some a, p)) graphs.now a actor) actors.now) result }
 {
     for (number, actor) in actors.iter().enumerate() {
-        actor_stands(alloc, ends, graphs, number, actor)?;
+        actor_stands(alloc, times, graphs, number, actor)?;
     }
     Ok(())
 }
@@ -314,9 +274,10 @@ fn graph_wires(alloc: Global, graphs: &[Graph], graph: &Graph) -> Result<(), Det
 {
     fifos_run(alloc, graphs, graph)?;
     let ends = ends_of(alloc, graph.fifos.items())?;
+    let times = times_of_ends(alloc, ends.as_slice())?;
     let names = names_of_interfaces(alloc, graph)?;
-    interfaces_stand(ends.as_slice(), names.as_slice())?;
-    actors_stand(alloc, ends.as_slice(), graphs, graph.actors.items())
+    interfaces_stand(&times, names.as_slice())?;
+    actors_stand(alloc, &times, graphs, graph.actors.items())
 }
 
 /// Whether each FIFO leads from an input interface or an output port to an output interface or an input port, and each
