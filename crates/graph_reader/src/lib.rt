@@ -19,6 +19,8 @@ mod param;
 mod parts;
 mod place;
 mod port;
+#[cfg(test)]
+mod read_tests;
 mod reader;
 mod reading;
 mod resolved;

@@ -1,6 +1,6 @@
 // Files whose names are resolved, and which name something that isn't there.
 mod example;
-mod shown;
+pub(crate) mod shown;
 
 use super::kernels::unfit_kernel;
 use super::resolving::graphs_of;

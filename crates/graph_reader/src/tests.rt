@@ -483,19 +483,3 @@ fn fifos_by_their_delay(rt: HostRuntime) -> Result<(), Fail> {
     ];
     check_items(&rt, rt.alloc(), "fifos", &cases)
 }
-
-#[test]
-fn lists_nest_up_to_127_deep(rt: HostRuntime) -> Result<(), Fail> {
-    for (deep, wanted) in [(127, "shape /"), (128, "not json")] {
-        let mut text = String::new(rt.alloc());
-        for _ in 0..deep {
-            text.push_str("[")?;
-        }
-        for _ in 0..deep {
-            text.push_str("]")?;
-        }
-        let answer = told(rt.alloc(), text.as_str())?;
-        assert_eq!(rt; answer.as_str(), wanted, "{deep}");
-    }
-    Ok(())
-}

@@ -147,7 +147,7 @@ fn show_graph(text: &mut String, graph: &Graph) -> Result<(), Fail> {
 }
 
 /// The version and the place of the top graph, then the graphs.
-pub(super) fn shown(alloc: Global, graphs: &Graphs) -> Result<String, Fail> {
+pub(crate) fn shown(alloc: Global, graphs: &Graphs) -> Result<String, Fail> {
     let mut text = format!(in alloc; "{} {}", graphs.version, graphs.top)?;
     for graph in graphs.graphs.items() {
         show_graph(&mut text, graph)?;
