@@ -55,7 +55,7 @@ fn no_duplicate(alloc: Global, file: &File) -> Result<(), GraphFault>
     ensures { Tells (map Duplicate (repeats (names_of_file file.now))) result }
 {
     match names_of_file(alloc, file) {
-        Ok(names) => Check::Duplicate.told(repeat(names.as_slice())),
+        Ok(names) => Check::Duplicate.told(repeat(alloc, names.as_slice())),
         Err(_) => Err(GraphFault::Memory),
     }
 }

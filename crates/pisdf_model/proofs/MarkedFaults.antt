@@ -8,7 +8,6 @@ use Rattle.pisdf_model.specs.Arrows.{on_cycles}
 use Rattle.pisdf_model.specs.Details.{of_each, unless}
 use Rattle.pisdf_model.specs.InterfaceWires.{fifo_misplaced, graph_misplaced, has_delay, interface_wire_faults, is_at_configuration, is_at_input, is_at_interface, is_at_output, is_misplaced}
 use Rattle.pisdf_model.specs.Marked.{marked, marked_fifo, marked_graph, marked_graphs}
-use Rattle.pisdf_model.specs.Names.{duplicate_faults, graph_walk, repeats}
 use Rattle.pisdf_model.specs.Nesting.{children, depth_faults, graph_cycle_faults, holds, nested_over}
 use Rattle.pisdf_model.specs.ParamOrder.{is_late, order_faults, param_order_faults}
 use Rattle.pisdf_model.specs.Parts.{input_names, inputs_of, interface_names, output_names, outputs_of}
@@ -171,9 +170,6 @@ each_order_alike (g ∷ graphs) = ap (λ ds. ds ++ flat_map order_faults (map ma
 -- ---- the laws
 
 module _ (graphs : Graphs) where
-  pub duplicates_marked : duplicate_faults (marked_graphs graphs) ≡ duplicate_faults graphs
-  duplicates_marked = ap repeats (alike_each marked_graph graph_walk graph_walk (λ n g. refl) graphs.graphs)
-
   pub ports_marked : (fits : Body → Bool) → ports_faults fits (marked_graphs graphs) ≡ ports_faults fits graphs
   ports_marked fits = alike_each marked_graph (λ n g. graph_ports fits (map marked_graph graphs.graphs) (n == graphs.top) g) (λ n g. graph_ports fits graphs.graphs (n == graphs.top) g) (λ n g. graph_ports_alike graphs.graphs fits (n == graphs.top) g) graphs.graphs
 

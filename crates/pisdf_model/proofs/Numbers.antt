@@ -65,9 +65,6 @@ from_7 g = faults_7 g ++ from_8 g
 abbrev pub faults_4 : Graphs → List (ℕ × List ℕ)
 faults_4 g = with_number 4 (duplicate_faults g)
 
-abbrev pub from_4 : Graphs → List (ℕ × List ℕ)
-from_4 g = faults_4 g ++ from_7 g
-
 -- a fault of the first list stands first of all
 pub stops : (xs ys : List (ℕ × List ℕ)) (fault : ModelFault) → Stands xs fault → Stands (xs ++ ys) fault
 stops [] ys (Fault number name) stands = cc

@@ -5,7 +5,7 @@ ghost use Rattle.pisdf_model.specs.Names.{actor_walk, duplicate_faults, graph_wa
 use crate::actor::{Actor, Body};
 use crate::detail_fault::DetailFault;
 use crate::graph::{Graph, Graphs};
-use crate::names::{Scope, ScopedName, push_name, push_names, repeat_in};
+use crate::names::{Scope, ScopedName, push_name, push_names, repeat};
 use param_expr::Name;
 use std::alloc::{AllocError, Global};
 
@@ -89,5 +89,5 @@ pub fn duplicate(alloc: Global, graphs: &Graphs) -> Result<(), DetailFault<Name>
     ensures { Answers (duplicate_faults graphs.now) result }
 {
     let names = names(alloc, graphs)?;
-    repeat_in(alloc, names.as_slice())
+    repeat(alloc, names.as_slice())
 }

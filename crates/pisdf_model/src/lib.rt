@@ -37,7 +37,7 @@ pub use limits::{
     MAX_ACTORS, MAX_DELAY_TOKENS, MAX_FIFOS, MAX_GRAPHS, MAX_INPUTS, MAX_NESTING, MAX_OUTPUTS,
     MAX_PARAMS,
 };
-pub use names::{Scope, ScopedName, push_name, repeat, repeat_in};
+pub use names::{Scope, ScopedName, push_name, repeat};
 pub use nesting::{depth, graph_cycle};
 pub use ordering::param_order;
 pub use param::{Param, ParamKind};

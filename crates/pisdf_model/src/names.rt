@@ -1,6 +1,6 @@
 ghost use Rattle.std.specs.Prelude.{◌≡◌, ◌==◌, [], ◌∷◌, ◌++◌, OnOk, map};
 ghost use Rattle.pisdf_model.specs.Details.{Answers, Refuses};
-ghost use Rattle.pisdf_model.specs.Names.{is_among, repeats, same_scope, scoped};
+ghost use Rattle.pisdf_model.specs.Names.{repeats, scoped};
 
 use crate::detail_fault::DetailFault;
 use crate::parts::Named;
@@ -26,25 +26,6 @@ pub struct ScopedName {
     pub name: Name,
 }
 
-fn same_scope(one: Scope, other: Scope) -> bool
-    ensures { result ≡ same_scope one other }
-{
-    match (one, other) {
-        (Scope::Graphs, Scope::Graphs) => true,
-        (Scope::Parts { graph: g }, Scope::Parts { graph: h }) => g == h,
-        (Scope::Ports { graph: g, actor: a }, Scope::Ports { graph: h, actor: b }) => {
-            g == h && a == b
-        }
-        _ => false,
-    }
-}
-
-fn is_among(names: &[ScopedName], scope: Scope, name: &Name) -> bool
-    ensures { result ≡ is_among names.now scope name.now }
-{
-    names.iter().any(|other| same_scope(other.scope, scope) && other.name == *name)
-}
-
 /// The fault at a name.
 pub(crate) fn fault_at(name: &Name) -> DetailFault<Name>
     ensures { Refuses (name.now ∷ []) result }
@@ -55,31 +36,13 @@ pub(crate) fn fault_at(name: &Name) -> DetailFault<Name>
     }
 }
 
-/// Whether each of these names differs from the earlier ones of its scope. Each is compared with all of those: for few
-/// names.
+/// Whether each of these names differs from the earlier ones of its scope.
 ///
 /// # Errors
 ///
 /// - `Fault`: the first name that is equal to an earlier one of its scope.
 /// - `Memory`: want of memory.
-pub fn repeat(names: &[ScopedName]) -> Result<(), DetailFault<Name>>
-    ensures { Answers (repeats names.now) result }
-{
-    for (number, name) in names.iter().enumerate() {
-        if is_among(&names[..number], name.scope, &name.name) {
-            return Err(fault_at(&name.name));
-        }
-    }
-    Ok(())
-}
-
-/// Whether each of these names differs from the earlier ones of its scope, by a set of those: for many names.
-///
-/// # Errors
-///
-/// - `Fault`: the first name that is equal to an earlier one of its scope.
-/// - `Memory`: want of memory.
-pub fn repeat_in(alloc: Global, names: &[ScopedName]) -> Result<(), DetailFault<Name>>
+pub fn repeat(alloc: Global, names: &[ScopedName]) -> Result<(), DetailFault<Name>>
     ensures { Answers (repeats names.now) result }
 {
     let mut seen = BTreeSet::new(alloc);

@@ -2,7 +2,7 @@ use Rattle.std.proofs.Common.{not, take, refl, ◌∙◌}
 use Rattle.pisdf_model.specs.Names.{is_among, repeat_at}
 use Rattle.pisdf_model.proofs.Seen.{is_new, seen_more}
 use Rattle.pisdf_model.proofs.Walking.{fails_by, passes_by}
-use Rattle.pisdf_model.proofs.names.repeat_in.Goals as goal
+use Rattle.pisdf_model.proofs.names.repeat.Goals as goal
 
 pub returns-then-not-branch : goal.returns-then-not-branch
 returns-then-not-branch c =
