@@ -47,10 +47,22 @@ pub use rules::{ModelFault, well_formed};
 pub use wires::{port_text, wire};
 
 #[cfg(test)]
+mod built;
+#[cfg(test)]
+mod counting_tests;
+#[cfg(test)]
 mod inside;
+#[cfg(test)]
+mod names_tests;
 #[cfg(test)]
 mod nesting_tests;
 #[cfg(test)]
 mod ordering_tests;
 #[cfg(test)]
-mod tests;
+mod ports_tests;
+#[cfg(test)]
+mod range_tests;
+#[cfg(test)]
+mod rules_tests;
+#[cfg(test)]
+mod wires_tests;

@@ -4,6 +4,7 @@ ghost use Rattle.pisdf_model.specs.Arrows.{LeadsInside};
 ghost use Rattle.pisdf_model.specs.Nesting.{RefersToGraphs};
 
 use super::{Actor, Body, DetailFault, Graph, Graphs, depth, graph_cycle};
+use crate::built::name;
 use crate::inside::leads_inside;
 use crate::nesting::holds;
 use param_expr::Name;
@@ -13,11 +14,10 @@ use std::test::Fail;
 
 /// Graphs by their names, each with the places of the graphs that its actors name; the name of the first that holds
 /// itself, and of the first that is nested too deep, empty where there is none.
-const FILES: [(&[(&str, &[u32])], &str, &str); 10] = [
+const FILES: [(&[(&str, &[u32])], &str, &str); 8] = [
     (&[], "", ""),
-    (&[("g", &[])], "", ""),
-    (&[("g", &[0])], "g", "g"),
     (&[("g", &[1, 1]), ("h", &[])], "", ""),
+    (&[("g", &[0])], "g", "g"),
     // g leads to graphs that hold themselves, and doesn't itself.
     (&[("g", &[1]), ("h", &[2]), ("k", &[1])], "h", "g"),
     (&[("g", &[2]), ("h", &[]), ("k", &[1, 0])], "g", "g"),
@@ -67,27 +67,7 @@ const FILES: [(&[(&str, &[u32])], &str, &str); 10] = [
         "",
         "i",
     ),
-    // Nine of them, the outermost first.
-    (
-        &[
-            ("a", &[1]),
-            ("b", &[2]),
-            ("c", &[8, 3]),
-            ("d", &[4]),
-            ("e", &[5]),
-            ("f", &[6]),
-            ("g", &[7]),
-            ("h", &[8]),
-            ("i", &[]),
-        ],
-        "",
-        "a",
-    ),
 ];
-
-fn name(alloc: Global, text: &str) -> Result<Name, AllocError> {
-    Ok(Name::new(String::from_str(alloc, text)?))
-}
 
 /// A graph with a hierarchical actor for each of these graphs, behind a configuration actor.
 fn graph(alloc: Global, text: &str, children: &[u32]) -> Result<Graph, AllocError> {

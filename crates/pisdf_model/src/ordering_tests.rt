@@ -5,6 +5,7 @@ ghost use Rattle.pisdf_model.specs.ParamOrder.{RefersToParams};
 use super::{
     Actor, Body, DetailFault, Graph, Graphs, Interface, Param, ParamKind, Port, param_order,
 };
+use crate::built::name;
 use crate::inside::{all_below, leads_inside};
 use crate::named_params::{early_places, references};
 use param_expr::{Expr, Name, Op};
@@ -32,7 +33,7 @@ struct Case {
 
 const NONE: &[u32] = &[];
 
-const CASES: [Case; 9] = [
+const CASES: [Case; 8] = [
     Case {
         params: &[],
         input: NONE,
@@ -85,15 +86,6 @@ const CASES: [Case; 9] = [
         late: NONE,
         told: "d",
     },
-    Case {
-        params: &[("m", b'c', &[]), ("n", b'i', &[])],
-        input: &[1],
-        output: &[1],
-        arg: &[1, 0],
-        out: &[1],
-        late: NONE,
-        told: "m",
-    },
     // A parameter that depends on itself comes before a late one that is named.
     Case {
         params: &[
@@ -129,10 +121,6 @@ const CASES: [Case; 9] = [
         told: "m",
     },
 ];
-
-fn name(alloc: Global, text: &str) -> Result<Name, AllocError> {
-    Ok(Name::new(String::from_str(alloc, text)?))
-}
 
 /// The sum of 1 and of these parameters.
 fn sum(alloc: Global, places: &[u32]) -> Result<Expr, AllocError> {
@@ -279,7 +267,7 @@ fn first_parameter_out_of_order_in_each_graph(rt: HostRuntime) -> Result<(), Fai
 #[test]
 fn first_graph_with_a_parameter_out_of_order(rt: HostRuntime) -> Result<(), Fail> {
     let alloc = rt.alloc();
-    let graphs = file(alloc, &CASES[0..8])?;
+    let graphs = file(alloc, &CASES[0..7])?;
     assert!(rt; all_refer_to_params(alloc, &graphs)?);
     assert_eq!(rt; told(alloc, &graphs)?.text(), "e");
     Ok(())

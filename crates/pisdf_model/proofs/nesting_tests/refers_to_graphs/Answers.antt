@@ -1,4 +1,3 @@
-use Rattle.std.proofs.Common.{◌≡◌}
 use Rattle.std.proofs.lemmas.Bool.{OnTrue_at, OnTrue_from}
 use Rattle.pisdf_model.specs.Nesting.{RefersToGraphs}
 use Rattle.pisdf_model.proofs.Holding.{read_holds, refers_of_inside}
