@@ -3,6 +3,7 @@ pub mod Bound
 pub mod Each
 pub mod FileCounts
 pub mod InPlace
+pub mod Indexed
 pub mod Items
 pub mod Known
 pub mod Named

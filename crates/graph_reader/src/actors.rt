@@ -31,7 +31,7 @@ fn kernel_actor(
     let ins = resolve_each(alloc, &*surroundings, ins.items())?;
     let outs = resolve_each(alloc, &*surroundings, outs.items())?;
     Ok(Body::Kernel {
-        kernel: surroundings.kernels.first_place(kernel),
+        kernel: surroundings.kernels.place_or_zero(kernel),
         args,
         ins,
         outs,
@@ -63,7 +63,7 @@ fn configuration_actor(
     let sets = resolve_each(alloc, &*surroundings, sets.items())?;
     let ins = copied_names(alloc, ins.items())?;
     Ok(Body::Config {
-        kernel: surroundings.kernels.first_place(kernel),
+        kernel: surroundings.kernels.place_or_zero(kernel),
         args,
         ins,
         outs,

@@ -40,7 +40,7 @@ fn names_of_kernels(alloc: Global, signatures: &[Signature]) -> Result<Names, Al
         let text = String::from_str(alloc, signature.name)?;
         names.push(Name::new(text))?;
     }
-    Names::new(names)
+    Names::new(alloc, names)
 }
 
 /// A graph's inputs, then its outputs.
@@ -50,7 +50,7 @@ fn interfaces_of(alloc: Global, graph: &FileGraph) -> Result<Names, AllocError>
     let mut names = Vec::new(alloc);
     push_names(&mut names, graph.inputs.items())?;
     push_names(&mut names, graph.outputs.items())?;
-    Names::new(names)
+    Names::new(alloc, names)
 }
 
 /// The interfaces of each graph.
@@ -113,6 +113,6 @@ impl FileNames {
                 }
             }
         }
-        Ok(Ports::Own(Names::new(names)?))
+        Ok(Ports::Own(Names::new(alloc, names)?))
     }
 }

@@ -1,69 +1,82 @@
-ghost use Rattle.std.specs.Prelude.{◌≡◌, ◌<◌, ◌^◌, ◌++◌, IfOk, OnOk, length, map};
+ghost use Rattle.std.specs.Prelude.{◌≡◌, ◌<◌, ◌^◌, ◌++◌, ℕ, List as Seq, IfOk, OnOk, length, map};
+ghost use Rattle.std.specs.BTreeMap.{get_by_text};
 ghost use Rattle.param_expr.specs.Bind.{place_of};
 ghost use Rattle.graph_format.specs.Placed.{first_place};
 
-use param_expr::Name;
+use param_expr::{Name, Places};
 use std::alloc::{AllocError, Global};
+use std::collections::BTreeMap;
 use std::marker::Model;
 
 /// A list of fewer than 2^32 names, each of which is found by its first place.
 #[derive(Drop)]
 pub(crate) struct Names {
     names: Vec<Name>,
+    /// The first place of each name, by its text.
+    places: BTreeMap<String, u32>,
 }
 
 impl Model for Names {
-    ghost use Rattle.std.specs.Prelude.{List, ℕ, ◌<◌, ◌^◌, length};
+    ghost use Rattle.std.specs.Prelude.{List, ℕ, ◌≡◌};
+    ghost use Rattle.std.specs.BTreeMap.{get_by_text};
+    ghost use Rattle.param_expr.specs.Bind.{place_of};
 
     ghost Value = { List (List ℕ) };
 
     ghost view = { λ n. n.names.items };
 
-    ghost invariant = { λ n. length n.names.items < 2 ^ 32 };
+    ghost invariant = { λ n. (text : List ℕ) → get_by_text n.places text ≡ place_of n.names.items text };
+}
+
+/// The first place of each of these names, by its text.
+fn first_places(alloc: Global, names: &[Name]) -> Result<BTreeMap<String, u32>, AllocError>
+    requires { length names.now < 2 ^ 32 }
+    ensures { IfOk result (λ places. (text : Seq ℕ) → get_by_text places text ≡ place_of names.now text) }
+{
+    let mut places = BTreeMap::new(alloc);
+    // The last names come first, so that the first place of a name is the one that stays.
+    for behind in 0..names.len() {
+        let place = names.len() - 1 - behind;
+        let text = String::from_str(alloc, names[place].text())?;
+        places.insert(text, place as u32)?;
+    }
+    Ok(places)
 }
 
 impl Names {
     /// The names in this order. The error is want of memory, which 2^32 names or more are answered as too: they would
     /// take over 100 gigabytes.
-    pub(crate) fn new(names: Vec<Name>) -> Result<Names, AllocError>
+    pub(crate) fn new(alloc: Global, names: Vec<Name>) -> Result<Names, AllocError>
         ensures { IfOk result (λ n. n ≡ names.items) }
     {
         if names.len() > u32::MAX as usize {
             return Err(AllocError);
         }
-        Ok(Names { names })
-    }
-
-    /// The names, in their order.
-    pub(crate) fn as_slice(&self) -> &[Name]
-        ensures value { result.now ≡ self.now }
-        ensures few { length result.now < 2 ^ 32 }
-    {
-        self.names.as_slice()
+        let places = first_places(alloc, names.as_slice())?;
+        Ok(Names { names, places })
     }
 
     /// The first place of a name.
     pub(crate) fn place_of(&self, name: &Name) -> Option<u32>
         ensures { result ≡ place_of self.now name.now }
     {
-        match position(self.as_slice(), name) {
-            Some(place) => Some(place as u32),
-            None => None,
-        }
+        self.places.get(name.text()).copied()
     }
 
     /// The first place of a name, and 0 where it isn't there.
-    pub(crate) fn first_place(&self, name: &Name) -> u32
+    pub(crate) fn place_or_zero(&self, name: &Name) -> u32
         ensures { result ≡ first_place self.now name.now }
     {
         self.place_of(name).unwrap_or(0)
     }
 }
 
-fn position(names: &[Name], name: &Name) -> Option<usize>
-    ensures { result ≡ place_of names.now name.now }
-{
-    names.iter().position(|other| name == other)
+impl Places for Names {
+    ghost names = { λ n. n };
+
+    fn first_place(&self, name: &Name) -> Option<u32> {
+        self.place_of(name)
+    }
 }
 
 /// What has a name.
@@ -93,5 +106,5 @@ pub(crate) fn names_of<T: Named>(alloc: Global, items: &[T]) -> Result<Names, Al
 {
     let mut names = Vec::new(alloc);
     push_names(&mut names, items)?;
-    Names::new(names)
+    Names::new(alloc, names)
 }

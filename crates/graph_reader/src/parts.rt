@@ -9,7 +9,7 @@ use crate::resolved::Resolved;
 use crate::surroundings::Surroundings;
 use crate::unresolved::Unresolved;
 use graph_format::{FileParam, FileParamKind, FilePort};
-use param_expr::{Expr, Name, Parsed, bind};
+use param_expr::{Expr, Name, Parsed, bind_in};
 use pisdf_model::{Interface, Param, ParamKind, Port};
 use std::alloc::Global;
 
@@ -58,7 +58,7 @@ impl Resolved for Expr {
         surroundings: &Surroundings<'_>,
         source: &Parsed,
     ) -> Result<Expr, Unresolved> {
-        let expr = bind(alloc, source, surroundings.params.as_slice())?;
+        let expr = bind_in(alloc, source, &surroundings.params)?;
         Ok(expr)
     }
 }

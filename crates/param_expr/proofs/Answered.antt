@@ -1,12 +1,12 @@
 -- What reading a text gives is the text's answer.
-use Rattle.std.proofs.Common.{◌≡◌, ℕ, ◌<◌, ◌≤◌, List, Option, Some, None, Result, Ok, Err, refl, sym, ap, subst, ◌∙◌, length, Bool, true, false, cond, arith}
+use Rattle.std.proofs.Common.{◌≡◌, ℕ, ◌<◌, ◌≤◌, List, Option, Some, None, Ok, Err, sym, ap, ◌∙◌, length, Bool, true, false, cond, arith}
 use Rattle.std.specs.Prelude.{nat_lt}
 use Rattle.std.proofs.lemmas.Bool.Decides.{nat_tests}
 use Rattle.param_expr.specs.Named.{NamedTree}
 use Rattle.param_expr.specs.Tokens.{tokens_of}
 use Rattle.param_expr.specs.Grammar.{sum_tree}
 use Rattle.param_expr.specs.Parse.{IsSpelled, Answers, UnlessMemory, first_large, most_open}
-use Rattle.param_expr.specs.Machine.{Reads, run, start, tallied, no_tally, unless_large, judged_of}
+use Rattle.param_expr.specs.Machine.{Reads, unless_large, judged_of}
 use Rattle.param_expr.specs.declared.limits.TheConstants.{MAX_EXPRESSION_BYTES, MAX_OPEN_PARENTHESES}
 use Rattle.param_expr.specs.declared.fault.ExprFault.{ExprFault}
 use Rattle.param_expr.specs.declared.fault.ExprFault.TheVariants.{Syntax, TooLarge, TooDeep, TooLong, Memory}

@@ -1,6 +1,6 @@
 -- What is bound of an operation, from what is bound of its two sides.
-use Rattle.std.proofs.Common.{◌≡◌, List, [], ◌++◌, length, ◌<◌, Bool, true, false, cond, pos, negsuc, refl, subst, Option, Some, None, Result, Ok, Err, ℕ, sym, ap, ◌∙◌}
-use Rattle.std.specs.Prelude.{find, is_none, unwrap_or, IfOk}
+use Rattle.std.proofs.Common.{◌≡◌, List, [], length, ◌<◌, Bool, true, false, cond, pos, negsuc, refl, subst, Option, Some, None, Result, Ok, Err, ℕ, sym, ap, ◌∙◌}
+use Rattle.std.specs.Prelude.{is_none, unwrap_or, IfOk}
 use Rattle.std.specs.Str.{bytes_eq}
 use Rattle.std.proofs.lemmas.List.Quantifiers.{position-Some}
 use Rattle.param_expr.specs.Eval.{RefersBelow}

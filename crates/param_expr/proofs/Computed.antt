@@ -1,5 +1,5 @@
 -- The one answer of a text, computed.
-use Rattle.std.proofs.Common.{◌≡◌, ℕ, ◌<◌, ◌≤◌, List, Option, Some, None, Result, Ok, Err, refl, sym, ap, subst, ◌∙◌, length, Bool, true, false, cond, arith}
+use Rattle.std.proofs.Common.{◌≡◌, ℕ, ◌<◌, ◌≤◌, List, Option, Some, None, Result, Ok, Err, refl, length, Bool, true, false, cond, arith}
 use Rattle.std.specs.Prelude.{nat_lt}
 use Rattle.std.proofs.lemmas.Bool.Decides.{nat_tests}
 use Rattle.param_expr.specs.Named.{NamedTree}
@@ -9,7 +9,6 @@ use Rattle.param_expr.specs.declared.limits.TheConstants.{MAX_EXPRESSION_BYTES, 
 use Rattle.param_expr.specs.declared.fault.ExprFault.{ExprFault}
 use Rattle.param_expr.specs.declared.fault.ExprFault.TheVariants.{Syntax, TooLarge, TooDeep, TooLong, Memory}
 use Rattle.param_expr.specs.declared.symbol.Tally.{Tally}
-use Rattle.param_expr.specs.declared.reader.Reading.{Reading}
 use Rattle.param_expr.proofs.Answered.{read_answers, stop_answers}
 use Rattle.param_expr.proofs.OneAnswer.{one_answer}
 

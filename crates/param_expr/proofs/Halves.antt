@@ -1,13 +1,13 @@
 -- A state is what some part of a sum leaves, and that part can be completed.
-use Rattle.std.proofs.Common.{◌≡◌, ℕ, List, [], ◌∷◌, ◌++◌, Option, Some, None, ℤ, pos, refl, sym, ap, ◌∙◌, append_assoc, map}
+use Rattle.std.proofs.Common.{◌≡◌, ℕ, List, [], ◌∷◌, ◌++◌, Option, Some, None, ℤ, refl, sym, ap, ◌∙◌, append_assoc}
 use Rattle.std.proofs.lemmas.List.{append-nil}
-use Rattle.std.specs.Prelude.{option_map, unwrap_or}
+use Rattle.std.specs.Prelude.{option_map}
 use Rattle.param_expr.specs.Named as tree
 use Rattle.param_expr.specs.Named.{NamedTree}
 use Rattle.param_expr.specs.Tokens.{Token, number, name, additive, multiplicative, function, left_paren, right_paren, comma, other}
 use Rattle.param_expr.specs.Grammar.{Sum, Term, Factor, one_term, sum_of, one_factor, product_of, literal, named, group, call, sum_tokens, term_tokens, factor_tokens}
 use Rattle.param_expr.specs.Parse.{BeginsSum}
-use Rattle.param_expr.specs.Machine.{joined, sum_with, term_with, step, end_of}
+use Rattle.param_expr.specs.Machine.{joined, sum_with, step, end_of}
 use Rattle.param_expr.specs.declared.op.Op.{Op}
 use Rattle.param_expr.specs.declared.symbol.Symbol.TheVariants.{Close, Comma}
 use Rattle.param_expr.specs.declared.state.Left.{Left}

@@ -1,14 +1,14 @@
 -- The tokens of a text that is written token by token.
-use Rattle.std.proofs.Common.{◌≡◌, ℕ, ◌+◌, ◌-◌, ◌<◌, ◌≤◌, ◌^◌, zero, suc, List, [], ◌∷◌, ◌++◌, length, drop, take, map, Bool, true, false, not, cond, eqb, ◌&&◌, ◌||◌, refl, sym, ap, subst, ◌∙◌, append_assoc, add-one, length-append, arith}
-use Rattle.std.proofs.lemmas.List.{append-nil, drop_at}
-use Rattle.std.proofs.lemmas.List.Folds.{list_all-append, list_all-map}
+use Rattle.std.proofs.Common.{◌≡◌, ℕ, ◌+◌, ◌-◌, ◌≤◌, zero, suc, List, [], ◌∷◌, ◌++◌, length, map, Bool, true, false, not, cond, eqb, ◌&&◌, ◌||◌, refl, sym, ap, ◌∙◌, append_assoc, length-append, arith}
+use Rattle.std.proofs.lemmas.List.{drop_at}
+use Rattle.std.proofs.lemmas.List.Folds.{list_all-append}
 use Rattle.std.proofs.lemmas.List.Sums.{take_while-cons}
 use Rattle.std.proofs.lemmas.Bool.Decides.{nat_tests}
-use Rattle.std.specs.Prelude.{take_while, codes}
+use Rattle.std.specs.Prelude.{take_while}
 use Rattle.std.specs.List.{list_all}
 use Rattle.std.specs.Str.Parse.{digits_value}
-use Rattle.param_expr.specs.Words.{is_digit, is_letter, is_word_byte, is_name, IsName, starts_with_letter, is_reserved}
-use Rattle.param_expr.specs.Tokens.{Token, number, name, function, left_paren, right_paren, comma, word_token, mark_of, Lexeme, Placed, front, front_at, tokens_from, tokens_of, plain_tokens}
+use Rattle.param_expr.specs.Words.{is_digit, is_letter, is_word_byte}
+use Rattle.param_expr.specs.Tokens.{Token, number, word_token, mark_of, Lexeme, Placed, front, tokens_from}
 use Rattle.param_expr.specs.Parse.{is_large}
 use Rattle.param_expr.specs.Print.{is_number, begins_well}
 use Rattle.param_expr.proofs.Turning.{skipped, token_front}

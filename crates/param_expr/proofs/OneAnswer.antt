@@ -1,11 +1,10 @@
 -- A text has one answer.
-use Rattle.std.proofs.Common.{◌≡◌, ℕ, ◌<◌, ◌≤◌, List, [], ◌∷◌, ◌++◌, Option, Some, None, Result, Ok, Err, ◌⊎◌, inl, inr, refl, sym, ap, ◌∙◌, append_assoc, length, arith}
+use Rattle.std.proofs.Common.{◌≡◌, ℕ, List, [], ◌∷◌, ◌++◌, Option, Some, None, Result, Ok, Err, inl, inr, refl, sym, ap, ◌∙◌, append_assoc, arith}
 use Rattle.std.proofs.lemmas.List.{append-nil}
 use Rattle.param_expr.specs.Named.{NamedTree}
 use Rattle.param_expr.specs.Tokens.{Placed, tokens_of, plain_tokens}
-use Rattle.param_expr.specs.Grammar.{sum_tokens, Spells}
-use Rattle.param_expr.specs.Parse.{BeginsSum, StopsAtToken, StopsAtEnd, StopsAt, IsSpelled, Answers, UnlessMemory, SameUnlessMemory, first_large, most_open}
-use Rattle.param_expr.specs.declared.limits.TheConstants.{MAX_EXPRESSION_BYTES, MAX_OPEN_PARENTHESES}
+use Rattle.param_expr.specs.Grammar.{Spells}
+use Rattle.param_expr.specs.Parse.{BeginsSum, StopsAtToken, StopsAt, Answers, UnlessMemory, SameUnlessMemory, first_large}
 use Rattle.param_expr.specs.declared.fault.ExprFault.{ExprFault}
 use Rattle.param_expr.specs.declared.fault.ExprFault.TheVariants.{Syntax, TooLarge, TooDeep, TooLong, Memory}
 use Rattle.param_expr.proofs.Spelled.{one_tree}

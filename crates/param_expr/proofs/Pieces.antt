@@ -1,10 +1,10 @@
 -- The pieces that an operation is written of.
-use Rattle.std.proofs.Common.{◌≡◌, ℕ, ◌+◌, List, [], ◌∷◌, ◌++◌, Bool, true, false, cond, Result, Ok, Err, refl, sym, ap, ◌∙◌, append_assoc}
+use Rattle.std.proofs.Common.{◌≡◌, ℕ, List, [], ◌++◌, Bool, true, false, cond, Result, Ok, Err, refl, sym, ap, ◌∙◌, append_assoc}
 use Rattle.std.proofs.lemmas.List.{append-nil}
 use Rattle.std.specs.Prelude.{nat_lt, codes, OnOk}
 use Rattle.param_expr.specs.Named.{NamedTree, binary}
 use Rattle.param_expr.specs.Pieces.{before_of, between_of, after_of, left_asks, right_asks}
-use Rattle.param_expr.specs.Print.{level_of, tightness, printed, operand, operand_text, operation_text}
+use Rattle.param_expr.specs.Print.{level_of, operand, operand_text, operation_text}
 use Rattle.param_expr.specs.declared.op.Op.{Op}
 use Rattle.param_expr.specs.declared.op.Op.TheVariants.{Add, Sub, Mul, Div, Rem, Min, Max}
 

@@ -1,5 +1,5 @@
 -- The laws of what is printed.
-use Rattle.std.proofs.Common.{◌≡◌, ℕ, ◌+◌, ◌<◌, ◌≤◌, ◌^◌, zero, suc, List, [], ◌∷◌, ◌++◌, length, get_or, map, Bool, true, false, not, cond, eqb, ◌&&◌, ◌||◌, Option, Some, None, Result, Ok, Err, ℤ, pos, negsuc, refl, sym, ap, subst, ◌∙◌, arith}
+use Rattle.std.proofs.Common.{◌≡◌, ℕ, ◌+◌, ◌<◌, ◌≤◌, ◌^◌, zero, suc, List, [], ◌∷◌, ◌++◌, length, get_or, map, Bool, true, false, not, cond, ◌&&◌, ◌||◌, Option, Some, None, pos, negsuc, refl, sym, ap, subst, ◌∙◌, arith}
 use Rattle.std.proofs.lemmas.Bool.Decides.{nat_tests}
 use Rattle.std.proofs.lemmas.Int.{ints}
 use Rattle.std.proofs.lemmas.List.{append-nil}
@@ -9,19 +9,18 @@ use Rattle.std.proofs.lemmas.Bool.{false_from_ne_true}
 use Rattle.std.proofs.lemmas.Iterator.Adapters.{position_from-zero}
 use Rattle.std.proofs.lemmas.Slice.Eq.{bytes_eq-Decides}
 use Rattle.std.specs.Option.{option_or}
-use Rattle.std.specs.Prelude.{All, nat_lt, find, is_none, unwrap_or, position, IsTrue}
+use Rattle.std.specs.Prelude.{All, nat_lt, is_none, unwrap_or, IsTrue}
 use Rattle.std.specs.List.{list_all, position_from}
 use Rattle.std.specs.Str.{bytes_eq}
 use Rattle.param_expr.specs.Eval.{RefersBelow, in_i64}
 use Rattle.param_expr.specs.Tree as expr
 use Rattle.param_expr.specs.Tree.{Tree}
-use Rattle.param_expr.specs.Named as tree
 use Rattle.param_expr.specs.Named.{NamedTree}
 use Rattle.param_expr.specs.Words.{IsName}
 use Rattle.param_expr.specs.Tokens.{Token, Lexeme, Placed, tokens_from, tokens_of, plain_tokens}
 use Rattle.param_expr.specs.Grammar.{sum_tokens, Spells}
-use Rattle.param_expr.specs.Parse.{Answers, is_large, first_large, most_open}
-use Rattle.param_expr.specs.Bind.{Binds, place_of, names_of, unknown_of, placed_in}
+use Rattle.param_expr.specs.Parse.{is_large, first_large}
+use Rattle.param_expr.specs.Bind.{place_of, names_of, unknown_of, placed_in}
 use Rattle.param_expr.specs.Print.{with_names, NonNegative, Differ, tightness, printed, operand, parentheses, has_no_leading_zero, has_no_leading_zeros, has_no_spaces, IsReadAgain, CanBeRead, is_number, begins_well, opened_in}
 use Rattle.param_expr.specs.Pieces.{HasSmallNumbers}
 use Rattle.param_expr.proofs.Lexed.{lex, lexeme_of, Writes, is_fine}

@@ -6,7 +6,7 @@ use Rattle.param_expr.specs.Named as tree
 use Rattle.param_expr.specs.Named.{NamedTree}
 use Rattle.param_expr.specs.Tokens.{Token, number, name, additive, multiplicative, function, left_paren, right_paren, comma, other}
 use Rattle.param_expr.specs.Grammar.{Sum, Term, Factor, one_term, sum_of, one_factor, product_of, literal, named, group, call, sum_tokens, term_tokens, factor_tokens, sum_tree, term_tree, factor_tree}
-use Rattle.param_expr.specs.Machine.{joined, sum_with, nothing, start, step, end_of}
+use Rattle.param_expr.specs.Machine.{joined, nothing, start, step, end_of}
 use Rattle.param_expr.specs.declared.symbol.Symbol.{Symbol}
 use Rattle.param_expr.specs.declared.symbol.Symbol.TheVariants.{Number, Word, Additive, Multiplicative, Function, Open, Close, Comma, Other}
 use Rattle.param_expr.specs.declared.op.Op.{Op}
@@ -15,7 +15,7 @@ use Rattle.param_expr.specs.declared.state.Waiting.{Waiting}
 use Rattle.param_expr.specs.declared.state.Opened.TheVariants.{Group, First, Second}
 use Rattle.param_expr.specs.declared.state.Outer.{Outer}
 use Rattle.param_expr.specs.declared.state.State.{State}
-use Rattle.param_expr.specs.declared.state.State.TheVariants.{Want, Called, Have}
+use Rattle.param_expr.specs.declared.state.State.TheVariants.{Want, Have}
 
 -- ---- symbols and trees, where each number is seen as `value` says
 

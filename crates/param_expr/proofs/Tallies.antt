@@ -1,11 +1,10 @@
 -- What the tally of a text's tokens says of them.
-use Rattle.std.proofs.Common.{◌≡◌, ℕ, ◌+◌, ◌-◌, ◌≤◌, max, List, [], ◌∷◌, Option, Some, None, ℤ, pos, refl, sym, ap, ◌∙◌, Bool, true, false, cond, ◌^◌, arith}
+use Rattle.std.proofs.Common.{◌≡◌, ℕ, ◌-◌, ◌≤◌, max, List, [], ◌∷◌, Option, Some, None, ℤ, pos, refl, ap, ◌∙◌, Bool, true, false, cond, ◌^◌, arith}
 use Rattle.std.specs.Option.{option_or}
 use Rattle.std.specs.Prelude.{nat_lt}
 use Rattle.param_expr.specs.Tokens.{Token, Placed, number, name, additive, multiplicative, function, left_paren, right_paren, comma, other}
 use Rattle.param_expr.specs.Parse.{is_large, first_large, open_after, most_open}
-use Rattle.param_expr.specs.Machine.{symbol_of, limited, large_after, opened_after, tally_after, tallied, no_tally}
-use Rattle.param_expr.specs.declared.symbol.Symbol.{Symbol}
+use Rattle.param_expr.specs.Machine.{symbol_of, large_after, opened_after, tally_after, tallied, no_tally}
 use Rattle.param_expr.specs.declared.symbol.Symbol.TheVariants.{Number}
 use Rattle.param_expr.specs.declared.symbol.Tally.{Tally}
 

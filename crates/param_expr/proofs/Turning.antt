@@ -1,18 +1,16 @@
 -- One space or token of a text, as a reader takes it.
-use Rattle.std.proofs.Common.{◌≡◌, ℕ, ◌+◌, ◌-◌, ◌<◌, ◌≤◌, zero, suc, List, [], ◌∷◌, length, get_or, drop, take, Bool, true, false, cond, eqb, Option, Some, None, Result, Ok, Err, refl, sym, ap, subst, ◌∙◌, arith, add-one, add-zero, rules}
+use Rattle.std.proofs.Common.{◌≡◌, ℕ, ◌+◌, ◌-◌, ◌<◌, ◌≤◌, zero, suc, List, [], ◌∷◌, length, get_or, drop, Bool, true, false, cond, eqb, Some, None, Ok, Err, refl, sym, ap, subst, ◌∙◌, arith, add-zero}
 use Rattle.std.specs.Prelude.{take_while}
-use Rattle.std.specs.List.{prefix_len}
-use Rattle.std.proofs.Math.Seq.{drop-cons}
 use Rattle.std.proofs.lemmas.List.{drop-drop, drop_more, drop_all, length-drop}
 use Rattle.std.proofs.lemmas.List.Folds.{length-prefix_len}
 use Rattle.std.proofs.lemmas.List.Sums.{prefix_len-le-length, take_while-cons}
 use Rattle.std.proofs.lemmas.Bool.Decides.{nat_tests}
 use Rattle.param_expr.specs.Words.{is_digit, is_letter, is_word_byte}
-use Rattle.param_expr.specs.Tokens.{Placed, Token, number, word_token, mark_of, Lexeme, front, front_at, tokens_from}
+use Rattle.param_expr.specs.Tokens.{Placed, Token, Lexeme, front, front_at, tokens_from}
 use Rattle.param_expr.specs.declared.fault.ExprFault.{ExprFault}
 use Rattle.param_expr.specs.declared.fault.ExprFault.TheVariants.{Syntax, TooLarge, TooDeep, TooLong, Memory}
 use Rattle.param_expr.specs.Named.{NamedTree}
-use Rattle.param_expr.specs.Machine.{Turns, TurnGives, Gives, Reads, first_reader, ended, end_of, tokens_after, outcome, tally_of, run, next, step, tallied, tally_after, opened_after, symbol_of}
+use Rattle.param_expr.specs.Machine.{Turns, TurnGives, Gives, Reads, first_reader, ended, end_of, tokens_after, outcome, tally_of, run, step, tallied, tally_after, opened_after, symbol_of}
 use Rattle.param_expr.specs.declared.state.State.{State}
 use Rattle.param_expr.specs.declared.symbol.Symbol.{Symbol}
 use Rattle.param_expr.specs.declared.symbol.Symbol.TheVariants.{Open, Close}

@@ -1,13 +1,12 @@
 -- A run over the tokens of a text, against the grammar.
-use Rattle.std.proofs.Common.{◌≡◌, ℕ, List, [], ◌∷◌, ◌++◌, Option, Some, None, Result, Ok, Err, ◌⊎◌, inl, inr, ℤ, pos, refl, sym, ap, subst, ◌∙◌, append_assoc, length, map, Bool, true, false, cond}
+use Rattle.std.proofs.Common.{◌≡◌, ℕ, List, [], ◌∷◌, ◌++◌, Option, Some, None, Result, Ok, Err, inl, inr, refl, sym, ap, subst, ◌∙◌, append_assoc, length, Bool, true, false, cond}
 use Rattle.std.proofs.lemmas.List.{append-nil}
-use Rattle.std.specs.Prelude.{option_and_then, nat_lt}
+use Rattle.std.specs.Prelude.{option_and_then}
 use Rattle.param_expr.specs.Named.{NamedTree}
 use Rattle.param_expr.specs.Tokens.{Token, Placed, tokens_of, plain_tokens, number, name, additive, multiplicative, function, left_paren, right_paren, comma, other}
 use Rattle.param_expr.specs.Grammar.{Sum, sum_tokens, sum_tree, Spells}
-use Rattle.param_expr.specs.Parse.{BeginsSum, StopsAtToken, StopsAtEnd, StopsAt, is_large, first_large}
+use Rattle.param_expr.specs.Parse.{BeginsSum, StopsAt, is_large, first_large}
 use Rattle.param_expr.specs.Machine.{limited, symbol_of, start, step, end_of, ended, next, run}
-use Rattle.param_expr.specs.declared.symbol.Symbol.{Symbol}
 use Rattle.param_expr.specs.declared.state.State.{State}
 use Rattle.param_expr.proofs.Spelled.{symbol_by, sum_by, accepts, sum_accepted, exactly, exact_accepted}
 use Rattle.param_expr.proofs.Halves.{Half, no_half, state_of, half_tokens, half_step, half_end, half_begins}

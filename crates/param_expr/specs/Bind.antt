@@ -1,5 +1,5 @@
 -- Names, bound to their places in a list of names.
-use Rattle.std.specs.Prelude.{◌≡◌, ℕ, Bool, pos, List, [], ◌∷◌, ◌++◌, Option, Some, None, Result, Ok, Err, position, find, is_none, unwrap_or}
+use Rattle.std.specs.Prelude.{◌≡◌, ℕ, List, [], ◌∷◌, ◌++◌, Option, Some, None, Result, Ok, Err, position, find, is_none, unwrap_or}
 use Rattle.std.specs.Str.{bytes_eq}
 use Rattle.param_expr.specs.Tree as tree
 use Rattle.param_expr.specs.Tree.{Tree}

@@ -1,5 +1,5 @@
 -- The text of an expression with the fewest parentheses.
-use Rattle.std.specs.Prelude.{◌≡◌, ℕ, ◌+◌, ◌<◌, ◌≤◌, Ok, ◌==◌, nat_lt, Bool, true, false, not, ◌||◌, ℤ, pos, negsuc, List, [], ◌∷◌, ◌++◌, length, slice_index_or, codes, if◌then◌else◌}
+use Rattle.std.specs.Prelude.{◌≡◌, ℕ, ◌+◌, ◌<◌, ◌≤◌, Ok, ◌==◌, nat_lt, Bool, true, false, not, ◌||◌, pos, negsuc, List, [], ◌∷◌, ◌++◌, length, slice_index_or, codes, if◌then◌else◌}
 use Rattle.std.specs.Fmt.{signed_decimal}
 use Rattle.std.specs.List.{list_all}
 use Rattle.param_expr.specs.Bind.{Binds}

@@ -16,7 +16,7 @@ mod stack;
 mod state;
 mod symbol;
 
-pub use binding::{BindFault, bind};
+pub use binding::{BindFault, Places, bind, bind_in};
 pub use evaluation::{EvalFault, eval};
 pub use expr::{Expr, Node};
 pub use fault::ExprFault;

@@ -1,4 +1,4 @@
-use super::{Scope, ScopedName, duplicate, push_name, repeat, repeat_in};
+use super::{Scope, ScopedName, duplicate, push_name, repeat};
 use crate::built::{ActorShape, Kind, PIPE, PLAIN, Shape, file, graph, name, told};
 use param_expr::Name;
 use std::alloc::{AllocError, Global};
@@ -108,9 +108,7 @@ fn names_are_repeated_in_their_scope_alone(rt: HostRuntime) -> Result<(), Fail> 
     let alloc = rt.alloc();
     for (scopes, wanted) in SCOPES {
         let names = in_scopes(alloc, scopes)?;
-        let found = told(alloc, repeat(names.as_slice()))?;
-        assert_eq!(rt; found.text(), wanted);
-        let found = told(alloc, repeat_in(alloc, names.as_slice()))?;
+        let found = told(alloc, repeat(alloc, names.as_slice()))?;
         assert_eq!(rt; found.text(), wanted);
     }
     Ok(())

@@ -2,7 +2,7 @@ use Rattle.param_expr.proofs.Bound.{bound_refers, bound_numbers}
 use Rattle.param_expr.proofs.binding.bind.Goals as goal
 
 pub returns-clause-refers : goal.returns-clause-refers
-returns-clause-refers c = bound_refers c.args.names.now c.args.parsed.now c.bound.result c.bound.ensures.bound
+returns-clause-refers c = bound_refers c.args.names.now c.args.parsed.now c.bind_in.result c.bind_in.ensures.bound
 
 pub returns-clause-numbers : goal.returns-clause-numbers
-returns-clause-numbers c = bound_numbers c.args.names.now c.args.parsed.now c.bound.result c.bound.ensures.bound
+returns-clause-numbers c = bound_numbers c.args.names.now c.args.parsed.now c.bind_in.result c.bind_in.ensures.bound

@@ -1,4 +1,4 @@
-use Rattle.std.proofs.Common.{◌≡◌, subst, sym, arith}
+use Rattle.std.proofs.Common.{subst, sym, arith}
 use Rattle.std.proofs.lemmas.Result.{err_from_is_err_and}
 use Rattle.param_expr.specs.Parse.{Answers, UnlessMemory}
 use Rattle.param_expr.proofs.Answered.{read_answers, stop_answers}

@@ -1,4 +1,4 @@
-use Rattle.std.proofs.Common.{◌≡◌, ◌≤◌, length, ap, sym, arith}
+use Rattle.std.proofs.Common.{◌≡◌, ◌≤◌, length, ap, arith}
 use Rattle.std.proofs.lemmas.Result.{err_from_is_err_and}
 use Rattle.param_expr.proofs.Turning.{read_whole, read_short}
 use Rattle.param_expr.proofs.reader.read.Goals as goal
