@@ -26,6 +26,10 @@ doubled = record { actors = 2; sources = 3 ∷ []; sinks = 2 ∷ []; links = fro
 abbrev pub thrice : LevelView
 thrice = record { actors = 2; sources = 1 ∷ []; sinks = 1 ∷ []; links = from_source 0 0 0 1 ∷ between 0 0 1 1 0 3 0 ∷ into_sink 1 0 1 0 ∷ [] }
 
+-- an actor that takes 2 tokens, with a source of 3: of its two repetitions the last is cut
+abbrev pub cut : LevelView
+cut = record { actors = 1; sources = 3 ∷ []; sinks = 2 ∷ []; links = from_source 0 0 0 2 ∷ into_sink 0 0 1 0 ∷ [] }
+
 -- a sum that comes back over a cycle with this delay
 abbrev pub cycle : ℕ → LevelView
 cycle d = record { actors = 2; sources = 1 ∷ []; sinks = 1 ∷ []; links = from_source 0 0 0 1 ∷ between 0 0 1 1 0 1 0 ∷ into_sink 1 0 1 0 ∷ between 1 1 1 0 1 1 d ∷ [] }

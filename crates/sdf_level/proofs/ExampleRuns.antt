@@ -6,7 +6,7 @@ use Rattle.sdf_level.specs.Run.{FireFunction, by_function}
 use Rattle.sdf_level.specs.LevelRun.{RunEnds, IsLevelRun}
 use Rattle.sdf_level.proofs.Computed.{ends-computed}
 use Rattle.sdf_level.proofs.ExampleOrders.{doubled_order}
-use Rattle.sdf_level.proofs.ExampleLevels.{pairs, doubled, thrice, keep_last, cycle}
+use Rattle.sdf_level.proofs.ExampleLevels.{pairs, doubled, thrice, cut, keep_last, cycle}
 
 abbrev port : List (List ℕ) → ℕ → List ℕ
 port ins p = slice_index_or ins p []
@@ -49,6 +49,10 @@ doubled_run_mixed = ends-computed doubled double_and_sum ((1 ∷ 2 ∷ 3 ∷ [])
 -- the one token is read three times
 thrice_run : RunEnds thrice (3 ∷ 1 ∷ []) ((7 ∷ []) ∷ []) ([] ∷ [] ∷ [] ∷ []) (by_function sums) (0 ∷ 0 ∷ 0 ∷ 1 ∷ []) (Ok record { outs = (21 ∷ []) ∷ []; left = [] ∷ [] ∷ [] ∷ [] })
 thrice_run = ends-computed thrice sums ((7 ∷ []) ∷ []) (3 ∷ 1 ∷ []) ([] ∷ [] ∷ [] ∷ []) (0 ∷ 0 ∷ 0 ∷ 1 ∷ []) (Ok record { outs = (21 ∷ []) ∷ []; left = [] ∷ [] ∷ [] ∷ [] }) refl
+
+-- the three tokens are read once, and then the first of them again
+cut_run : RunEnds cut (2 ∷ []) ((1 ∷ 2 ∷ 3 ∷ []) ∷ []) ([] ∷ [] ∷ []) (by_function sums) (0 ∷ 0 ∷ []) (Ok record { outs = (3 ∷ 4 ∷ []) ∷ []; left = [] ∷ [] ∷ [] })
+cut_run = ends-computed cut sums ((1 ∷ 2 ∷ 3 ∷ []) ∷ []) (2 ∷ []) ([] ∷ [] ∷ []) (0 ∷ 0 ∷ []) (Ok record { outs = (3 ∷ 4 ∷ []) ∷ []; left = [] ∷ [] ∷ [] }) refl
 
 -- of four tokens written the last is kept
 keep_last_run : RunEnds keep_last (4 ∷ []) ((1 ∷ 2 ∷ 3 ∷ 4 ∷ []) ∷ []) ([] ∷ [] ∷ []) (by_function sums) (0 ∷ 0 ∷ 0 ∷ 0 ∷ []) (Ok record { outs = (4 ∷ []) ∷ []; left = [] ∷ [] ∷ [] })
