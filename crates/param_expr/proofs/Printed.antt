@@ -133,13 +133,13 @@ first_place (x ∷ names) (suc i) k h first =
     ∙ first_place names i (k + 1) (omega arith) (λ j below. first (suc j) (omega arith))
     ∙ ap (λ n. Some n) (omega arith)
 
-place_again : (names : List (List ℕ)) (i : ℕ) → Differ names → i < length names → place_of names (get_or names i []) ≡ Some i
+pub place_again : (names : List (List ℕ)) (i : ℕ) → Differ names → i < length names → place_of names (get_or names i []) ≡ Some i
 place_again names i differ h =
     position_from-zero (bytes_eq (get_or names i [])) names
     ∙ first_place names i 0 h (λ j below same. let one : i ≡ j = differ i j h (omega arith) same in omega arith)
     ∙ ap (λ n. Some n) (omega arith)
 
-unknown_none : (names : List (List ℕ)) (t : Tree) → Differ names → RefersBelow (length names) t → unknown_of names (with_names names t) ≡ None
+pub unknown_none : (names : List (List ℕ)) (t : Tree) → Differ names → RefersBelow (length names) t → unknown_of names (with_names names t) ≡ None
 unknown_none names (expr.number z) differ h = refl
 unknown_none names (expr.param i) differ h = ap (λ (o : Option ℕ). cond (is_none o) (Some (get_or names i [])) None) (place_again names i differ h)
 unknown_none names (expr.binary op a b) differ h =
@@ -147,7 +147,7 @@ unknown_none names (expr.binary op a b) differ h =
     ∙ ap (λ o. option_or o (unknown_of names (with_names names b))) (unknown_none names a differ h.0)
     ∙ unknown_none names b differ h.1
 
-placed_again : (names : List (List ℕ)) (t : Tree) → Differ names → RefersBelow (length names) t → t ≡ placed_in names (with_names names t)
+pub placed_again : (names : List (List ℕ)) (t : Tree) → Differ names → RefersBelow (length names) t → t ≡ placed_in names (with_names names t)
 placed_again names (expr.number z) differ h = refl
 placed_again names (expr.param i) differ h = ap (λ (o : Option ℕ). expr.param (unwrap_or o 0)) (sym (place_again names i differ h))
 placed_again names (expr.binary op a b) differ h = ap (λ x. expr.binary op x b) (placed_again names a differ h.0) ∙ ap (expr.binary op (placed_in names (with_names names a))) (placed_again names b differ h.1)
