@@ -1,8 +1,8 @@
 -- What is printed of a tree is spelled by it.
-use Rattle.std.proofs.Common.{◌≡◌, ℕ, ◌+◌, ◌<◌, ◌^◌, zero, suc, List, [], ◌∷◌, ◌++◌, length, get_or, Bool, true, false, not, cond, eqb, ◌&&◌, ◌||◌, pos, negsuc, refl, sym, ap, subst, ◌∙◌, arith}
+use Rattle.std.proofs.Common.{◌≡◌, ℕ, ◌<◌, ◌^◌, zero, suc, List, [], ◌∷◌, ◌++◌, length, get_or, Bool, true, false, not, cond, eqb, ◌&&◌, ◌||◌, pos, negsuc, refl, sym, ap, subst, ◌∙◌, arith}
 use Rattle.std.proofs.lemmas.Bool.Decides.{nat_tests}
 use Rattle.std.proofs.lemmas.Fmt.{decimal_nonempty, first_decimal, decimal_digit, digits_decimal, digits_value-decimal}
-use Rattle.std.specs.Prelude.{codes, nat_lt, nat_le, decimal}
+use Rattle.std.specs.Prelude.{codes, nat_le, decimal}
 use Rattle.std.specs.List.{list_all}
 use Rattle.std.specs.Str.{bytes_eq}
 use Rattle.std.specs.Str.Parse.{digits_value}
@@ -12,10 +12,10 @@ use Rattle.param_expr.specs.Words.{is_digit, is_letter, is_word_byte, is_name, I
 use Rattle.param_expr.specs.Tokens.{Token, number, name, additive, multiplicative, function, left_paren, right_paren, comma, other, word_token}
 use Rattle.param_expr.specs.Grammar.{Sum, Term, Factor, one_term, sum_of, one_factor, product_of, literal, named, group, call, sum_tokens, term_tokens, factor_tokens, sum_tree, term_tree, factor_tree}
 use Rattle.param_expr.specs.Parse.{is_large}
-use Rattle.param_expr.specs.Print.{level_of, tightness, printed, operand, operand_text, opened_in, begins_well}
-use Rattle.param_expr.specs.Pieces.{left_asks, right_asks}
+use Rattle.param_expr.specs.Print.{level_of, tightness, printed, operand, operand_text, begins_well}
 use Rattle.param_expr.specs.declared.op.Op.{Op}
 use Rattle.param_expr.specs.declared.op.Op.TheVariants.{Add, Sub, Mul, Div, Rem, Min, Max}
+use Rattle.param_expr.proofs.Measures.{Measure, sum_measure, term_measure, factor_measure, placed, least, least_at}
 use Rattle.param_expr.proofs.Numerals.{own}
 use Rattle.param_expr.proofs.Lexed.{Writes, Mark, mark, writes_digits, writes_word, writes_marked, writes_after, writes_before}
 
@@ -26,44 +26,6 @@ Writable (tree.number (pos n)) = n < 2 ^ 63
 Writable (tree.number (negsuc n)) = ⊥
 Writable (tree.name w) = IsName w
 Writable (tree.binary op a b) = Writable a × Writable b
-
--- ---- how many parentheses a tree needs
-
-abbrev extra : ℕ → ℕ → ℕ
-extra asked has = cond (nat_lt has asked) 1 0
-
-abbrev own_pair : Op → ℕ
-own_pair Min = 1
-own_pair Max = 1
-own_pair _ = 0
-
-abbrev pub needs : NamedTree → ℕ
-needs (tree.number z) = 0
-needs (tree.name w) = 0
-needs (tree.binary op a b) = own_pair op + ((needs a + extra (left_asks op) (tightness a)) + (needs b + extra (right_asks op) (tightness b)))
-
-abbrev pub asked_of : ℕ → NamedTree → ℕ
-asked_of asked t = needs t + extra asked (tightness t)
-
--- how many parentheses one token opens
-abbrev one_opened : Token → ℕ
-one_opened left_paren = 1
-one_opened _ = 0
-
-opened_in-cons : (t : Token) (rest : List Token) → opened_in (t ∷ rest) ≡ one_opened t + opened_in rest
-opened_in-cons (number n) rest = omega arith
-opened_in-cons (name w) rest = omega arith
-opened_in-cons (additive op) rest = omega arith
-opened_in-cons (multiplicative op) rest = omega arith
-opened_in-cons (function op) rest = omega arith
-opened_in-cons left_paren rest = omega arith
-opened_in-cons right_paren rest = omega arith
-opened_in-cons comma rest = omega arith
-opened_in-cons other rest = omega arith
-
-pub opened_in-append : (a b : List Token) → opened_in (a ++ b) ≡ opened_in a + opened_in b
-opened_in-append [] b = omega arith
-opened_in-append (t ∷ a) b = omega (arith, opened_in-cons t (a ++ b), opened_in-cons t a, opened_in-append a b)
 
 -- ---- a tree as a sum, a term and a factor, each with its text
 
@@ -77,15 +39,15 @@ pub record Derivation (t : NamedTree) : Type 0 where
   pub sum_written : Writes (operand 0 t) (sum_tokens sum)
   pub term_written : Writes (operand 1 t) (term_tokens term)
   pub factor_written : Writes (operand 2 t) (factor_tokens factor)
-  pub sum_opened : opened_in (sum_tokens sum) ≡ asked_of 0 t
-  pub term_opened : opened_in (term_tokens term) ≡ asked_of 1 t
-  pub factor_opened : opened_in (factor_tokens factor) ≡ asked_of 2 t
+  pub sum_measured : (m : Measure) → sum_measure m sum ≡ least_at m 0 t
+  pub term_measured : (m : Measure) → term_measure m term ≡ least_at m 1 t
+  pub factor_measured : (m : Measure) → factor_measure m factor ≡ least_at m 2 t
 
 written_at : (t : NamedTree) (has : ℕ) (asked : ℕ) (tokens : List Token) → tightness t ≡ has → Writes (operand_text asked has (printed t)) tokens → Writes (operand asked t) tokens
 written_at t has asked tokens e h = subst (λ k. Writes (operand_text asked k (printed t)) tokens) (sym e) h
 
-opened_at : (t : NamedTree) (has asked n : ℕ) → tightness t ≡ has → n ≡ needs t + extra asked has → n ≡ asked_of asked t
-opened_at t has asked n e h = h ∙ ap (λ k. needs t + extra asked k) (sym e)
+measured_at : (m : Measure) (t : NamedTree) (has asked n : ℕ) → tightness t ≡ has → n ≡ placed m asked has (least m t) → n ≡ least_at m asked t
+measured_at m t has asked n e h = h ∙ ap (λ k. placed m asked k (least m t)) (sym e)
 
 paren_open : Mark 40 left_paren
 paren_open = mark 40 left_paren (λ rest. refl) refl refl refl refl
@@ -96,12 +58,8 @@ paren_close = mark 41 right_paren (λ rest. refl) refl refl refl refl
 in_parens : (text : List ℕ) (tokens : List Token) → Writes text tokens → Writes (codes "(" ++ (text ++ codes ")")) (left_paren ∷ (tokens ++ right_paren ∷ []))
 in_parens text tokens h = writes_after 40 left_paren (text ++ (41 ∷ [])) (tokens ++ right_paren ∷ []) paren_open (writes_before text tokens 41 right_paren h paren_close)
 
-opened_parens : (tokens : List Token) → opened_in (left_paren ∷ (tokens ++ right_paren ∷ [])) ≡ opened_in tokens + 1
-opened_parens tokens = omega (arith, opened_in-append tokens (right_paren ∷ []))
-
-from_factor : (t : NamedTree) (f : Factor) → factor_tree f ≡ t → tightness t ≡ 2 → Writes (printed t) (factor_tokens f) → opened_in (factor_tokens f) ≡ needs t → Derivation t
+from_factor : (t : NamedTree) (f : Factor) → factor_tree f ≡ t → tightness t ≡ 2 → Writes (printed t) (factor_tokens f) → ((m : Measure) → factor_measure m f ≡ least m t) → Derivation t
 from_factor t f is e h n =
-    let none : opened_in (factor_tokens f) ≡ needs t + 0 = omega arith in
     record {
       sum = one_term (one_factor f);
       term = one_factor f;
@@ -112,15 +70,13 @@ from_factor t f is e h n =
       sum_written = written_at t 2 0 (factor_tokens f) e h;
       term_written = written_at t 2 1 (factor_tokens f) e h;
       factor_written = written_at t 2 2 (factor_tokens f) e h;
-      sum_opened = opened_at t 2 0 _ e none;
-      term_opened = opened_at t 2 1 _ e none;
-      factor_opened = opened_at t 2 2 _ e none;
+      sum_measured = λ m. measured_at m t 2 0 _ e (n m);
+      term_measured = λ m. measured_at m t 2 1 _ e (n m);
+      factor_measured = λ m. measured_at m t 2 2 _ e (n m);
     }
 
-from_term : (t : NamedTree) (u : Term) → term_tree u ≡ t → tightness t ≡ 1 → Writes (printed t) (term_tokens u) → opened_in (term_tokens u) ≡ needs t → Derivation t
+from_term : (t : NamedTree) (u : Term) → term_tree u ≡ t → tightness t ≡ 1 → Writes (printed t) (term_tokens u) → ((m : Measure) → term_measure m u ≡ least m t) → Derivation t
 from_term t u is e h n =
-    let none : opened_in (term_tokens u) ≡ needs t + 0 = omega arith in
-    let one : opened_in (left_paren ∷ (term_tokens u ++ right_paren ∷ [])) ≡ needs t + 1 = omega (arith, opened_parens (term_tokens u)) in
     record {
       sum = one_term u;
       term = u;
@@ -131,15 +87,13 @@ from_term t u is e h n =
       sum_written = written_at t 1 0 (term_tokens u) e h;
       term_written = written_at t 1 1 (term_tokens u) e h;
       factor_written = written_at t 1 2 _ e (in_parens (printed t) (term_tokens u) h);
-      sum_opened = opened_at t 1 0 _ e none;
-      term_opened = opened_at t 1 1 _ e none;
-      factor_opened = opened_at t 1 2 _ e one;
+      sum_measured = λ m. measured_at m t 1 0 _ e (n m);
+      term_measured = λ m. measured_at m t 1 1 _ e (n m);
+      factor_measured = λ m. measured_at m t 1 2 _ e (ap m.enclosed (n m));
     }
 
-from_sum : (t : NamedTree) (s : Sum) → sum_tree s ≡ t → tightness t ≡ 0 → Writes (printed t) (sum_tokens s) → opened_in (sum_tokens s) ≡ needs t → Derivation t
+from_sum : (t : NamedTree) (s : Sum) → sum_tree s ≡ t → tightness t ≡ 0 → Writes (printed t) (sum_tokens s) → ((m : Measure) → sum_measure m s ≡ least m t) → Derivation t
 from_sum t s is e h n =
-    let none : opened_in (sum_tokens s) ≡ needs t + 0 = omega arith in
-    let one : opened_in (left_paren ∷ (sum_tokens s ++ right_paren ∷ [])) ≡ needs t + 1 = omega (arith, opened_parens (sum_tokens s)) in
     record {
       sum = s;
       term = one_factor (group s);
@@ -150,9 +104,9 @@ from_sum t s is e h n =
       sum_written = written_at t 0 0 (sum_tokens s) e h;
       term_written = written_at t 0 1 _ e (in_parens (printed t) (sum_tokens s) h);
       factor_written = written_at t 0 2 _ e (in_parens (printed t) (sum_tokens s) h);
-      sum_opened = opened_at t 0 0 _ e none;
-      term_opened = opened_at t 0 1 _ e one;
-      factor_opened = opened_at t 0 2 _ e one;
+      sum_measured = λ m. measured_at m t 0 0 _ e (n m);
+      term_measured = λ m. measured_at m t 0 1 _ e (ap m.enclosed (n m));
+      factor_measured = λ m. measured_at m t 0 2 _ e (ap m.enclosed (n m));
     }
 
 -- ---- operations
@@ -163,17 +117,20 @@ tree_by op a b = tree.binary op a b
 both_sides : (op : Op) (x y a b : NamedTree) → x ≡ a → y ≡ b → tree.binary op x y ≡ tree.binary op a b
 both_sides op x y a b h k = cc
 
-derived_sum : (op : Op) (m : ℕ) (a b : NamedTree) → Mark m (additive op) → level_of op ≡ 0 → printed (tree.binary op a b) ≡ operand 0 a ++ (m ∷ operand 1 b) → needs (tree.binary op a b) ≡ asked_of 0 a + asked_of 1 b → Derivation a → Derivation b → Derivation (tree.binary op a b)
+both : (f : ℕ → ℕ → ℕ) {a b c d : ℕ} → a ≡ c → b ≡ d → f a b ≡ f c d
+both f h k = cc
+
+derived_sum : (op : Op) (m : ℕ) (a b : NamedTree) → Mark m (additive op) → level_of op ≡ 0 → printed (tree.binary op a b) ≡ operand 0 a ++ (m ∷ operand 1 b) → ((k : Measure) → least k (tree.binary op a b) ≡ k.joined (least_at k 0 a) (least_at k 1 b)) → Derivation a → Derivation b → Derivation (tree.binary op a b)
 derived_sum op m a b mk level text need da db =
     from_sum (tree.binary op a b) (sum_of da.sum op db.term) (both_sides op _ _ a b da.sum_is db.term_is) level
     (subst (λ t. Writes t (sum_tokens da.sum ++ additive op ∷ term_tokens db.term)) (sym text) (writes_marked (operand 0 a) (sum_tokens da.sum) m (additive op) (operand 1 b) (term_tokens db.term) da.sum_written mk db.term_written))
-    (opened_in-append (sum_tokens da.sum) (additive op ∷ term_tokens db.term) ∙ omega (arith, da.sum_opened, db.term_opened, opened_in-cons (additive op) (term_tokens db.term)))
+    (λ k. both k.joined (da.sum_measured k) (db.term_measured k) ∙ sym (need k))
 
-derived_term : (op : Op) (m : ℕ) (a b : NamedTree) → Mark m (multiplicative op) → level_of op ≡ 1 → printed (tree.binary op a b) ≡ operand 1 a ++ (m ∷ operand 2 b) → needs (tree.binary op a b) ≡ asked_of 1 a + asked_of 2 b → Derivation a → Derivation b → Derivation (tree.binary op a b)
+derived_term : (op : Op) (m : ℕ) (a b : NamedTree) → Mark m (multiplicative op) → level_of op ≡ 1 → printed (tree.binary op a b) ≡ operand 1 a ++ (m ∷ operand 2 b) → ((k : Measure) → least k (tree.binary op a b) ≡ k.joined (least_at k 1 a) (least_at k 2 b)) → Derivation a → Derivation b → Derivation (tree.binary op a b)
 derived_term op m a b mk level text need da db =
     from_term (tree.binary op a b) (product_of da.term op db.factor) (both_sides op _ _ a b da.term_is db.factor_is) level
     (subst (λ t. Writes t (term_tokens da.term ++ multiplicative op ∷ factor_tokens db.factor)) (sym text) (writes_marked (operand 1 a) (term_tokens da.term) m (multiplicative op) (operand 2 b) (factor_tokens db.factor) da.term_written mk db.factor_written))
-    (opened_in-append (term_tokens da.term) (multiplicative op ∷ factor_tokens db.factor) ∙ omega (arith, da.term_opened, db.factor_opened, opened_in-cons (multiplicative op) (factor_tokens db.factor)))
+    (λ k. both k.joined (da.term_measured k) (db.factor_measured k) ∙ sym (need k))
 
 comma_mark : Mark 44 comma
 comma_mark = mark 44 comma (λ rest. refl) refl refl refl refl
@@ -181,17 +138,14 @@ comma_mark = mark 44 comma (λ rest. refl) refl refl refl refl
 abbrev call_text : List ℕ → List ℕ → List ℕ → List ℕ
 call_text w x y = w ++ (40 ∷ (x ++ (44 ∷ (y ++ (41 ∷ [])))))
 
-opened_call : (op : Op) (s t : List Token) → opened_in (function op ∷ left_paren ∷ (s ++ comma ∷ (t ++ right_paren ∷ []))) ≡ 1 + (opened_in s + opened_in t)
-opened_call op s t = omega (arith, opened_in-append s (comma ∷ (t ++ right_paren ∷ [])), opened_in-append t (right_paren ∷ []))
-
-derived_call : (op : Op) (w : List ℕ) (a b : NamedTree) → Writes w (function op ∷ []) → level_of op ≡ 2 → printed (tree.binary op a b) ≡ call_text w (operand 0 a) (operand 0 b) → needs (tree.binary op a b) ≡ 1 + (asked_of 0 a + asked_of 0 b) → Derivation a → Derivation b → Derivation (tree.binary op a b)
+derived_call : (op : Op) (w : List ℕ) (a b : NamedTree) → Writes w (function op ∷ []) → level_of op ≡ 2 → printed (tree.binary op a b) ≡ call_text w (operand 0 a) (operand 0 b) → ((k : Measure) → least k (tree.binary op a b) ≡ k.called (least_at k 0 a) (least_at k 0 b)) → Derivation a → Derivation b → Derivation (tree.binary op a b)
 derived_call op w a b wk level text need da db =
     from_factor (tree.binary op a b) (call op da.sum db.sum) (both_sides op _ _ a b da.sum_is db.sum_is) level
     (subst (λ t. Writes t (factor_tokens (call op da.sum db.sum))) (sym text)
     (writes_marked w (function op ∷ []) 40 left_paren _ _ wk paren_open
     (writes_marked (operand 0 a) (sum_tokens da.sum) 44 comma _ _ da.sum_written comma_mark
     (writes_before (operand 0 b) (sum_tokens db.sum) 41 right_paren db.sum_written paren_close))))
-    (opened_call op (sum_tokens da.sum) (sum_tokens db.sum) ∙ omega (arith, da.sum_opened, db.sum_opened))
+    (λ k. both k.called (da.sum_measured k) (db.sum_measured k) ∙ sym (need k))
 
 -- ---- numbers and names
 
@@ -260,13 +214,13 @@ max_written : Writes (codes "max") (function Max ∷ [])
 max_written = writes_word 109 (97 ∷ 120 ∷ []) (function Max) refl refl refl refl refl
 
 pub derivation : (t : NamedTree) → Writable t → Derivation t
-derivation (tree.number (pos n)) h = from_factor (tree.number (pos n)) (literal n) refl refl (written_number n (decimal n) h refl) refl
+derivation (tree.number (pos n)) h = from_factor (tree.number (pos n)) (literal n) refl refl (written_number n (decimal n) h refl) (λ m. refl)
 derivation (tree.number (negsuc n)) h = absurd h
-derivation (tree.name w) h = from_factor (tree.name w) (named w) refl refl (written_name w h) refl
-derivation (tree.binary Add a b) h = derived_sum Add 43 a b (mark 43 (additive Add) (λ rest. refl) refl refl refl refl) refl refl (omega arith) (derivation a h.0) (derivation b h.1)
-derivation (tree.binary Sub a b) h = derived_sum Sub 45 a b (mark 45 (additive Sub) (λ rest. refl) refl refl refl refl) refl refl (omega arith) (derivation a h.0) (derivation b h.1)
-derivation (tree.binary Mul a b) h = derived_term Mul 42 a b (mark 42 (multiplicative Mul) (λ rest. refl) refl refl refl refl) refl refl (omega arith) (derivation a h.0) (derivation b h.1)
-derivation (tree.binary Div a b) h = derived_term Div 47 a b (mark 47 (multiplicative Div) (λ rest. refl) refl refl refl refl) refl refl (omega arith) (derivation a h.0) (derivation b h.1)
-derivation (tree.binary Rem a b) h = derived_term Rem 37 a b (mark 37 (multiplicative Rem) (λ rest. refl) refl refl refl refl) refl refl (omega arith) (derivation a h.0) (derivation b h.1)
-derivation (tree.binary Min a b) h = derived_call Min (codes "min") a b min_written refl refl (omega arith) (derivation a h.0) (derivation b h.1)
-derivation (tree.binary Max a b) h = derived_call Max (codes "max") a b max_written refl refl (omega arith) (derivation a h.0) (derivation b h.1)
+derivation (tree.name w) h = from_factor (tree.name w) (named w) refl refl (written_name w h) (λ m. refl)
+derivation (tree.binary Add a b) h = derived_sum Add 43 a b (mark 43 (additive Add) (λ rest. refl) refl refl refl refl) refl refl (λ m. refl) (derivation a h.0) (derivation b h.1)
+derivation (tree.binary Sub a b) h = derived_sum Sub 45 a b (mark 45 (additive Sub) (λ rest. refl) refl refl refl refl) refl refl (λ m. refl) (derivation a h.0) (derivation b h.1)
+derivation (tree.binary Mul a b) h = derived_term Mul 42 a b (mark 42 (multiplicative Mul) (λ rest. refl) refl refl refl refl) refl refl (λ m. refl) (derivation a h.0) (derivation b h.1)
+derivation (tree.binary Div a b) h = derived_term Div 47 a b (mark 47 (multiplicative Div) (λ rest. refl) refl refl refl refl) refl refl (λ m. refl) (derivation a h.0) (derivation b h.1)
+derivation (tree.binary Rem a b) h = derived_term Rem 37 a b (mark 37 (multiplicative Rem) (λ rest. refl) refl refl refl refl) refl refl (λ m. refl) (derivation a h.0) (derivation b h.1)
+derivation (tree.binary Min a b) h = derived_call Min (codes "min") a b min_written refl refl (λ m. refl) (derivation a h.0) (derivation b h.1)
+derivation (tree.binary Max a b) h = derived_call Max (codes "max") a b max_written refl refl (λ m. refl) (derivation a h.0) (derivation b h.1)

@@ -1,109 +1,27 @@
 -- The laws of what is printed.
-use Rattle.std.proofs.Common.{◌≡◌, ℕ, ◌+◌, ◌<◌, ◌≤◌, ◌^◌, zero, suc, List, [], ◌∷◌, ◌++◌, length, get_or, map, Bool, true, false, not, cond, ◌&&◌, ◌||◌, Option, Some, None, pos, negsuc, refl, sym, ap, subst, ◌∙◌, arith}
+use Rattle.std.proofs.Common.{◌≡◌, ℕ, ◌+◌, ◌<◌, ◌≤◌, ◌^◌, zero, suc, List, [], ◌∷◌, ◌++◌, length, get_or, true, false, cond, Option, Some, None, pos, negsuc, refl, sym, ap, subst, ◌∙◌, arith}
 use Rattle.std.proofs.lemmas.Bool.Decides.{nat_tests}
 use Rattle.std.proofs.lemmas.Int.{ints}
-use Rattle.std.proofs.lemmas.List.{append-nil}
 use Rattle.std.proofs.lemmas.List.Elements.{All-get_or}
 use Rattle.std.proofs.lemmas.List.Folds.{find-append}
 use Rattle.std.proofs.lemmas.Bool.{false_from_ne_true}
 use Rattle.std.proofs.lemmas.Iterator.Adapters.{position_from-zero}
 use Rattle.std.proofs.lemmas.Slice.Eq.{bytes_eq-Decides}
 use Rattle.std.specs.Option.{option_or}
-use Rattle.std.specs.Prelude.{All, nat_lt, is_none, unwrap_or, IsTrue}
-use Rattle.std.specs.List.{list_all, position_from}
+use Rattle.std.specs.Prelude.{All, is_none, unwrap_or, IsTrue}
+use Rattle.std.specs.List.{position_from}
 use Rattle.std.specs.Str.{bytes_eq}
 use Rattle.param_expr.specs.Eval.{RefersBelow, in_i64}
 use Rattle.param_expr.specs.Tree as expr
 use Rattle.param_expr.specs.Tree.{Tree}
-use Rattle.param_expr.specs.Named.{NamedTree}
 use Rattle.param_expr.specs.Words.{IsName}
-use Rattle.param_expr.specs.Tokens.{Token, Lexeme, Placed, tokens_from, tokens_of, plain_tokens}
-use Rattle.param_expr.specs.Grammar.{sum_tokens, Spells}
-use Rattle.param_expr.specs.Parse.{is_large, first_large}
+use Rattle.param_expr.specs.Grammar.{Spells}
 use Rattle.param_expr.specs.Bind.{place_of, names_of, unknown_of, placed_in}
-use Rattle.param_expr.specs.Print.{with_names, NonNegative, Differ, tightness, printed, operand, parentheses, has_no_leading_zero, has_no_leading_zeros, has_no_spaces, IsReadAgain, CanBeRead, is_number, begins_well, opened_in}
+use Rattle.param_expr.specs.Print.{with_names, NonNegative, Differ, printed, operand, parentheses, has_no_leading_zeros, has_no_spaces, IsReadAgain, CanBeRead}
 use Rattle.param_expr.specs.Pieces.{HasSmallNumbers}
-use Rattle.param_expr.proofs.Lexed.{lex, lexeme_of, Writes, is_fine}
-use Rattle.param_expr.proofs.Derived.{Writable, Derivation, derivation, asked_of}
-use Rattle.param_expr.proofs.Fewest.{all_sound, sum_least, sound}
-
--- ---- a whole text that is written token by token
-
-lex_nothing : lex [] ≡ []
-unfolding tokens_from
-lex_nothing = refl
-
-lex_whole : (text : List ℕ) (tokens : List Token) (w : Writes text tokens) → lex text ≡ w.lexemes
-lex_whole text tokens w = ap lex (sym (append-nil text)) ∙ w.lexes [] tt ∙ ap (λ ls. w.lexemes ++ ls) lex_nothing ∙ append-nil w.lexemes
-
-plain_lexemes : (placed : List Placed) → plain_tokens placed ≡ map (λ (l : Lexeme). l.token) (map lexeme_of placed)
-plain_lexemes [] = refl
-plain_lexemes (p ∷ rest) = ap (λ ts. p.token ∷ ts) (plain_lexemes rest)
-
-plain_whole : (text : List ℕ) (tokens : List Token) → Writes text tokens → plain_tokens (tokens_of text) ≡ tokens
-plain_whole text tokens w = plain_lexemes (tokens_of text) ∙ ap (map (λ (l : Lexeme). l.token)) (lex_whole text tokens w) ∙ w.tokens_are
-
-both_true : (a b : Bool) → (a && b) ≡ true → (a ≡ true) × (b ≡ true)
-both_true true b h = (refl, h)
-both_true false b h = absurd cc
-
-and_both : (a b : Bool) → a ≡ true → b ≡ true → (a && b) ≡ true
-and_both a b h k = cc
-
-fine_zeros : (placed : List Placed) → list_all is_fine (map lexeme_of placed) ≡ true → list_all has_no_leading_zero placed ≡ true
-fine_zeros [] h = refl
-fine_zeros (p ∷ rest) h =
-    let parts = both_true (is_fine (lexeme_of p)) (list_all is_fine (map lexeme_of rest)) h in
-    let here = both_true (not (is_number p.token) || begins_well p.bytes) (not (is_large p.token)) parts.0 in
-    and_both _ _ here.0 (fine_zeros rest parts.1)
-
-cond_small : (b : Bool) (x : ℕ) (o : Option ℕ) → not b ≡ true → cond b (Some x) o ≡ o
-cond_small true x o h = absurd cc
-cond_small false x o h = refl
-
-fine_small : (placed : List Placed) → list_all is_fine (map lexeme_of placed) ≡ true → first_large placed ≡ None
-fine_small [] h = refl
-fine_small (p ∷ rest) h =
-    let parts = both_true (is_fine (lexeme_of p)) (list_all is_fine (map lexeme_of rest)) h in
-    let here = both_true (not (is_number p.token) || begins_well p.bytes) (not (is_large p.token)) parts.0 in
-    cond_small (is_large p.token) p.at (first_large rest) here.1 ∙ fine_small rest parts.1
-
-fine_whole : (text : List ℕ) (tokens : List Token) → Writes text tokens → list_all is_fine (map lexeme_of (tokens_of text)) ≡ true
-fine_whole text tokens w = ap (list_all is_fine) (lex_whole text tokens w) ∙ w.fine
-
--- ---- the text of a tree
-
-loose_none : (has : ℕ) (text other : List ℕ) → cond (nat_lt has 0) other text ≡ text
-loose_none has text other = grind (arith, nat_tests)
-
-whole_operand : (t : NamedTree) → operand 0 t ≡ printed t
-whole_operand t = loose_none (tightness t) (printed t) _
-
-written : (t : NamedTree) (d : Derivation t) → Writes (printed t) (sum_tokens d.sum)
-written t d = subst (λ text. Writes text (sum_tokens d.sum)) (whole_operand t) d.sum_written
-
-printed_spells : (t : NamedTree) → Writable t → Spells (printed t) t
-printed_spells t h =
-    let d = derivation t h in
-    record { sum = d.sum; tokens_are = sym (plain_whole (printed t) (sum_tokens d.sum) (written t d)); tree_is = d.sum_is }
-
-printed_zeros : (t : NamedTree) → Writable t → has_no_leading_zeros (printed t) ≡ true
-printed_zeros t h = let d = derivation t h in fine_zeros (tokens_of (printed t)) (fine_whole (printed t) (sum_tokens d.sum) (written t d))
-
-printed_small : (t : NamedTree) → Writable t → first_large (tokens_of (printed t)) ≡ None
-printed_small t h = let d = derivation t h in fine_small (tokens_of (printed t)) (fine_whole (printed t) (sum_tokens d.sum) (written t d))
-
-printed_spaces : (t : NamedTree) → Writable t → has_no_spaces (printed t) ≡ true
-printed_spaces t h = let d = derivation t h in (written t d).solid
-
-printed_fewest : (t : NamedTree) → Writable t → (other : List ℕ) → Spells other t → parentheses (printed t) ≤ parentheses other
-printed_fewest t h other k =
-    let d = derivation t h in
-    let mine : parentheses (printed t) ≡ asked_of 0 t = ap opened_in (plain_whole (printed t) (sum_tokens d.sum) (written t d)) ∙ d.sum_opened in
-    let theirs : opened_in (sum_tokens k.sum) ≡ parentheses other = ap opened_in k.tokens_are in
-    let least = sum_least k.sum (ap (list_all sound) k.tokens_are ∙ all_sound other 0 0) in
-    let same = ap (asked_of 0) k.tree_is in
-    omega arith
+use Rattle.param_expr.proofs.Derived.{Writable}
+use Rattle.param_expr.proofs.Written.{whole_operand, printed_spells, printed_zeros, printed_small, printed_spaces}
+use Rattle.param_expr.proofs.Fewest.{printed_fewest}
 
 -- ---- what can be printed
 

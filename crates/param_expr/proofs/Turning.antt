@@ -35,9 +35,9 @@ unfolding tokens_from
 token_front at b rest h = rw h refl
 
 -- a token has a byte, and those that it has are there
-record Bounded (bytes : List ℕ) (all : List ℕ) : Type 0 where
-  low : 0 < length bytes
-  high : length bytes ≤ length all
+pub record Bounded (bytes : List ℕ) (all : List ℕ) : Type 0 where
+  pub low : 0 < length bytes
+  pub high : length bytes ≤ length all
 
 run_bounded : (p : ℕ → Bool) (b : ℕ) (rest : List ℕ) → p b ≡ true → Bounded (take_while p (b ∷ rest)) (b ∷ rest)
 run_bounded p b rest h =
@@ -55,7 +55,7 @@ chosen_bounded b rest t u v true l e f = run_bounded is_digit b rest e
 chosen_bounded b rest t u v false true e f = run_bounded is_word_byte b rest (letter_in_word b f)
 chosen_bounded b rest t u v false false e f = record { low = omega arith; high = omega arith }
 
-front_bounded : (b : ℕ) (rest : List ℕ) → Bounded (front (b ∷ rest)).bytes (b ∷ rest)
+pub front_bounded : (b : ℕ) (rest : List ℕ) → Bounded (front (b ∷ rest)).bytes (b ∷ rest)
 front_bounded b rest = chosen_bounded b rest _ _ _ (is_digit b) (is_letter b) refl refl
 
 -- what follows a token of n bytes
