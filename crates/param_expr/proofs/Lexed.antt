@@ -1,5 +1,6 @@
 -- The tokens of a text that is written token by token.
 use Rattle.std.proofs.Common.{◌≡◌, ℕ, ◌+◌, ◌-◌, ◌≤◌, zero, suc, List, [], ◌∷◌, ◌++◌, length, map, Bool, true, false, not, cond, eqb, ◌&&◌, ◌||◌, refl, sym, ap, ◌∙◌, append_assoc, length-append, arith}
+use Rattle.std.proofs.lemmas.Bool.{and_parts, and_from}
 use Rattle.std.proofs.lemmas.List.{drop_at}
 use Rattle.std.proofs.lemmas.List.Folds.{list_all-append}
 use Rattle.std.proofs.lemmas.List.Sums.{take_while-cons}
@@ -55,10 +56,6 @@ Stops p (b ∷ rest) = p b ≡ false
 abbrev pub Apart : List ℕ → Type 0
 Apart rest = Stops is_word_byte rest
 
-both_true : (a b : Bool) → (a && b) ≡ true → (a ≡ true) × (b ≡ true)
-both_true true b h = (refl, h)
-both_true false b h = absurd cc
-
 or_false : (a b : Bool) → (a || b) ≡ false → (a ≡ false) × (b ≡ false)
 or_false true b h = absurd cc
 or_false false b h = (refl, h)
@@ -71,7 +68,7 @@ run_is : (p : ℕ → Bool) (w rest : List ℕ) → list_all p w ≡ true → St
 run_is p [] [] h k = refl
 run_is p [] (b ∷ rest) h k = take_while-cons p b rest ∙ rw k refl
 run_is p (x ∷ w) rest h k =
-    let parts = both_true (p x) (list_all p w) h in
+    let parts = and_parts (p x) (list_all p w) h in
     take_while-cons p x (w ++ rest) ∙ ap (λ b. cond b (x ∷ take_while p (w ++ rest)) []) parts.0 ∙ ap (λ ys. x ∷ ys) (run_is p w rest parts.1 k)
 
 digit_no_space : (c : ℕ) → is_digit c ≡ true → eqb c 32 ≡ false
@@ -105,7 +102,7 @@ front_is c rest = refl
 
 front_digits : (c : ℕ) (w rest : List ℕ) → list_all is_digit (c ∷ w) ≡ true → Apart rest → front (c ∷ (w ++ rest)) ≡ digits_lexeme (c ∷ w)
 front_digits c w rest h k =
-    let parts = both_true (is_digit c) (list_all is_digit w) h in
+    let parts = and_parts (is_digit c) (list_all is_digit w) h in
     front_is c (w ++ rest) ∙ cond_first (is_digit c) _ _ parts.0 ∙ ap digits_lexeme (run_is is_digit (c ∷ w) rest h (stops_digits rest k))
 
 front_word : (c : ℕ) (w rest : List ℕ) → is_letter c ≡ true → list_all is_word_byte (c ∷ w) ≡ true → Apart rest → front (c ∷ (w ++ rest)) ≡ word_lexeme (c ∷ w)
@@ -143,7 +140,7 @@ mark m k is space apart fine solid = record { lexes = λ rest. lex_front m [] re
 all_no_space : (p : ℕ → Bool) → ((b : ℕ) → p b ≡ true → no_space b ≡ true) → (bytes : List ℕ) → list_all p bytes ≡ true → list_all no_space bytes ≡ true
 all_no_space p h [] k = refl
 all_no_space p h (b ∷ bytes) k =
-    let parts = both_true (p b) (list_all p bytes) k in
+    let parts = and_parts (p b) (list_all p bytes) k in
     ap (λ x. x && list_all no_space bytes) (h b parts.0) ∙ all_no_space p h bytes parts.1
 
 digit_solid : (b : ℕ) → is_digit b ≡ true → no_space b ≡ true
@@ -152,13 +149,10 @@ digit_solid b h = grind (arith, nat_tests)
 word_solid : (b : ℕ) → is_word_byte b ≡ true → no_space b ≡ true
 word_solid b h = grind (arith, nat_tests)
 
-and_both : (a b : Bool) → a ≡ true → b ≡ true → (a && b) ≡ true
-and_both a b h k = cc
-
 pub writes_digits : (c : ℕ) (w : List ℕ) → list_all is_digit (c ∷ w) ≡ true → begins_well (c ∷ w) ≡ true → is_large (number (digits_value 10 (c ∷ w))) ≡ false → Writes (c ∷ w) (number (digits_value 10 (c ∷ w)) ∷ [])
 writes_digits c w h well small = record {
   lexemes = digits_lexeme (c ∷ w) ∷ [];
-  lexes = λ rest apart. lex_front c w rest (number (digits_value 10 (c ∷ w))) (digit_no_space c (both_true (is_digit c) (list_all is_digit w) h).0) (front_digits c w rest h apart);
+  lexes = λ rest apart. lex_front c w rest (number (digits_value 10 (c ∷ w))) (digit_no_space c (and_parts (is_digit c) (list_all is_digit w) h).0) (front_digits c w rest h apart);
   tokens_are = refl;
   fine = rw (well, small) refl;
   solid = all_no_space is_digit digit_solid (c ∷ w) h;
@@ -193,8 +187,8 @@ writes_marked a s m k b t h mk j = record {
       ∙ ap (λ ls. h.lexemes ++ ls) (mk.lexes (b ++ rest) ∙ ap (λ ls. record { bytes = m ∷ []; token = k } ∷ ls) (j.lexes rest apart))
       ∙ sym (append_assoc h.lexemes (record { bytes = m ∷ []; token = k } ∷ j.lexemes) (lex rest));
   tokens_are = map-append h.lexemes (record { bytes = m ∷ []; token = k } ∷ j.lexemes) ∙ ap (λ ts. ts ++ (k ∷ map (λ (l : Lexeme). l.token) j.lexemes)) h.tokens_are ∙ ap (λ ts. s ++ (k ∷ ts)) j.tokens_are;
-  fine = list_all-append is_fine h.lexemes (record { bytes = m ∷ []; token = k } ∷ j.lexemes) ∙ and_both _ _ h.fine (and_both _ _ mk.fine j.fine);
-  solid = list_all-append no_space a (m ∷ b) ∙ and_both _ _ h.solid (and_both _ _ mk.solid j.solid);
+  fine = list_all-append is_fine h.lexemes (record { bytes = m ∷ []; token = k } ∷ j.lexemes) ∙ and_from _ _ h.fine (and_from _ _ mk.fine j.fine);
+  solid = list_all-append no_space a (m ∷ b) ∙ and_from _ _ h.solid (and_from _ _ mk.solid j.solid);
 }
 
 pub writes_nothing : Writes [] []

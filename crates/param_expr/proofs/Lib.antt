@@ -13,7 +13,9 @@ pub mod OneAnswer
 pub mod Pieces
 pub mod Printed
 pub mod Shortest
+pub mod Sound
 pub mod Spelled
+pub mod Stated
 pub mod Tallies
 pub mod Turning
 pub mod Walks

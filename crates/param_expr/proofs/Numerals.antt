@@ -1,5 +1,6 @@
 -- The numbers that digits write.
 use Rattle.std.proofs.Common.{subst, ◌≡◌, ℕ, zero, suc, cond, get_or, false, ◌<◌, ◌≤◌, ◌^◌, Bool, true, false, List, [], ◌∷◌, length, Result, Ok, Err, ℤ, pos, refl, arith, ◌&&◌, w64}
+use Rattle.std.proofs.lemmas.Bool.{and_parts, and_from}
 use Rattle.std.specs.List.{list_all, take_while}
 use Rattle.std.specs.Int.{IsInRange}
 use Rattle.std.specs.Str.{IsAscii, IsUtf8}
@@ -26,25 +27,18 @@ not_below m n h = omega arith
 is_in : (c : ℕ) → IsInRange 48 57 c → is_digit c ≡ true
 is_in c h = grind (arith, nat_tests)
 
-both_true : (a b : Bool) → (a && b) ≡ true → (a ≡ true) × (b ≡ true)
-both_true true b h = (refl, h)
-both_true false b h = absurd cc
-
-and_true : (a b : Bool) → a ≡ true → b ≡ true → (a && b) ≡ true
-and_true a b h k = cc
-
 digits_test : IsDigitsTest (λ ds. list_all is_digit ds ≡ true)
 digits_test = record {
   empty = refl;
-  parts = λ c cs h. let p = both_true (is_digit c) (list_all is_digit cs) h in (in_range c p.0, p.1);
-  more = λ c cs h k. and_true (is_digit c) (list_all is_digit cs) (is_in c h) k;
+  parts = λ c cs h. let p = and_parts (is_digit c) (list_all is_digit cs) h in (in_range c p.0, p.1);
+  more = λ c cs h k. and_from (is_digit c) (list_all is_digit cs) (is_in c h) k;
 }
 
 pub own : IsNumeralModel (λ ds. list_all is_digit ds ≡ true) (digits_value 10)
 own = numerals_by_value _ digits_test
 
 kept : (p : ℕ → Bool) (x : ℕ) (xs : List ℕ) (b : Bool) → p x ≡ b → list_all p xs ≡ true → list_all p (cond b (x ∷ xs) []) ≡ true
-kept p x xs true e h = and_true (p x) (list_all p xs) e h
+kept p x xs true e h = and_from (p x) (list_all p xs) e h
 kept p x xs false e h = refl
 
 -- each of the longest run passes
@@ -55,7 +49,7 @@ run_passes p (x ∷ xs) = rw (take_while-cons p x xs) (kept p x (take_while p xs
 all_below : (p : ℕ → Bool) → ((b : ℕ) → p b ≡ true → b < 128) → (bytes : List ℕ) → list_all p bytes ≡ true → IsAscii bytes
 all_below p ascii [] h = λ i. omega arith
 all_below p ascii (b ∷ bytes) h =
-    let parts = both_true (p b) (list_all p bytes) h in
+    let parts = and_parts (p b) (list_all p bytes) h in
     λ i. elim i as (λ k. get_or (b ∷ bytes) k 0 < 128) [ zero ↦ ascii b parts.0 | suc k ↦ all_below p ascii bytes parts.1 k ]
 
 digit_below : (b : ℕ) → is_digit b ≡ true → b < 128

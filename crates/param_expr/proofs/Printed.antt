@@ -17,11 +17,18 @@ use Rattle.param_expr.specs.Tree.{Tree}
 use Rattle.param_expr.specs.Words.{IsName}
 use Rattle.param_expr.specs.Grammar.{Spells}
 use Rattle.param_expr.specs.Bind.{place_of, names_of, unknown_of, placed_in}
-use Rattle.param_expr.specs.Print.{with_names, NonNegative, Differ, printed, operand, parentheses, has_no_leading_zeros, has_no_spaces, IsReadAgain, CanBeRead}
+use Rattle.param_expr.specs.Print.{with_names, NonNegative, Differ, printed, operand, parentheses, has_no_leading_zeros, has_no_spaces, IsReadAgain, IsStatable}
 use Rattle.param_expr.specs.Pieces.{HasSmallNumbers}
 use Rattle.param_expr.proofs.Derived.{Writable}
 use Rattle.param_expr.proofs.Written.{whole_operand, printed_spells, printed_zeros, printed_small, printed_spaces}
 use Rattle.param_expr.proofs.Fewest.{printed_fewest}
+use Rattle.param_expr.proofs.Flattest.{printed_flattest}
+use Rattle.param_expr.proofs.Shortest.{printed_shortest}
+use Rattle.param_expr.proofs.Stated.{spelled_writable}
+use Rattle.param_expr.specs.Named.{NamedTree}
+use Rattle.param_expr.specs.Tokens.{tokens_of}
+use Rattle.param_expr.specs.Parse.{Answers, first_large, most_open}
+use Rattle.std.specs.Prelude.{Ok}
 
 -- ---- what can be printed
 
@@ -70,28 +77,42 @@ placed_again names (expr.number z) differ h = refl
 placed_again names (expr.param i) differ h = ap (λ (o : Option ℕ). expr.param (unwrap_or o 0)) (sym (place_again names i differ h))
 placed_again names (expr.binary op a b) differ h = ap (λ x. expr.binary op x b) (placed_again names a differ h.0) ∙ ap (expr.binary op (placed_in names (with_names names a))) (placed_again names b differ h.1)
 
-read_again : (names : List (List ℕ)) (t : Tree) → Writable (with_names names t) → RefersBelow (length names) t → CanBeRead (printed (with_names names t)) names → IsReadAgain (printed (with_names names t)) names t
-read_again names t h refers k = record {
-  parsed = (k.short, printed_spells (with_names names t) h, printed_small (with_names names t) h, k.flat);
-  bound = (unknown_none names t k.differ refers, placed_again names t k.differ refers);
-}
-
 -- ---- a text that was printed
+
+-- what is printed is within the limits of parsing where any text of the tree is
+pub printed_answers : (t : NamedTree) → IsStatable t → Answers (printed t) (Ok t)
+printed_answers t k =
+    let h : Writable t = spelled_writable k.text t k.answers.1 k.answers.2 in
+    let short : length (printed t) ≤ length k.text = printed_shortest t h k.text k.answers.1 in
+    let flat : most_open 0 (tokens_of (printed t)) ≤ most_open 0 (tokens_of k.text) = printed_flattest t h k.text k.answers.1 in
+    (omega (arith, k.answers.0), printed_spells t h, printed_small t h, omega (arith, k.answers.3))
+
+read_again : (names : List (List ℕ)) (t : Tree) → RefersBelow (length names) t → IsStatable (with_names names t) → Differ names → IsReadAgain (printed (with_names names t)) names t
+read_again names t refers k differ = record {
+  parsed = printed_answers (with_names names t) k;
+  bound = (unknown_none names t differ refers, placed_again names t differ refers);
+}
 
 pub record Laws (text : List ℕ) (names : List (List ℕ)) (t : Tree) : Type 0 where
   pub spelled : Spells text (with_names names t)
   pub spaces : IsTrue (has_no_spaces text)
   pub zeros : IsTrue (has_no_leading_zeros text)
+  pub small : first_large (tokens_of text) ≡ None
   pub fewest : (other : List ℕ) → Spells other (with_names names t) → parentheses text ≤ parentheses other
-  pub again : CanBeRead text names → IsReadAgain text names t
+  pub flattest : (other : List ℕ) → Spells other (with_names names t) → most_open 0 (tokens_of text) ≤ most_open 0 (tokens_of other)
+  pub shortest : (other : List ℕ) → Spells other (with_names names t) → length text ≤ length other
+  pub again : IsStatable (with_names names t) → Differ names → IsReadAgain text names t
 
 laws : (names : List (List ℕ)) (t : Tree) → RefersBelow (length names) t → Writable (with_names names t) → Laws (printed (with_names names t)) names t
 laws names t refers h = record {
   spelled = printed_spells (with_names names t) h;
   spaces = printed_spaces (with_names names t) h;
   zeros = printed_zeros (with_names names t) h;
+  small = printed_small (with_names names t) h;
   fewest = printed_fewest (with_names names t) h;
-  again = read_again names t h refers;
+  flattest = printed_flattest (with_names names t) h;
+  shortest = printed_shortest (with_names names t) h;
+  again = read_again names t refers;
 }
 
 -- the laws of a text that was written whole

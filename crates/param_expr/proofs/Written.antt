@@ -1,5 +1,6 @@
 -- The tokens of what is printed of a tree.
-use Rattle.std.proofs.Common.{◌≡◌, ℕ, ◌≤◌, List, [], ◌∷◌, ◌++◌, map, Bool, true, false, not, cond, ◌&&◌, ◌||◌, Option, Some, None, refl, sym, ap, subst, ◌∙◌, arith}
+use Rattle.std.proofs.Common.{◌≡◌, ℕ, ◌≤◌, List, [], ◌∷◌, ◌++◌, map, Bool, true, false, not, cond, ◌||◌, Option, Some, None, refl, sym, ap, subst, ◌∙◌, arith}
+use Rattle.std.proofs.lemmas.Bool.{and_parts, and_from}
 use Rattle.std.proofs.lemmas.Bool.Decides.{nat_tests}
 use Rattle.std.proofs.lemmas.List.{append-nil}
 use Rattle.std.specs.Prelude.{nat_lt}
@@ -30,19 +31,12 @@ plain_lexemes (p ∷ rest) = ap (λ ts. p.token ∷ ts) (plain_lexemes rest)
 pub plain_whole : (text : List ℕ) (tokens : List Token) → Writes text tokens → plain_tokens (tokens_of text) ≡ tokens
 plain_whole text tokens w = plain_lexemes (tokens_of text) ∙ ap (map (λ (l : Lexeme). l.token)) (lex_whole text tokens w) ∙ w.tokens_are
 
-both_true : (a b : Bool) → (a && b) ≡ true → (a ≡ true) × (b ≡ true)
-both_true true b h = (refl, h)
-both_true false b h = absurd cc
-
-and_both : (a b : Bool) → a ≡ true → b ≡ true → (a && b) ≡ true
-and_both a b h k = cc
-
 fine_zeros : (placed : List Placed) → list_all is_fine (map lexeme_of placed) ≡ true → list_all has_no_leading_zero placed ≡ true
 fine_zeros [] h = refl
 fine_zeros (p ∷ rest) h =
-    let parts = both_true (is_fine (lexeme_of p)) (list_all is_fine (map lexeme_of rest)) h in
-    let here = both_true (not (is_number p.token) || begins_well p.bytes) (not (is_large p.token)) parts.0 in
-    and_both _ _ here.0 (fine_zeros rest parts.1)
+    let parts = and_parts (is_fine (lexeme_of p)) (list_all is_fine (map lexeme_of rest)) h in
+    let here = and_parts (not (is_number p.token) || begins_well p.bytes) (not (is_large p.token)) parts.0 in
+    and_from _ _ here.0 (fine_zeros rest parts.1)
 
 cond_small : (b : Bool) (x : ℕ) (o : Option ℕ) → not b ≡ true → cond b (Some x) o ≡ o
 cond_small true x o h = absurd cc
@@ -51,8 +45,8 @@ cond_small false x o h = refl
 fine_small : (placed : List Placed) → list_all is_fine (map lexeme_of placed) ≡ true → first_large placed ≡ None
 fine_small [] h = refl
 fine_small (p ∷ rest) h =
-    let parts = both_true (is_fine (lexeme_of p)) (list_all is_fine (map lexeme_of rest)) h in
-    let here = both_true (not (is_number p.token) || begins_well p.bytes) (not (is_large p.token)) parts.0 in
+    let parts = and_parts (is_fine (lexeme_of p)) (list_all is_fine (map lexeme_of rest)) h in
+    let here = and_parts (not (is_number p.token) || begins_well p.bytes) (not (is_large p.token)) parts.0 in
     cond_small (is_large p.token) p.at (first_large rest) here.1 ∙ fine_small rest parts.1
 
 fine_whole : (text : List ℕ) (tokens : List Token) → Writes text tokens → list_all is_fine (map lexeme_of (tokens_of text)) ≡ true

@@ -1,10 +1,9 @@
 -- The text of an expression with the fewest parentheses.
-use Rattle.std.specs.Prelude.{◌≡◌, ℕ, ◌+◌, ◌<◌, ◌≤◌, Ok, ◌==◌, nat_lt, Bool, true, false, not, ◌||◌, pos, negsuc, List, [], ◌∷◌, ◌++◌, length, slice_index_or, codes, if◌then◌else◌}
+use Rattle.std.specs.Prelude.{◌≡◌, ℕ, ◌+◌, ◌<◌, Ok, ◌==◌, nat_lt, Bool, true, false, not, ◌||◌, pos, negsuc, List, [], ◌∷◌, ◌++◌, length, slice_index_or, codes, if◌then◌else◌}
 use Rattle.std.specs.Fmt.{signed_decimal}
 use Rattle.std.specs.List.{list_all}
 use Rattle.param_expr.specs.Bind.{Binds}
-use Rattle.param_expr.specs.Parse.{Answers, most_open}
-use Rattle.param_expr.specs.declared.limits.TheConstants.{MAX_EXPRESSION_BYTES, MAX_OPEN_PARENTHESES}
+use Rattle.param_expr.specs.Parse.{Answers}
 use Rattle.param_expr.specs.Tree as tree
 use Rattle.param_expr.specs.Tree.{Tree}
 use Rattle.param_expr.specs.Named.{NamedTree, number, name, binary}
@@ -103,8 +102,7 @@ pub record IsReadAgain (text : List ℕ) (names : List (List ℕ)) (expr : Tree)
   pub parsed : Answers text (Ok (with_names names expr))
   pub bound : Binds names (with_names names expr) (Ok expr)
 
--- what can be read again: a text within the limits, and names that differ
-pub record CanBeRead (text : List ℕ) (names : List (List ℕ)) : Type 0 where
-  pub short : length text ≤ MAX_EXPRESSION_BYTES
-  pub flat : most_open 0 (tokens_of text) ≤ MAX_OPEN_PARENTHESES
-  pub differ : Differ names
+-- Some text within the limits of parsing states the expression.
+pub record IsStatable (expr : NamedTree) : Type 0 where
+  pub text : List ℕ
+  pub answers : Answers text (Ok expr)

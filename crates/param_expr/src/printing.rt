@@ -1,9 +1,11 @@
-ghost use Rattle.std.specs.Prelude.{◌≡◌, ◌≤◌, ℕ, List, [], ◌++◌, OnOk, IfOk, All, codes, if◌then◌else◌, IsTrue, length, string_bytes};
+ghost use Rattle.std.specs.Prelude.{◌≡◌, ◌≤◌, ℕ, List, [], None, ◌++◌, OnOk, IfOk, All, codes, if◌then◌else◌, IsTrue, length, string_bytes};
 ghost use Rattle.param_expr.specs.Eval.{RefersBelow};
 ghost use Rattle.param_expr.specs.Words.{IsName};
+ghost use Rattle.param_expr.specs.Tokens.{tokens_of};
 ghost use Rattle.param_expr.specs.Grammar.{Spells};
 ghost use Rattle.param_expr.specs.Pieces.{HasSmallNumbers, after_of, before_of, between_of, left_asks, right_asks};
-ghost use Rattle.param_expr.specs.Print.{CanBeRead, IsReadAgain, NonNegative, has_no_leading_zeros, has_no_spaces, level_of, operand, parentheses, printed, with_names};
+ghost use Rattle.param_expr.specs.Parse.{first_large, most_open};
+ghost use Rattle.param_expr.specs.Print.{Differ, IsReadAgain, IsStatable, NonNegative, has_no_leading_zeros, has_no_spaces, level_of, operand, parentheses, printed, with_names};
 
 use crate::expr::{Expr, Node};
 use crate::name::Name;
@@ -141,11 +143,14 @@ pub fn print(alloc: Global, expr: &Expr, names: &[Name]) -> Result<String, Alloc
 
     ensures no_spaces { IfOk result (λ text. IsTrue (has_no_spaces (string_bytes text))) }
     ensures no_leading_zeros { IfOk result (λ text. IsTrue (has_no_leading_zeros (string_bytes text))) }
-    // Among all texts that the expression spells none has fewer parentheses.
+    ensures no_large_number { IfOk result (λ text. first_large (tokens_of (string_bytes text)) ≡ None) }
+    // Among all texts that the expression spells, none has fewer parentheses, none has fewer of them open at once, and none is shorter.
     ensures fewest { IfOk result (λ text. (other : List ℕ) → Spells other (with_names names.now expr.now) → parentheses (string_bytes text) ≤ parentheses other) }
+    ensures flattest { IfOk result (λ text. (other : List ℕ) → Spells other (with_names names.now expr.now) → most_open 0 (tokens_of (string_bytes text)) ≤ most_open 0 (tokens_of other)) }
+    ensures shortest { IfOk result (λ text. (other : List ℕ) → Spells other (with_names names.now expr.now) → length (string_bytes text) ≤ length other) }
 
-    // Within the limits of `parse`, and where no two names are one, `parse` and `bind` give the expression again.
-    ensures again { IfOk result (λ text. CanBeRead (string_bytes text) names.now → IsReadAgain (string_bytes text) names.now expr.now) }
+    // Where some text within the limits of `parse` states the expression, and no two names are one, `parse` and `bind` give it again.
+    ensures again { IfOk result (λ text. IsStatable (with_names names.now expr.now) → Differ names.now → IsReadAgain (string_bytes text) names.now expr.now) }
 {
     let mut text = String::new(alloc);
     write_expr(&mut text, 0, expr, names)?;

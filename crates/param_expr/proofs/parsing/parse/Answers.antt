@@ -1,6 +1,6 @@
 use Rattle.param_expr.proofs.Computed.{computed}
 use Rattle.param_expr.proofs.OneAnswer.{one_answer, one_spelled}
-use Rattle.param_expr.proofs.Least.{answer_stated}
+use Rattle.param_expr.proofs.Stated.{answer_stated}
 use Rattle.param_expr.proofs.parsing.parse.Goals as goal
 
 pub returns-clause-only : goal.returns-clause-only

@@ -16,8 +16,17 @@ returns-clause-no_spaces c = (all_laws c).spaces
 pub returns-clause-no_leading_zeros : goal.returns-clause-no_leading_zeros
 returns-clause-no_leading_zeros c = (all_laws c).zeros
 
+pub returns-clause-no_large_number : goal.returns-clause-no_large_number
+returns-clause-no_large_number c = (all_laws c).small
+
 pub returns-clause-fewest : goal.returns-clause-fewest
 returns-clause-fewest c = (all_laws c).fewest
+
+pub returns-clause-flattest : goal.returns-clause-flattest
+returns-clause-flattest c = (all_laws c).flattest
+
+pub returns-clause-shortest : goal.returns-clause-shortest
+returns-clause-shortest c = (all_laws c).shortest
 
 pub returns-clause-again : goal.returns-clause-again
 returns-clause-again c = (all_laws c).again
