@@ -80,13 +80,13 @@ letter_no_space c h = grind (arith, nat_tests)
 letter_no_digit : (c : ℕ) → is_letter c ≡ true → is_digit c ≡ false
 letter_no_digit c h = grind (arith, nat_tests)
 
-abbrev digits_lexeme : List ℕ → Lexeme
+abbrev pub digits_lexeme : List ℕ → Lexeme
 digits_lexeme ds = record { bytes = ds; token = number (digits_value 10 ds) }
 
-abbrev word_lexeme : List ℕ → Lexeme
+abbrev pub word_lexeme : List ℕ → Lexeme
 word_lexeme w = record { bytes = w; token = word_token w }
 
-abbrev mark_lexeme : ℕ → Lexeme
+abbrev pub mark_lexeme : ℕ → Lexeme
 mark_lexeme b = record { bytes = b ∷ []; token = mark_of b }
 
 cond_first : (b : Bool) (x y : Lexeme) → b ≡ true → cond b x y ≡ x

@@ -4,6 +4,7 @@ pub mod Computed
 pub mod Derived
 pub mod Fewest
 pub mod Flattest
+pub mod Fronts
 pub mod Halves
 pub mod Least
 pub mod Lexed

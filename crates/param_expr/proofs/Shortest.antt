@@ -1,26 +1,26 @@
 -- No text of a tree is shorter than what is printed of it.
 use Rattle.std.proofs.Common.{◌≡◌, ℕ, ◌+◌, ◌-◌, ◌<◌, ◌≤◌, ◌^◌, zero, suc, List, [], ◌∷◌, ◌++◌, length, Bool, true, false, cond, eqb, pos, negsuc, refl, sym, ap, ◌∙◌, length-append, arith}
-use Rattle.std.proofs.lemmas.Bool.Decides.{nat_tests}
 use Rattle.std.proofs.lemmas.Fmt.{length-decimal-le}
-use Rattle.std.proofs.lemmas.Slice.Eq.{bytes_eq-Decides}
 use Rattle.std.proofs.lemmas.Str.Parse.{digits_value_short}
-use Rattle.std.specs.Prelude.{codes, nat_lt, decimal, take_while}
+use Rattle.std.specs.Prelude.{codes, nat_lt, decimal}
 use Rattle.std.specs.List.{list_all}
-use Rattle.std.specs.Str.{bytes_eq}
 use Rattle.std.specs.Str.Parse.{digits_value}
 use Rattle.param_expr.specs.Named as tree
 use Rattle.param_expr.specs.Named.{NamedTree}
-use Rattle.param_expr.specs.Words.{is_digit, is_letter, is_word_byte, is_name}
-use Rattle.param_expr.specs.Tokens.{Token, number, name, additive, multiplicative, function, left_paren, right_paren, comma, other, word_token, mark_of, Lexeme, front, front_at, Placed, tokens_from, tokens_of, plain_tokens}
+use Rattle.param_expr.specs.Words.{is_digit}
+use Rattle.param_expr.specs.Tokens.{Token, number, name, additive, multiplicative, function, right_paren, comma, other, word_token, mark_of, Lexeme, front, front_at, tokens_from, tokens_of, plain_tokens}
 use Rattle.param_expr.specs.Grammar.{Sum, Term, Factor, one_term, sum_of, one_factor, product_of, literal, named, group, call, sum_tokens, term_tokens, factor_tokens, Spells}
 use Rattle.param_expr.specs.Print.{tightness, printed, operand}
 use Rattle.param_expr.specs.declared.op.Op.TheVariants.{Add, Sub, Mul, Div, Rem, Min, Max}
 use Rattle.param_expr.proofs.Measures.{Measure, sum_measure, term_measure, factor_measure, least, least_at}
 use Rattle.param_expr.proofs.Derived.{Writable}
 use Rattle.param_expr.proofs.Least.{spelled_least}
-use Rattle.param_expr.proofs.Numerals.{own, run_passes}
+use Rattle.param_expr.proofs.Numerals.{own}
 use Rattle.param_expr.proofs.Turning.{front_bounded}
 use Rattle.param_expr.proofs.Written.{whole_operand}
+use Rattle.param_expr.proofs.Fronts.{word_has, mark_has, front_has}
+use Rattle.std.proofs.lemmas.Bool.{cond_both, leb-true, ltb-true, ltb-false}
+use Rattle.std.specs.Prelude.{nat_le}
 
 -- ---- the fewest bytes of tokens
 
@@ -46,57 +46,22 @@ bytes_in-append (t ∷ a) b = omega (arith, bytes_in-append a b)
 -- ---- a text has them
 
 number_fits : (n k : ℕ) → 0 < k → n < 10 ^ k → number_bytes n ≤ k
-number_fits n k some h = fits (nat_lt n (2 ^ 63)) refl
-  where
-    fits : (b : Bool) → nat_lt n (2 ^ 63) ≡ b → cond b (length (decimal n)) 0 ≤ k
-    fits true e = length-decimal-le k n some h (small e)
-      where
-        small : nat_lt n (2 ^ 63) ≡ true → n < 2 ^ 64
-        small e = grind (arith, nat_tests)
-    fits false e = omega arith
+number_fits n k some h = cond_both (nat_lt n (2 ^ 63)) (length (decimal n)) 0 (λ m. m ≤ k) (λ e. length-decimal-le k n some h (omega (arith, ltb-true n (2 ^ 63) e))) (λ e. omega arith)
 
 run_fits : (ds : List ℕ) → list_all is_digit ds ≡ true → 0 < length ds → number_bytes (digits_value 10 ds) ≤ length ds
 run_fits ds all some = number_fits (digits_value 10 ds) (length ds) some (digits_value_short own ds (length ds) all (omega arith))
 
-reserved_fits : (w v : List ℕ) → bytes_eq w v ≡ true → length w ≡ length v
-reserved_fits w v h = ap length ((bytes_eq-Decides w v).0 h)
-
-token_cond : (b : Bool) (x y : Token) (n : ℕ) → (b ≡ true → token_bytes x ≤ n) → token_bytes y ≤ n → token_bytes (cond b x y) ≤ n
-token_cond true x y n h k = h refl
-token_cond false x y n h k = k
-
-word_fits : (w : List ℕ) → token_bytes (word_token w) ≤ length w
-word_fits w =
-    token_cond (bytes_eq w (codes "min")) (function Min) _ (length w) (λ e. let n = reserved_fits w (codes "min") e in omega arith)
-    (token_cond (bytes_eq w (codes "max")) (function Max) _ (length w) (λ e. let n = reserved_fits w (codes "max") e in omega arith)
-    (token_cond (is_name w) (name w) other (length w) (λ e. omega arith) (omega arith)))
-
-mark_fits : (b : ℕ) → token_bytes (mark_of b) ≤ 1
-mark_fits b =
-    token_cond (eqb b 43) (additive Add) _ 1 (λ e. omega arith)
-    (token_cond (eqb b 45) (additive Sub) _ 1 (λ e. omega arith)
-    (token_cond (eqb b 42) (multiplicative Mul) _ 1 (λ e. omega arith)
-    (token_cond (eqb b 47) (multiplicative Div) _ 1 (λ e. omega arith)
-    (token_cond (eqb b 37) (multiplicative Rem) _ 1 (λ e. omega arith)
-    (token_cond (eqb b 40) left_paren _ 1 (λ e. omega arith)
-    (token_cond (eqb b 41) right_paren _ 1 (λ e. omega arith)
-    (token_cond (eqb b 44) comma other 1 (λ e. omega arith) (omega arith))))))))
-
 abbrev Fits : Lexeme → Type 0
 Fits l = 0 < length l.bytes → token_bytes l.token ≤ length l.bytes
 
-lexeme_cond : (b : Bool) (x y : Lexeme) → Fits x → Fits y → Fits (cond b x y)
-lexeme_cond true x y h k = h
-lexeme_cond false x y h k = k
+word_fits : (w : List ℕ) → token_bytes (word_token w) ≤ length w
+word_fits w = word_has (λ t. token_bytes t ≤ length w) w (λ e. omega (arith, ap length e)) (λ e. omega (arith, ap length e)) (λ e. omega arith) (omega arith)
+
+mark_fits : (b : ℕ) → nat_le (token_bytes (mark_of b)) 1 ≡ true
+mark_fits b = mark_has (λ t. nat_le (token_bytes t) 1 ≡ true) b refl refl refl refl refl refl refl refl refl
 
 front_fits : (c : ℕ) (rest : List ℕ) → Fits (front (c ∷ rest))
-front_fits c rest =
-    lexeme_cond (is_digit c) (record { bytes = take_while is_digit (c ∷ rest); token = number (digits_value 10 (take_while is_digit (c ∷ rest))) }) _ (run_fits (take_while is_digit (c ∷ rest)) (run_passes is_digit (c ∷ rest)))
-    (lexeme_cond (is_letter c) (record { bytes = take_while is_word_byte (c ∷ rest); token = word_token (take_while is_word_byte (c ∷ rest)) }) (record { bytes = c ∷ []; token = mark_of c }) (λ some. word_fits (take_while is_word_byte (c ∷ rest))) (λ some. mark_fits c))
-
-choice_fits : (b : Bool) (x y : List Placed) (n : ℕ) → bytes_in (plain_tokens x) + 0 ≤ n → bytes_in (plain_tokens y) + 0 ≤ n → bytes_in (plain_tokens (cond b x y)) + 0 ≤ n
-choice_fits true x y n h k = h
-choice_fits false x y n h k = k
+front_fits c rest = front_has Fits c rest (λ ds all some. run_fits ds all some) (λ w some. word_fits w) (λ b some. leb-true (token_bytes (mark_of b)) 1 (mark_fits b))
 
 text_fits : (text : List ℕ) (at left : ℕ) → left ≤ length text → bytes_in (plain_tokens (tokens_from at left text)) + left ≤ length text
 unfolding tokens_from
@@ -107,7 +72,7 @@ text_fits (c ∷ text) at zero h =
     let own : token_bytes (front (c ∷ text)).token ≤ length (front (c ∷ text)).bytes = front_fits c text bounds.low in
     let more = text_fits text (at + 1) (length (front (c ∷ text)).bytes - 1) (omega (arith, bounds.high)) in
     let space = text_fits text (at + 1) 0 (omega arith) in
-    choice_fits (eqb c 32) (tokens_from (at + 1) 0 text) (front_at at (c ∷ text) ∷ tokens_from (at + 1) (length (front (c ∷ text)).bytes - 1) text) (length (c ∷ text)) (omega arith) (omega arith)
+    cond_both (eqb c 32) (tokens_from (at + 1) 0 text) (front_at at (c ∷ text) ∷ tokens_from (at + 1) (length (front (c ∷ text)).bytes - 1) text) (λ ps. bytes_in (plain_tokens ps) + 0 ≤ length (c ∷ text)) (λ e. omega arith) (λ e. omega arith)
 
 -- ---- the fewest bytes of sums
 
@@ -143,14 +108,7 @@ mutual
 -- ---- what is printed has no more
 
 number_is : (n : ℕ) → n < 2 ^ 63 → length (decimal n) ≡ number_bytes n
-number_is n h = is (nat_lt n (2 ^ 63)) refl
-  where
-    is : (b : Bool) → nat_lt n (2 ^ 63) ≡ b → length (decimal n) ≡ cond b (length (decimal n)) 0
-    is true e = refl
-    is false e = absurd (over e)
-      where
-        over : nat_lt n (2 ^ 63) ≡ false → ⊥
-        over e = grind (arith, nat_tests)
+number_is n h = cond_both (nat_lt n (2 ^ 63)) (length (decimal n)) 0 (λ m. length (decimal n) ≡ m) (λ e. refl) (λ e. absurd (omega (arith, ltb-false n (2 ^ 63) e)))
 
 length-operand : (asked : ℕ) (t : NamedTree) → length (printed t) ≡ least bytes t → length (operand asked t) ≡ least_at bytes asked t
 length-operand asked t h = choice (nat_lt (tightness t) asked)
