@@ -125,7 +125,8 @@ fn write_expr(text: &mut String, asked: u8, expr: &Expr, names: &[Name]) -> Resu
 }
 
 /// The text of an expression with the fewest parentheses, without spaces and without leading
-/// zeros, where `names[i]` is the name of the parameter at place `i`.
+/// zeros, where `names[i]` is the name of the parameter at place `i`. No text of the expression
+/// is shorter.
 ///
 /// An operand stands in parentheses only where the text would else spell another expression: a
 /// left operand that is a sum, under `*`, `/` and `%`, and a right operand that is a sum, or, under
