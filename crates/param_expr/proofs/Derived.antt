@@ -1,5 +1,5 @@
 -- What is printed of a tree is spelled by it.
-use Rattle.std.proofs.Common.{◌≡◌, ℕ, ◌<◌, ◌^◌, zero, suc, List, [], ◌∷◌, ◌++◌, length, get_or, Bool, true, false, not, cond, eqb, ◌&&◌, ◌||◌, pos, negsuc, refl, sym, ap, subst, ◌∙◌, arith}
+use Rattle.std.proofs.Common.{◌≡◌, ℕ, ◌<◌, ◌^◌, zero, suc, List, [], ◌∷◌, ◌++◌, length, get_or, Bool, true, false, not, cond, eqb, ◌&&◌, ◌||◌, pos, negsuc, refl, sym, ap, ap₂, subst, ◌∙◌, arith}
 use Rattle.std.proofs.lemmas.Bool.Decides.{nat_tests}
 use Rattle.std.proofs.lemmas.Fmt.{decimal_nonempty, first_decimal, decimal_digit, digits_decimal, digits_value-decimal}
 use Rattle.std.specs.Prelude.{codes, nat_le, decimal}
@@ -111,26 +111,17 @@ from_sum t s is e h n =
 
 -- ---- operations
 
-abbrev tree_by : Op → NamedTree → NamedTree → NamedTree
-tree_by op a b = tree.binary op a b
-
-both_sides : (op : Op) (x y a b : NamedTree) → x ≡ a → y ≡ b → tree.binary op x y ≡ tree.binary op a b
-both_sides op x y a b h k = cc
-
-both : (f : ℕ → ℕ → ℕ) {a b c d : ℕ} → a ≡ c → b ≡ d → f a b ≡ f c d
-both f h k = cc
-
 derived_sum : (op : Op) (m : ℕ) (a b : NamedTree) → Mark m (additive op) → level_of op ≡ 0 → printed (tree.binary op a b) ≡ operand 0 a ++ (m ∷ operand 1 b) → ((k : Measure) → least k (tree.binary op a b) ≡ k.joined (least_at k 0 a) (least_at k 1 b)) → Derivation a → Derivation b → Derivation (tree.binary op a b)
 derived_sum op m a b mk level text need da db =
-    from_sum (tree.binary op a b) (sum_of da.sum op db.term) (both_sides op _ _ a b da.sum_is db.term_is) level
+    from_sum (tree.binary op a b) (sum_of da.sum op db.term) (ap₂ (tree.binary op) da.sum_is db.term_is) level
     (subst (λ t. Writes t (sum_tokens da.sum ++ additive op ∷ term_tokens db.term)) (sym text) (writes_marked (operand 0 a) (sum_tokens da.sum) m (additive op) (operand 1 b) (term_tokens db.term) da.sum_written mk db.term_written))
-    (λ k. both k.joined (da.sum_measured k) (db.term_measured k) ∙ sym (need k))
+    (λ k. ap₂ k.joined (da.sum_measured k) (db.term_measured k) ∙ sym (need k))
 
 derived_term : (op : Op) (m : ℕ) (a b : NamedTree) → Mark m (multiplicative op) → level_of op ≡ 1 → printed (tree.binary op a b) ≡ operand 1 a ++ (m ∷ operand 2 b) → ((k : Measure) → least k (tree.binary op a b) ≡ k.joined (least_at k 1 a) (least_at k 2 b)) → Derivation a → Derivation b → Derivation (tree.binary op a b)
 derived_term op m a b mk level text need da db =
-    from_term (tree.binary op a b) (product_of da.term op db.factor) (both_sides op _ _ a b da.term_is db.factor_is) level
+    from_term (tree.binary op a b) (product_of da.term op db.factor) (ap₂ (tree.binary op) da.term_is db.factor_is) level
     (subst (λ t. Writes t (term_tokens da.term ++ multiplicative op ∷ factor_tokens db.factor)) (sym text) (writes_marked (operand 1 a) (term_tokens da.term) m (multiplicative op) (operand 2 b) (factor_tokens db.factor) da.term_written mk db.factor_written))
-    (λ k. both k.joined (da.term_measured k) (db.factor_measured k) ∙ sym (need k))
+    (λ k. ap₂ k.joined (da.term_measured k) (db.factor_measured k) ∙ sym (need k))
 
 comma_mark : Mark 44 comma
 comma_mark = mark 44 comma (λ rest. refl) refl refl refl refl
@@ -140,12 +131,12 @@ call_text w x y = w ++ (40 ∷ (x ++ (44 ∷ (y ++ (41 ∷ [])))))
 
 derived_call : (op : Op) (w : List ℕ) (a b : NamedTree) → Writes w (function op ∷ []) → level_of op ≡ 2 → printed (tree.binary op a b) ≡ call_text w (operand 0 a) (operand 0 b) → ((k : Measure) → least k (tree.binary op a b) ≡ k.called (least_at k 0 a) (least_at k 0 b)) → Derivation a → Derivation b → Derivation (tree.binary op a b)
 derived_call op w a b wk level text need da db =
-    from_factor (tree.binary op a b) (call op da.sum db.sum) (both_sides op _ _ a b da.sum_is db.sum_is) level
+    from_factor (tree.binary op a b) (call op da.sum db.sum) (ap₂ (tree.binary op) da.sum_is db.sum_is) level
     (subst (λ t. Writes t (factor_tokens (call op da.sum db.sum))) (sym text)
     (writes_marked w (function op ∷ []) 40 left_paren _ _ wk paren_open
     (writes_marked (operand 0 a) (sum_tokens da.sum) 44 comma _ _ da.sum_written comma_mark
     (writes_before (operand 0 b) (sum_tokens db.sum) 41 right_paren db.sum_written paren_close))))
-    (λ k. both k.called (da.sum_measured k) (db.sum_measured k) ∙ sym (need k))
+    (λ k. ap₂ k.called (da.sum_measured k) (db.sum_measured k) ∙ sym (need k))
 
 -- ---- numbers and names
 

@@ -16,35 +16,29 @@ use Rattle.param_expr.proofs.Sound.{sound, all_sound, all_parts}
 
 -- ---- what is asked of an operand
 
-placed_0 : (m : Measure) (has n : ℕ) → placed m 0 has n ≤ placed m 1 has n
-placed_0 m has n = more (m.enclosed n) (m.enclosed_more n)
+placed_more : (m : Measure) (has n a b : ℕ) → a ≤ b → placed m a has n ≤ placed m b has n
+placed_more m has n a b h = more (m.enclosed n) (m.enclosed_more n)
   where
-    more : (e : ℕ) → n ≤ e → cond (nat_lt has 0) e n ≤ cond (nat_lt has 1) e n
-    more e h = grind (arith, nat_tests)
+    more : (e : ℕ) → n ≤ e → cond (nat_lt has a) e n ≤ cond (nat_lt has b) e n
+    more e k = grind (arith, nat_tests)
 
-placed_1 : (m : Measure) (has n : ℕ) → placed m 1 has n ≤ placed m 2 has n
-placed_1 m has n = more (m.enclosed n) (m.enclosed_more n)
+placed_bare : (m : Measure) (has n : ℕ) → placed m 0 has n ≡ n
+placed_bare m has n = bare (m.enclosed n)
   where
-    more : (e : ℕ) → n ≤ e → cond (nat_lt has 1) e n ≤ cond (nat_lt has 2) e n
-    more e h = grind (arith, nat_tests)
+    bare : (e : ℕ) → cond (nat_lt has 0) e n ≡ n
+    bare e = grind (arith, nat_tests)
 
-placed_2 : (m : Measure) (has n : ℕ) → placed m 2 has n ≤ m.enclosed (placed m 0 has n)
-placed_2 m has n = subst (λ k. placed m 2 has n ≤ m.enclosed k) (sym bare) (most (m.enclosed n) (m.enclosed_more n))
+placed_enclosed : (m : Measure) (has n : ℕ) → placed m 2 has n ≤ m.enclosed n
+placed_enclosed m has n = most (m.enclosed n) (m.enclosed_more n)
   where
-    bare : placed m 0 has n ≡ n
-    bare = none (m.enclosed n)
-      where
-        none : (e : ℕ) → cond (nat_lt has 0) e n ≡ n
-        none e = grind (arith, nat_tests)
-
     most : (e : ℕ) → n ≤ e → cond (nat_lt has 2) e n ≤ e
     most e h = grind (arith, nat_tests)
 
-at_0 : (m : Measure) (t : NamedTree) → least_at m 0 t ≤ least_at m 1 t
-at_0 m t = placed_0 m (tightness t) (least m t)
+least_more : (m : Measure) (t : NamedTree) (a b : ℕ) → a ≤ b → least_at m a t ≤ least_at m b t
+least_more m t = placed_more m (tightness t) (least m t)
 
-at_1 : (m : Measure) (t : NamedTree) → least_at m 1 t ≤ least_at m 2 t
-at_1 m t = placed_1 m (tightness t) (least m t)
+least_enclosed : (m : Measure) (t : NamedTree) → least_at m 2 t ≤ m.enclosed (least_at m 0 t)
+least_enclosed m t = subst (λ n. least_at m 2 t ≤ m.enclosed n) (sym (placed_bare m (tightness t) (least m t))) (placed_enclosed m (tightness t) (least m t))
 
 least_sum : (m : Measure) (op : Op) (a b : NamedTree) → eqb (level_of op) 0 ≡ true → least_at m 0 (tree.binary op a b) ≡ m.joined (least_at m 0 a) (least_at m 1 b)
 least_sum m Add a b h = refl
@@ -83,14 +77,14 @@ below h k = omega arith
 
 mutual
   pub sum_least : (m : Measure) (s : Sum) → list_all sound (sum_tokens s) ≡ true → least_at m 0 (sum_tree s) ≤ sum_measure m s
-  sum_least m (one_term t) h = chain _ _ _ (at_0 m (term_tree t)) (term_least m t h)
+  sum_least m (one_term t) h = chain _ _ _ (least_more m (term_tree t) 0 1 (omega arith)) (term_least m t h)
   sum_least m (sum_of s op t) h =
       let p = all_parts sound (sum_tokens s) (additive op ∷ term_tokens t) h in
       let q = and_parts (eqb (level_of op) 0) (list_all sound (term_tokens t)) p.1 in
       below (least_sum m op (sum_tree s) (term_tree t) q.0) (m.joined_rises _ _ _ _ (sum_least m s p.0) (term_least m t q.1))
 
   term_least : (m : Measure) (t : Term) → list_all sound (term_tokens t) ≡ true → least_at m 1 (term_tree t) ≤ term_measure m t
-  term_least m (one_factor f) h = chain _ _ _ (at_1 m (factor_tree f)) (factor_least m f h)
+  term_least m (one_factor f) h = chain _ _ _ (least_more m (factor_tree f) 1 2 (omega arith)) (factor_least m f h)
   term_least m (product_of t op f) h =
       let p = all_parts sound (term_tokens t) (multiplicative op ∷ factor_tokens f) h in
       let q = and_parts (eqb (level_of op) 1) (list_all sound (factor_tokens f)) p.1 in
@@ -101,7 +95,7 @@ mutual
   factor_least m (named w) h = omega arith
   factor_least m (group s) h =
       let p = all_parts sound (sum_tokens s) (right_paren ∷ []) h in
-      chain _ _ _ (placed_2 m (tightness (sum_tree s)) (least m (sum_tree s))) (m.enclosed_rises _ _ (sum_least m s p.0))
+      chain _ _ _ (least_enclosed m (sum_tree s)) (m.enclosed_rises _ _ (sum_least m s p.0))
   factor_least m (call op a b) h =
       let q = and_parts (eqb (level_of op) 2) (list_all sound (sum_tokens a ++ comma ∷ (sum_tokens b ++ right_paren ∷ []))) h in
       let p = all_parts sound (sum_tokens a) (comma ∷ (sum_tokens b ++ right_paren ∷ [])) q.1 in

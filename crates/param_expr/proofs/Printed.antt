@@ -8,7 +8,7 @@ use Rattle.std.proofs.lemmas.Bool.{false_from_ne_true}
 use Rattle.std.proofs.lemmas.Iterator.Adapters.{position_from-zero}
 use Rattle.std.proofs.lemmas.Slice.Eq.{bytes_eq-Decides}
 use Rattle.std.specs.Option.{option_or}
-use Rattle.std.specs.Prelude.{All, is_none, unwrap_or, IsTrue}
+use Rattle.std.specs.Prelude.{All, is_none, unwrap_or, IsTrue, Ok}
 use Rattle.std.specs.List.{position_from}
 use Rattle.std.specs.Str.{bytes_eq}
 use Rattle.param_expr.specs.Eval.{RefersBelow, in_i64}
@@ -19,16 +19,15 @@ use Rattle.param_expr.specs.Grammar.{Spells}
 use Rattle.param_expr.specs.Bind.{place_of, names_of, unknown_of, placed_in}
 use Rattle.param_expr.specs.Print.{with_names, NonNegative, Differ, printed, operand, parentheses, has_no_leading_zeros, has_no_spaces, IsReadAgain, IsStatable}
 use Rattle.param_expr.specs.Pieces.{HasSmallNumbers}
+use Rattle.param_expr.specs.Named.{NamedTree}
+use Rattle.param_expr.specs.Tokens.{tokens_of}
+use Rattle.param_expr.specs.Parse.{Answers, first_large, most_open}
 use Rattle.param_expr.proofs.Derived.{Writable}
 use Rattle.param_expr.proofs.Written.{whole_operand, printed_spells, printed_zeros, printed_small, printed_spaces}
 use Rattle.param_expr.proofs.Fewest.{printed_fewest}
 use Rattle.param_expr.proofs.Flattest.{printed_flattest}
 use Rattle.param_expr.proofs.Shortest.{printed_shortest}
 use Rattle.param_expr.proofs.Stated.{spelled_writable}
-use Rattle.param_expr.specs.Named.{NamedTree}
-use Rattle.param_expr.specs.Tokens.{tokens_of}
-use Rattle.param_expr.specs.Parse.{Answers, first_large, most_open}
-use Rattle.std.specs.Prelude.{Ok}
 
 -- ---- what can be printed
 

@@ -2,7 +2,8 @@
 use Rattle.std.proofs.Common.{◌≡◌, ℕ, ◌+◌, ◌-◌, ◌<◌, ◌≤◌, ◌^◌, zero, suc, List, [], ◌∷◌, ◌++◌, length, Bool, true, false, cond, eqb, pos, negsuc, refl, sym, ap, ◌∙◌, length-append, arith}
 use Rattle.std.proofs.lemmas.Fmt.{length-decimal-le}
 use Rattle.std.proofs.lemmas.Str.Parse.{digits_value_short}
-use Rattle.std.specs.Prelude.{codes, nat_lt, decimal}
+use Rattle.std.proofs.lemmas.Bool.{cond_both, leb-true, ltb-true, ltb-false}
+use Rattle.std.specs.Prelude.{codes, nat_lt, decimal, nat_le}
 use Rattle.std.specs.List.{list_all}
 use Rattle.std.specs.Str.Parse.{digits_value}
 use Rattle.param_expr.specs.Named as tree
@@ -19,8 +20,6 @@ use Rattle.param_expr.proofs.Numerals.{own}
 use Rattle.param_expr.proofs.Turning.{front_bounded}
 use Rattle.param_expr.proofs.Written.{whole_operand}
 use Rattle.param_expr.proofs.Fronts.{word_has, mark_has, front_has}
-use Rattle.std.proofs.lemmas.Bool.{cond_both, leb-true, ltb-true, ltb-false}
-use Rattle.std.specs.Prelude.{nat_le}
 
 -- ---- the fewest bytes of tokens
 

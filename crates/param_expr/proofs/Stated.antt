@@ -1,20 +1,16 @@
 -- What a text states: its numbers and names.
-use Rattle.std.proofs.Common.{◌≡◌, ℕ, ◌-◌, List, [], ◌∷◌, ◌++◌, Bool, true, false, cond, eqb, refl, ap, subst, ◌∙◌, arith}
+use Rattle.std.proofs.Common.{◌≡◌, ℕ, ◌-◌, List, [], ◌∷◌, ◌++◌, Bool, true, false, cond, eqb, refl, ap, subst, ◌∙◌, arith, ◌<◌, ◌^◌, not, Option, Some, None}
 use Rattle.std.proofs.lemmas.Bool.{and_parts, and_from}
 use Rattle.std.proofs.lemmas.Bool.Decides.{nat_tests}
-use Rattle.std.specs.Prelude.{nat_lt}
+use Rattle.std.specs.Prelude.{nat_lt, IfOk, Result, Ok, Err}
 use Rattle.std.specs.List.{list_all}
 use Rattle.param_expr.specs.Named.{NamedTree}
 use Rattle.param_expr.specs.Words.{is_name}
-use Rattle.param_expr.specs.Tokens.{Token, number, additive, multiplicative, right_paren, comma, Placed, plain_tokens}
+use Rattle.param_expr.specs.Tokens.{Token, number, additive, multiplicative, right_paren, comma, Placed, plain_tokens, tokens_of}
 use Rattle.param_expr.specs.Grammar.{Sum, Term, Factor, one_term, sum_of, one_factor, product_of, literal, named, group, call, sum_tokens, term_tokens, factor_tokens, sum_tree, term_tree, factor_tree, Spells}
-use Rattle.std.specs.Prelude.{IfOk, Result, Ok, Err}
-use Rattle.param_expr.specs.Parse.{IsStated, Answers, UnlessMemory}
+use Rattle.param_expr.specs.Parse.{IsStated, Answers, UnlessMemory, is_large, first_large}
 use Rattle.param_expr.specs.declared.fault.ExprFault.{ExprFault}
 use Rattle.param_expr.specs.Print.{level_of}
-use Rattle.std.proofs.Common.{◌<◌, ◌^◌, not, Option, Some, None}
-use Rattle.param_expr.specs.Parse.{is_large, first_large}
-use Rattle.param_expr.specs.Tokens.{tokens_of}
 use Rattle.param_expr.proofs.Sound.{sound, all_sound, all_parts}
 use Rattle.param_expr.proofs.Derived.{Writable}
 
