@@ -2,6 +2,7 @@ pub mod Alike
 pub mod Closure
 pub mod Cycles
 pub mod EachGraph
+pub mod Falling
 pub mod Firsts
 pub mod Holding
 pub mod InOrder
@@ -12,7 +13,6 @@ pub mod Marking
 pub mod Nested
 pub mod Numbers
 pub mod Referring
-pub mod Rising
 pub mod Searching
 pub mod Seen
 pub mod Standing

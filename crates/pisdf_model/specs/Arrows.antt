@@ -10,10 +10,6 @@ to_of arrows v = slice_index_or arrows v []
 abbrev pub LeadsInside : List (List ℕ) → Type 0
 LeadsInside arrows = All (λ to. All (λ w. w < length arrows) to) arrows
 
--- each arrow leads from a lower rank to a higher one
-abbrev pub Rise : List (List ℕ) → List ℕ → Type 0
-Rise arrows ranks = (v : ℕ) → v < length arrows → All (λ w. slice_index_or ranks v 0 < slice_index_or ranks w 0) (to_of arrows v)
-
 -- a path of at least one arrow leads from v over the places between to w
 abbrev pub Leads : List (List ℕ) → ℕ → List ℕ → ℕ → Type 0
 Leads arrows v [] w = Contains (to_of arrows v) w

@@ -1,4 +1,5 @@
 pub mod Arrows
+pub mod Components
 pub mod Count
 pub mod Details
 pub mod EndTimes

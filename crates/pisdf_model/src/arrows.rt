@@ -5,7 +5,7 @@ ghost use Rattle.pisdf_model.specs.Arrows.{LeadsInside, IsReached, IsMarked, lea
 ghost use Rattle.pisdf_model.specs.Details.{first};
 ghost use Rattle.pisdf_model.specs.Search.{Notes};
 
-use crate::ranks::{ranks, rise};
+use crate::components::{acyclic_front, components};
 use sdf_level::List;
 use std::alloc::{AllocError, Global};
 
@@ -62,11 +62,8 @@ pub(crate) fn first_on_cycle(
     ensures first { IfOk result (λ place. place ≡ first (on_cycles arrows.now)) }
     ensures inside { IfOk result (λ place. IfSome place (λ v. v < length arrows.now)) }
 {
-    let ranks = ranks(alloc, arrows)?;
-    if rise(arrows, &ranks) {
-        return Ok(None);
-    }
-    for place in 0..arrows.len() {
+    let components = components(alloc, arrows)?;
+    for place in acyclic_front(arrows, &components)..arrows.len() {
         if is_on_cycle(alloc, arrows, place)? {
             return Ok(Some(place));
         }

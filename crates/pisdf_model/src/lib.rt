@@ -5,6 +5,7 @@
 
 mod actor;
 mod arrows;
+mod components;
 mod counting;
 mod detail_fault;
 mod duplicates;
@@ -21,7 +22,6 @@ mod param;
 mod parts;
 mod port_counts;
 mod range;
-mod ranks;
 mod rules;
 mod tally;
 mod wires;

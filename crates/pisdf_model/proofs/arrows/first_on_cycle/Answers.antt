@@ -2,7 +2,6 @@ use Rattle.std.proofs.Common.{length, sym, ap, ◌∙◌, arith, below_more}
 use Rattle.pisdf_model.specs.Details.{first}
 use Rattle.pisdf_model.specs.Arrows.{leads}
 use Rattle.pisdf_model.proofs.Firsts.{first_place, nowhere}
-use Rattle.pisdf_model.proofs.Rising.{no_cycle}
 use Rattle.pisdf_model.proofs.arrows.first_on_cycle.Goals as goal
 
 pub loop-place-preserved : goal.loop-place-preserved
@@ -17,8 +16,3 @@ returns c = record {
 pub returns-then-branch-clause-first : goal.returns-then-branch-clause-first
 returns-then-branch-clause-first c =
     sym (first_place (λ v. leads c.args.arrows.now v v) (length c.args.arrows.now) c.loop-place.place c.loop-place.invariant c.loop-place-test.true (sym c.in_ok-is_on_cycle.ensures ∙ c.if-branch.true))
-
-pub returns-then-rise-clause-first : goal.returns-then-rise-clause-first
-returns-then-rise-clause-first c =
-    let rise = rw c.if-rise.true at c.rise.ensures in
-    sym (ap first (no_cycle c.args.arrows.now c.deref.result.now rise))
