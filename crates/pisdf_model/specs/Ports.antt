@@ -1,5 +1,5 @@
 -- Actors whose numbers of ports and arguments don't fit, and parameters that aren't set as their kind says.
-use Rattle.std.specs.Prelude.{ℕ, ◌==◌, Bool, true, false, List, [], ◌++◌, length, count_by, Option, Some, None, slice_get}
+use Rattle.std.specs.Prelude.{ℕ, ◌==◌, Bool, true, false, List, [], ◌++◌, length, map, count_by, Option, Some, None, slice_get}
 use Rattle.pisdf_model.specs.Details.{of_each, unless}
 use Rattle.pisdf_model.specs.declared.actor.Body.{Body}
 use Rattle.pisdf_model.specs.declared.actor.Body.TheVariants.{Kernel, Config, Child}
@@ -19,6 +19,10 @@ is_inherited Chosen = false
 abbrev pub inherited_count : Option Graph → ℕ
 inherited_count None = 0
 inherited_count (Some g) = count_by (λ p. is_inherited p.kind) g.params
+
+-- the same of each graph
+abbrev pub inherited_counts : List Graph → List ℕ
+inherited_counts graphs = map (λ (g : Graph). count_by (λ p. is_inherited p.kind) g.params) graphs
 
 -- a hierarchical actor has an argument for each inherited parameter of its child; of the others the kernel decides
 abbrev pub body_fits : (Body → Bool) → List Graph → Body → Bool

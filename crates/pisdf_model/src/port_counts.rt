@@ -1,6 +1,7 @@
-ghost use Rattle.std.specs.Prelude.{◌≡◌, ◌==◌, ◌++◌, IfOk, OnOk, count_by, slice_get};
+ghost use Rattle.std.specs.Prelude.{◌≡◌, ◌==◌, ◌++◌, IfOk, OnOk, List as Seq, count_by};
 ghost use Rattle.pisdf_model.specs.Details.{Answers, of_each};
-ghost use Rattle.pisdf_model.specs.Ports.{actor_ports, all_sets, body_fits, graph_ports, inherited_count, is_inherited, is_set_as_due, param_ports, ports_faults, sets_of};
+ghost use Rattle.pisdf_model.specs.declared.graph.Graph.{Graph};
+ghost use Rattle.pisdf_model.specs.Ports.{actor_ports, all_sets, body_fits, graph_ports, inherited_counts, is_inherited, is_set_as_due, param_ports, ports_faults, sets_of};
 
 use crate::actor::{Actor, Body};
 use crate::detail_fault::DetailFault;
@@ -49,13 +50,25 @@ fn inherited_count(params: &[Param]) -> usize
     params.iter().filter(|param| is_inherited(*param)).count()
 }
 
-fn body_fits<C: Counts>(counts: &C, graphs: &[Graph], body: &Body) -> bool
-    ensures { result ≡ body_fits (C.fits counts.now) graphs.now body.now }
+/// How many parameters of each graph are inherited.
+fn inherited_counts(alloc: Global, graphs: &[Graph]) -> Result<Vec<usize>, AllocError>
+    ensures { IfOk result (λ inherited. inherited.items ≡ inherited_counts graphs.now) }
+{
+    let mut inherited = Vec::with_capacity(alloc, graphs.len())?;
+    for graph in graphs {
+        inherited.push(inherited_count(graph.params.items()))?;
+    }
+    Ok(inherited)
+}
+
+/// Whether an actor fits, where so many parameters of each graph are inherited.
+fn body_fits<C: Counts>(counts: &C, inherited: &[usize], body: &Body) -> bool
+    ensures { (graphs : Seq Graph) → inherited.now ≡ inherited_counts graphs → result ≡ body_fits (C.fits counts.now) graphs body.now }
 {
     match body {
         Body::Kernel { .. } | Body::Config { .. } => counts.fit(body),
-        Body::Child { graph, args } => match graphs.get(*graph as usize) {
-            Some(child) => args.items().len() == inherited_count(child.params.items()),
+        Body::Child { graph, args } => match inherited.get(*graph as usize) {
+            Some(count) => args.items().len() == *count,
             None => args.items().is_empty(),
         },
     }
@@ -63,13 +76,13 @@ fn body_fits<C: Counts>(counts: &C, graphs: &[Graph], body: &Body) -> bool
 
 fn actors_fit<C: Counts>(
     counts: &C,
-    graphs: &[Graph],
+    inherited: &[usize],
     actors: &[Actor],
 ) -> Result<(), DetailFault<Name>>
-    ensures { Answers (of_each (λ a actor. actor_ports (C.fits counts.now) graphs.now actor) actors.now) result }
+    ensures { (graphs : Seq Graph) → inherited.now ≡ inherited_counts graphs → Answers (of_each (λ a actor. actor_ports (C.fits counts.now) graphs actor) actors.now) result }
 {
     for actor in actors {
-        if !body_fits(counts, graphs, &actor.body) {
+        if !body_fits(counts, inherited, &actor.body) {
             return Err(fault_at(&actor.name));
         }
     }
@@ -126,13 +139,13 @@ fn params_set(
 fn graph_ports<C: Counts>(
     alloc: Global,
     counts: &C,
-    graphs: &[Graph],
+    inherited: &[usize],
     is_top: bool,
     graph: &Graph,
 ) -> Result<(), DetailFault<Name>>
-    ensures { Answers (graph_ports (C.fits counts.now) graphs.now is_top graph.now) result }
+    ensures { (graphs : Seq Graph) → inherited.now ≡ inherited_counts graphs → Answers (graph_ports (C.fits counts.now) graphs is_top graph.now) result }
 {
-    actors_fit(counts, graphs, graph.actors.items())?;
+    actors_fit(counts, inherited, graph.actors.items())?;
     let sets = all_sets(alloc, graph.actors.items())?;
     params_set(alloc, is_top, sets.as_slice(), graph.params.items())
 }
@@ -150,8 +163,15 @@ pub fn ports<C: Counts>(alloc: Global, counts: &C, graphs: &Graphs) -> Result<()
     ensures { Answers (ports_faults (C.fits counts.now) graphs.now) result }
 {
     let all = graphs.graphs.items();
+    let inherited = inherited_counts(alloc, all)?;
     for (number, graph) in all.iter().enumerate() {
-        graph_ports(alloc, counts, all, number == graphs.top as usize, graph)?;
+        graph_ports(
+            alloc,
+            counts,
+            &inherited,
+            number == graphs.top as usize,
+            graph,
+        )?;
     }
     Ok(())
 }
