@@ -49,6 +49,8 @@ pub use wires::{port_text, wire};
 #[cfg(test)]
 mod built;
 #[cfg(test)]
+mod components_tests;
+#[cfg(test)]
 mod counting_tests;
 #[cfg(test)]
 mod inside;
