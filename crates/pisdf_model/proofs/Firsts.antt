@@ -1,5 +1,5 @@
 -- The first place at which a test stands.
-use Rattle.std.proofs.Common.{◌≡◌, ℕ, zero, suc, ◌+◌, ◌<◌, ◌≤◌, ◌⊎◌, ⊎_elim, Bool, true, false, List, [], ◌∷◌, map, Some, None, refl, ap, ◌∙◌, arith}
+use Rattle.std.proofs.Common.{◌≡◌, ℕ, zero, suc, ◌+◌, ◌<◌, ◌≤◌, ◌⊎◌, ⊎_elim, Bool, true, false, [], ◌∷◌, Some, refl, ap, ◌∙◌, arith}
 use Rattle.std.specs.List.{filter, range_with_len}
 use Rattle.std.proofs.lemmas.Bool.{cases_order, cond-true, cond-false}
 use Rattle.pisdf_model.specs.Details.{first}
@@ -28,11 +28,3 @@ module _ (test : ℕ → Bool) where
 
   pub first_place : (n k : ℕ) → ((j : ℕ) → j < k → test j ≡ false) → k < n → test k ≡ true → first (filter test (range_with_len 0 n)) ≡ Some k
   first_place n k none inside here = from_first 0 n k (λ j low most. none j most) (omega arith) (omega arith) here
-
-pub none_first : {D : Type 0} → (ds : List D) → first ds ≡ None → ds ≡ []
-none_first [] none = refl
-none_first (d ∷ ds) none = cc
-
-pub first_mapped : {D E : Type 0} → (f : D → E) (ds : List D) (d : D) → first ds ≡ Some d → first (map f ds) ≡ Some (f d)
-first_mapped f [] d is = cc
-first_mapped f (e ∷ ds) d is = let same : e ≡ d = cc in ap (λ x. Some (f x)) same

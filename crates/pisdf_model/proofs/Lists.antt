@@ -1,5 +1,5 @@
 -- What is first in a list, and in lists put one behind the other.
-use Rattle.std.proofs.Common.{◌≡◌, ℕ, zero, suc, ◌+◌, ◌<◌, ◌≤◌, ⊎_elim, Bool, true, false, List, [], ◌∷◌, ◌++◌, length, take, Contains, All, Some, refl, sym, ap, ◌∙◌, arith, get_or}
+use Rattle.std.proofs.Common.{◌≡◌, ℕ, zero, suc, ◌+◌, ◌<◌, ◌≤◌, ⊎_elim, Bool, true, false, List, [], ◌∷◌, ◌++◌, length, map, take, Contains, All, Some, refl, sym, ap, ◌∙◌, arith, get_or}
 use Rattle.std.specs.List.{filter, flat_map, list_any, range_with_len}
 use Rattle.std.proofs.lemmas.Bool.{cond-true, cond-false, or_parts, false≢true, cases_Bool, true≢false}
 use Rattle.std.proofs.lemmas.List.{take_all, take_more}
@@ -73,22 +73,33 @@ nowhere_kept test n k none inside = ⊎_elim
         kept xs (sym (cond-false (test x) (x ∷ filter test xs) (filter test xs) not_here) ∙ none) (rw not_here at any))
         (cases_Bool (test x))
 
+-- lists without elements
+
+pub left_none : {X : Type 0} → (xs ys : List X) → xs ++ ys ≡ [] → xs ≡ []
+left_none [] ys none = refl
+left_none (x ∷ xs) ys none = cc
+
+pub right_none : {X : Type 0} → (xs ys : List X) → xs ++ ys ≡ [] → ys ≡ []
+right_none [] ys none = none
+right_none (x ∷ xs) ys none = cc
+
+pub unmapped : {X Y : Type 0} → (f : X → Y) (xs : List X) → map f xs ≡ [] → xs ≡ []
+unmapped f [] none = refl
+unmapped f (x ∷ xs) none = cc
+
 module _ {D : Type 0} where
   pub refuses_first : (xs ys : List D) (fault : DetailFault D) → Refuses xs fault → Refuses (xs ++ ys) fault
   refuses_first [] ys (Fault d) refused = cc
   refuses_first (x ∷ xs) ys (Fault d) refused = refused
   refuses_first xs ys Memory refused = tt
 
-  nil_parts : (xs ys : List D) → xs ++ ys ≡ [] → (xs ≡ []) × (ys ≡ [])
-  nil_parts [] ys none = (refl, none)
-  nil_parts (x ∷ xs) ys none = cc
-
   pub refuses_at : {X : Type 0} → (f : X → List D) (xs : List X) (i : ℕ) (d : X) (fault : DetailFault D) → i < length xs → flat_map f (take i xs) ≡ [] → Refuses (f (get_or xs i d)) fault → Refuses (flat_map f xs) fault
   refuses_at f [] i d fault inside none refused = absurd (omega arith)
   refuses_at f (x ∷ xs) zero d fault inside none refused = refuses_first (f x) (flat_map f xs) fault refused
   refuses_at f (x ∷ xs) (suc i) d fault inside none refused =
-      let parts = nil_parts (f x) (flat_map f (take i xs)) none in
-      rw parts.0 (refuses_at f xs i d fault (omega arith) parts.1 refused)
+      let rest = flat_map f (take i xs) in
+      let here = left_none (f x) rest none in
+      rw here (refuses_at f xs i d fault (omega arith) (right_none (f x) rest none) refused)
 
 -- what holds of as many elements as there are holds of all
 pub all_whole : {X : Type 0} → (P : X → Type 0) (xs : List X) (i : ℕ) → length xs ≤ i → All P (take i xs) → All P xs

@@ -1,5 +1,5 @@
 -- Places marked and noted one after the other.
-use Rattle.std.proofs.Common.{◌≡◌, ◌≢◌, ℕ, ◌+◌, ◌<◌, ◌≤◌, ◌⊎◌, inl, inr, ⊎_elim, Bool, true, false, List, [], ◌∷◌, ◌++◌, length, take, set, Contains, refl, sym, ap, ◌∙◌, arith, get_or}
+use Rattle.std.proofs.Common.{◌≡◌, ◌≢◌, ℕ, ◌+◌, ◌<◌, ◌≤◌, ◌⊎◌, inl, inr, ⊎_elim, Bool, true, false, List, [], ◌∷◌, ◌++◌, length, take, set, Contains, sym, ap, ◌∙◌, arith, get_or}
 use Rattle.std.proofs.lemmas.Bool.{cases_eq, cases_lt, false≢true}
 use Rattle.std.proofs.lemmas.List.{get_or-set_same, get_or-set_other, get_or_past, length-set, length-append, take_more}
 use Rattle.std.proofs.lemmas.List.Elements.{Contains-append_left, Contains-push, Contains-push_cases}
@@ -44,17 +44,6 @@ contains_more places p w c = ⊎_elim
     (Contains-push_cases places p w c)
 
 module _ (places : List ℕ) (marks : List Bool) (noted : List ℕ) where
-  pub notes_none : Notes [] marks noted marks noted
-  notes_none = record {
-    long = refl;
-    kept = λ w marked. marked;
-    all = λ w c. absurd (let inside = c.1 in omega arith);
-    only = λ w marked. inl marked;
-    noted_kept = λ w c. c;
-    noted_only = λ w c. inl c;
-    less = omega arith;
-  }
-
   module _ (p : ℕ) (marks_now : List Bool) (noted_now : List ℕ) (so_far : Notes places marks noted marks_now noted_now) where
     pub notes_marked : IsMarked marks_now p → Notes (places ++ p ∷ []) marks noted marks_now noted_now
     notes_marked here = record {

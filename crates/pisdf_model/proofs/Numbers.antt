@@ -1,7 +1,6 @@
 -- The first of faults that are told list by list.
-use Rattle.std.proofs.Common.{◌≡◌, ℕ, true, List, [], ◌∷◌, ◌++◌, map, Some, Result, sym, ap, subst}
+use Rattle.std.proofs.Common.{◌≡◌, ℕ, true, List, [], ◌∷◌, ◌++◌, map, Result, sym, subst}
 use Rattle.pisdf_model.specs.Count.{count_faults, word_of}
-use Rattle.pisdf_model.specs.Details.{first}
 use Rattle.pisdf_model.specs.InterfaceWires.{interface_wire_faults}
 use Rattle.pisdf_model.specs.Names.{duplicate_faults}
 use Rattle.pisdf_model.specs.Nesting.{depth_faults, graph_cycle_faults}
@@ -12,13 +11,6 @@ use Rattle.pisdf_model.specs.Wires.{wire_faults}
 use Rattle.pisdf_model.specs.declared.graph.Graphs.{Graphs}
 use Rattle.pisdf_model.specs.declared.rules.ModelFault.{ModelFault}
 use Rattle.pisdf_model.specs.declared.rules.ModelFault.TheVariants.{Fault, Memory}
-
-pub first_of_mapped : {D E : Type 0} (f : D → E) (ds : List D) (d : D) → first ds ≡ Some d → first (map f ds) ≡ Some (f d)
-first_of_mapped f [] d is = cc
-first_of_mapped f (e ∷ ds) d is = let same : e ≡ d = cc in ap (λ x. Some (f x)) same
-
-pub none_of_mapped : {D E : Type 0} (f : D → E) (ds : List D) → ds ≡ [] → map f ds ≡ []
-none_of_mapped f ds none = ap (map f) none
 
 -- ---- list by list
 
