@@ -2,7 +2,7 @@
 // proof rests on how the components are found: what their numbers show is looked up at each arrow.
 ghost use Rattle.std.specs.Prelude.{ℕ, ◌≡◌, ◌<◌, ◌≤◌, length, slice_index_or, false, All, IfOk, OnOk};
 ghost use Rattle.pisdf_model.specs.Arrows.{LeadsInside, leads};
-ghost use Rattle.pisdf_model.specs.Components.{IsOver, IsStepOver};
+ghost use Rattle.pisdf_model.specs.Components.{IsSearchAmong, IsStepAmong};
 
 use sdf_level::List;
 use std::alloc::{AllocError, Global};
@@ -32,7 +32,7 @@ struct ComponentSearch {
 
 /// A step into each place.
 fn steps_into(alloc: Global, count: usize) -> Result<Vec<Step>, AllocError>
-    ensures { IfOk result (λ steps. All (IsStepOver count) steps.items) }
+    ensures { IfOk result (λ steps. All (IsStepAmong count) steps.items) }
 {
     let mut steps = Vec::with_capacity(alloc, count)?;
     for place in 0..count {
@@ -43,7 +43,7 @@ fn steps_into(alloc: Global, count: usize) -> Result<Vec<Step>, AllocError>
 
 impl ComponentSearch {
     fn new(alloc: Global, count: usize) -> Result<ComponentSearch, AllocError>
-        ensures { IfOk result (IsOver count) }
+        ensures { IfOk result (IsSearchAmong count) }
     {
         Ok(ComponentSearch {
             times: vec![in alloc; 0; count]?,
@@ -53,12 +53,12 @@ impl ComponentSearch {
         })
     }
 
-    /// Comes to a place, from which arrows lead to these.
+    /// Comes to a place, from which arrows lead to these. One that was entered before is passed over.
     fn enter(&mut self, place: usize, to: &[u32], time: usize) -> Result<(), AllocError>
-        requires over { IsOver (length self.old.times.items) self.old }
+        requires among { IsSearchAmong (length self.old.times.items) self.old }
         requires place { place < length self.old.times.items }
         requires to { All (λ w. w < length self.old.times.items) to.now }
-        ensures { OnOk result (IsOver (length self.old.times.items) self.new) }
+        ensures { OnOk result (IsSearchAmong (length self.old.times.items) self.new) }
     {
         if self.times[place] != 0 {
             return Ok(());
@@ -74,7 +74,7 @@ impl ComponentSearch {
 
     /// The earliest time that is known of one of these places whose component isn't complete.
     fn earliest(&self, to: &[u32]) -> usize
-        requires over { IsOver (length self.now.times.items) self.now }
+        requires among { IsSearchAmong (length self.now.times.items) self.now }
         requires to { All (λ w. w < length self.now.times.items) to.now }
     {
         let mut earliest = usize::MAX;
@@ -89,8 +89,8 @@ impl ComponentSearch {
 
     /// Completes the component of the places that were entered from this one on.
     fn complete(&mut self, place: usize, component: usize)
-        requires { IsOver (length self.old.times.items) self.old }
-        ensures { IsOver (length self.old.times.items) self.new }
+        requires { IsSearchAmong (length self.old.times.items) self.old }
+        ensures { IsSearchAmong (length self.old.times.items) self.new }
     {
         while let Some(member) = self.incomplete.pop() {
             self.components[member] = component;
@@ -102,10 +102,10 @@ impl ComponentSearch {
 
     /// Leaves a place, from which arrows lead to these: its component is complete unless it has an earlier place.
     fn leave(&mut self, place: usize, to: &[u32], time: usize)
-        requires over { IsOver (length self.old.times.items) self.old }
+        requires among { IsSearchAmong (length self.old.times.items) self.old }
         requires place { place < length self.old.times.items }
         requires to { All (λ w. w < length self.old.times.items) to.now }
-        ensures { IsOver (length self.old.times.items) self.new }
+        ensures { IsSearchAmong (length self.old.times.items) self.new }
     {
         let earliest = self.earliest(to);
         if earliest < self.times[place] {
