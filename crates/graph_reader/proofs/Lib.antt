@@ -1,4 +1,3 @@
-pub mod Answering
 pub mod Bound
 pub mod Each
 pub mod FileCounts
@@ -11,5 +10,5 @@ pub mod Numbered
 pub mod Placing
 pub mod Pushed
 pub mod Ranged
-pub mod Readings
+pub mod Reading
 pub mod Telling

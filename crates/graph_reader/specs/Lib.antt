@@ -1,7 +1,6 @@
-pub mod Checks
 pub mod FileCounts
 pub mod Gives
 pub mod Place
-pub mod Reading
 pub mod Resolves
 pub mod Setting
+pub mod Told

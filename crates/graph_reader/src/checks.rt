@@ -7,7 +7,7 @@ ghost use Rattle.pisdf_model.specs.declared.counting.Counted.{Counted};
 ghost use Rattle.pisdf_model.specs.declared.interface_wires.FifoPlace.{FifoPlace};
 ghost use Rattle.graph_format.specs.Faults.{Tells, at_fifo, fits_kernel, rule_faults, too_many};
 ghost use Rattle.graph_format.specs.declared.graph_fault.GraphFault.TheVariants.{Kernel};
-ghost use Rattle.graph_reader.specs.Checks.{fault_of};
+ghost use Rattle.graph_reader.specs.Told.{fault_of};
 ghost use Rattle.graph_reader.specs.Resolves.{head};
 
 use crate::kernel_counts::Signatures;

@@ -22,11 +22,11 @@ mod port;
 #[cfg(test)]
 mod read_tests;
 mod reader;
-mod reading;
 mod resolved;
 mod resolving;
 mod root;
 mod shape;
+mod stated_file;
 mod surroundings;
 #[cfg(test)]
 mod tests;

@@ -1,3 +1,4 @@
+use graph_format::GraphFault;
 use param_expr::Name;
 use std::alloc::{AllocError, AllocFailed};
 
@@ -29,5 +30,19 @@ impl<T: Drop> From<AllocFailed<T>> for Misfit {
 
     fn from(_refused: AllocFailed<T>) -> Misfit {
         Misfit::Memory
+    }
+}
+
+impl From<Misfit> for GraphFault {
+    ghost use Rattle.graph_reader.specs.Told.{fault_of_misfit};
+    ghost use Rattle.std.specs.Prelude.{◌≡◌};
+
+    ghost from_gives = { λ misfit fault. fault ≡ fault_of_misfit misfit };
+
+    fn from(misfit: Misfit) -> GraphFault {
+        match misfit {
+            Misfit::Shape(pointer) => GraphFault::Shape(pointer),
+            Misfit::Memory => GraphFault::Memory,
+        }
     }
 }

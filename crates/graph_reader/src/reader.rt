@@ -14,42 +14,19 @@ ghost use Rattle.graph_format.specs.References.{unknown_in_file};
 ghost use Rattle.graph_format.specs.States.{States};
 ghost use Rattle.graph_format.specs.declared.file.File.{File};
 ghost use Rattle.graph_format.specs.declared.graph_fault.GraphFault.TheVariants.{Duplicate, Unknown};
-ghost use Rattle.graph_reader.specs.Checks.{fault_of_file, fault_of_reference};
 ghost use Rattle.graph_reader.specs.Setting.{delays_by};
 
 use crate::checks::{Check, follow_rules, told_count, told_kernel};
 use crate::file_counts::count;
 use crate::file_walk::names_of_file;
 use crate::kernels::unfit_kernel;
-use crate::reading::{FileFault, file_of_bytes};
 use crate::resolving::graphs_of;
+use crate::stated_file::file_of_bytes;
 use crate::surroundings::Delays;
-use crate::unresolved::Unresolved;
 use graph_format::{File, GraphFault};
 use kernel_gate::Signature;
 use pisdf_model::{Graphs, repeat};
 use std::alloc::Global;
-
-/// The faults of text, shape and version.
-fn fault_of_file(fault: FileFault) -> GraphFault
-    ensures { result ≡ fault_of_file fault }
-{
-    match fault {
-        FileFault::NotJson => GraphFault::NotJson,
-        FileFault::Shape(pointer) => GraphFault::Shape(pointer),
-        FileFault::Version(version) => GraphFault::Version(version),
-        FileFault::Memory => GraphFault::Memory,
-    }
-}
-
-fn fault_of_reference(unresolved: Unresolved) -> GraphFault
-    ensures { result ≡ fault_of_reference unresolved }
-{
-    match unresolved {
-        Unresolved::Unknown(name) => GraphFault::Unknown(name),
-        Unresolved::Memory => GraphFault::Memory,
-    }
-}
 
 fn no_duplicate(alloc: Global, file: &File) -> Result<(), GraphFault>
     ensures { Tells (map Duplicate (repeats (names_of_file file.now))) result }
@@ -70,10 +47,7 @@ fn resolved(
     ensures tells { Tells (map Unknown (unknown_in_file file.now)) result }
     ensures graphs { IfOk result (λ graphs. graphs ≡ placed (delays_by delays) (kernel_names (map signature_view signatures.now)) file.now) }
 {
-    match graphs_of(alloc, file, signatures, delays) {
-        Ok(graphs) => Ok(graphs),
-        Err(unresolved) => Err(fault_of_reference(unresolved)),
-    }
+    Ok(graphs_of(alloc, file, signatures, delays)?)
 }
 
 /// Whether a file has none of the faults 4 to 13. Delays are marked for that, and not made: a number of tokens may be far
@@ -101,6 +75,18 @@ fn graphs_of_file(
 {
     check(alloc, file, signatures)?;
     resolved(alloc, file, signatures, Delays::Tokens)
+}
+
+/// What the bytes of a graph file are read as.
+fn graphs_of_bytes(
+    alloc: Global,
+    bytes: &[u8],
+    signatures: &[Signature],
+) -> Result<Graphs, GraphFault>
+    ensures { Reads 1 (map signature_view signatures.now) bytes.now result }
+{
+    let file = file_of_bytes(alloc, bytes)?;
+    graphs_of_file(alloc, &file, signatures)
 }
 
 /// The graphs that the bytes of a graph file mean, where kernels are places of these signatures.
@@ -137,9 +123,5 @@ pub fn read(alloc: Global, bytes: &[u8], signatures: &[Signature]) -> Result<Gra
     // Which answer it is for any bytes.
     ensures exact { Reads 1 (map signature_view signatures.now) bytes.now result }
 {
-    let file = match file_of_bytes(alloc, bytes) {
-        Ok(file) => file,
-        Err(fault) => return Err(fault_of_file(fault)),
-    };
-    graphs_of_file(alloc, &file, signatures)
+    graphs_of_bytes(alloc, bytes, signatures)
 }

@@ -1,5 +1,5 @@
-use crate::reading::{FileFault, file_of_bytes};
-use graph_format::{File, FileDelay, FileEnd, FileFifo, FileParam, FileParamKind};
+use crate::stated_file::file_of_bytes;
+use graph_format::{File, FileDelay, FileEnd, FileFifo, FileParam, FileParamKind, GraphFault};
 use std::alloc::Global;
 use std::fmt::Write;
 use std::process::Abort;
@@ -64,13 +64,13 @@ fn content(alloc: Global, file: &File) -> Result<String, Fail> {
 fn told(alloc: Global, text: &str) -> Result<String, Fail> {
     match file_of_bytes(alloc, text.as_bytes()) {
         Ok(file) => content(alloc, &file),
-        Err(FileFault::NotJson) => Ok(format!(in alloc; "not json")?),
-        Err(FileFault::Shape(pointer)) => {
+        Err(GraphFault::NotJson) => Ok(format!(in alloc; "not json")?),
+        Err(GraphFault::Shape(pointer)) => {
             let pointer = pointer.text();
             Ok(format!(in alloc; "shape {pointer}")?)
         }
-        Err(FileFault::Version(version)) => Ok(format!(in alloc; "version {version}")?),
-        Err(FileFault::Memory) => Ok(format!(in alloc; "memory")?),
+        Err(GraphFault::Version(version)) => Ok(format!(in alloc; "version {version}")?),
+        Err(_) => Ok(format!(in alloc; "another fault, or memory")?),
     }
 }
 

@@ -1,3 +1,4 @@
+use graph_format::GraphFault;
 use param_expr::{BindFault, Name};
 use std::alloc::{AllocError, AllocFailed};
 
@@ -43,5 +44,19 @@ impl<T: Drop> From<AllocFailed<T>> for Unresolved {
 
     fn from(_refused: AllocFailed<T>) -> Unresolved {
         Unresolved::Memory
+    }
+}
+
+impl From<Unresolved> for GraphFault {
+    ghost use Rattle.std.specs.Prelude.{◌≡◌};
+    ghost use Rattle.graph_reader.specs.Told.{fault_of_reference};
+
+    ghost from_gives = { λ unresolved fault. fault ≡ fault_of_reference unresolved };
+
+    fn from(unresolved: Unresolved) -> GraphFault {
+        match unresolved {
+            Unresolved::Unknown(name) => GraphFault::Unknown(name),
+            Unresolved::Memory => GraphFault::Memory,
+        }
     }
 }

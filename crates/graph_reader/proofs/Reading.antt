@@ -1,0 +1,153 @@
+-- What the bytes of a file are read as, in terms of the file that they state.
+use Rattle.std.proofs.Common.{◌≡◌, ◌⊎◌, inl, inr, ⊎_elim, ℕ, ◌==◌, ℤ, pos, List, [], ◌∷◌, ◌++◌, map, true, Option, Some, None, Result, Ok, Err, refl, sym, ap, ◌∙◌, subst, arith}
+use Rattle.std.specs.Prelude.{IfErr, IfOk, option_and_then}
+use Rattle.std.proofs.lemmas.Bool.Decides.{nat_tests}
+use Rattle.serde_json.specs.Data.{Data}
+use Rattle.kernel_gate.specs.Signed.{SignatureView}
+use Rattle.pisdf_model.specs.Count.{count_faults}
+use Rattle.pisdf_model.specs.Details.{first}
+use Rattle.pisdf_model.specs.Names.{repeats}
+use Rattle.pisdf_model.specs.Range.{InRange}
+use Rattle.pisdf_model.specs.WellFormed.{WellFormed}
+use Rattle.pisdf_model.specs.declared.graph.Graphs.{Graphs}
+use Rattle.graph_format.specs.Faults.{Tells, file_faults, fits_kernel, graphs_of, rule_faults, too_many}
+use Rattle.graph_format.specs.FileNames.{names_of_file}
+use Rattle.graph_format.specs.Kernels.{kernel_names, unfit_in_file}
+use Rattle.graph_format.specs.Means.{Means}
+use Rattle.graph_format.specs.Objects.{file_at, stated_version}
+use Rattle.graph_format.specs.Placed.{tokens_of}
+use Rattle.graph_format.specs.Reads.{AreReadAs, IsJson, Reads, graphs_or_fault, of_version, other_version, reading, unless_faulty}
+use Rattle.graph_format.specs.References.{unknown_in_file}
+use Rattle.graph_format.specs.States.{States}
+use Rattle.graph_format.specs.Walk.{whole_of}
+use Rattle.graph_format.specs.declared.file.File.{File}
+use Rattle.graph_format.specs.declared.graph_fault.GraphFault.{GraphFault}
+use Rattle.graph_format.specs.declared.graph_fault.GraphFault.TheVariants.{Duplicate, Kernel, Memory, NotJson, Unknown}
+use Rattle.graph_format.proofs.Laws.{well_formed}
+use Rattle.graph_format.proofs.StatedFiles.{file_reads}
+use Rattle.graph_reader.proofs.InPlace.{left_none, right_none}
+use Rattle.graph_reader.proofs.Ranged.{file_in_range}
+use Rattle.graph_reader.proofs.Telling.{unmapped}
+
+-- ---- a file and its first fault
+
+faultless : (graphs found : Graphs) (faults : List GraphFault) → unless_faulty graphs faults ≡ Ok found → (faults ≡ []) × (found ≡ graphs)
+faultless graphs found [] is = let same : graphs ≡ found = cc in (refl, sym same)
+faultless graphs found (fault ∷ faults) is = absurd cc
+
+first_fault : (graphs : Graphs) (faults : List GraphFault) (fault : GraphFault) → unless_faulty graphs faults ≡ Err fault → first faults ≡ Some fault
+first_fault graphs [] fault is = absurd cc
+first_fault graphs (f ∷ faults) fault is = let same : f ≡ fault = cc in ap Some same
+
+faulty : (graphs : Graphs) (faults : List GraphFault) (fault : GraphFault) → first faults ≡ Some fault → unless_faulty graphs faults ≡ Err fault
+faulty graphs [] fault is = absurd cc
+faulty graphs (f ∷ faults) fault is = let same : f ≡ fault = cc in ap Err same
+
+-- ---- a value that states a file
+
+same_again : (m n : ℕ) → m ≡ n → (m == n) ≡ true
+same_again m n e = grind (arith, nat_tests)
+
+states_reading : (signatures : List SignatureView) (d : Data) (file : File) → States 1 d file → reading 1 signatures d ≡ unless_faulty (graphs_of signatures file) (file_faults signatures file)
+states_reading signatures d file f =
+    let stated : stated_version d ≡ Some (pos file.version) = ap (option_and_then whole_of) f.pisdf.is_there ∙ f.pisdf.states.number in
+    rw (stated, same_again file.version 1 f.pisdf.states.is_version, (file_reads 1).again [] d file f) refl
+
+pub reads_file : (signatures : List SignatureView) (bytes : List ℕ) (file : File) (r : Result Graphs GraphFault) → (d : Data) × IsJson bytes d × States 1 d file → Tells (file_faults signatures file) r → IfOk r (λ g. g ≡ graphs_of signatures file)
+    → Reads 1 signatures bytes r
+reads_file signatures bytes file (Ok g) h none is =
+    (h.0, h.1, states_reading signatures h.0 file h.2 ∙ ap (unless_faulty (graphs_of signatures file)) none ∙ ap Ok (sym is))
+reads_file signatures bytes file (Err fault) h told is =
+    ⊎_elim
+    (λ (memory : fault ≡ Memory). inl memory)
+    (λ (stands : first (file_faults signatures file) ≡ Some fault). inr (inr (h.0, h.1, states_reading signatures h.0 file h.2 ∙ faulty (graphs_of signatures file) (file_faults signatures file) fault stands)))
+    told
+
+-- ---- what was read is stated
+
+-- the bytes state a file that has no fault, and these are its graphs
+record IsFound (signatures : List SignatureView) (bytes : List ℕ) (graphs : Graphs) : Type 0 where
+  value : Data
+  json : IsJson bytes value
+  file : File
+  states : States 1 value file
+  none : file_faults signatures file ≡ []
+  is : graphs ≡ graphs_of signatures file
+
+walked : (signatures : List SignatureView) (other : Option ℤ) (walk : Result File (List ℕ)) (graphs : Graphs) → of_version other (graphs_or_fault signatures walk) ≡ Ok graphs
+    → (file : File) × (walk ≡ Ok file) × (unless_faulty (graphs_of signatures file) (file_faults signatures file) ≡ Ok graphs)
+walked signatures None (Ok file) graphs is = (file, refl, is)
+walked signatures None (Err pointer) graphs is = absurd cc
+walked signatures (Some version) walk graphs is = absurd cc
+
+found : (signatures : List SignatureView) (bytes : List ℕ) (graphs : Graphs) → Reads 1 signatures bytes (Ok graphs) → IsFound signatures bytes graphs
+found signatures bytes graphs h =
+    let walk = walked signatures (other_version 1 (stated_version h.0)) (file_at 1 [] h.0) graphs h.2 in
+    let read = faultless (graphs_of signatures walk.0) graphs (file_faults signatures walk.0) walk.2 in
+    record { value = h.0; json = h.1; file = walk.0; states = (file_reads 1).found [] h.0 walk.0 walk.1; none = read.0; is = read.1 }
+
+module _ (signatures : List SignatureView) (bytes : List ℕ) where
+  known : (file : File) → file_faults signatures file ≡ [] → (unknown_in_file file ≡ []) × (unfit_in_file signatures file ≡ [])
+  known file none =
+      let duplicates = map Duplicate (repeats (names_of_file file)) in
+      let unknown = map Unknown (unknown_in_file file) in
+      let kernels = map Kernel (unfit_in_file signatures file) in
+      let after = rule_faults (fits_kernel signatures) (graphs_of signatures file) ++ map too_many (count_faults (graphs_of signatures file)) in
+      let from_unknown : unknown ++ (kernels ++ after) ≡ [] = right_none duplicates (unknown ++ (kernels ++ after)) none in
+      (unmapped Unknown (unknown_in_file file) (left_none unknown (kernels ++ after) from_unknown), unmapped Kernel (unfit_in_file signatures file) (left_none kernels after (right_none unknown (kernels ++ after) from_unknown)))
+
+  pub reads_mean : (r : Result Graphs GraphFault) → Reads 1 signatures bytes r → IfOk r (λ graphs. (d : Data) × IsJson bytes d × ((file : File) × States 1 d file × Means signatures file graphs))
+  reads_mean (Ok graphs) h =
+      let f = found signatures bytes graphs h in
+      let names = known f.file f.none in
+      (f.value, f.json, (f.file, f.states, record { references = names.0; kernels = names.1; is = f.is }))
+  reads_mean (Err fault) h = tt
+
+  pub reads_in_range : (r : Result Graphs GraphFault) → Reads 1 signatures bytes r → IfOk r (λ graphs. InRange graphs)
+  reads_in_range (Ok graphs) h =
+      let f = found signatures bytes graphs h in
+      subst InRange (sym f.is) (file_in_range tokens_of (kernel_names signatures) f.file f.states.pisdf.states.is_version (known f.file f.none).0)
+  reads_in_range (Err fault) h = tt
+
+  pub reads_well_formed : (r : Result Graphs GraphFault) → Reads 1 signatures bytes r → IfOk r (λ graphs. WellFormed graphs)
+  reads_well_formed (Ok graphs) h =
+      let f = found signatures bytes graphs h in
+      subst (λ (g : Graphs). WellFormed g) (sym f.is) (well_formed signatures f.file f.none)
+  reads_well_formed (Err fault) h = tt
+
+-- ---- what is stated is read
+
+abbrev found_value : Data → Option Data
+found_value d = Some d
+
+-- the bytes are one value
+one_value : (bytes : List ℕ) (d e : Data) → IsJson bytes d → IsJson bytes e → d ≡ e
+one_value bytes d e p q = let same : found_value d ≡ found_value e = sym p.1 ∙ q.1 in cc
+
+-- what the bytes are read as, where they state a file
+read_as : (signatures : List SignatureView) (bytes : List ℕ) (d : Data) (file : File) (answer : Result Graphs GraphFault) → AreReadAs 1 signatures bytes answer → IsJson bytes d → States 1 d file
+    → unless_faulty (graphs_of signatures file) (file_faults signatures file) ≡ answer
+read_as signatures bytes d file answer h json f =
+    sym (states_reading signatures d file f) ∙ ap (reading 1 signatures) (one_value bytes d h.0 json h.1) ∙ h.2
+
+pub reads_stated : (signatures : List SignatureView) (bytes : List ℕ) (r : Result Graphs GraphFault) → Reads 1 signatures bytes r → (d : Data) (file : File) → IsJson bytes d → States 1 d file
+    → Tells (file_faults signatures file) r × IfOk r (λ graphs. graphs ≡ graphs_of signatures file)
+reads_stated signatures bytes (Ok graphs) h d file json f = faultless (graphs_of signatures file) graphs (file_faults signatures file) (read_as signatures bytes d file (Ok graphs) h json f)
+reads_stated signatures bytes (Err fault) h d file json f =
+    let told : Tells {U = Graphs} (file_faults signatures file) (Err fault) =
+    ⊎_elim
+    (λ (memory : fault ≡ Memory). inl memory)
+    (λ (rest : ((fault ≡ NotJson) × ((d : Data) → IsJson bytes d → ⊥)) ⊎ AreReadAs 1 signatures bytes (Err fault)).
+    ⊎_elim
+    (λ (none : (fault ≡ NotJson) × ((d : Data) → IsJson bytes d → ⊥)). absurd (none.1 d json))
+    (λ (read : AreReadAs 1 signatures bytes (Err fault)). inr (first_fault (graphs_of signatures file) (file_faults signatures file) fault (read_as signatures bytes d file (Err fault) read json f)))
+    rest)
+    h in
+    (told, tt)
+
+-- ---- what is no file
+
+-- the fault of a value is that of the bytes that it is read from
+pub value_refused : (signatures : List SignatureView) (bytes : List ℕ) (d : Data) (r : Result File GraphFault) → IsJson bytes d → IfErr r (λ fault. (fault ≡ Memory) ⊎ (reading 1 signatures d ≡ Err fault)) → IfErr r (λ fault. Reads 1 signatures bytes (Err fault))
+value_refused signatures bytes d (Ok file) json h = tt
+value_refused signatures bytes d (Err fault) json h = ⊎_elim (λ (memory : fault ≡ Memory). inl memory) (λ (read : reading 1 signatures d ≡ Err fault). inr (inr (d, json, read))) h
