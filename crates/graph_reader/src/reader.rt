@@ -1,4 +1,4 @@
-ghost use Rattle.std.specs.Prelude.{◌≡◌, IfOk, map};
+ghost use Rattle.std.specs.Prelude.{◌≡◌, IfOk, None, map};
 ghost use Rattle.serde_json.specs.Data.{Data};
 ghost use Rattle.kernel_gate.specs.Signed.{signature_view};
 ghost use Rattle.pisdf_model.specs.Range.{InRange};
@@ -25,7 +25,7 @@ use crate::stated_file::file_of_bytes;
 use crate::surroundings::Delays;
 use graph_format::{File, GraphFault};
 use kernel_gate::Signature;
-use pisdf_model::{Graphs, repeat};
+use pisdf_model::{Counted, Graphs, repeat};
 use std::alloc::Global;
 
 fn no_duplicate(alloc: Global, file: &File) -> Result<(), GraphFault>
@@ -50,17 +50,15 @@ fn resolved(
     Ok(graphs_of(alloc, file, signatures, delays)?)
 }
 
-/// Whether a file has none of the faults 4 to 13. Delays are marked for that, and not made: a number of tokens may be far
-/// over its limit.
-fn check(alloc: Global, file: &File, signatures: &[Signature]) -> Result<(), GraphFault>
-    requires { file.now.version ≡ 1 }
-    ensures { Tells (file_faults (map signature_view signatures.now) file.now) result }
+/// What delays become where there is this much too many of, if there is anything. They are marked then, and not made: a
+/// number of tokens may be far over its limit.
+fn delays_with(excess: Option<Counted>) -> Delays
+    ensures { excess ≡ None → result ≡ Delays.Tokens }
 {
-    no_duplicate(alloc, file)?;
-    let marked = resolved(alloc, file, signatures, Delays::Marks)?;
-    told_kernel(unfit_kernel(signatures, file))?;
-    follow_rules(alloc, signatures, &marked)?;
-    told_count(alloc, count(file))
+    match excess {
+        Some(_) => Delays::Marks,
+        None => Delays::Tokens,
+    }
 }
 
 /// The graphs that a file means.
@@ -73,8 +71,13 @@ fn graphs_of_file(
     ensures tells { Tells (file_faults (map signature_view signatures.now) file.now) result }
     ensures graphs { IfOk result (λ graphs. graphs ≡ graphs_of (map signature_view signatures.now) file.now) }
 {
-    check(alloc, file, signatures)?;
-    resolved(alloc, file, signatures, Delays::Tokens)
+    no_duplicate(alloc, file)?;
+    let excess = count(file);
+    let graphs = resolved(alloc, file, signatures, delays_with(excess))?;
+    told_kernel(unfit_kernel(signatures, file))?;
+    follow_rules(alloc, signatures, &graphs)?;
+    told_count(alloc, excess)?;
+    Ok(graphs)
 }
 
 /// What the bytes of a graph file are read as.
