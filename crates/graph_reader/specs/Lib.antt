@@ -1,4 +1,3 @@
-pub mod FileCounts
 pub mod Gives
 pub mod Place
 pub mod Resolves

@@ -18,7 +18,6 @@ use Rattle.graph_format.proofs.Laws.{placed_marked, rules_marked}
 use Rattle.graph_reader.specs.Setting.{delays_by}
 use Rattle.graph_reader.specs.declared.surroundings.Delays.{Delays}
 use Rattle.graph_reader.specs.declared.surroundings.Delays.TheVariants.{Marks, Tokens}
-use Rattle.graph_reader.proofs.FileCounts.{excess_kept}
 use Rattle.graph_reader.proofs.Ranged.{file_in_range}
 use Rattle.graph_reader.proofs.Telling.{passes, stops, tells_after, unmapped}
 use Rattle.graph_reader.proofs.reader.graphs_of_file.Goals as goal
@@ -76,14 +75,14 @@ returns-in_err-told_count-clause-tells c =
     rw (p.1, p.2)
     (after_kernels signatures file (Err fault) c.in_ok-no_duplicate.ensures c.in_ok-graphs.ensures.tells (c.in_ok-told_kernel.ensures (unfit_in_file signatures file) c.unfit_kernel.ensures)
     (passes (rules signatures file) (counts signatures file) fault (sym same ∙ c.in_ok-follow_rules.ensures)
-    (c.in_err-told_count.ensures (count_faults (graphs_of signatures file)) (c.count-excess.ensures ∙ ap first (excess_kept (kernel_names signatures) file)))))
+    (c.in_err-told_count.ensures (count_faults (graphs_of signatures file)) (c.count-excess.ensures (kernel_names signatures)))))
 
 pub returns : goal.returns
 returns c =
     let file = c.args.file.now in
     let signatures = map signature_view c.args.signatures.now in
     let same = ap (rule_faults (fits_kernel signatures)) c.in_ok-graphs.ensures.graphs ∙ rules_kept signatures file c.delays_with.result in
-    let counted : c.count-excess.result ≡ first (count_faults (graphs_of signatures file)) = c.count-excess.ensures ∙ ap first (excess_kept (kernel_names signatures) file) in
+    let counted : c.count-excess.result ≡ first (count_faults (graphs_of signatures file)) = c.count-excess.ensures (kernel_names signatures) in
     let within : counts signatures file ≡ [] = c.in_ok-told_count.ensures (count_faults (graphs_of signatures file)) counted in
     let as_they_are : c.delays_with.result ≡ Tokens = c.delays_with.ensures (counted ∙ ap first (unmapped too_many (count_faults (graphs_of signatures file)) within)) in
     record {
