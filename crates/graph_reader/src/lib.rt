@@ -2,10 +2,8 @@
 #![tactic(auto)]
 
 mod actor;
-mod actors;
 mod checks;
 mod fifo;
-mod fifos;
 mod file_counts;
 mod file_names;
 mod file_walk;
@@ -16,14 +14,16 @@ mod misfit;
 mod name_tests;
 mod names;
 mod param;
-mod parts;
 mod place;
 mod port;
 #[cfg(test)]
 mod read_tests;
 mod reader;
 mod resolved;
-mod resolving;
+mod resolved_actors;
+mod resolved_fifos;
+mod resolved_graphs;
+mod resolved_parts;
 mod root;
 mod shape;
 mod stated_file;

@@ -3,7 +3,7 @@ mod example;
 pub(crate) mod shown;
 
 use super::kernels::unfit_kernel;
-use super::resolving::graphs_of;
+use super::resolved_graphs::graphs_of;
 use super::surroundings::Delays;
 use super::unresolved::Unresolved;
 use example::{COUNT, REFERENCES, example, signatures};

@@ -20,7 +20,7 @@ use crate::checks::{Check, follow_rules, told_count, told_kernel};
 use crate::file_counts::count;
 use crate::file_walk::names_of_file;
 use crate::kernels::unfit_kernel;
-use crate::resolving::graphs_of;
+use crate::resolved_graphs::graphs_of;
 use crate::stated_file::file_of_bytes;
 use crate::surroundings::Delays;
 use graph_format::{File, GraphFault};

@@ -2,7 +2,7 @@ use Rattle.std.proofs.Common.{Ok}
 use Rattle.std.proofs.lemmas.Result.{err_from_is_err_and}
 use Rattle.graph_reader.specs.Setting.{setting_of}
 use Rattle.graph_reader.proofs.Placing.{fails_in, resolves_in}
-use Rattle.graph_reader.proofs.resolving.resolve_graph.Goals as goal
+use Rattle.graph_reader.proofs.resolved_graphs.resolve_graph.Goals as goal
 
 pub returns-in_err-resolved : goal.returns-in_err-resolved
 returns-in_err-resolved c = λ graphs of.

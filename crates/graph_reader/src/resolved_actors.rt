@@ -7,8 +7,8 @@ ghost use Rattle.graph_reader.specs.Resolves.{Resolves};
 ghost use Rattle.graph_reader.specs.Setting.{setting_of};
 
 use crate::names::{Named, push_names};
-use crate::parts::reference;
 use crate::resolved::{Resolved, resolve_each};
+use crate::resolved_parts::reference;
 use crate::surroundings::Surroundings;
 use crate::unresolved::Unresolved;
 use graph_format::{FileActor, FileBody, FilePort};

@@ -12,8 +12,8 @@ ghost use Rattle.graph_reader.specs.Setting.{AreOf, delays_by};
 
 use crate::file_names::FileNames;
 use crate::names::Names;
-use crate::parts::reference;
 use crate::resolved::{Resolved, resolve_each};
+use crate::resolved_parts::reference;
 use crate::surroundings::{Delays, Surroundings, surroundings_of};
 use crate::unresolved::Unresolved;
 use graph_format::{File, FileGraph};

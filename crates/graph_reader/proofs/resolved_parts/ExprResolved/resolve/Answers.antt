@@ -1,7 +1,7 @@
 use Rattle.std.proofs.Common.{refl}
 use Rattle.std.proofs.lemmas.Result.{err_from_is_err_and}
 use Rattle.graph_reader.proofs.Bound.{bound_resolves, unbound_fails}
-use Rattle.graph_reader.proofs.parts.ExprResolved.resolve.Goals as goal
+use Rattle.graph_reader.proofs.resolved_parts.ExprResolved.resolve.Goals as goal
 
 pub returns-in_err-expr : goal.returns-in_err-expr
 returns-in_err-expr c =

@@ -3,7 +3,7 @@ use Rattle.std.proofs.Common.{map}
 use Rattle.kernel_gate.specs.Signed.{signature_view}
 use Rattle.graph_format.specs.Kernels.{kernel_names}
 use Rattle.graph_reader.proofs.Placing.{graphs_fail, graphs_found}
-use Rattle.graph_reader.proofs.resolving.graphs_of.Goals as goal
+use Rattle.graph_reader.proofs.resolved_graphs.graphs_of.Goals as goal
 
 pub returns-in_err-graphs : goal.returns-in_err-graphs
 returns-in_err-graphs c =

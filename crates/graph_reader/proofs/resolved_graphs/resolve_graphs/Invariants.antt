@@ -6,7 +6,7 @@ use Rattle.graph_format.specs.References.{unknown_in_graph}
 use Rattle.graph_format.specs.Scope.{scope_of}
 use Rattle.graph_reader.specs.Setting.{delays_by}
 use Rattle.graph_reader.proofs.Each.{Stands}
-use Rattle.graph_reader.proofs.resolving.resolve_graphs.Given as goal
+use Rattle.graph_reader.proofs.resolved_graphs.resolve_graphs.Given as goal
 
 abbrev pub invariant-loop-place : goal.invariant-loop-place
 invariant-loop-place l =

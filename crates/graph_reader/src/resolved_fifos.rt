@@ -2,8 +2,8 @@
 ghost use Rattle.std.specs.Prelude.{◌≡◌, IfOk};
 ghost use Rattle.graph_reader.specs.Setting.{delays_by};
 
-use crate::parts::reference;
 use crate::resolved::Resolved;
+use crate::resolved_parts::reference;
 use crate::surroundings::{Delays, Surroundings};
 use crate::unresolved::Unresolved;
 use graph_format::{FileDelay, FileEnd, FileFifo};

@@ -6,7 +6,7 @@ use Rattle.graph_format.specs.References.{unknown_in_graph}
 use Rattle.graph_format.specs.Scope.{scope_of}
 use Rattle.graph_reader.specs.Setting.{delays_by}
 use Rattle.graph_reader.proofs.Numbered.{numbered_fails, numbered_goes_on, numbered_done}
-use Rattle.graph_reader.proofs.resolving.resolve_graphs.Goals as goal
+use Rattle.graph_reader.proofs.resolved_graphs.resolve_graphs.Goals as goal
 
 pub returns-in_err-one : goal.returns-in_err-one
 returns-in_err-one c =
