@@ -1,3 +1,4 @@
 pub mod Writable
 pub mod Places
 pub mod Objects
+pub mod ReadAgain

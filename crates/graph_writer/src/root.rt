@@ -1,10 +1,13 @@
-ghost use Rattle.std.specs.Prelude.{◌≡◌, Some, IfOk, All};
+ghost use Rattle.std.specs.Prelude.{◌≡◌, Some, Ok, IfOk, All, List as Seq, ℕ, map};
 ghost use Rattle.serde_json.specs.Data.{object};
 ghost use Rattle.serde_json.specs.Read.{read};
 ghost use Rattle.serde_json.specs.View.{view};
 ghost use Rattle.serde_json.specs.Written.{compact_text};
+ghost use Rattle.kernel_gate.specs.Signed.{signature_view};
 ghost use Rattle.graph_format.specs.Canonical.{canonical};
+ghost use Rattle.graph_format.specs.Reads.{Reads};
 ghost use Rattle.graph_writer.specs.Objects.{root_members};
+ghost use Rattle.graph_writer.specs.ReadAgain.{CanBeReadAgain, WasRead};
 ghost use Rattle.graph_writer.specs.Writable.{IsWritableGraph};
 
 use crate::graph::GraphList;
@@ -43,7 +46,7 @@ fn root(alloc: Global, graphs: &Graphs, signatures: &[Signature]) -> Result<Valu
 /// # Errors
 ///
 /// Want of memory.
-#[tactic(auto, using(crate::proofs::Floats::no_float, crate::proofs::Depths::nests_little))]
+#[tactic(auto, using(crate::proofs::Floats::no_float, crate::proofs::Depths::nests_little, crate::proofs::ReadAgain::read_again, crate::proofs::ReadGraphs::read_rewritten))]
 pub fn write(
     alloc: Global,
     graphs: &Graphs,
@@ -53,6 +56,10 @@ pub fn write(
     ensures canonical { IfOk result (λ bytes. bytes.items ≡ compact_text (canonical signatures.now graphs.now)) }
     // Read as JSON, it is that value again.
     ensures reads { IfOk result (λ bytes. read bytes.items ≡ Some (canonical signatures.now graphs.now)) }
+    // Graphs that a file can state, and that have no fault, are read from it again where no two signatures have one name.
+    ensures again { CanBeReadAgain signatures.now graphs.now → IfOk result (λ bytes. Reads 1 (map signature_view signatures.now) bytes.items (Ok graphs.now)) }
+    // So are graphs that were read.
+    ensures rewritten { (before : Seq ℕ) → WasRead signatures.now before graphs.now → IfOk result (λ bytes. Reads 1 (map signature_view signatures.now) bytes.items (Ok graphs.now)) }
 {
     root(alloc, graphs, signatures)?.to_vec(alloc)
 }

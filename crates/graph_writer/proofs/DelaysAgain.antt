@@ -1,0 +1,88 @@
+-- The delays of graphs without a fault are stated by their canonical values.
+use Rattle.std.proofs.Common.{◌≡◌, ℕ, zero, suc, ◌+◌, ◌<◌, ◌≤◌, ◌^◌, ℤ, pos, negsuc, Bool, true, false, not, List, [], ◌∷◌, ◌++◌, map, All, length, refl, sym, ap, ◌∙◌, arith, ltb-false}
+use Rattle.std.specs.Prelude.{nat_le, nat_lt}
+use Rattle.std.specs.List.{AllByRecursion, AllPass, list_all, list_any}
+use Rattle.std.specs.Ordering.{int_eq}
+use Rattle.std.proofs.lemmas.Bool.{or_parts}
+use Rattle.std.proofs.lemmas.Bool.Decides.{nat_tests}
+use Rattle.serde_json.specs.Data.{number, unsigned}
+use Rattle.serde_json.specs.View.{items_of}
+use Rattle.kernel_gate.specs.declared.signature.Signature.{Signature}
+use Rattle.param_expr.specs.Eval.{in_i64}
+use Rattle.pisdf_model.specs.Count.{count_faults, counts_of, excess_of, graph_counts, has_long_delay}
+use Rattle.pisdf_model.specs.Details.{from_number, unless}
+use Rattle.pisdf_model.specs.declared.counting.Counted.TheVariants as counted
+use Rattle.pisdf_model.specs.declared.fifo.Fifo.{Fifo}
+use Rattle.pisdf_model.specs.declared.graph.Graph.{Graph}
+use Rattle.pisdf_model.specs.declared.graph.Graphs.{Graphs}
+use Rattle.pisdf_model.specs.declared.limits.TheConstants.{MAX_GRAPHS, MAX_PARAMS, MAX_INPUTS, MAX_OUTPUTS, MAX_ACTORS, MAX_FIFOS, MAX_DELAY_TOKENS}
+use Rattle.graph_format.specs.Canonical.{delay_value, list_value, whole_value}
+use Rattle.graph_format.specs.Named.{named_fifo, named_file, named_graph, stated_delay}
+use Rattle.graph_format.specs.States.{StatesDelay}
+use Rattle.graph_format.specs.Values.{AreItems, IsWhole}
+use Rattle.graph_writer.specs.ReadAgain.{HasTokens}
+use Rattle.graph_writer.proofs.Distinct.{left_none, not_told, right_none}
+use Rattle.graph_writer.proofs.StatedAgain.{HasDelayAgain, HasDelaysAgain}
+
+-- ---- numbers
+
+whole_again : (z : ℤ) → in_i64 z ≡ true → IsWhole (whole_value z) z
+whole_again (pos n) inside =
+    let below : nat_lt n (2 ^ 63) ≡ true = grind (arith, nat_tests) in
+    rw below refl
+whole_again (negsuc n) inside = refl
+
+wholes_again : (tokens : List ℤ) → AllPass in_i64 tokens → AreItems IsWhole (items_of (map whole_value tokens)) tokens
+wholes_again [] inside = tt
+wholes_again (t ∷ ts) inside = (whole_again t (inside 0 t (omega arith)), wholes_again ts (λ k d lt. inside (suc k) d (omega arith)))
+
+-- ---- delays
+
+delay_again : (tokens : List ℤ) → AllPass in_i64 tokens → nat_lt MAX_DELAY_TOKENS (length tokens) ≡ false → StatesDelay (delay_value (stated_delay tokens)) (stated_delay tokens)
+delay_again tokens inside short = go (list_all (λ token. int_eq token (pos 0)) tokens) refl
+  where
+    go : (b : Bool) → list_all (λ token. int_eq token (pos 0)) tokens ≡ b → StatesDelay (delay_value (stated_delay tokens)) (stated_delay tokens)
+    go true is =
+        let below : nat_lt (length tokens) (2 ^ 63) ≡ true = grind (arith, nat_tests) in
+        rw (is, below) refl
+    go false is = rw is (record { values = items_of (map whole_value tokens); is_array = refl; items = wholes_again tokens inside })
+
+-- ---- graphs
+
+-- the last of the counts of a graph
+not_long : (g : Graph) → graph_counts g ≡ [] → has_long_delay g.fifos ≡ false
+not_long g none =
+    let delays = unless (not (has_long_delay g.fifos)) counted.Delay in
+    let fifos = unless (nat_le (length g.fifos) MAX_FIFOS) counted.Fifos in
+    let actors = unless (nat_le (length g.actors) MAX_ACTORS) counted.Actors in
+    let outputs = unless (nat_le (length g.outputs) MAX_OUTPUTS) counted.Outputs in
+    let inputs = unless (nat_le (length g.inputs) MAX_INPUTS) counted.Inputs in
+    let params = unless (nat_le (length g.params) MAX_PARAMS) counted.Params in
+    let from_fifos = fifos ++ delays in
+    let from_actors = actors ++ from_fifos in
+    let from_outputs = outputs ++ from_actors in
+    let from_inputs = inputs ++ from_outputs in
+    let none_outputs : from_outputs ≡ [] = right_none inputs from_outputs (right_none params from_inputs none) in
+    let none_delays : delays ≡ [] = right_none fifos delays (right_none actors from_fifos (right_none outputs from_actors none_outputs)) in
+    not_told (has_long_delay g.fifos) counted.Delay none_delays
+
+module _ (signatures : List Signature) (graphs : Graphs) where
+  fifos_again : (g : Graph) (fifos : List Fifo) → All (λ (f : Fifo). AllPass in_i64 f.delay) fifos → has_long_delay fifos ≡ false → AllByRecursion HasDelayAgain (map (named_fifo graphs g) fifos)
+  fifos_again g [] inside short = tt
+  fifos_again g (f ∷ fs) inside short =
+      let parts = or_parts (nat_lt MAX_DELAY_TOKENS (length f.delay)) (has_long_delay fs) short in
+      (delay_again f.delay (inside 0 f (omega arith)) parts.0, fifos_again g fs (λ k d lt. inside (suc k) d (omega arith)) parts.1)
+
+  graph_again : (g : Graph) → HasTokens g → graph_counts g ≡ [] → HasDelaysAgain (named_graph signatures graphs g)
+  unfolding named_graph
+  graph_again g inside none = fifos_again g g.fifos inside (not_long g none)
+
+  each_again : (n : ℕ) (some : List Graph) → All HasTokens some → from_number n (λ n g. graph_counts g) some ≡ [] → AllByRecursion HasDelaysAgain (map (named_graph signatures graphs) some)
+  each_again n [] inside none = tt
+  each_again n (g ∷ some) inside none =
+      let rest = from_number (n + 1) (λ n g. graph_counts g) some in
+      (graph_again g (inside 0 g (omega arith)) (left_none (graph_counts g) rest none), each_again (n + 1) some (λ k d lt. inside (suc k) d (omega arith)) (right_none (graph_counts g) rest none))
+
+pub delays_again : (signatures : List Signature) (graphs : Graphs) → All HasTokens graphs.graphs → count_faults graphs ≡ [] → AllByRecursion HasDelaysAgain (named_file signatures graphs).graphs
+unfolding named_file
+delays_again signatures graphs inside none = each_again signatures graphs 0 graphs.graphs inside (right_none (unless (nat_le (length graphs.graphs) MAX_GRAPHS) counted.Graphs) (from_number 0 (λ n g. graph_counts g) graphs.graphs) none)

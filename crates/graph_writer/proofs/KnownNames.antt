@@ -1,0 +1,105 @@
+-- Lists of which nothing is told, and the places at which known names stand.
+use Rattle.std.proofs.Common.{◌≡◌, ℕ, suc, ◌+◌, Bool, true, false, cond, List, [], ◌∷◌, ◌++◌, map, All, refl, sym, ap, ◌∙◌, arith, map-id}
+use Rattle.std.specs.Prelude.{Option, Some, None, is_none, unwrap_or, slice_get}
+use Rattle.std.specs.List.{enumerate_from, flat_map, position_from}
+use Rattle.std.specs.Str.{bytes_eq}
+use Rattle.std.proofs.lemmas.Iterator.Adapters.{position_from-zero}
+use Rattle.std.proofs.lemmas.List.Elements.{All-nil, All-cons, All-head, All-tail}
+use Rattle.std.proofs.lemmas.List.Quantifiers.{position-Some}
+use Rattle.std.proofs.lemmas.Slice.Eq.{bytes_eq-Decides}
+use Rattle.kernel_gate.specs.Signed.{SignatureView}
+use Rattle.param_expr.specs.Bind.{place_of}
+use Rattle.pisdf_model.specs.Details.{unless}
+use Rattle.graph_format.specs.Kernels.{kernel_names, signature_named}
+use Rattle.graph_format.specs.Named.{name_at_place}
+use Rattle.graph_format.specs.Placed.{first_place}
+use Rattle.graph_format.specs.References.{missing}
+use Rattle.graph_writer.proofs.Distinct.{left_none, right_none}
+use Rattle.graph_writer.proofs.Resolving.{each_alike}
+
+-- ---- lists
+
+pub neither : {A : Type 0} (xs ys : List A) → xs ++ ys ≡ [] → (xs ≡ []) × (ys ≡ [])
+neither xs ys none = (left_none xs ys none, right_none xs ys none)
+
+pub each_none : {A D : Type 0} (f : A → List D) (xs : List A) → flat_map f xs ≡ [] → All (λ x. f x ≡ []) xs
+each_none f [] none = All-nil (λ x. f x ≡ [])
+each_none f (x ∷ xs) none =
+    let both = neither (f x) (flat_map f xs) none in
+    All-cons (λ x. f x ≡ []) x xs both.0 (each_none f xs both.1)
+
+-- parts of which nothing is told become what they were
+pub again_where : {A B D : Type 0} (m : A → B) (f : B → A) (u : A → List D) → ((x : A) → u x ≡ [] → f (m x) ≡ x) → (xs : List A) → flat_map u xs ≡ [] → map f (map m xs) ≡ xs
+again_where m f u same xs none = each_alike m f (λ x. x) (λ x. u x ≡ []) same xs (each_none u xs none) ∙ map-id xs
+
+pub unnumbered : {A B : Type 0} (f : A → B) (n : ℕ) (xs : List A) → map (λ (p : ℕ × A). f p.1) (enumerate_from n xs) ≡ map f xs
+unnumbered f n [] = refl
+unnumbered f n (x ∷ xs) = ap (λ ys. f x ∷ ys) (unnumbered f (n + 1) xs)
+
+pub each_numbered : {A : Type 0} (P : A → Type 0) (n : ℕ) (xs : List A) → All P xs → All (λ (p : ℕ × A). P p.1) (enumerate_from n xs)
+each_numbered {A} P n [] all = All-nil (λ (p : ℕ × A). P p.1)
+each_numbered {A} P n (x ∷ xs) all = All-cons (λ (p : ℕ × A). P p.1) (n, x) (enumerate_from (n + 1) xs) (All-head P x xs all) (each_numbered P (n + 1) xs (All-tail P x xs all))
+
+pub unmapped : {A B : Type 0} (f : A → B) (xs : List A) → map f xs ≡ [] → xs ≡ []
+unmapped f [] none = refl
+unmapped f (x ∷ xs) none = absurd cc
+
+pub unless_none : {D : Type 0} (b : Bool) (d : D) → unless b d ≡ [] → b ≡ true
+unless_none true d none = refl
+unless_none false d none = absurd cc
+
+-- ---- names
+
+pub not_told : {D : Type 0} (b : Bool) (d : D) → cond b (d ∷ []) [] ≡ [] → b ≡ false
+not_told true d none = absurd cc
+not_told false d none = refl
+
+-- the name stands at its place
+pub record IsFound (names : List (List ℕ)) (w : List ℕ) : Type 0 where
+  pub place : ℕ
+  pub is : place_of names w ≡ Some place
+  pub name : name_at_place names place ≡ w
+
+pub found : (names : List (List ℕ)) (w : List ℕ) → is_none (place_of names w) ≡ false → IsFound names w
+found names w some = go (place_of names w) refl some
+  where
+    go : (o : Option ℕ) → place_of names w ≡ o → is_none o ≡ false → IsFound names w
+    go None is some = absurd cc
+    go (Some i) is some =
+        let passes = position-Some (bytes_eq w) names i [] is in
+        record { place = i; is = is; name = sym ((bytes_eq-Decides w (name_at_place names i)).0 passes.1) }
+
+pub known : (names : List (List ℕ)) (w : List ℕ) → missing names w ≡ [] → IsFound names w
+known names w none = found names w (not_told (is_none (place_of names w)) w none)
+
+pub name_again : (names others : List (List ℕ)) (w : List ℕ) → others ≡ names → IsFound names w → name_at_place others (first_place names w) ≡ w
+name_again names others w same f = ap (λ ns. name_at_place ns (first_place names w)) same ∙ ap (λ (o : Option ℕ). name_at_place names (unwrap_or o 0)) f.is ∙ f.name
+
+-- ---- kernels
+
+-- the place of a kernel's name is that of the first signature of this name
+pub record HasSignature (signatures : List SignatureView) (w : List ℕ) (s : SignatureView) : Type 0 where
+  pub named : is_none (place_of (kernel_names signatures) w) ≡ false
+  pub signature : slice_get signatures (first_place (kernel_names signatures) w) ≡ Some s
+
+module _ (w : List ℕ) (s : SignatureView) where
+  -- the name stands at some place, counted from k, and the signature at the same place
+  abbrev StandsFrom : ℕ → List SignatureView → Type 0
+  StandsFrom k signatures = (i : ℕ) × (position_from (bytes_eq w) k (kernel_names signatures) ≡ Some (k + i)) × (slice_get signatures i ≡ Some s)
+
+  first_or_later : (k : ℕ) (v : SignatureView) (rest : List SignatureView) (b : Bool) → bytes_eq w v.name ≡ b → cond b (Some v) (signature_named rest w) ≡ Some s
+      → (signature_named rest w ≡ Some s → StandsFrom (k + 1) rest) → StandsFrom k (v ∷ rest)
+  first_or_later k v rest true same is later = (0, ap (λ c. cond c (Some k) (position_from (bytes_eq w) (k + 1) (kernel_names rest))) same ∙ ap (λ n. Some n) (omega arith), is)
+  first_or_later k v rest false other is later =
+      let f = later is in
+      (suc f.0, ap (λ c. cond c (Some k) (position_from (bytes_eq w) (k + 1) (kernel_names rest))) other ∙ f.1 ∙ ap (λ n. Some n) (omega arith), f.2)
+
+  stands_from : (k : ℕ) (signatures : List SignatureView) → signature_named signatures w ≡ Some s → StandsFrom k signatures
+  stands_from k [] is = absurd cc
+  stands_from k (v ∷ rest) is = first_or_later k v rest (bytes_eq w v.name) refl is (stands_from (k + 1) rest)
+
+  pub signature_found : (signatures : List SignatureView) → signature_named signatures w ≡ Some s → HasSignature signatures w s
+  signature_found signatures is =
+      let f = stands_from 0 signatures is in
+      let place : place_of (kernel_names signatures) w ≡ Some f.0 = position_from-zero (bytes_eq w) (kernel_names signatures) ∙ f.1 ∙ ap (λ n. Some n) (omega arith) in
+      record { named = ap (λ (o : Option ℕ). is_none o) place; signature = ap (λ (o : Option ℕ). slice_get signatures (unwrap_or o 0)) place ∙ f.2 }

@@ -1,0 +1,64 @@
+-- The canonical file of graphs is read as these graphs again.
+use Rattle.std.proofs.Common.{◌≡◌, ℕ, ℤ, pos, List, [], map, refl, sym, ap, ◌∙◌, subst}
+use Rattle.std.specs.Prelude.{None, Some, Ok, IsUtf8, option_and_then}
+use Rattle.serde_json.specs.Data.{Data}
+use Rattle.serde_json.specs.Read.{read}
+use Rattle.kernel_gate.specs.Signed.{SignatureView, signature_view}
+use Rattle.kernel_gate.specs.declared.signature.Signature.{Signature}
+use Rattle.param_expr.proofs.Printed.{printed_answers}
+use Rattle.pisdf_model.proofs.Alike.{of_mapped}
+use Rattle.pisdf_model.specs.declared.graph.Graphs.{Graphs}
+use Rattle.graph_format.proofs.StatedFiles.{file_reads}
+use Rattle.graph_format.specs.Canonical.{canonical, file_value}
+use Rattle.graph_format.specs.Faults.{file_faults}
+use Rattle.graph_format.specs.Kernels.{kernel_names}
+use Rattle.graph_format.specs.Named.{named_file, names_of_kernels}
+use Rattle.graph_format.specs.Objects.{file_at, stated_version}
+use Rattle.graph_format.specs.Placed.{placed, tokens_of}
+use Rattle.graph_format.specs.Reads.{Reads, other_version}
+use Rattle.graph_format.specs.States.{States}
+use Rattle.graph_format.specs.Walk.{whole_of}
+use Rattle.graph_format.specs.declared.file.File.{File}
+use Rattle.graph_writer.specs.ReadAgain.{CanBeReadAgain}
+use Rattle.graph_writer.proofs.Distinct.{AllDiffer, all_differ}
+use Rattle.graph_writer.proofs.DelaysAgain.{delays_again}
+use Rattle.graph_writer.proofs.FitAgain.{counts_fit, names_differ, no_faults}
+use Rattle.graph_writer.proofs.KnownAgain.{file_known}
+use Rattle.graph_writer.proofs.PlacedAgain.{graphs_again}
+use Rattle.graph_writer.proofs.StatedAgain.{file_again}
+
+same_kernels : (signatures : List Signature) → kernel_names (map signature_view signatures) ≡ names_of_kernels signatures
+same_kernels signatures = of_mapped signature_view (λ (s : SignatureView). s.name) (λ (s : Signature). s.name.now) (λ s. refl) signatures
+
+pub placed_as_before : (signatures : List Signature) (graphs : Graphs) → CanBeReadAgain signatures graphs → placed tokens_of (kernel_names (map signature_view signatures)) (named_file signatures graphs) ≡ graphs
+placed_as_before signatures graphs can =
+    ap (λ kernels. placed tokens_of kernels (named_file signatures graphs)) (same_kernels signatures)
+    ∙ graphs_again signatures graphs (all_differ graphs (names_differ graphs can.well_formed)) can
+
+pub faultless : (signatures : List Signature) (graphs : Graphs) → CanBeReadAgain signatures graphs → file_faults (map signature_view signatures) (named_file signatures graphs) ≡ []
+faultless signatures graphs can =
+    no_faults signatures graphs can
+    (file_known signatures graphs (all_differ graphs (names_differ graphs can.well_formed)) can.in_range)
+    (placed_as_before signatures graphs can)
+
+-- the canonical value states the file
+states_again : (signatures : List Signature) (graphs : Graphs) → CanBeReadAgain signatures graphs → States 1 (canonical signatures graphs) (named_file signatures graphs)
+states_again signatures graphs can =
+    file_again (λ text t answers. printed_answers t (record { text = text; answers = answers })) can.value (named_file signatures graphs)
+    (delays_again signatures graphs can.tokens (counts_fit graphs can.well_formed)) can.stated
+
+-- a value of this version is of no other
+this_version : (d : Data) (file : File) → States 1 d file → other_version 1 (stated_version d) ≡ None
+this_version d file h =
+    let version = h.pisdf in
+    let stated : stated_version d ≡ Some (pos 1) = ap (option_and_then whole_of) version.is_there ∙ version.states.number ∙ ap (λ n. Some (pos n)) version.states.is_version in
+    ap (other_version 1) stated
+
+pub read_again : (signatures : List Signature) (graphs : Graphs) (bytes : List ℕ) → CanBeReadAgain signatures graphs → IsUtf8 bytes → read bytes ≡ Some (canonical signatures graphs) → Reads 1 (map signature_view signatures) bytes (Ok graphs)
+read_again signatures graphs bytes can utf8 is =
+    let file = named_file signatures graphs in
+    let d = canonical signatures graphs in
+    let states = states_again signatures graphs can in
+    let at : file_at 1 [] d ≡ Ok file = (file_reads 1).again [] d file states in
+    let version : other_version 1 (stated_version d) ≡ None = this_version d file states in
+    (d, (utf8, is), rw (version, at, faultless signatures graphs can) (ap (λ g. Ok g) (placed_as_before signatures graphs can)))

@@ -1,0 +1,157 @@
+-- The graphs that a file without a fault means can be written and read again.
+use Rattle.std.proofs.Common.{◌≡◌, ℕ, ◌+◌, ◌==◌, Bool, true, false, List, [], ◌∷◌, ◌++◌, map, All, refl, sym, ap, subst, ◌∙◌}
+use Rattle.std.specs.Prelude.{Option, Some, None, slice_get}
+use Rattle.std.specs.List.{AllByRecursion, enumerate_from}
+use Rattle.std.proofs.lemmas.Bool.{false≢true}
+use Rattle.std.proofs.lemmas.List.Elements.{All-nil, All-cons, All-map, All-weaker}
+use Rattle.serde_json.specs.Data.{Data}
+use Rattle.kernel_gate.specs.Signed.{SignatureView, signature_view}
+use Rattle.kernel_gate.specs.declared.signature.Signature.{Signature}
+use Rattle.param_expr.specs.Print.{Differ}
+use Rattle.pisdf_model.specs.Count.{count_faults}
+use Rattle.pisdf_model.specs.Details.{from_number, of_each}
+use Rattle.pisdf_model.specs.InterfaceWires.{interface_wire_faults}
+use Rattle.pisdf_model.specs.Names.{repeats}
+use Rattle.pisdf_model.specs.Nesting.{depth_faults, graph_cycle_faults}
+use Rattle.pisdf_model.specs.ParamOrder.{param_order_faults}
+use Rattle.pisdf_model.specs.Ports.{actor_ports, all_sets, body_fits, graph_ports, param_ports, ports_faults}
+use Rattle.pisdf_model.specs.Range.{InRange}
+use Rattle.pisdf_model.specs.Wires.{wire_faults}
+use Rattle.pisdf_model.specs.declared.actor.Actor.{Actor}
+use Rattle.pisdf_model.specs.declared.actor.Body.{Body}
+use Rattle.pisdf_model.specs.declared.actor.Body.TheVariants as body
+use Rattle.pisdf_model.specs.declared.graph.Graph.{Graph}
+use Rattle.pisdf_model.specs.declared.graph.Graphs.{Graphs}
+use Rattle.graph_format.proofs.Laws.{well_formed}
+use Rattle.graph_format.specs.Faults.{at_fifo, file_faults, fits_kernel, graphs_of, rule_faults, too_many}
+use Rattle.graph_format.specs.FileNames.{names_of_file}
+use Rattle.graph_format.specs.Kernels.{is_of_config, is_of_kernel, kernel_names, signature_named, unfit_in_body, unfit_in_file, unfit_in_graph}
+use Rattle.graph_format.specs.Named.{named_file, names_of_kernels}
+use Rattle.graph_format.specs.Placed.{first_place, placed_actor, placed_body}
+use Rattle.graph_format.specs.References.{unknown_in_file}
+use Rattle.graph_format.specs.Scope.{Scope}
+use Rattle.graph_format.specs.States.{States}
+use Rattle.graph_format.specs.declared.actor.FileActor.{FileActor}
+use Rattle.graph_format.specs.declared.actor.FileBody.{FileBody}
+use Rattle.graph_format.specs.declared.actor.FileBody.TheVariants.{Kernel, Config, Child}
+use Rattle.graph_format.specs.declared.file.File.{File}
+use Rattle.graph_format.specs.declared.file.FileGraph.{FileGraph}
+use Rattle.graph_format.specs.declared.graph_fault.GraphFault.TheVariants as fault
+use Rattle.graph_writer.specs.ReadAgain.{CanBeReadAgain, HasTokens, kind_fits}
+use Rattle.graph_writer.proofs.DelaysAgain.{delays_again}
+use Rattle.graph_writer.proofs.KeptNames.{here, meant}
+use Rattle.graph_writer.proofs.KnownNames.{each_none, each_numbered, neither, signature_found, unless_none, unmapped}
+use Rattle.graph_writer.proofs.NamedAgain.{named_again, restated}
+use Rattle.graph_writer.proofs.Restated.{HasValue, file_valued}
+use Rattle.graph_writer.proofs.StatedAgain.{HasDelaysAgain}
+
+-- ---- kinds of kernels
+
+module _ (views : List SignatureView) where
+  -- where a name's first signature passes a test that no missing one does, the one at the name's place passes it
+  stands : (test : Option SignatureView → Bool) → test None ≡ false → (w : List ℕ) (o : Option SignatureView) → signature_named views w ≡ o → test o ≡ true → test (slice_get views (first_place (kernel_names views) w)) ≡ true
+  stands test fails w None is h = absurd (false≢true (sym fails ∙ h))
+  stands test fails w (Some s) is h = ap test (signature_found w s views is).signature ∙ h
+
+  kind_kept : (s : Scope) → s.kernels ≡ kernel_names views → (b : FileBody) → unfit_in_body views b ≡ [] → kind_fits views (placed_body s b) ≡ true
+  kind_kept s same (Kernel kernel args ins outs) fits =
+      ap (λ names. is_of_kernel (slice_get views (first_place names kernel))) same
+      ∙ stands is_of_kernel refl kernel (signature_named views kernel) refl (unless_none (is_of_kernel (signature_named views kernel)) kernel fits)
+  kind_kept s same (Config kernel args ins outs sets) fits =
+      ap (λ names. is_of_config (slice_get views (first_place names kernel))) same
+      ∙ stands is_of_config refl kernel (signature_named views kernel) refl (unless_none (is_of_config (signature_named views kernel)) kernel fits)
+  kind_kept s same (Child graph args) fits = refl
+
+  abbrev KindsFit : Graph → Type 0
+  KindsFit g = All (λ (a : Actor). kind_fits views a.body ≡ true) g.actors
+
+  kinds_kept : (file : File) → unfit_in_file views file ≡ [] → All KindsFit (graphs_of views file).graphs
+  kinds_kept file fits =
+      All-map KindsFit (meant (kernel_names views) file) (enumerate_from 0 file.graphs)
+      (All-weaker (λ (p : ℕ × FileGraph). unfit_in_graph views p.1 ≡ []) (λ p. KindsFit (meant (kernel_names views) file p)) of_graph (enumerate_from 0 file.graphs)
+      (each_numbered (λ g. unfit_in_graph views g ≡ []) 0 file.graphs (each_none (unfit_in_graph views) file.graphs fits)))
+    where
+      of_graph : (p : ℕ × FileGraph) → unfit_in_graph views p.1 ≡ [] → KindsFit (meant (kernel_names views) file p)
+      of_graph p fits =
+          let s = here (kernel_names views) file p.1 in
+          All-map (λ (a : Actor). kind_fits views a.body ≡ true) (placed_actor s) p.1.actors
+          (All-weaker (λ (a : FileActor). unfit_in_body views a.body ≡ []) (λ a. kind_fits views (placed_body s a.body) ≡ true) (λ a. kind_kept s refl a.body) p.1.actors
+          (each_none (λ (a : FileActor). unfit_in_body views a.body) p.1.actors fits))
+
+-- ---- numbers of arguments, ports and sets
+
+each_number_none : {X D : Type 0} (f : ℕ → X → List D) (P : X → Type 0) → ((n : ℕ) (x : X) → f n x ≡ [] → P x) → (n : ℕ) (xs : List X) → from_number n f xs ≡ [] → All P xs
+each_number_none f P shown n [] none = All-nil P
+each_number_none f P shown n (x ∷ xs) none =
+    let both = neither (f n x) (from_number (n + 1) f xs) none in
+    All-cons P x xs (shown n x both.0) (each_number_none f P shown (n + 1) xs both.1)
+
+module _ (views : List SignatureView) (graphs : Graphs) where
+  abbrev CountsFit : Graph → Type 0
+  CountsFit g = All (λ (a : Actor). fits_kernel views a.body ≡ true) g.actors
+
+  body_fitted : (b : Body) → body_fits (fits_kernel views) graphs.graphs b ≡ true → fits_kernel views b ≡ true
+  body_fitted (body.Kernel kernel args ins outs) h = h
+  body_fitted (body.Config kernel args ins outs sets) h = h
+  body_fitted (body.Child child args) h = refl
+
+  graph_fitted : (is_top : Bool) (g : Graph) → graph_ports (fits_kernel views) graphs.graphs is_top g ≡ [] → CountsFit g
+  graph_fitted is_top g none =
+      each_number_none (λ a actor. actor_ports (fits_kernel views) graphs.graphs actor) (λ (a : Actor). fits_kernel views a.body ≡ true)
+      (λ n a one. body_fitted a.body (unless_none (body_fits (fits_kernel views) graphs.graphs a.body) a.name one)) 0 g.actors
+      (neither (of_each (λ a actor. actor_ports (fits_kernel views) graphs.graphs actor) g.actors) (of_each (λ i p. param_ports is_top (all_sets g.actors) i p) g.params) none).0
+
+  counts_fitted : ports_faults (fits_kernel views) graphs ≡ [] → All CountsFit graphs.graphs
+  counts_fitted none = each_number_none (λ n g. graph_ports (fits_kernel views) graphs.graphs (n == graphs.top) g) CountsFit (λ n g one. graph_fitted (n == graphs.top) g one) 0 graphs.graphs none
+
+-- ---- files
+
+-- no fault of the kinds that are looked at here
+record HasNone (signatures : List SignatureView) (file : File) : Type 0 where
+  pub unknown : unknown_in_file file ≡ []
+  pub unfit : unfit_in_file signatures file ≡ []
+  pub ports : ports_faults (fits_kernel signatures) (graphs_of signatures file) ≡ []
+  pub counts : count_faults (graphs_of signatures file) ≡ []
+
+none_of : (signatures : List SignatureView) (file : File) → file_faults signatures file ≡ [] → HasNone signatures file
+none_of signatures file none =
+    let g = graphs_of signatures file in
+    let fits = fits_kernel signatures in
+    let duplicates = map fault.Duplicate (repeats (names_of_file file)) in
+    let unknown = map fault.Unknown (unknown_in_file file) in
+    let kernels = map fault.Kernel (unfit_in_file signatures file) in
+    let ports = map fault.Ports (ports_faults fits g) in
+    let others = map fault.Wire (wire_faults g) ++ (map at_fifo (interface_wire_faults g) ++ (map fault.ParamOrder (param_order_faults g) ++ (map fault.GraphCycle (graph_cycle_faults g) ++ map fault.Depth (depth_faults g)))) in
+    let rules = rule_faults fits g in
+    let counts = map too_many (count_faults g) in
+    let from_unknown = (neither duplicates (unknown ++ (kernels ++ (rules ++ counts))) none).1 in
+    let unknowns = neither unknown (kernels ++ (rules ++ counts)) from_unknown in
+    let unfits = neither kernels (rules ++ counts) unknowns.1 in
+    let last = neither rules counts unfits.1 in
+    record {
+      unknown = unmapped fault.Unknown (unknown_in_file file) unknowns.0;
+      unfit = unmapped fault.Kernel (unfit_in_file signatures file) unfits.0;
+      ports = unmapped fault.Ports (ports_faults fits g) (neither ports others last.0).0;
+      counts = unmapped too_many (count_faults g) last.1;
+    }
+
+pub can_be_read_again : (signatures : List Signature) (d : Data) (file : File) → Differ (names_of_kernels signatures) → States 1 d file → file_faults (map signature_view signatures) file ≡ []
+    → InRange (graphs_of (map signature_view signatures) file) → All HasTokens (graphs_of (map signature_view signatures) file).graphs → CanBeReadAgain signatures (graphs_of (map signature_view signatures) file)
+can_be_read_again signatures d file differ states none range tokens =
+    let views = map signature_view signatures in
+    let graphs = graphs_of views file in
+    let has = none_of views file none in
+    let same : named_file signatures graphs ≡ restated file = named_again signatures file has.unknown has.unfit in
+    let delays = subst (λ (f : File). AllByRecursion HasDelaysAgain f.graphs) same (delays_again signatures graphs tokens has.counts) in
+    let valued : HasValue (States 1) (restated file) = file_valued d file delays states in
+    let kinds = kinds_kept views file has.unfit in
+    let counts = counts_fitted views graphs has.ports in
+    record {
+      value = valued.value;
+      stated = subst (States 1 valued.value) (sym same) valued.states;
+      tokens = tokens;
+      in_range = range;
+      well_formed = well_formed views file none;
+      kernels = λ n e inside a f there. record { kind = kinds n e inside a f there; counts = counts n e inside a f there };
+      differ = differ;
+    }
