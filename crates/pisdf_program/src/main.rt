@@ -11,6 +11,8 @@ mod load;
 mod number;
 mod program;
 mod put;
+#[cfg(test)]
+mod rewriting_tests;
 mod run;
 mod status;
 mod streams;
