@@ -32,6 +32,7 @@ use Rattle.pisdf_model.specs.declared.param.Param.{Param}
 use Rattle.pisdf_model.specs.declared.graph.Graph.{Graph}
 use Rattle.pisdf_model.specs.declared.graph.Interface.{Interface}
 use Rattle.pisdf_model.proofs.Alike.{alike_each, alike_numbered, of_mapped}
+use Rattle.pisdf_model.proofs.Lists.{left_none, right_none, unmapped}
 use Rattle.graph_format.specs.FileNames.{actor_walk, graph_walk, names_of_file, own_port_names}
 use Rattle.graph_format.specs.Placed.{mark_of, placed, placed_actor, placed_body, placed_end, placed_fifo, placed_graph, placed_interface, placed_param, placed_port, tokens_of, top_of}
 use Rattle.graph_format.specs.Scope.{Scope, scope_of}
@@ -49,13 +50,13 @@ use Rattle.graph_format.specs.declared.port.FilePort.{FilePort}
 -- ---- names
 
 module _ (s : Scope) where
-  port_names_kept : (ports : List FilePort) → map (λ (p : Port). p.name) (map (placed_port s) ports) ≡ map (λ (p : FilePort). p.name) ports
+  pub port_names_kept : (ports : List FilePort) → map (λ (p : Port). p.name) (map (placed_port s) ports) ≡ map (λ (p : FilePort). p.name) ports
   port_names_kept ports = of_mapped (placed_port s) (λ (p : Port). p.name) (λ (p : FilePort). p.name) (λ p. refl) ports
 
-  interface_names_kept : (ports : List FilePort) → map (λ (i : Interface). i.name) (map (placed_interface s) ports) ≡ map (λ (p : FilePort). p.name) ports
+  pub interface_names_kept : (ports : List FilePort) → map (λ (i : Interface). i.name) (map (placed_interface s) ports) ≡ map (λ (p : FilePort). p.name) ports
   interface_names_kept ports = of_mapped (placed_interface s) (λ (i : Interface). i.name) (λ (p : FilePort). p.name) (λ p. refl) ports
 
-  param_names_kept : (params : List FileParam) → map (λ (p : Param). p.name) (map (placed_param s) params) ≡ map (λ (p : FileParam). p.name) params
+  pub param_names_kept : (params : List FileParam) → map (λ (p : Param). p.name) (map (placed_param s) params) ≡ map (λ (p : FileParam). p.name) params
   param_names_kept params = of_mapped (placed_param s) (λ (p : Param). p.name) (λ (p : FileParam). p.name) (λ p. refl) params
 
   own_names_kept : (b : FileBody) → model.own_port_names (placed_body s b) ≡ own_port_names b
@@ -137,18 +138,6 @@ rules_marked fits graphs =
     ∙ ap (λ ds. map Ports (ports_faults fits graphs) ++ (map Wire (wire_faults graphs) ++ (map at_fifo (interface_wire_faults graphs) ++ (map ParamOrder (param_order_faults graphs) ++ (map GraphCycle (graph_cycle_faults graphs) ++ map Depth ds))))) (depths_marked graphs)
 
 -- ---- files without a fault
-
-left_none : {A : Type 0} (xs ys : List A) → xs ++ ys ≡ [] → xs ≡ []
-left_none [] ys none = refl
-left_none (x ∷ xs) ys none = absurd cc
-
-right_none : {A : Type 0} (xs ys : List A) → xs ++ ys ≡ [] → ys ≡ []
-right_none [] ys none = none
-right_none (x ∷ xs) ys none = absurd cc
-
-unmapped : {A B : Type 0} (f : A → B) (xs : List A) → map f xs ≡ [] → xs ≡ []
-unmapped f [] none = refl
-unmapped f (x ∷ xs) none = absurd cc
 
 -- actors that fit their kernels fit where kernels aren't looked at
 fit_any : (fits : Body → Bool) (graphs : List Graph) (b : Body) (name : List ℕ) → unless (body_fits fits graphs b) name ≡ [] → unless (body_fits (λ body. true) graphs b) name ≡ []

@@ -9,6 +9,7 @@ use Rattle.serde_json.specs.Data.{number, unsigned}
 use Rattle.serde_json.specs.View.{items_of}
 use Rattle.kernel_gate.specs.declared.signature.Signature.{Signature}
 use Rattle.param_expr.specs.Eval.{in_i64}
+use Rattle.pisdf_model.proofs.Lists.{left_none, right_none}
 use Rattle.pisdf_model.specs.Count.{count_faults, counts_of, excess_of, graph_counts, has_long_delay}
 use Rattle.pisdf_model.specs.Details.{from_number, unless}
 use Rattle.pisdf_model.specs.declared.counting.Counted.TheVariants as counted
@@ -21,7 +22,7 @@ use Rattle.graph_format.specs.Named.{named_fifo, named_file, named_graph, stated
 use Rattle.graph_format.specs.States.{StatesDelay}
 use Rattle.graph_format.specs.Values.{AreItems, IsWhole}
 use Rattle.graph_writer.specs.ReadAgain.{HasTokens}
-use Rattle.graph_writer.proofs.Distinct.{left_none, not_told, right_none}
+use Rattle.graph_writer.proofs.Distinct.{not_told}
 use Rattle.graph_writer.proofs.StatedAgain.{HasDelayAgain, HasDelaysAgain}
 
 -- ---- numbers

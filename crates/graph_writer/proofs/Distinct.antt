@@ -7,6 +7,7 @@ use Rattle.std.proofs.lemmas.Bool.{or_parts, true≢false}
 use Rattle.std.proofs.lemmas.Bool.Decides.{nat_tests}
 use Rattle.std.proofs.lemmas.List.{map-append}
 use Rattle.param_expr.specs.Print.{Differ}
+use Rattle.pisdf_model.proofs.Lists.{left_none, right_none}
 use Rattle.pisdf_model.specs.Details.{from_number, of_each, unless}
 use Rattle.pisdf_model.specs.Names.{same_scope, is_among, repeat_at, repeats, scoped, own_port_names, actor_walk, graph_walk, names_of, duplicate_faults}
 use Rattle.pisdf_model.specs.Parts.{interface_names}
@@ -21,14 +22,6 @@ use Rattle.pisdf_model.specs.declared.names.ScopedName.{ScopedName}
 use Rattle.graph_format.specs.Named.{names_of_params, names_of_actors, names_of_interfaces, names_of_graphs}
 
 -- ---- lists of which nothing is told
-
-pub left_none : {A : Type 0} (xs ys : List A) → xs ++ ys ≡ [] → xs ≡ []
-left_none [] ys none = refl
-left_none (x ∷ xs) ys none = absurd cc
-
-pub right_none : {A : Type 0} (xs ys : List A) → xs ++ ys ≡ [] → ys ≡ []
-right_none [] ys none = none
-right_none (x ∷ xs) ys none = absurd cc
 
 none_at : {X D : Type 0} (f : ℕ → X → List D) (n : ℕ) (xs : List X) (i m : ℕ) (d : X) → n + i ≡ m → i < length xs → from_number n f xs ≡ [] → f m (get_or xs i d) ≡ []
 none_at f n [] i m d is inside none = absurd (omega arith)

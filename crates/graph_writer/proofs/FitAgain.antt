@@ -8,6 +8,7 @@ use Rattle.std.proofs.lemmas.List.Elements.{recursion_from_All}
 use Rattle.kernel_gate.specs.Signed.{SignatureView, signature_view}
 use Rattle.kernel_gate.specs.declared.signature.Signature.{Signature}
 use Rattle.param_expr.specs.Print.{Differ}
+use Rattle.pisdf_model.proofs.Lists.{left_none, right_none, unmapped}
 use Rattle.pisdf_model.specs.Count.{count_faults, word_of}
 use Rattle.pisdf_model.specs.Details.{from_number, of_each, unless}
 use Rattle.pisdf_model.specs.InterfaceWires.{interface_wire_faults}
@@ -33,20 +34,6 @@ use Rattle.graph_format.specs.References.{unknown_in_file}
 use Rattle.graph_format.specs.declared.actor.FileActor.{FileActor}
 use Rattle.graph_format.proofs.Laws.{names_kept}
 use Rattle.graph_writer.specs.ReadAgain.{kind_fits, FitsSignature, ActorsFit, CanBeReadAgain}
-
--- ---- lists of faults
-
-left_none : {A : Type 0} (xs ys : List A) → xs ++ ys ≡ [] → xs ≡ []
-left_none [] ys none = refl
-left_none (x ∷ xs) ys none = absurd cc
-
-right_none : {A : Type 0} (xs ys : List A) → xs ++ ys ≡ [] → ys ≡ []
-right_none [] ys none = none
-right_none (x ∷ xs) ys none = absurd cc
-
-unmapped : {A B : Type 0} (f : A → B) (xs : List A) → map f xs ≡ [] → xs ≡ []
-unmapped f [] none = refl
-unmapped f (x ∷ xs) none = absurd cc
 
 -- ---- ports
 

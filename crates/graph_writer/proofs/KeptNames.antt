@@ -9,6 +9,7 @@ use Rattle.pisdf_model.specs.declared.graph.Graph.{Graph}
 use Rattle.pisdf_model.specs.declared.graph.Graphs.{Graphs}
 use Rattle.pisdf_model.specs.declared.graph.Interface.{Interface}
 use Rattle.pisdf_model.specs.declared.param.Param.{Param}
+use Rattle.graph_format.proofs.Laws.{interface_names_kept, param_names_kept, port_names_kept}
 use Rattle.graph_format.specs.Named as named
 use Rattle.graph_format.specs.Placed.{placed, placed_actor, placed_body, placed_graph, placed_interface, placed_param, placed_port, tokens_of, top_of}
 use Rattle.graph_format.specs.References.{missing, unknown_in_actor, unknown_in_body, unknown_in_expr}
@@ -31,10 +32,7 @@ pub record HasNames (s : Scope) (graphs : Graphs) (g : Graph) : Type 0 where
   pub ports : map (λ (a : Actor). named.names_of_ports graphs a.body) g.actors ≡ s.ports
 
 interfaces_kept : (is_top : Bool) (s : Scope) (g : FileGraph) → named.names_of_interfaces (placed_graph tokens_of is_top s g) ≡ interfaces_of g
-interfaces_kept is_top s g = rw (names s g.inputs, names s g.outputs) refl
-  where
-    names : (s : Scope) (ports : List FilePort) → interface_names (map (placed_interface s) ports) ≡ names_of_ports ports
-    names s ports = of_mapped (placed_interface s) (λ (i : Interface). i.name) (λ (p : FilePort). p.name) (λ p. refl) ports
+interfaces_kept is_top s g = rw (interface_names_kept s g.inputs, interface_names_kept s g.outputs) refl
 
 module _ (kernels : List (List ℕ)) (file : File) where
   abbrev pub here : FileGraph → Scope
@@ -54,12 +52,9 @@ module _ (kernels : List (List ℕ)) (file : File) where
       of_mapped meant named.names_of_interfaces (λ (p : ℕ × FileGraph). interfaces_of p.1) (λ p. interfaces_kept (p.0 == top_of file) (here p.1) p.1) (enumerate_from 0 file.graphs)
       ∙ unnumbered interfaces_of 0 file.graphs
 
-  own_ports : (s : Scope) (ports : List FilePort) → port_names (map (placed_port s) ports) ≡ names_of_ports ports
-  own_ports s ports = of_mapped (placed_port s) (λ (p : Port). p.name) (λ (p : FilePort). p.name) (λ p. refl) ports
-
   ports_kept : (g : FileGraph) (b : FileBody) → unknown_in_body (here g) b ≡ [] → named.names_of_ports graphs (placed_body (here g) b) ≡ ports_of file.graphs b
-  ports_kept g (Kernel kernel args ins outs) none = rw (own_ports (here g) ins, own_ports (here g) outs) refl
-  ports_kept g (Config kernel args ins outs sets) none = ap (λ names. ins ++ names) (own_ports (here g) outs)
+  ports_kept g (Kernel kernel args ins outs) none = rw (port_names_kept (here g) ins, port_names_kept (here g) outs) refl
+  ports_kept g (Config kernel args ins outs sets) none = ap (λ names. ins ++ names) (port_names_kept (here g) outs)
   ports_kept g (Child graph args) none =
       let child = known (names_of_graphs file.graphs) graph (neither (missing (names_of_graphs file.graphs) graph) (flat_map (unknown_in_expr (here g)) args) none).0 in
       rw (all_interfaces, child.is) refl
@@ -67,7 +62,7 @@ module _ (kernels : List (List ℕ)) (file : File) where
   -- of a graph whose actors refer to what is there
   pub names_kept : (is_top : Bool) (g : FileGraph) → flat_map (unknown_in_actor (here g)) g.actors ≡ [] → HasNames (here g) graphs (placed_graph tokens_of is_top (here g) g)
   names_kept is_top g none = record {
-    params = of_mapped (placed_param (here g)) (λ (p : Param). p.name) (λ (p : FileParam). p.name) (λ p. refl) g.params;
+    params = param_names_kept (here g) g.params;
     interfaces = interfaces_kept is_top (here g) g;
     actors = of_mapped (placed_actor (here g)) (λ (a : Actor). a.name) (λ (a : FileActor). a.name) (λ a. refl) g.actors;
     ports = each_alike (placed_actor (here g)) (λ (a : Actor). named.names_of_ports graphs a.body) (λ (a : FileActor). ports_of file.graphs a.body) (λ a. unknown_in_actor (here g) a ≡ []) (λ a. ports_kept g a.body) g.actors (each_none (unknown_in_actor (here g)) g.actors none);

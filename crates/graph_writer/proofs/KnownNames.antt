@@ -14,7 +14,7 @@ use Rattle.graph_format.specs.Kernels.{kernel_names, signature_named}
 use Rattle.graph_format.specs.Named.{name_at_place}
 use Rattle.graph_format.specs.Placed.{first_place}
 use Rattle.graph_format.specs.References.{missing}
-use Rattle.graph_writer.proofs.Distinct.{left_none, right_none}
+use Rattle.pisdf_model.proofs.Lists.{left_none, right_none}
 use Rattle.graph_writer.proofs.Resolving.{each_alike}
 
 -- ---- lists
@@ -40,19 +40,15 @@ pub each_numbered : {A : Type 0} (P : A → Type 0) (n : ℕ) (xs : List A) → 
 each_numbered {A} P n [] all = All-nil (λ (p : ℕ × A). P p.1)
 each_numbered {A} P n (x ∷ xs) all = All-cons (λ (p : ℕ × A). P p.1) (n, x) (enumerate_from (n + 1) xs) (All-head P x xs all) (each_numbered P (n + 1) xs (All-tail P x xs all))
 
-pub unmapped : {A B : Type 0} (f : A → B) (xs : List A) → map f xs ≡ [] → xs ≡ []
-unmapped f [] none = refl
-unmapped f (x ∷ xs) none = absurd cc
-
 pub unless_none : {D : Type 0} (b : Bool) (d : D) → unless b d ≡ [] → b ≡ true
 unless_none true d none = refl
 unless_none false d none = absurd cc
 
 -- ---- names
 
-pub not_told : {D : Type 0} (b : Bool) (d : D) → cond b (d ∷ []) [] ≡ [] → b ≡ false
-not_told true d none = absurd cc
-not_told false d none = refl
+pub none_where : {D : Type 0} (b : Bool) (d : D) → cond b (d ∷ []) [] ≡ [] → b ≡ false
+none_where true d none = absurd cc
+none_where false d none = refl
 
 -- the name stands at its place
 pub record IsFound (names : List (List ℕ)) (w : List ℕ) : Type 0 where
@@ -70,7 +66,7 @@ found names w some = go (place_of names w) refl some
         record { place = i; is = is; name = sym ((bytes_eq-Decides w (name_at_place names i)).0 passes.1) }
 
 pub known : (names : List (List ℕ)) (w : List ℕ) → missing names w ≡ [] → IsFound names w
-known names w none = found names w (not_told (is_none (place_of names w)) w none)
+known names w none = found names w (none_where (is_none (place_of names w)) w none)
 
 pub name_again : (names others : List (List ℕ)) (w : List ℕ) → others ≡ names → IsFound names w → name_at_place others (first_place names w) ≡ w
 name_again names others w same f = ap (λ ns. name_at_place ns (first_place names w)) same ∙ ap (λ (o : Option ℕ). name_at_place names (unwrap_or o 0)) f.is ∙ f.name

@@ -32,7 +32,7 @@ use Rattle.graph_format.specs.declared.param.FileParamKind.{FileParamKind}
 use Rattle.graph_format.specs.declared.param.FileParamKind.TheVariants.{Inherited, Derived, Chosen}
 use Rattle.graph_format.specs.declared.port.FilePort.{FilePort}
 use Rattle.graph_writer.proofs.KeptNames.{HasNames, graph_names, graphs, here, meant, names_kept}
-use Rattle.graph_writer.proofs.KnownNames.{again_where, each_none, each_numbered, found, known, name_again, neither, not_told, signature_found, unless_none, unnumbered}
+use Rattle.graph_writer.proofs.KnownNames.{again_where, each_none, each_numbered, found, known, name_again, neither, none_where, signature_found, unless_none, unnumbered}
 use Rattle.graph_writer.proofs.Resolving.{each_alike}
 
 -- ---- delays as the canonical file states them
@@ -144,7 +144,7 @@ module _ (signatures : List Signature) (all : Graphs) (s : Scope) (g : Graph)
   end_again : (e : FileEnd) → unknown_in_end s e ≡ [] → named_end all g (placed_end s e) ≡ e
   end_again (Interface w) none = ap (λ n. Interface n) (name_again s.interfaces (named.names_of_interfaces g) w kept.interfaces (known s.interfaces w none))
   end_again (Port actor port) none =
-      let there = not_told (is_none (place_of (ports_named s actor) port)) (port_text actor port) none in
+      let there = none_where (is_none (place_of (ports_named s actor) port)) (port_text actor port) none in
       let some = actor_there port (place_of s.actors actor) there in
       let same : named.names_of_ports_at all g (first_place s.actors actor) ≡ ports_named s actor = ap (λ lists. slice_index_or lists (first_place s.actors actor) []) kept.ports ∙ ports_there (place_of s.actors actor) some in
       let of_actor = name_again s.actors (named.names_of_actors g) actor kept.actors (found s.actors actor some) in

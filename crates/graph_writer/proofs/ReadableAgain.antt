@@ -8,6 +8,7 @@ use Rattle.serde_json.specs.Data.{Data}
 use Rattle.kernel_gate.specs.Signed.{SignatureView, signature_view}
 use Rattle.kernel_gate.specs.declared.signature.Signature.{Signature}
 use Rattle.param_expr.specs.Print.{Differ}
+use Rattle.pisdf_model.proofs.Lists.{unmapped}
 use Rattle.pisdf_model.specs.Count.{count_faults}
 use Rattle.pisdf_model.specs.Details.{from_number, of_each}
 use Rattle.pisdf_model.specs.InterfaceWires.{interface_wire_faults}
@@ -40,7 +41,7 @@ use Rattle.graph_format.specs.declared.graph_fault.GraphFault.TheVariants as fau
 use Rattle.graph_writer.specs.ReadAgain.{CanBeReadAgain, HasTokens, kind_fits}
 use Rattle.graph_writer.proofs.DelaysAgain.{delays_again}
 use Rattle.graph_writer.proofs.KeptNames.{here, meant}
-use Rattle.graph_writer.proofs.KnownNames.{each_none, each_numbered, neither, signature_found, unless_none, unmapped}
+use Rattle.graph_writer.proofs.KnownNames.{each_none, each_numbered, neither, signature_found, unless_none}
 use Rattle.graph_writer.proofs.NamedAgain.{named_again, restated}
 use Rattle.graph_writer.proofs.Restated.{HasValue, file_valued}
 use Rattle.graph_writer.proofs.StatedAgain.{HasDelaysAgain}

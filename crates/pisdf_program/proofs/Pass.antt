@@ -5,6 +5,7 @@ use Rattle.std.specs.Str.{bytes_eq}
 use Rattle.std.proofs.lemmas.Bool.Decides.{nat_tests}
 use Rattle.std.proofs.lemmas.Slice.Eq.{bytes_eq-Decides}
 use Rattle.param_expr.specs.Tree.{Tree, number, param, binary}
+use Rattle.pisdf_model.proofs.Lists.{left_none, right_none, unmapped}
 use Rattle.pisdf_model.specs.Details.{unless}
 use Rattle.pisdf_model.specs.Names.{duplicate_faults}
 use Rattle.pisdf_model.specs.Range.{InRange}
@@ -179,18 +180,6 @@ graph_is g rate h =
     (p, same_graph g.name g.params [] g.inputs (interface_of p.input rate ∷ []) g.outputs (interface_of p.output rate ∷ []) g.actors (actor_of p ∷ []) g.fifos (fifo_in ∷ fifo_out ∷ []) (empty_is g.params second.0) inputs outputs actors (wires_are g.fifos last.1), refl, rated.1, rated.2)
 
 -- ---- names
-
-left_none : {A : Type 0} (xs ys : List A) → xs ++ ys ≡ [] → xs ≡ []
-left_none [] ys none = refl
-left_none (x ∷ xs) ys none = absurd cc
-
-right_none : {A : Type 0} (xs ys : List A) → xs ++ ys ≡ [] → ys ≡ []
-right_none [] ys none = none
-right_none (x ∷ xs) ys none = absurd cc
-
-unmapped : {A B : Type 0} (f : A → B) (xs : List A) → map f xs ≡ [] → xs ≡ []
-unmapped f [] none = refl
-unmapped f (x ∷ xs) none = absurd cc
 
 no_duplicate : (graphs : Graphs) → WellFormed graphs → duplicate_faults graphs ≡ []
 no_duplicate graphs well = unmapped (λ name. (4, name)) (duplicate_faults graphs) (left_none (with_number 4 (duplicate_faults graphs)) _ well)
