@@ -1,23 +1,22 @@
 -- The delays of graphs without a fault are stated by their canonical values.
-use Rattle.std.proofs.Common.{◌≡◌, ℕ, zero, suc, ◌+◌, ◌<◌, ◌≤◌, ◌^◌, ℤ, pos, negsuc, Bool, true, false, not, List, [], ◌∷◌, ◌++◌, map, All, length, refl, sym, ap, ◌∙◌, arith, ltb-false}
+use Rattle.std.proofs.Common.{◌≡◌, ℕ, suc, ◌+◌, ◌^◌, ℤ, pos, negsuc, Bool, true, false, not, List, [], ◌∷◌, ◌++◌, map, All, length, refl, arith}
 use Rattle.std.specs.Prelude.{nat_le, nat_lt}
-use Rattle.std.specs.List.{AllByRecursion, AllPass, list_all, list_any}
+use Rattle.std.specs.List.{AllByRecursion, AllPass, list_all}
 use Rattle.std.specs.Ordering.{int_eq}
 use Rattle.std.proofs.lemmas.Bool.{or_parts}
 use Rattle.std.proofs.lemmas.Bool.Decides.{nat_tests}
-use Rattle.serde_json.specs.Data.{number, unsigned}
 use Rattle.serde_json.specs.View.{items_of}
 use Rattle.kernel_gate.specs.declared.signature.Signature.{Signature}
 use Rattle.param_expr.specs.Eval.{in_i64}
 use Rattle.pisdf_model.proofs.Lists.{left_none, right_none}
-use Rattle.pisdf_model.specs.Count.{count_faults, counts_of, excess_of, graph_counts, has_long_delay}
+use Rattle.pisdf_model.specs.Count.{count_faults, graph_counts, has_long_delay}
 use Rattle.pisdf_model.specs.Details.{from_number, unless}
 use Rattle.pisdf_model.specs.declared.counting.Counted.TheVariants as counted
 use Rattle.pisdf_model.specs.declared.fifo.Fifo.{Fifo}
 use Rattle.pisdf_model.specs.declared.graph.Graph.{Graph}
 use Rattle.pisdf_model.specs.declared.graph.Graphs.{Graphs}
 use Rattle.pisdf_model.specs.declared.limits.TheConstants.{MAX_GRAPHS, MAX_PARAMS, MAX_INPUTS, MAX_OUTPUTS, MAX_ACTORS, MAX_FIFOS, MAX_DELAY_TOKENS}
-use Rattle.graph_format.specs.Canonical.{delay_value, list_value, whole_value}
+use Rattle.graph_format.specs.Canonical.{delay_value, whole_value}
 use Rattle.graph_format.specs.Named.{named_fifo, named_file, named_graph, stated_delay}
 use Rattle.graph_format.specs.States.{StatesDelay}
 use Rattle.graph_format.specs.Values.{AreItems, IsWhole}

@@ -1,5 +1,5 @@
 -- Where no name is repeated, no name stands at two places of its scope.
-use Rattle.std.proofs.Common.{◌≡◌, ℕ, zero, suc, ◌+◌, ◌<◌, ◌&&◌, ◌||◌, Bool, true, false, not, List, [], ◌∷◌, ◌++◌, map, length, take, get_or, refl, sym, ap, ◌∙◌, subst, arith, get_or-take, length-take-le, append_assoc, rules}
+use Rattle.std.proofs.Common.{◌≡◌, ℕ, zero, suc, ◌+◌, ◌<◌, ◌&&◌, Bool, true, false, not, List, [], ◌∷◌, ◌++◌, map, length, take, get_or, refl, sym, ap, ◌∙◌, subst, arith, get_or-take, length-take-le, append_assoc, rules}
 use Rattle.std.specs.List.{list_any}
 use Rattle.std.specs.Str.{bytes_eq}
 use Rattle.std.specs.Cmp.Lexicographic.{bytes_decides}
@@ -14,7 +14,6 @@ use Rattle.pisdf_model.specs.Parts.{interface_names}
 use Rattle.pisdf_model.specs.declared.actor.Actor.{Actor}
 use Rattle.pisdf_model.specs.declared.graph.Graph.{Graph}
 use Rattle.pisdf_model.specs.declared.graph.Graphs.{Graphs}
-use Rattle.pisdf_model.specs.declared.graph.Interface.{Interface}
 use Rattle.pisdf_model.specs.declared.param.Param.{Param}
 use Rattle.pisdf_model.specs.declared.names.Scope.{Scope}
 use Rattle.pisdf_model.specs.declared.names.Scope.TheVariants as scope

@@ -2,25 +2,19 @@
 use Rattle.std.proofs.Common.{◌≡◌, ℕ, ◌==◌, Bool, List, [], ◌++◌, map, refl, ap, ◌∙◌}
 use Rattle.std.specs.List.{enumerate_from, flat_map}
 use Rattle.pisdf_model.proofs.Alike.{of_mapped}
-use Rattle.pisdf_model.specs.Parts.{interface_names, port_names}
 use Rattle.pisdf_model.specs.declared.actor.Actor.{Actor}
-use Rattle.pisdf_model.specs.declared.actor.Port.{Port}
 use Rattle.pisdf_model.specs.declared.graph.Graph.{Graph}
 use Rattle.pisdf_model.specs.declared.graph.Graphs.{Graphs}
-use Rattle.pisdf_model.specs.declared.graph.Interface.{Interface}
-use Rattle.pisdf_model.specs.declared.param.Param.{Param}
 use Rattle.graph_format.proofs.Laws.{interface_names_kept, param_names_kept, port_names_kept}
 use Rattle.graph_format.specs.Named as named
-use Rattle.graph_format.specs.Placed.{placed, placed_actor, placed_body, placed_graph, placed_interface, placed_param, placed_port, tokens_of, top_of}
+use Rattle.graph_format.specs.Placed.{placed, placed_actor, placed_body, placed_graph, tokens_of, top_of}
 use Rattle.graph_format.specs.References.{missing, unknown_in_actor, unknown_in_body, unknown_in_expr}
-use Rattle.graph_format.specs.Scope.{Scope, scope_of, interfaces_of, names_of_actors, names_of_graphs, names_of_params, names_of_ports, ports_of}
+use Rattle.graph_format.specs.Scope.{Scope, scope_of, interfaces_of, names_of_graphs, ports_of}
 use Rattle.graph_format.specs.declared.actor.FileActor.{FileActor}
 use Rattle.graph_format.specs.declared.actor.FileBody.{FileBody}
 use Rattle.graph_format.specs.declared.actor.FileBody.TheVariants.{Kernel, Config, Child}
 use Rattle.graph_format.specs.declared.file.File.{File}
 use Rattle.graph_format.specs.declared.file.FileGraph.{FileGraph}
-use Rattle.graph_format.specs.declared.param.FileParam.{FileParam}
-use Rattle.graph_format.specs.declared.port.FilePort.{FilePort}
 use Rattle.graph_writer.proofs.KnownNames.{each_none, known, neither, unnumbered}
 use Rattle.graph_writer.proofs.Resolving.{each_alike}
 

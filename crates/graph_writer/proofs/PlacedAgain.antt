@@ -1,18 +1,18 @@
 -- Graphs that are named in a file, and placed again, are these graphs.
-use Rattle.std.proofs.Common.{◌≡◌, ℕ, zero, suc, ◌+◌, ◌<◌, ℤ, pos, negsuc, ◌==◌, Bool, true, false, List, [], ◌∷◌, ◌++◌, map, All, length, get_or, refl, sym, ap, ◌∙◌, subst, arith, length-append, map-id}
-use Rattle.std.specs.Prelude.{Some, None, Option, slice_get, replicate}
+use Rattle.std.proofs.Common.{◌≡◌, ℕ, zero, suc, ◌+◌, ◌<◌, ℤ, pos, negsuc, ◌==◌, Bool, true, false, List, [], ◌∷◌, map, All, length, get_or, refl, sym, ap, ◌∙◌, subst, arith, length-append, map-id}
+use Rattle.std.specs.Prelude.{replicate}
 use Rattle.std.specs.List.{enumerate_from, list_all}
 use Rattle.std.specs.Ordering.{int_eq}
 use Rattle.std.proofs.lemmas.Bool.{and_parts, true≢false}
 use Rattle.std.proofs.lemmas.Bool.Decides.{nat_tests}
 use Rattle.std.proofs.lemmas.List.{length-map}
-use Rattle.kernel_gate.specs.Signed.{SignatureView, signature_view}
+use Rattle.kernel_gate.specs.Signed.{signature_view}
 use Rattle.kernel_gate.specs.declared.signature.Signature.{Signature}
 use Rattle.param_expr.specs.Eval.{RefersBelow}
 use Rattle.param_expr.specs.Tree.{Tree}
 use Rattle.param_expr.specs.Bind.{placed_in}
 use Rattle.param_expr.specs.Print.{Differ, with_names}
-use Rattle.pisdf_model.specs.Range.{IsKindInRange, IsParamInRange, IsPortInRange, IsInterfaceInRange, IsBodyInRange, IsActorInRange, IsEndInRange, IsFifoInRange, IsGraphInRange, life_of}
+use Rattle.pisdf_model.specs.Range.{IsKindInRange, IsParamInRange, IsPortInRange, IsInterfaceInRange, IsBodyInRange, IsActorInRange, IsEndInRange, IsFifoInRange, IsGraphInRange}
 use Rattle.pisdf_model.specs.declared.actor.Actor.{Actor}
 use Rattle.pisdf_model.specs.declared.actor.Body.{Body}
 use Rattle.pisdf_model.specs.declared.actor.Body.TheVariants as body
@@ -26,12 +26,10 @@ use Rattle.pisdf_model.specs.declared.graph.Interface.{Interface}
 use Rattle.pisdf_model.specs.declared.param.Param.{Param}
 use Rattle.pisdf_model.specs.declared.param.ParamKind.{ParamKind}
 use Rattle.pisdf_model.specs.declared.param.ParamKind.TheVariants.{Inherited, Derived, Chosen}
-use Rattle.graph_format.specs.Kernels.{kernel_names}
 use Rattle.graph_format.specs.Named as named
 use Rattle.graph_format.specs.Named.{name_at_place, named_actor, named_body, named_end, named_fifo, named_file, named_graph, named_interface, named_kind, named_param, named_port, names_of_actors, names_of_interfaces, names_of_kernels, names_of_params, names_of_ports_at, stated_delay}
-use Rattle.graph_format.specs.Placed.{first_place, placed, placed_actor, placed_body, placed_end, placed_fifo, placed_graph, placed_interface, placed_kind, placed_param, placed_port, ports_named, tokens_of, top_of}
-use Rattle.graph_format.specs.Scope.{Scope, scope_of, names_at}
-use Rattle.graph_format.specs.declared.file.File.{File}
+use Rattle.graph_format.specs.Placed.{first_place, placed, placed_actor, placed_body, placed_end, placed_fifo, placed_graph, placed_interface, placed_kind, placed_param, placed_port, tokens_of, top_of}
+use Rattle.graph_format.specs.Scope.{Scope, scope_of}
 use Rattle.graph_format.specs.declared.file.FileGraph.{FileGraph}
 use Rattle.graph_writer.specs.ReadAgain.{ActorsFit, CanBeReadAgain, FitsSignature}
 use Rattle.graph_writer.proofs.Distinct.{AllDiffer, PartsDiffer}

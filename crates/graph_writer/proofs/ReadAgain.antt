@@ -1,5 +1,5 @@
 -- The canonical file of graphs is read as these graphs again.
-use Rattle.std.proofs.Common.{◌≡◌, ℕ, ℤ, pos, List, [], map, refl, sym, ap, ◌∙◌, subst}
+use Rattle.std.proofs.Common.{◌≡◌, ℕ, pos, List, [], map, refl, ap, ◌∙◌}
 use Rattle.std.specs.Prelude.{None, Some, Ok, IsUtf8, option_and_then}
 use Rattle.serde_json.specs.Data.{Data}
 use Rattle.serde_json.specs.Read.{read}
@@ -9,7 +9,7 @@ use Rattle.param_expr.proofs.Printed.{printed_answers}
 use Rattle.pisdf_model.proofs.Alike.{of_mapped}
 use Rattle.pisdf_model.specs.declared.graph.Graphs.{Graphs}
 use Rattle.graph_format.proofs.StatedFiles.{file_reads}
-use Rattle.graph_format.specs.Canonical.{canonical, file_value}
+use Rattle.graph_format.specs.Canonical.{canonical}
 use Rattle.graph_format.specs.Faults.{file_faults}
 use Rattle.graph_format.specs.Kernels.{kernel_names}
 use Rattle.graph_format.specs.Named.{named_file, names_of_kernels}
@@ -20,7 +20,7 @@ use Rattle.graph_format.specs.States.{States}
 use Rattle.graph_format.specs.Walk.{whole_of}
 use Rattle.graph_format.specs.declared.file.File.{File}
 use Rattle.graph_writer.specs.ReadAgain.{CanBeReadAgain}
-use Rattle.graph_writer.proofs.Distinct.{AllDiffer, all_differ}
+use Rattle.graph_writer.proofs.Distinct.{all_differ}
 use Rattle.graph_writer.proofs.DelaysAgain.{delays_again}
 use Rattle.graph_writer.proofs.FitAgain.{counts_fit, names_differ, no_faults}
 use Rattle.graph_writer.proofs.KnownAgain.{file_known}

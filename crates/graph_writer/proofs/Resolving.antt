@@ -1,8 +1,8 @@
 -- What stands at places of a graph, and is found there by its name again.
-use Rattle.std.proofs.Common.{◌≡◌, ℕ, zero, suc, ◌+◌, ◌<◌, List, [], ◌∷◌, ◌++◌, map, All, length, get_or, refl, sym, ap, ◌∙◌, subst, arith, length-append}
-use Rattle.std.specs.Prelude.{Bool, true, Some, None, Option, unwrap_or, slice_get, slice_index_or}
-use Rattle.std.proofs.lemmas.List.{get_or-map, length-map}
-use Rattle.kernel_gate.specs.Signed.{SignatureView, signature_view}
+use Rattle.std.proofs.Common.{◌≡◌, ℕ, zero, suc, ◌<◌, List, [], ◌∷◌, ◌++◌, map, All, length, get_or, refl, sym, ap, ◌∙◌, subst, arith, length-append}
+use Rattle.std.specs.Prelude.{true, Option, unwrap_or, slice_get, slice_index_or}
+use Rattle.std.proofs.lemmas.List.{length-map}
+use Rattle.kernel_gate.specs.Signed.{signature_view}
 use Rattle.kernel_gate.specs.declared.signature.Signature.{Signature}
 use Rattle.param_expr.specs.Bind.{place_of}
 use Rattle.param_expr.specs.Print.{Differ}

@@ -1,6 +1,5 @@
 use Rattle.std.proofs.Common.{arith}
-use Rattle.std.proofs.lemmas.Grind.{common_steps}
-use Rattle.graph_writer.specs.ReadAgain.{CanBeReadAgain, WasRead}
+use Rattle.graph_writer.specs.ReadAgain.{CanBeReadAgain}
 use Rattle.graph_writer.proofs.Depths.{nests_little}
 use Rattle.graph_writer.proofs.ReadAgain.{read_again}
 use Rattle.graph_writer.proofs.ReadGraphs.{read_can_be_read_again}
