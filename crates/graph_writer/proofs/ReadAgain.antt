@@ -1,5 +1,5 @@
 -- The canonical file of graphs is read as these graphs again.
-use Rattle.std.proofs.Common.{◌≡◌, ℕ, pos, List, [], map, refl, ap, ◌∙◌}
+use Rattle.std.proofs.Common.{◌≡◌, ℕ, pos, List, [], map, All, refl, ap, ◌∙◌}
 use Rattle.std.specs.Prelude.{None, Some, Ok, IsUtf8, option_and_then}
 use Rattle.serde_json.specs.Data.{Data}
 use Rattle.serde_json.specs.Read.{read}
@@ -19,7 +19,7 @@ use Rattle.graph_format.specs.Reads.{Reads, other_version}
 use Rattle.graph_format.specs.States.{States}
 use Rattle.graph_format.specs.Walk.{whole_of}
 use Rattle.graph_format.specs.declared.file.File.{File}
-use Rattle.graph_writer.specs.ReadAgain.{CanBeReadAgain}
+use Rattle.graph_writer.specs.ReadAgain.{CanBeReadAgain, HasTokens}
 use Rattle.graph_writer.proofs.Distinct.{all_differ}
 use Rattle.graph_writer.proofs.DelaysAgain.{delays_again}
 use Rattle.graph_writer.proofs.FitAgain.{counts_fit, names_differ, no_faults}
@@ -42,10 +42,10 @@ faultless signatures graphs can =
     (placed_as_before signatures graphs can)
 
 -- the canonical value states the file
-states_again : (signatures : List Signature) (graphs : Graphs) → CanBeReadAgain signatures graphs → States 1 (canonical signatures graphs) (named_file signatures graphs)
-states_again signatures graphs can =
+states_again : (signatures : List Signature) (graphs : Graphs) → CanBeReadAgain signatures graphs → All HasTokens graphs.graphs → States 1 (canonical signatures graphs) (named_file signatures graphs)
+states_again signatures graphs can tokens =
     file_again (λ text t answers. printed_answers t (record { text = text; answers = answers })) can.value (named_file signatures graphs)
-    (delays_again signatures graphs can.tokens (counts_fit graphs can.well_formed)) can.stated
+    (delays_again signatures graphs tokens (counts_fit graphs can.well_formed)) can.stated
 
 -- a value of this version is of no other
 this_version : (d : Data) (file : File) → States 1 d file → other_version 1 (stated_version d) ≡ None
@@ -54,11 +54,11 @@ this_version d file h =
     let stated : stated_version d ≡ Some (pos 1) = ap (option_and_then whole_of) version.is_there ∙ version.states.number ∙ ap (λ n. Some (pos n)) version.states.is_version in
     ap (other_version 1) stated
 
-pub read_again : (signatures : List Signature) (graphs : Graphs) (bytes : List ℕ) → CanBeReadAgain signatures graphs → IsUtf8 bytes → read bytes ≡ Some (canonical signatures graphs) → Reads 1 (map signature_view signatures) bytes (Ok graphs)
-read_again signatures graphs bytes can utf8 is =
+pub read_again : (signatures : List Signature) (graphs : Graphs) (bytes : List ℕ) → CanBeReadAgain signatures graphs → All HasTokens graphs.graphs → IsUtf8 bytes → read bytes ≡ Some (canonical signatures graphs) → Reads 1 (map signature_view signatures) bytes (Ok graphs)
+read_again signatures graphs bytes can tokens utf8 is =
     let file = named_file signatures graphs in
     let d = canonical signatures graphs in
-    let states = states_again signatures graphs can in
+    let states = states_again signatures graphs can tokens in
     let at : file_at 1 [] d ≡ Ok file = (file_reads 1).again [] d file states in
     let version : other_version 1 (stated_version d) ≡ None = this_version d file states in
     (d, (utf8, is), rw (version, at, faultless signatures graphs can) (ap (λ g. Ok g) (placed_as_before signatures graphs can)))

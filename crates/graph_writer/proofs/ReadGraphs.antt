@@ -62,6 +62,6 @@ read_can_be_read_again signatures bytes graphs differ read range tokens =
     subst (λ (g : Graphs). InRange g → All HasTokens g.graphs → CanBeReadAgain signatures g) of.are (can_be_read_again signatures of.value of.file differ of.states of.none) range tokens
 
 -- what is written of graphs that were read is read as these graphs
-pub read_rewritten : (signatures : List Signature) (before bytes : List ℕ) (graphs : Graphs) → WasRead signatures before graphs → IsUtf8 bytes → json.read bytes ≡ Some (canonical signatures graphs) → Reads 1 (map signature_view signatures) bytes (Ok graphs)
-read_rewritten signatures before bytes graphs was utf8 is =
-    read_again signatures graphs bytes (read_can_be_read_again signatures before graphs was.names_differ was.reads was.in_range was.tokens) utf8 is
+pub read_rewritten : (signatures : List Signature) (before bytes : List ℕ) (graphs : Graphs) → WasRead signatures before graphs → All HasTokens graphs.graphs → IsUtf8 bytes → json.read bytes ≡ Some (canonical signatures graphs) → Reads 1 (map signature_view signatures) bytes (Ok graphs)
+read_rewritten signatures before bytes graphs was tokens utf8 is =
+    read_again signatures graphs bytes (read_can_be_read_again signatures before graphs was.names_differ was.reads was.in_range tokens) tokens utf8 is

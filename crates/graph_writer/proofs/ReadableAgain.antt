@@ -150,7 +150,6 @@ can_be_read_again signatures d file differ states none range tokens =
     record {
       value = valued.value;
       stated = subst (States 1 valued.value) (sym same) valued.states;
-      tokens = tokens;
       in_range = range;
       well_formed = well_formed views file none;
       kernels = λ n e inside a f there. record { kind = kinds n e inside a f there; counts = counts n e inside a f there };

@@ -43,7 +43,6 @@ HasTokens graph = All (λ (fifo : Fifo). AllPass in_i64 fifo.delay) graph.fifos
 pub record CanBeReadAgain (signatures : List Signature) (graphs : Graphs) : Type 0 where
   pub value : Data
   pub stated : States 1 value (named_file signatures graphs)
-  pub tokens : All HasTokens graphs.graphs
   pub in_range : InRange graphs
   pub well_formed : WellFormed graphs
   pub kernels : All (ActorsFit (map signature_view signatures)) graphs.graphs
@@ -52,6 +51,5 @@ pub record CanBeReadAgain (signatures : List Signature) (graphs : Graphs) : Type
 -- What was read from these bytes can be too.
 pub record WasRead (signatures : List Signature) (bytes : List ℕ) (graphs : Graphs) : Type 0 where
   pub reads : Reads 1 (map signature_view signatures) bytes (Ok graphs)
-  pub tokens : All HasTokens graphs.graphs
   pub in_range : InRange graphs
   pub names_differ : Differ (names_of_kernels signatures)

@@ -1,9 +1,9 @@
-ghost use Rattle.std.specs.Prelude.{◌≡◌, IfOk};
+ghost use Rattle.std.specs.Prelude.{◌≡◌, IfOk, All};
 ghost use Rattle.serde_json.specs.Data.{object};
 ghost use Rattle.serde_json.specs.View.{view};
-ghost use Rattle.graph_format.specs.Canonical.{actor_value, child_members, config_members, kernel_members};
-ghost use Rattle.graph_format.specs.Named.{named_actor};
-ghost use Rattle.graph_writer.specs.Writable.{IsWritableActor};
+ghost use Rattle.graph_format.specs.Canonical.{actor_value, body_members, child_members, config_members, kernel_members};
+ghost use Rattle.graph_format.specs.Named.{named_actor, named_body};
+ghost use Rattle.graph_writer.specs.Writable.{IsWritable, IsWritableActor, IsWritablePort};
 
 use crate::list::{Writer, list};
 use crate::names::{graph_name, kernel_name};
@@ -11,8 +11,8 @@ use crate::param::Sets;
 use crate::port::{Expressions, Inputs, Ports};
 use graph_format::FileActor;
 use kernel_gate::Signature;
-use param_expr::Name;
-use pisdf_model::{Actor, Body, Graphs};
+use param_expr::{Expr, Name};
+use pisdf_model::{Actor, Body, Graphs, Port};
 use serde_json::{Value, json};
 use std::alloc::{AllocError, Global};
 
@@ -62,6 +62,31 @@ pub(crate) struct Actors<'a> {
     pub(crate) names: &'a [Name],
 }
 
+impl Actors<'_> {
+    /// A configuration actor of this name.
+    fn config(
+        &self,
+        alloc: Global,
+        name: &str,
+        kernel: u32,
+        args: &[Expr],
+        ins: &[Name],
+        outs: &[Port],
+        sets: &[u32],
+    ) -> Result<Value, AllocError>
+        requires args { All (IsWritable self.now.names.now) args.now }
+        requires outs { All (IsWritablePort self.now.names.now) outs.now }
+        ensures { IfOk result (λ v. view v ≡ object (body_members name.now (named_body self.now.signatures.now self.now.graphs.now self.now.names.now (Body.Config kernel args.now ins.now outs.now sets.now)))) }
+    {
+        let kernel = kernel_name(self.signatures, kernel);
+        let args = list(alloc, &Expressions { names: self.names }, args)?;
+        let ins = list(alloc, &Inputs, ins)?;
+        let outs = list(alloc, &Ports { names: self.names }, outs)?;
+        let sets = list(alloc, &Sets { names: self.names }, sets)?;
+        config_actor(alloc, name, kernel, args, ins, outs, sets)
+    }
+}
+
 impl Writer for Actors<'_> {
     type Part = Actor;
 
@@ -72,6 +97,8 @@ impl Writer for Actors<'_> {
     ghost named = { λ w actor. named_actor w.signatures.now w.graphs.now w.names.now actor };
 
     ghost shown = { actor_value };
+
+    ghost IsKept = { λ part. Unit {0} };
 
     #[tactic(auto, unfolding(graph_format::specs::Canonical::actor_value))]
     fn value(&self, alloc: Global, actor: &Actor) -> Result<Value, AllocError> {
@@ -96,12 +123,16 @@ impl Writer for Actors<'_> {
                 outs,
                 sets,
             } => {
-                let kernel = kernel_name(self.signatures, *kernel);
-                let args = list(alloc, &Expressions { names: self.names }, args.items())?;
-                let ins = list(alloc, &Inputs, ins.items())?;
-                let outs = list(alloc, &Ports { names: self.names }, outs.items())?;
-                let sets = list(alloc, &Sets { names: self.names }, sets.items())?;
-                config_actor(alloc, name, kernel, args, ins, outs, sets)
+                let args = args.items();
+                self.config(
+                    alloc,
+                    name,
+                    *kernel,
+                    args,
+                    ins.items(),
+                    outs.items(),
+                    sets.items(),
+                )
             }
             Body::Child { graph, args } => {
                 let graph = graph_name(self.graphs, *graph);

@@ -1,8 +1,9 @@
-ghost use Rattle.std.specs.Prelude.{◌≡◌, IfOk, pos, codes, string_bytes};
-ghost use Rattle.std.specs.List.{list_all};
+ghost use Rattle.std.specs.Prelude.{◌≡◌, IfOk, OnOk, pos, true, codes, string_bytes};
+ghost use Rattle.std.specs.List.{AllPass, list_all};
 ghost use Rattle.std.specs.Ordering.{int_eq};
 ghost use Rattle.serde_json.specs.Data.{member, object};
 ghost use Rattle.serde_json.specs.View.{view};
+ghost use Rattle.param_expr.specs.Eval.{in_i64};
 ghost use Rattle.graph_format.specs.Canonical.{delay_value, fifo_value, whole_value};
 ghost use Rattle.graph_format.specs.Named.{named_fifo, stated_delay};
 ghost use Rattle.graph_writer.specs.Objects.{end_members};
@@ -29,8 +30,11 @@ impl Writer for Tokens {
 
     ghost shown = { whole_value };
 
+    ghost IsKept = { λ token. in_i64 token ≡ true };
+
     fn value(&self, _alloc: Global, token: &i64) -> Result<Value, AllocError> {
-        Ok(Value::from(*token))
+        let token = *token;
+        Ok(Value::from(token))
     }
 }
 
@@ -43,7 +47,8 @@ fn are_zeros(tokens: &[i64]) -> bool
 
 /// A delay: a number where all its tokens are 0, else a list.
 fn delay(alloc: Global, tokens: &[i64]) -> Result<Value, AllocError>
-    ensures { IfOk result (λ v. view v ≡ delay_value (stated_delay tokens.now)) }
+    ensures shown { IfOk result (λ v. view v ≡ delay_value (stated_delay tokens.now)) }
+    ensures kept { OnOk result (AllPass in_i64 tokens.now) }
 {
     if are_zeros(tokens) {
         Ok(Value::from(tokens.len()))
@@ -83,6 +88,8 @@ impl Writer for Fifos<'_> {
     ghost named = { λ w fifo. named_fifo w.graphs.now w.graph.now fifo };
 
     ghost shown = { fifo_value };
+
+    ghost IsKept = { λ fifo. AllPass in_i64 fifo.delay };
 
     #[tactic(auto, using(crate::proofs::Delays::only_empty), unfolding(graph_format::specs::Canonical::fifo_value))]
     fn value(&self, alloc: Global, fifo: &Fifo) -> Result<Value, AllocError> {

@@ -4,6 +4,7 @@ ghost use Rattle.serde_json.specs.View.{view};
 ghost use Rattle.graph_format.specs.Canonical.{graph_value};
 ghost use Rattle.graph_format.specs.Named.{named_graph};
 ghost use Rattle.graph_writer.specs.Objects.{graph_members};
+ghost use Rattle.graph_writer.specs.ReadAgain.{HasTokens};
 ghost use Rattle.graph_writer.specs.Writable.{IsWritableGraph};
 
 use crate::actor::Actors;
@@ -50,6 +51,8 @@ impl Writer for GraphList<'_> {
     ghost named = { λ w graph. named_graph w.signatures.now w.graphs.now graph };
 
     ghost shown = { graph_value };
+
+    ghost IsKept = { HasTokens };
 
     #[tactic(auto, unfolding(graph_format::specs::Canonical::graph_value, graph_format::specs::Named::named_graph))]
     fn value(&self, alloc: Global, graph: &Graph) -> Result<Value, AllocError> {

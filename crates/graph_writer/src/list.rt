@@ -1,4 +1,4 @@
-ghost use Rattle.std.specs.Prelude.{◌≡◌, IfOk, All, map};
+ghost use Rattle.std.specs.Prelude.{◌≡◌, IfOk, OnOk, All, map};
 ghost use Rattle.serde_json.specs.Data.{Data};
 ghost use Rattle.serde_json.specs.View.{view};
 ghost use Rattle.graph_format.specs.Canonical.{list_value};
@@ -21,10 +21,14 @@ pub(crate) trait Writer {
 
     ghost shown: { Self.Stated → Data };
 
+    /// What is known of a part that was written.
+    ghost IsKept: { Self.Part → Type 0 };
+
     /// The JSON value of a part.
     fn value(&self, alloc: Global, part: &Self::Part) -> Result<Value, AllocError>
         requires { IsWritable self.now part.now }
-        ensures { IfOk result (λ v. view v ≡ shown (named self.now part.now)) };
+        ensures shown { IfOk result (λ v. view v ≡ shown (named self.now part.now)) }
+        ensures kept { OnOk result (IsKept part.now) };
 }
 
 /// The JSON values of parts, as a list.
@@ -34,7 +38,8 @@ pub(crate) fn list<W: Writer>(
     parts: &[W::Part],
 ) -> Result<Value, AllocError>
     requires { All (W.IsWritable writer.now) parts.now }
-    ensures { IfOk result (λ v. view v ≡ list_value W.shown (map (W.named writer.now) parts.now)) }
+    ensures shown { IfOk result (λ v. view v ≡ list_value W.shown (map (W.named writer.now) parts.now)) }
+    ensures kept { OnOk result (All W.IsKept parts.now) }
 {
     let mut values = Vec::new(alloc);
     for part in parts {

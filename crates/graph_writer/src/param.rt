@@ -51,6 +51,8 @@ impl Writer for Params<'_> {
 
     ghost shown = { param_value };
 
+    ghost IsKept = { λ part. Unit {0} };
+
     #[tactic(auto, unfolding(graph_format::specs::Canonical::param_value))]
     fn value(&self, alloc: Global, param: &Param) -> Result<Value, AllocError> {
         let name = param.name.text();
@@ -81,6 +83,8 @@ impl Writer for Sets<'_> {
     ghost named = { λ w place. name_at_place w.names.now place };
 
     ghost shown = { string };
+
+    ghost IsKept = { λ part. Unit {0} };
 
     fn value(&self, alloc: Global, place: &u32) -> Result<Value, AllocError> {
         Value::try_from_str(alloc, name_at(self.names, *place))

@@ -48,6 +48,8 @@ impl Writer for Expressions<'_> {
 
     ghost shown = { expression_value };
 
+    ghost IsKept = { λ part. Unit {0} };
+
     fn value(&self, alloc: Global, expr: &Expr) -> Result<Value, AllocError> {
         expression(alloc, self.names, expr)
     }
@@ -69,6 +71,8 @@ impl Writer for Interfaces<'_> {
     ghost named = { λ w interface. named_interface w.names.now interface };
 
     ghost shown = { port_value };
+
+    ghost IsKept = { λ part. Unit {0} };
 
     fn value(&self, alloc: Global, interface: &Interface) -> Result<Value, AllocError> {
         rated(alloc, self.names, &interface.name, &interface.rate)
@@ -92,6 +96,8 @@ impl Writer for Ports<'_> {
 
     ghost shown = { port_value };
 
+    ghost IsKept = { λ part. Unit {0} };
+
     fn value(&self, alloc: Global, port: &Port) -> Result<Value, AllocError> {
         rated(alloc, self.names, &port.name, &port.rate)
     }
@@ -111,6 +117,8 @@ impl Writer for Inputs {
     ghost named = { λ w name. name };
 
     ghost shown = { input_value };
+
+    ghost IsKept = { λ part. Unit {0} };
 
     #[tactic(auto, unfolding(graph_format::specs::Canonical::input_value))]
     fn value(&self, alloc: Global, name: &Name) -> Result<Value, AllocError> {

@@ -1,4 +1,4 @@
-ghost use Rattle.std.specs.Prelude.{◌≡◌, Some, Ok, IfOk, All, List as Seq, ℕ, map};
+ghost use Rattle.std.specs.Prelude.{◌≡◌, Some, Ok, IfOk, OnOk, All, List as Seq, ℕ, map};
 ghost use Rattle.serde_json.specs.Data.{object};
 ghost use Rattle.serde_json.specs.Read.{read};
 ghost use Rattle.serde_json.specs.View.{view};
@@ -7,7 +7,7 @@ ghost use Rattle.kernel_gate.specs.Signed.{signature_view};
 ghost use Rattle.graph_format.specs.Canonical.{canonical};
 ghost use Rattle.graph_format.specs.Reads.{Reads};
 ghost use Rattle.graph_writer.specs.Objects.{root_members};
-ghost use Rattle.graph_writer.specs.ReadAgain.{CanBeReadAgain, WasRead};
+ghost use Rattle.graph_writer.specs.ReadAgain.{CanBeReadAgain, HasTokens, WasRead};
 ghost use Rattle.graph_writer.specs.Writable.{IsWritableGraph};
 
 use crate::graph::GraphList;
@@ -29,7 +29,8 @@ fn root_object(alloc: Global, version: u32, top: &str, graphs: Value) -> Result<
 #[tactic(auto, unfolding(graph_format::specs::Canonical::file_value, graph_format::specs::Named::named_file))]
 fn root(alloc: Global, graphs: &Graphs, signatures: &[Signature]) -> Result<Value, AllocError>
     requires { All IsWritableGraph graphs.now.graphs }
-    ensures { IfOk result (λ v. view v ≡ canonical signatures.now graphs.now) }
+    ensures canonical { IfOk result (λ v. view v ≡ canonical signatures.now graphs.now) }
+    ensures tokens { OnOk result (All HasTokens graphs.now.graphs) }
 {
     let version = graphs.version;
     let top = graph_name(graphs, graphs.top);

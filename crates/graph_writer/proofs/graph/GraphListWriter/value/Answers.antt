@@ -22,10 +22,10 @@ list-requires-4 c =
     let names : c.as_slice-names.result.now ≡ names_of_params c.args.graph.now = c.as_slice-names.ensures.value ∙ c.in_ok-names.ensures ∙ ap param_names c.items.ensures in
     rw (names, c.items-5.ensures) c.requires.actors
 
-pub returns : goal.returns
+pub returns-clause-shown : goal.returns-clause-shown
 unfolding graph_value named_graph
-returns c =
+returns-clause-shown c =
     let names : c.as_slice-names.result.now ≡ names_of_params c.args.graph.now = c.as_slice-names.ensures.value ∙ c.in_ok-names.ensures ∙ ap param_names c.items.ensures in
     let same : object (graph_members c.text-name.result.now (view c.in_ok-params.params) (view c.in_ok-inputs.inputs) (view c.in_ok-outputs.outputs) (view c.in_ok-actors.actors) (view c.in_ok-fifos.fifos)) ≡ graph_value (named_graph c.args.self.now.signatures.now c.args.self.now.graphs.now c.args.graph.now) =
-    rw (c.in_ok-params.ensures, c.in_ok-inputs.ensures, c.in_ok-outputs.ensures, c.in_ok-actors.ensures, c.in_ok-fifos.ensures, c.text-name.ensures, names, c.items-2.ensures, c.items-3.ensures, c.items-4.ensures, c.items-5.ensures, c.items-6.ensures) refl in
+    rw (c.in_ok-params.ensures.shown, c.in_ok-inputs.ensures.shown, c.in_ok-outputs.ensures.shown, c.in_ok-actors.ensures.shown, c.in_ok-fifos.ensures.shown, c.text-name.ensures, names, c.items-2.ensures, c.items-3.ensures, c.items-4.ensures, c.items-5.ensures, c.items-6.ensures) refl in
     subst (λ (d : Data). IfOk c.graph_object.result (λ v. view v ≡ d)) same c.graph_object.ensures
