@@ -4,3 +4,7 @@ pub mod Stated
 pub mod StatedActors
 pub mod StatedFiles
 pub mod Laws
+pub mod InPlace
+pub mod Ranged
+pub mod Writable
+pub mod Reading

@@ -14,3 +14,4 @@ pub mod States
 pub mod Texts
 pub mod Values
 pub mod Walk
+pub mod Writable

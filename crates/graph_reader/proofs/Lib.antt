@@ -1,7 +1,6 @@
 pub mod Bound
 pub mod Each
 pub mod FileCounts
-pub mod InPlace
 pub mod Indexed
 pub mod Items
 pub mod Known
@@ -9,6 +8,4 @@ pub mod Named
 pub mod Numbered
 pub mod Placing
 pub mod Pushed
-pub mod Ranged
-pub mod Reading
 pub mod Telling

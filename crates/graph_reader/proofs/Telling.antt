@@ -27,7 +27,3 @@ tells_after xs ys answer none tells = subst (λ zs. Tells (zs ++ ys) answer) (sy
 -- where there is no fault at all, what a part tells is want of memory
 pub tells_none : {U : Type 0} (faults part : List GraphFault) (answer : Result U GraphFault) → faults ≡ [] → part ≡ [] → Tells part answer → Tells faults answer
 tells_none faults part answer none none_here tells = subst (λ zs. Tells zs answer) (sym none) (subst (λ zs. Tells zs answer) none_here tells)
-
-pub unmapped : {A B : Type 0} (f : A → B) (xs : List A) → map f xs ≡ [] → xs ≡ []
-unmapped f [] none = refl
-unmapped f (x ∷ xs) none = absurd cc

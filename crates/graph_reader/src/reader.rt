@@ -1,4 +1,4 @@
-ghost use Rattle.std.specs.Prelude.{◌≡◌, IfOk, None, map};
+ghost use Rattle.std.specs.Prelude.{◌≡◌, IfOk, All, None, map};
 ghost use Rattle.serde_json.specs.Data.{Data};
 ghost use Rattle.kernel_gate.specs.Signed.{signature_view};
 ghost use Rattle.pisdf_model.specs.Range.{InRange};
@@ -12,6 +12,7 @@ ghost use Rattle.graph_format.specs.Placed.{placed};
 ghost use Rattle.graph_format.specs.Reads.{IsJson, Reads};
 ghost use Rattle.graph_format.specs.References.{unknown_in_file};
 ghost use Rattle.graph_format.specs.States.{States};
+ghost use Rattle.graph_format.specs.Writable.{IsWritableGraph};
 ghost use Rattle.graph_format.specs.declared.file.File.{File};
 ghost use Rattle.graph_format.specs.declared.graph_fault.GraphFault.TheVariants.{Duplicate, Unknown};
 ghost use Rattle.graph_reader.specs.Setting.{delays_by};
@@ -120,6 +121,7 @@ pub fn read(alloc: Global, bytes: &[u8], signatures: &[Signature]) -> Result<Gra
     ensures means { IfOk result (λ graphs. (d : Data) × IsJson bytes.now d × ((file : File) × States 1 d file × Means (map signature_view signatures.now) file graphs)) }
     ensures in_range { IfOk result (λ graphs. InRange graphs) }
     ensures well_formed { IfOk result (λ graphs. WellFormed graphs) }
+    ensures writable { IfOk result (λ graphs. All IsWritableGraph graphs.graphs) }
     // What is stated is read where it has no fault, and else its first fault is answered, unless memory runs out.
     ensures stated { (d : Data) (file : File) → IsJson bytes.now d → States 1 d file
         → Tells (file_faults (map signature_view signatures.now) file) result × IfOk result (λ graphs. graphs ≡ graphs_of (map signature_view signatures.now) file) }

@@ -11,7 +11,6 @@ pub mod StatedAgain
 pub mod FitAgain
 pub mod ReadAgain
 pub mod DelaysAgain
-pub mod WritableAgain
 pub mod KnownNames
 pub mod KeptNames
 pub mod NamedAgain

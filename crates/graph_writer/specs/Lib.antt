@@ -1,4 +1,3 @@
-pub mod Writable
 pub mod Places
 pub mod Objects
 pub mod ReadAgain

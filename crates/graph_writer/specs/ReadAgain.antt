@@ -48,8 +48,7 @@ pub record CanBeReadAgain (signatures : List Signature) (graphs : Graphs) : Type
   pub kernels : All (ActorsFit (map signature_view signatures)) graphs.graphs
   pub differ : Differ (names_of_kernels signatures)
 
--- What was read from these bytes can be too.
+-- Graphs that these bytes are read as, over signatures of which no two have one name.
 pub record WasRead (signatures : List Signature) (bytes : List ℕ) (graphs : Graphs) : Type 0 where
   pub reads : Reads 1 (map signature_view signatures) bytes (Ok graphs)
-  pub in_range : InRange graphs
   pub names_differ : Differ (names_of_kernels signatures)

@@ -3,7 +3,7 @@ ghost use Rattle.serde_json.specs.Data.{object};
 ghost use Rattle.serde_json.specs.View.{view};
 ghost use Rattle.graph_format.specs.Canonical.{actor_value, body_members, child_members, config_members, kernel_members};
 ghost use Rattle.graph_format.specs.Named.{named_actor, named_body};
-ghost use Rattle.graph_writer.specs.Writable.{IsWritable, IsWritableActor, IsWritablePort};
+ghost use Rattle.graph_format.specs.Writable.{IsWritable, IsWritableActor, IsWritablePort};
 
 use crate::list::{Writer, list};
 use crate::names::{graph_name, kernel_name};

@@ -5,7 +5,7 @@ ghost use Rattle.graph_format.specs.Canonical.{graph_value};
 ghost use Rattle.graph_format.specs.Named.{named_graph};
 ghost use Rattle.graph_writer.specs.Objects.{graph_members};
 ghost use Rattle.graph_writer.specs.ReadAgain.{HasTokens};
-ghost use Rattle.graph_writer.specs.Writable.{IsWritableGraph};
+ghost use Rattle.graph_format.specs.Writable.{IsWritableGraph};
 
 use crate::actor::Actors;
 use crate::fifo::Fifos;

@@ -3,7 +3,7 @@ ghost use Rattle.serde_json.specs.Data.{member, object, string};
 ghost use Rattle.serde_json.specs.View.{view};
 ghost use Rattle.graph_format.specs.Canonical.{param_members, param_value};
 ghost use Rattle.graph_format.specs.Named.{name_at_place, named_param};
-ghost use Rattle.graph_writer.specs.Writable.{IsWritableParam};
+ghost use Rattle.graph_format.specs.Writable.{IsWritableParam};
 
 use crate::list::Writer;
 use crate::names::name_at;

@@ -3,7 +3,7 @@ ghost use Rattle.serde_json.specs.View.{view};
 ghost use Rattle.param_expr.specs.Print.{with_names};
 ghost use Rattle.graph_format.specs.Canonical.{expression_value, input_value, port_value};
 ghost use Rattle.graph_format.specs.Named.{named_interface, named_port};
-ghost use Rattle.graph_writer.specs.Writable.{IsWritable, IsWritableInterface, IsWritablePort};
+ghost use Rattle.graph_format.specs.Writable.{IsWritable, IsWritableInterface, IsWritablePort};
 
 use crate::list::Writer;
 use graph_format::FilePort;

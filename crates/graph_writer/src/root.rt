@@ -8,7 +8,7 @@ ghost use Rattle.graph_format.specs.Canonical.{canonical};
 ghost use Rattle.graph_format.specs.Reads.{Reads};
 ghost use Rattle.graph_writer.specs.Objects.{root_members};
 ghost use Rattle.graph_writer.specs.ReadAgain.{CanBeReadAgain, HasTokens, WasRead};
-ghost use Rattle.graph_writer.specs.Writable.{IsWritableGraph};
+ghost use Rattle.graph_format.specs.Writable.{IsWritableGraph};
 
 use crate::graph::GraphList;
 use crate::list::list;

@@ -2,7 +2,7 @@ ghost use Rattle.std.specs.Prelude.{IsTrue, All};
 ghost use Rattle.param_expr.specs.Eval.{RefersBelow};
 ghost use Rattle.param_expr.specs.Print.{NonNegative};
 ghost use Rattle.param_expr.specs.Words.{IsName};
-ghost use Rattle.graph_writer.specs.Writable.{IsWritable, IsWritableActor, IsWritableBody, IsWritableGraph, IsWritableInterface, IsWritableKind, IsWritableParam, IsWritablePort};
+ghost use Rattle.graph_format.specs.Writable.{IsWritable, IsWritableActor, IsWritableBody, IsWritableGraph, IsWritableInterface, IsWritableKind, IsWritableParam, IsWritablePort};
 
 use crate::names::param_names;
 use crate::write;

@@ -1,7 +1,7 @@
 use Rattle.std.proofs.Common.{map}
 use Rattle.std.proofs.lemmas.Result.{err_from_is_err_and}
 use Rattle.kernel_gate.specs.Signed.{signature_view}
-use Rattle.graph_reader.proofs.Reading.{reads_file}
+use Rattle.graph_format.proofs.Reading.{reads_file}
 use Rattle.graph_reader.proofs.reader.graphs_of_bytes.Goals as goal
 
 pub returns-in_err-file : goal.returns-in_err-file

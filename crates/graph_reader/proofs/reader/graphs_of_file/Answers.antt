@@ -1,6 +1,7 @@
 use Rattle.std.proofs.Common.{◌≡◌, ◌++◌, List, [], map, Result, Ok, Err, refl, sym, ap, ◌∙◌, subst}
 use Rattle.std.proofs.lemmas.Result.{err_from_is_err_and}
 use Rattle.kernel_gate.specs.Signed.{SignatureView, signature_view}
+use Rattle.pisdf_model.proofs.Lists.{unmapped}
 use Rattle.pisdf_model.specs.Count.{count_faults}
 use Rattle.pisdf_model.specs.Details.{first}
 use Rattle.pisdf_model.specs.Names.{repeats}
@@ -18,8 +19,8 @@ use Rattle.graph_format.proofs.Laws.{placed_marked, rules_marked}
 use Rattle.graph_reader.specs.Setting.{delays_by}
 use Rattle.graph_reader.specs.declared.surroundings.Delays.{Delays}
 use Rattle.graph_reader.specs.declared.surroundings.Delays.TheVariants.{Marks, Tokens}
-use Rattle.graph_reader.proofs.Ranged.{file_in_range}
-use Rattle.graph_reader.proofs.Telling.{passes, stops, tells_after, unmapped}
+use Rattle.graph_format.proofs.Ranged.{file_in_range}
+use Rattle.graph_reader.proofs.Telling.{passes, stops, tells_after}
 use Rattle.graph_reader.proofs.reader.graphs_of_file.Goals as goal
 
 -- marks change no rule

@@ -1,7 +1,7 @@
 use Rattle.std.proofs.Common.{rules}
 use Rattle.serde_json.specs.View.{view}
 use Rattle.graph_format.specs.Reads.{IsJson}
-use Rattle.graph_reader.proofs.Reading.{value_refused}
+use Rattle.graph_format.proofs.Reading.{value_refused}
 use Rattle.graph_reader.proofs.stated_file.file_of_bytes.Goals as goal
 
 pub returns-clause-refused : goal.returns-clause-refused

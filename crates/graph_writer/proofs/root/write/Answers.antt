@@ -7,5 +7,5 @@ use Rattle.graph_writer.proofs.root.write.Goals as goal
 
 pub returns-clause-rewritten : goal.returns-clause-rewritten
 returns-clause-rewritten c before was =
-    let can : CanBeReadAgain c.args.signatures.now c.args.graphs.now = read_can_be_read_again c.args.signatures.now before c.args.graphs.now was.names_differ was.reads was.in_range c.in_ok-root.ensures.tokens in
+    let can : CanBeReadAgain c.args.signatures.now c.args.graphs.now = read_can_be_read_again c.args.signatures.now before c.args.graphs.now was c.in_ok-root.ensures.tokens in
     grind (arith, read_again, nests_little)

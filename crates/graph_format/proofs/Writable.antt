@@ -31,7 +31,7 @@ use Rattle.graph_format.specs.declared.param.FileParam.{FileParam}
 use Rattle.graph_format.specs.declared.param.FileParamKind.{FileParamKind}
 use Rattle.graph_format.specs.declared.param.FileParamKind.TheVariants.{Inherited, Derived, Chosen}
 use Rattle.graph_format.specs.declared.port.FilePort.{FilePort}
-use Rattle.graph_writer.specs.Writable.{IsWritable, IsWritableActor, IsWritableBody, IsWritableGraph, IsWritableInterface, IsWritableKind, IsWritableParam, IsWritablePort}
+use Rattle.graph_format.specs.Writable.{IsWritable, IsWritableActor, IsWritableBody, IsWritableGraph, IsWritableInterface, IsWritableKind, IsWritableParam, IsWritablePort}
 
 -- ---- lists
 

@@ -8,6 +8,7 @@ use Rattle.std.proofs.lemmas.List.Quantifiers.{position-Some}
 use Rattle.param_expr.specs.Bind.{names_of, place_of, placed_in}
 use Rattle.param_expr.specs.Eval.{RefersBelow}
 use Rattle.param_expr.specs.Named.{NamedTree, number, name, binary}
+use Rattle.pisdf_model.proofs.Lists.{left_none, right_none}
 use Rattle.pisdf_model.specs.declared.fifo.End.{End}
 use Rattle.pisdf_model.specs.declared.fifo.End.TheVariants as end
 use Rattle.graph_format.specs.declared.fifo.FileEnd.{FileEnd}
@@ -18,14 +19,6 @@ use Rattle.graph_format.specs.References.{missing, unknown_in_end, unknown_in_ex
 use Rattle.graph_format.specs.Scope.{Scope, names_at}
 
 -- ---- lists of references
-
-pub left_none : {A : Type 0} (xs ys : List A) → xs ++ ys ≡ [] → xs ≡ []
-left_none [] ys h = refl
-left_none (x ∷ xs) ys h = absurd cc
-
-pub right_none : {A : Type 0} (xs ys : List A) → xs ++ ys ≡ [] → ys ≡ []
-right_none [] ys h = h
-right_none (x ∷ xs) ys h = absurd cc
 
 -- what holds of each part that has no such reference holds of all where the list has none
 pub each_there : {A B : Type 0} (unknown : A → List (List ℕ)) (placed : A → B) (P : B → Type 0) → ((x : A) → unknown x ≡ [] → P (placed x)) → (xs : List A) → flat_map unknown xs ≡ [] → All P (map placed xs)

@@ -1,9 +1,10 @@
 -- What the bytes of a file are read as, in terms of the file that they state.
-use Rattle.std.proofs.Common.{◌≡◌, ◌⊎◌, inl, inr, ⊎_elim, ℕ, ◌==◌, ℤ, pos, List, [], ◌∷◌, ◌++◌, map, true, Option, Some, None, Result, Ok, Err, refl, sym, ap, ◌∙◌, subst, arith}
+use Rattle.std.proofs.Common.{◌≡◌, ◌⊎◌, inl, inr, ⊎_elim, ℕ, ◌==◌, ℤ, pos, List, [], ◌∷◌, ◌++◌, map, All, true, Option, Some, None, Result, Ok, Err, refl, sym, ap, ◌∙◌, subst, arith}
 use Rattle.std.specs.Prelude.{IfErr, IfOk, option_and_then}
 use Rattle.std.proofs.lemmas.Bool.Decides.{nat_tests}
 use Rattle.serde_json.specs.Data.{Data}
 use Rattle.kernel_gate.specs.Signed.{SignatureView}
+use Rattle.pisdf_model.proofs.Lists.{left_none, right_none, unmapped}
 use Rattle.pisdf_model.specs.Count.{count_faults}
 use Rattle.pisdf_model.specs.Details.{first}
 use Rattle.pisdf_model.specs.Names.{repeats}
@@ -20,14 +21,14 @@ use Rattle.graph_format.specs.Reads.{AreReadAs, IsJson, Reads, graphs_or_fault, 
 use Rattle.graph_format.specs.References.{unknown_in_file}
 use Rattle.graph_format.specs.States.{States}
 use Rattle.graph_format.specs.Walk.{whole_of}
+use Rattle.graph_format.specs.Writable.{IsWritableGraph}
 use Rattle.graph_format.specs.declared.file.File.{File}
 use Rattle.graph_format.specs.declared.graph_fault.GraphFault.{GraphFault}
 use Rattle.graph_format.specs.declared.graph_fault.GraphFault.TheVariants.{Duplicate, Kernel, Memory, NotJson, Unknown}
 use Rattle.graph_format.proofs.Laws.{well_formed}
 use Rattle.graph_format.proofs.StatedFiles.{file_reads}
-use Rattle.graph_reader.proofs.InPlace.{left_none, right_none}
-use Rattle.graph_reader.proofs.Ranged.{file_in_range}
-use Rattle.graph_reader.proofs.Telling.{unmapped}
+use Rattle.graph_format.proofs.Writable.{writable}
+use Rattle.graph_format.proofs.Ranged.{file_in_range}
 
 -- ---- a file and its first fault
 
@@ -66,13 +67,13 @@ reads_file signatures bytes file (Err fault) h told is =
 -- ---- what was read is stated
 
 -- the bytes state a file that has no fault, and these are its graphs
-record IsFound (signatures : List SignatureView) (bytes : List ℕ) (graphs : Graphs) : Type 0 where
-  value : Data
-  json : IsJson bytes value
-  file : File
-  states : States 1 value file
-  none : file_faults signatures file ≡ []
-  is : graphs ≡ graphs_of signatures file
+pub record IsFound (signatures : List SignatureView) (bytes : List ℕ) (graphs : Graphs) : Type 0 where
+  pub value : Data
+  pub json : IsJson bytes value
+  pub file : File
+  pub states : States 1 value file
+  pub none : file_faults signatures file ≡ []
+  pub is : graphs ≡ graphs_of signatures file
 
 walked : (signatures : List SignatureView) (other : Option ℤ) (walk : Result File (List ℕ)) (graphs : Graphs) → of_version other (graphs_or_fault signatures walk) ≡ Ok graphs
     → (file : File) × (walk ≡ Ok file) × (unless_faulty (graphs_of signatures file) (file_faults signatures file) ≡ Ok graphs)
@@ -80,14 +81,14 @@ walked signatures None (Ok file) graphs is = (file, refl, is)
 walked signatures None (Err pointer) graphs is = absurd cc
 walked signatures (Some version) walk graphs is = absurd cc
 
-found : (signatures : List SignatureView) (bytes : List ℕ) (graphs : Graphs) → Reads 1 signatures bytes (Ok graphs) → IsFound signatures bytes graphs
+pub found : (signatures : List SignatureView) (bytes : List ℕ) (graphs : Graphs) → Reads 1 signatures bytes (Ok graphs) → IsFound signatures bytes graphs
 found signatures bytes graphs h =
     let walk = walked signatures (other_version 1 (stated_version h.0)) (file_at 1 [] h.0) graphs h.2 in
     let read = faultless (graphs_of signatures walk.0) graphs (file_faults signatures walk.0) walk.2 in
     record { value = h.0; json = h.1; file = walk.0; states = (file_reads 1).found [] h.0 walk.0 walk.1; none = read.0; is = read.1 }
 
 module _ (signatures : List SignatureView) (bytes : List ℕ) where
-  known : (file : File) → file_faults signatures file ≡ [] → (unknown_in_file file ≡ []) × (unfit_in_file signatures file ≡ [])
+  pub known : (file : File) → file_faults signatures file ≡ [] → (unknown_in_file file ≡ []) × (unfit_in_file signatures file ≡ [])
   known file none =
       let duplicates = map Duplicate (repeats (names_of_file file)) in
       let unknown = map Unknown (unknown_in_file file) in
@@ -114,6 +115,13 @@ module _ (signatures : List SignatureView) (bytes : List ℕ) where
       let f = found signatures bytes graphs h in
       subst (λ (g : Graphs). WellFormed g) (sym f.is) (well_formed signatures f.file f.none)
   reads_well_formed (Err fault) h = tt
+
+  pub reads_writable : (r : Result Graphs GraphFault) → Reads 1 signatures bytes r → IfOk r (λ graphs. All IsWritableGraph graphs.graphs)
+  reads_writable (Ok graphs) h =
+      let f = found signatures bytes graphs h in
+      let range = file_in_range tokens_of (kernel_names signatures) f.file f.states.pisdf.states.is_version (known f.file f.none).0 in
+      subst (λ (g : Graphs). All IsWritableGraph g.graphs) (sym f.is) (writable signatures f.value f.file f.states range)
+  reads_writable (Err fault) h = tt
 
 -- ---- what is stated is read
 

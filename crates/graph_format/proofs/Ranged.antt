@@ -7,6 +7,7 @@ use Rattle.std.proofs.lemmas.List.FromFn.{length-enumerate_from}
 use Rattle.param_expr.specs.Bind.{place_of, placed_in}
 use Rattle.param_expr.specs.Eval.{RefersBelow}
 use Rattle.param_expr.specs.Named.{NamedTree}
+use Rattle.pisdf_model.proofs.Lists.{left_none, right_none}
 use Rattle.pisdf_model.specs.Parts.{inputs_of, interface_names, outputs_of, port_count}
 use Rattle.pisdf_model.specs.Range.{HasPort, InRange, IsActorInRange, IsBodyInRange, IsEndInRange, IsFifoInRange, IsGraphInRange, IsInterfaceInRange, IsKindInRange, IsParamInRange, IsPortInRange}
 use Rattle.pisdf_model.specs.declared.graph.Graph.{Graph}
@@ -28,7 +29,7 @@ use Rattle.graph_format.specs.declared.param.FileParam.{FileParam}
 use Rattle.graph_format.specs.declared.param.FileParamKind.{FileParamKind}
 use Rattle.graph_format.specs.declared.param.FileParamKind.TheVariants.{Inherited, Derived, Chosen}
 use Rattle.graph_format.specs.declared.port.FilePort.{FilePort}
-use Rattle.graph_reader.proofs.InPlace.{at_place, each_there, end_there, expr_there, left_none, place_there, right_none}
+use Rattle.graph_format.proofs.InPlace.{at_place, each_there, end_there, expr_there, place_there}
 
 -- as many parts as there were, whatever is told of each
 as_many : {A B C D : Type 0} (m : A → B) (f : B → C) (g : A → D) (xs : List A) → length (map f (map m xs)) ≡ length (map g xs)
