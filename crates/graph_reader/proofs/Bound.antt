@@ -7,34 +7,35 @@ use Rattle.param_expr.specs.Named.{NamedTree}
 use Rattle.param_expr.specs.Tree.{Tree}
 use Rattle.param_expr.specs.declared.binding.BindFault.{BindFault}
 use Rattle.param_expr.specs.declared.binding.BindFault.TheVariants as bind
+use Rattle.pisdf_model.specs.Details.{first}
 use Rattle.graph_format.specs.References.{missing}
-use Rattle.graph_reader.specs.Resolves.{Fails, Resolves, head, unresolved_of}
+use Rattle.graph_reader.specs.Resolves.{Fails, Resolves, unresolved_of}
 
 -- the name where the test says so, and then the others
 abbrev chosen : Bool → List ℕ → List (List ℕ) → List (List ℕ)
 chosen b w rest = cond b (w ∷ []) [] ++ rest
 
-head_of_chosen : (b : Bool) (w : List ℕ) (rest : List (List ℕ)) (found : Option (List ℕ)) → head rest ≡ found → head (chosen b w rest) ≡ cond b (Some w) found
-head_of_chosen true w rest found h = refl
-head_of_chosen false w rest found h = h
+first_of_chosen : (b : Bool) (w : List ℕ) (rest : List (List ℕ)) (found : Option (List ℕ)) → first rest ≡ found → first (chosen b w rest) ≡ cond b (Some w) found
+first_of_chosen true w rest found h = refl
+first_of_chosen false w rest found h = h
 
 -- the first that is missing is the first that is found missing
-head_of_missing : (known names : List (List ℕ)) → head (flat_map (missing known) names) ≡ find (λ w. is_none (place_of known w)) names
-head_of_missing known [] = refl
-head_of_missing known (w ∷ names) = head_of_chosen (is_none (place_of known w)) w (flat_map (missing known) names) (find (λ w. is_none (place_of known w)) names) (head_of_missing known names)
+first_of_missing : (known names : List (List ℕ)) → first (flat_map (missing known) names) ≡ find (λ w. is_none (place_of known w)) names
+first_of_missing known [] = refl
+first_of_missing known (w ∷ names) = first_of_chosen (is_none (place_of known w)) w (flat_map (missing known) names) (find (λ w. is_none (place_of known w)) names) (first_of_missing known names)
 
-none_at_head : {A : Type 0} (xs : List A) → head xs ≡ None → xs ≡ []
-none_at_head [] h = refl
-none_at_head (x ∷ xs) h = absurd cc
+none_first : {A : Type 0} (xs : List A) → first xs ≡ None → xs ≡ []
+none_first [] h = refl
+none_first (x ∷ xs) h = absurd cc
 
 pub bound_resolves : (known names : List (List ℕ)) (expr : NamedTree) (bound : Tree) → names ≡ known → Binds names expr (Ok bound) → Resolves (flat_map (missing known) (names_of expr)) (placed_in known expr) (Ok bound)
 bound_resolves known names expr bound same h =
     let there = subst (λ (ns : List (List ℕ)). Binds ns expr (Ok bound)) same h in
-    (none_at_head (flat_map (missing known) (names_of expr)) (head_of_missing known (names_of expr) ∙ there.0), there.1)
+    (none_first (flat_map (missing known) (names_of expr)) (first_of_missing known (names_of expr) ∙ there.0), there.1)
 
 fails_as : (known : List (List ℕ)) (expr : NamedTree) (fault : BindFault) → Binds known expr (Err fault) → Fails (flat_map (missing known) (names_of expr)) (unresolved_of fault)
 fails_as known expr bind.Memory h = tt
-fails_as known expr (bind.Unknown w) h = head_of_missing known (names_of expr) ∙ h
+fails_as known expr (bind.Unknown w) h = first_of_missing known (names_of expr) ∙ h
 
 pub unbound_fails : (known names : List (List ℕ)) (expr : NamedTree) (fault : BindFault) → names ≡ known → Binds names expr (Err fault) → Fails (flat_map (missing known) (names_of expr)) (unresolved_of fault)
 unbound_fails known names expr fault same h = fails_as known expr fault (subst (λ (ns : List (List ℕ)). Binds ns expr (Err fault)) same h)

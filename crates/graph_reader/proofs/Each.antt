@@ -1,9 +1,10 @@
 -- Resolving the parts of a list one after the other, as a loop does.
-use Rattle.std.proofs.Common.{◌≡◌, ℕ, ◌+◌, ◌≤◌, ◌<◌, List, [], ◌∷◌, ◌++◌, length, get_or, take, drop, map, Some, Ok, refl, sym, ap, subst, ◌∙◌}
+use Rattle.std.proofs.Common.{◌≡◌, ℕ, ◌+◌, ◌≤◌, ◌<◌, List, [], ◌∷◌, ◌++◌, length, get_or, take, drop, map, Ok, refl, sym, ap, subst, ◌∙◌}
 use Rattle.std.specs.List.{flat_map}
 use Rattle.std.proofs.lemmas.List.{take_more, drop_more, take_all, take-append-drop, map_push}
 use Rattle.std.proofs.lemmas.List.Concat.{flat_map-append}
-use Rattle.graph_reader.specs.Resolves.{Fails, Resolves, head}
+use Rattle.pisdf_model.proofs.Walking.{first-append}
+use Rattle.graph_reader.specs.Resolves.{Fails, Resolves}
 use Rattle.graph_reader.specs.declared.unresolved.Unresolved.{Unresolved}
 use Rattle.graph_reader.specs.declared.unresolved.Unresolved.TheVariants.{Unknown, Memory}
 
@@ -12,14 +13,10 @@ pub record Stands {A B : Type 0} (unknown : A → List (List ℕ)) (placed : A �
   pub known : flat_map unknown (take i xs) ≡ []
   pub made : done ≡ map placed (take i xs)
 
-pub head-append : {A : Type 0} (xs ys : List A) (x : A) → head xs ≡ Some x → head (xs ++ ys) ≡ Some x
-head-append [] ys x h = absurd cc
-head-append (z ∷ xs) ys x h = h
-
 -- the first of all stands in the front, where the front has one
 pub front_fails : (front rest : List (List ℕ)) (e : Unresolved) → Fails front e → Fails (front ++ rest) e
 front_fails front rest Memory h = tt
-front_fails front rest (Unknown w) h = head-append front rest w h
+front_fails front rest (Unknown w) h = first-append front rest w h
 
 -- and in what comes after the front, where the front has none
 pub rest_fails : (front rest : List (List ℕ)) (e : Unresolved) → front ≡ [] → Fails rest e → Fails (front ++ rest) e

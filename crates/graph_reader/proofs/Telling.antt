@@ -1,6 +1,7 @@
 -- The first of faults that are told list by list.
 use Rattle.std.proofs.Common.{◌≡◌, ◌⊎◌, inl, inr, ⊎_elim, List, [], ◌∷◌, ◌++◌, map, Some, Result, refl, sym, subst}
 use Rattle.pisdf_model.specs.Details.{first}
+use Rattle.pisdf_model.proofs.Walking.{first-append}
 use Rattle.graph_format.specs.Faults.{Tells}
 use Rattle.graph_format.specs.declared.graph_fault.GraphFault.{GraphFault}
 use Rattle.graph_format.specs.declared.graph_fault.GraphFault.TheVariants.{Memory}
@@ -9,13 +10,9 @@ use Rattle.graph_format.specs.declared.graph_fault.GraphFault.TheVariants.{Memor
 abbrev pub IsTold : List GraphFault → GraphFault → Type 0
 IsTold faults fault = (fault ≡ Memory) ⊎ (first faults ≡ Some fault)
 
-first_of_both : (xs ys : List GraphFault) (fault : GraphFault) → first xs ≡ Some fault → first (xs ++ ys) ≡ Some fault
-first_of_both [] ys fault is = cc
-first_of_both (x ∷ xs) ys fault is = is
-
 -- a fault of the first list stands first of all
 pub stops : (xs ys : List GraphFault) (fault : GraphFault) → IsTold xs fault → IsTold (xs ++ ys) fault
-stops xs ys fault told = ⊎_elim (λ (memory : fault ≡ Memory). inl memory) (λ (is : first xs ≡ Some fault). inr (first_of_both xs ys fault is)) told
+stops xs ys fault told = ⊎_elim (λ (memory : fault ≡ Memory). inl memory) (λ (is : first xs ≡ Some fault). inr (first-append xs ys fault is)) told
 
 -- where the first list is empty, the others decide
 pub passes : (xs ys : List GraphFault) (fault : GraphFault) → xs ≡ [] → IsTold ys fault → IsTold (xs ++ ys) fault

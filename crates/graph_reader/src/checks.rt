@@ -8,7 +8,6 @@ ghost use Rattle.pisdf_model.specs.declared.interface_wires.FifoPlace.{FifoPlace
 ghost use Rattle.graph_format.specs.Faults.{Tells, at_fifo, fits_kernel, rule_faults, too_many};
 ghost use Rattle.graph_format.specs.declared.graph_fault.GraphFault.TheVariants.{Kernel};
 ghost use Rattle.graph_reader.specs.Told.{fault_of};
-ghost use Rattle.graph_reader.specs.Resolves.{head};
 
 use crate::kernel_counts::Signatures;
 use graph_format::GraphFault;
@@ -86,7 +85,7 @@ pub(crate) fn told_count(alloc: Global, counted: Option<Counted>) -> Result<(), 
 
 /// The answer at a kernel, if one doesn't fit.
 pub(crate) fn told_kernel(kernel: Option<&Name>) -> Result<(), GraphFault>
-    ensures { (unfit : Seq (Seq ℕ)) → option_copied kernel.entry ≡ head unfit → Tells (map Kernel unfit) result }
+    ensures { (unfit : Seq (Seq ℕ)) → option_copied kernel.entry ≡ first unfit → Tells (map Kernel unfit) result }
 {
     let Some(kernel) = kernel else {
         return Ok(());
