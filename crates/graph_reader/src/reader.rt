@@ -1,4 +1,4 @@
-ghost use Rattle.std.specs.Prelude.{◌≡◌, IfOk, All, None, map};
+ghost use Rattle.std.specs.Prelude.{◌≡◌, IfOk, All, MatchOption, map};
 ghost use Rattle.serde_json.specs.Data.{Data};
 ghost use Rattle.kernel_gate.specs.Signed.{signature_view};
 ghost use Rattle.pisdf_model.specs.Range.{InRange};
@@ -51,10 +51,10 @@ fn resolved(
     Ok(graphs_of(alloc, file, signatures, delays)?)
 }
 
-/// What delays become where there is this much too many of, if there is anything. They are marked then, and not made: a
-/// number of tokens may be far over its limit.
+/// What the delays of a file become, by what there is too much of in it. They are marked where there is something, and not
+/// made: a number of tokens may be far over its limit.
 fn delays_with(excess: Option<Counted>) -> Delays
-    ensures { excess ≡ None → result ≡ Delays.Tokens }
+    ensures { MatchOption excess (result ≡ Delays.Tokens) (λ _. result ≡ Delays.Marks) }
 {
     match excess {
         Some(_) => Delays::Marks,

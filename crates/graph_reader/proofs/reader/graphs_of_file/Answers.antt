@@ -1,4 +1,4 @@
-use Rattle.std.proofs.Common.{◌≡◌, ◌++◌, List, [], map, Result, Ok, Err, refl, sym, ap, ◌∙◌, subst}
+use Rattle.std.proofs.Common.{◌≡◌, ◌++◌, List, [], map, None, Result, Ok, Err, refl, sym, ap, ◌∙◌, subst}
 use Rattle.std.proofs.lemmas.Result.{err_from_is_err_and}
 use Rattle.kernel_gate.specs.Signed.{SignatureView, signature_view}
 use Rattle.pisdf_model.proofs.Lists.{unmapped}
@@ -85,7 +85,8 @@ returns c =
     let same = ap (rule_faults (fits_kernel signatures)) c.in_ok-graphs.ensures.graphs ∙ rules_kept signatures file c.delays_with.result in
     let counted : c.count-excess.result ≡ first (count_faults (graphs_of signatures file)) = c.count-excess.ensures (kernel_names signatures) in
     let within : counts signatures file ≡ [] = c.in_ok-told_count.ensures (count_faults (graphs_of signatures file)) counted in
-    let as_they_are : c.delays_with.result ≡ Tokens = c.delays_with.ensures (counted ∙ ap first (unmapped too_many (count_faults (graphs_of signatures file)) within)) in
+    let none : c.count-excess.result ≡ None = counted ∙ ap first (unmapped too_many (count_faults (graphs_of signatures file)) within) in
+    let as_they_are : c.delays_with.result ≡ Tokens = rw none at c.delays_with.ensures in
     record {
       tells =
           after_kernels signatures file (Ok c.in_ok-graphs.graphs) c.in_ok-no_duplicate.ensures c.in_ok-graphs.ensures.tells (c.in_ok-told_kernel.ensures (unfit_in_file signatures file) c.unfit_kernel.ensures)
