@@ -1,4 +1,4 @@
-ghost use Rattle.std.specs.Prelude.{◌≡◌, IfOk, All, MatchOption, map};
+ghost use Rattle.std.specs.Prelude.{◌≡◌, IfOk, All, map};
 ghost use Rattle.serde_json.specs.Data.{Data};
 ghost use Rattle.kernel_gate.specs.Signed.{signature_view};
 ghost use Rattle.pisdf_model.specs.Range.{InRange};
@@ -26,7 +26,7 @@ use crate::stated_file::file_of_bytes;
 use crate::surroundings::Delays;
 use graph_format::{File, GraphFault};
 use kernel_gate::Signature;
-use pisdf_model::{Counted, Graphs, repeat};
+use pisdf_model::{Graphs, repeat};
 use std::alloc::Global;
 
 fn no_duplicate(alloc: Global, file: &File) -> Result<(), GraphFault>
@@ -51,15 +51,17 @@ fn resolved(
     Ok(graphs_of(alloc, file, signatures, delays)?)
 }
 
-/// What the delays of a file become, by what there is too much of in it. They are marked where there is something, and not
-/// made: a number of tokens may be far over its limit.
-fn delays_with(excess: Option<Counted>) -> Delays
-    ensures { MatchOption excess (result ≡ Delays.Tokens) (λ _. result ≡ Delays.Marks) }
+/// Whether a file has none of the faults 4 to 13. Delays are marked for that, and not made: they may hold far more tokens
+/// than their limit, or than there is memory for.
+fn check(alloc: Global, file: &File, signatures: &[Signature]) -> Result<(), GraphFault>
+    requires { file.now.version ≡ 1 }
+    ensures { Tells (file_faults (map signature_view signatures.now) file.now) result }
 {
-    match excess {
-        Some(_) => Delays::Marks,
-        None => Delays::Tokens,
-    }
+    no_duplicate(alloc, file)?;
+    let marked = resolved(alloc, file, signatures, Delays::Marks)?;
+    told_kernel(unfit_kernel(signatures, file))?;
+    follow_rules(alloc, signatures, &marked)?;
+    told_count(alloc, count(file))
 }
 
 /// The graphs that a file means.
@@ -72,13 +74,8 @@ fn graphs_of_file(
     ensures tells { Tells (file_faults (map signature_view signatures.now) file.now) result }
     ensures graphs { IfOk result (λ graphs. graphs ≡ graphs_of (map signature_view signatures.now) file.now) }
 {
-    no_duplicate(alloc, file)?;
-    let excess = count(file);
-    let graphs = resolved(alloc, file, signatures, delays_with(excess))?;
-    told_kernel(unfit_kernel(signatures, file))?;
-    follow_rules(alloc, signatures, &graphs)?;
-    told_count(alloc, excess)?;
-    Ok(graphs)
+    check(alloc, file, signatures)?;
+    resolved(alloc, file, signatures, Delays::Tokens)
 }
 
 /// What the bytes of a graph file are read as.
