@@ -1,6 +1,6 @@
 use crate::line::line_of;
 use crate::status::{GraphCause, Status};
-use crate::tests::{Graph, answer_on, expect};
+use crate::tests::{Graph, answer_on, answer_to, expect, none_failing};
 use graph_format::GraphFault;
 use param_expr::Name;
 use std::alloc::{AllocError, Global};
@@ -49,6 +49,45 @@ const FAULTS: [(&str, Graph, &str, &str, &str, u8); 5] = [
         2,
     ),
 ];
+
+// Graph files, each with the line of its fault.
+
+/// The version is 3.
+const VERSION: [&str; 2] = ["{\"pisdf\":3}", "graph: 3 version 3\n"];
+
+/// An actor is called as the input.
+const TWICE: [&str; 2] = [
+    "{\"pisdf\":1,\"top\":\"g\",\"graphs\":[{\"name\":\"g\",\"params\":[],\"inputs\":[{\"name\":\"x\",\"rate\":\"1\"}],\"outputs\":[{\"name\":\"y\",\"rate\":\"1\"}],\"actors\":[{\"name\":\"x\",\"kind\":\"kernel\",\"kernel\":\"pass\",\"args\":[],\"ins\":[{\"name\":\"i\",\"rate\":\"1\"}],\"outs\":[{\"name\":\"o\",\"rate\":\"1\"}]}],\"fifos\":[{\"from\":\"x\",\"to\":\"x.i\"},{\"from\":\"x.o\",\"to\":\"y\"}]}]}",
+    "graph: 4 duplicate x\n",
+];
+
+/// The output has no FIFO.
+const UNWIRED: [&str; 2] = [
+    "{\"pisdf\":1,\"top\":\"g\",\"graphs\":[{\"name\":\"g\",\"params\":[],\"inputs\":[{\"name\":\"x\",\"rate\":\"1\"}],\"outputs\":[{\"name\":\"y\",\"rate\":\"1\"}],\"actors\":[{\"name\":\"a\",\"kind\":\"kernel\",\"kernel\":\"pass\",\"args\":[],\"ins\":[{\"name\":\"i\",\"rate\":\"1\"}],\"outs\":[{\"name\":\"o\",\"rate\":\"1\"}]}],\"fifos\":[{\"from\":\"x\",\"to\":\"a.i\"}]}]}",
+    "graph: 8 wire y\n",
+];
+
+/// Two parameters depend on each other.
+const CYCLE: [&str; 2] = [
+    "{\"pisdf\":1,\"top\":\"g\",\"graphs\":[{\"name\":\"g\",\"params\":[{\"name\":\"p\",\"kind\":\"is\",\"expr\":\"q\"},{\"name\":\"q\",\"kind\":\"is\",\"expr\":\"p\"}],\"inputs\":[{\"name\":\"x\",\"rate\":\"1\"}],\"outputs\":[{\"name\":\"y\",\"rate\":\"1\"}],\"actors\":[{\"name\":\"a\",\"kind\":\"kernel\",\"kernel\":\"pass\",\"args\":[],\"ins\":[{\"name\":\"i\",\"rate\":\"1\"}],\"outs\":[{\"name\":\"o\",\"rate\":\"1\"}]}],\"fifos\":[{\"from\":\"x\",\"to\":\"a.i\"},{\"from\":\"a.o\",\"to\":\"y\"}]}]}",
+    "graph: 10 order p\n",
+];
+
+#[test]
+fn the_first_fault_of_a_graph_file_is_told(rt: HostRuntime) -> Result<(), Fail> {
+    let alloc = rt.alloc();
+    for [text, line] in [VERSION, TWICE, UNWIRED, CYCLE] {
+        let answer = answer_to(
+            alloc,
+            "run g t 1 1",
+            text.as_bytes(),
+            "x,5",
+            none_failing(alloc),
+        )?;
+        expect(&rt, answer, "", line, 2, line);
+    }
+    Ok(())
+}
 
 #[test]
 fn graph_files_with_a_fault_are_refused_by_its_number(rt: HostRuntime) -> Result<(), Fail> {

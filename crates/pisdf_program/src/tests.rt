@@ -53,13 +53,13 @@ pub(crate) struct Answer {
 
 /// The loads and puts that fail.
 #[derive(Drop)]
-struct Failing {
+pub(crate) struct Failing {
     loads: Vec<u64>,
     out: Vec<(u64, usize)>,
     err: Vec<(u64, usize)>,
 }
 
-fn none_failing(alloc: Global) -> Failing {
+pub(crate) fn none_failing(alloc: Global) -> Failing {
     Failing {
         loads: Vec::new(alloc),
         out: Vec::new(alloc),
@@ -68,7 +68,7 @@ fn none_failing(alloc: Global) -> Failing {
 }
 
 /// Runs the words, separated by blanks, on the files `g` and `t`.
-fn answer_to(
+pub(crate) fn answer_to(
     alloc: Global,
     words: &str,
     graph: &[u8],
