@@ -1,4 +1,5 @@
 pub mod Gives
+pub mod Lent
 pub mod Place
 pub mod Resolves
 pub mod Setting

@@ -6,7 +6,7 @@ ghost use Rattle.graph_format.specs.Kernels.{kernel_names};
 ghost use Rattle.graph_format.specs.Scope.{interfaces_of, names_at, ports_of};
 ghost use Rattle.graph_reader.specs.Setting.{AreOf, lent_names, ports_view};
 
-use crate::names::{Named, Names, names_of, push_names};
+use crate::names::{Named, Names, names_of, names_of_both};
 use crate::surroundings::Ports;
 use graph_format::{FileBody, FileGraph};
 use kernel_gate::Signature;
@@ -16,11 +16,11 @@ use std::alloc::{AllocError, Global};
 
 /// The names that the parts of all graphs of a file can refer to.
 #[derive(Drop)]
-pub(crate) struct FileNames {
-    pub(crate) kernels: Names,
-    pub(crate) graphs: Names,
+pub(crate) struct FileNames<'a> {
+    pub(crate) kernels: Names<'a>,
+    pub(crate) graphs: Names<'a>,
     /// For each graph, its inputs, then its outputs.
-    pub(crate) interfaces: List<Names>,
+    pub(crate) interfaces: List<Names<'a>>,
 }
 
 impl Named for FileGraph {
@@ -32,29 +32,25 @@ impl Named for FileGraph {
 }
 
 /// The names of the kernels.
-fn names_of_kernels(alloc: Global, signatures: &[Signature]) -> Result<Names, AllocError>
+fn names_of_kernels<'a>(alloc: Global, signatures: &'a [Signature]) -> Result<Names<'a>, AllocError>
     ensures { IfOk result (λ names. names ≡ kernel_names (map signature_view signatures.now)) }
 {
     let mut names = Vec::new(alloc);
     for signature in signatures {
-        let text = String::from_str(alloc, signature.name)?;
-        names.push(Name::new(text))?;
+        names.push(signature.name)?;
     }
     Names::new(alloc, names)
 }
 
 /// A graph's inputs, then its outputs.
-fn interfaces_of(alloc: Global, graph: &FileGraph) -> Result<Names, AllocError>
+fn interfaces_of<'a>(alloc: Global, graph: &'a FileGraph) -> Result<Names<'a>, AllocError>
     ensures { IfOk result (λ names. names ≡ interfaces_of graph.now) }
 {
-    let mut names = Vec::new(alloc);
-    push_names(&mut names, graph.inputs.items())?;
-    push_names(&mut names, graph.outputs.items())?;
-    Names::new(alloc, names)
+    names_of_both(alloc, graph.inputs.items(), graph.outputs.items())
 }
 
 /// The interfaces of each graph.
-fn all_interfaces(alloc: Global, graphs: &[FileGraph]) -> Result<List<Names>, AllocError>
+fn all_interfaces<'a>(alloc: Global, graphs: &'a [FileGraph]) -> Result<List<Names<'a>>, AllocError>
     ensures { IfOk result (λ all. all ≡ map interfaces_of graphs.now) }
 {
     let mut all = Vec::new(alloc);
@@ -65,13 +61,13 @@ fn all_interfaces(alloc: Global, graphs: &[FileGraph]) -> Result<List<Names>, Al
     Ok(List::new(all))
 }
 
-impl FileNames {
+impl<'a> FileNames<'a> {
     /// The names of these kernels and graphs.
     pub(crate) fn new(
         alloc: Global,
-        signatures: &[Signature],
-        graphs: &[FileGraph],
-    ) -> Result<FileNames, AllocError>
+        signatures: &'a [Signature],
+        graphs: &'a [FileGraph],
+    ) -> Result<FileNames<'a>, AllocError>
         ensures kernels { IfOk result (λ names. names.kernels ≡ kernel_names (map signature_view signatures.now)) }
         ensures graphs { IfOk result (λ names. AreOf graphs.now names) }
     {
@@ -86,7 +82,7 @@ impl FileNames {
     }
 
     /// The interfaces of the first graph of that name.
-    fn interfaces_named<'a>(&'a self, name: &Name) -> Option<&'a Names>
+    fn interfaces_named<'b>(&'b self, name: &Name) -> Option<&'b Names<'a>>
         ensures { lent_names result ≡ names_at self.now.interfaces (place_of self.now.graphs name.now) }
     {
         let place = self.graphs.place_of(name)?;
@@ -94,25 +90,29 @@ impl FileNames {
     }
 
     /// The ports of an actor.
-    pub(crate) fn ports_of(&self, alloc: Global, body: &FileBody) -> Result<Ports<'_>, AllocError>
+    pub(crate) fn ports_of<'b>(
+        &'b self,
+        alloc: Global,
+        body: &'a FileBody,
+    ) -> Result<Ports<'b, 'a>, AllocError>
         ensures { (graphs : Seq FileGraph) → AreOf graphs self.now → IfOk result (λ ports. ports_view ports ≡ ports_of graphs body.now) }
     {
-        let mut names = Vec::new(alloc);
         match body {
             FileBody::Kernel { ins, outs, .. } => {
-                push_names(&mut names, ins.items())?;
-                push_names(&mut names, outs.items())?;
+                let names = names_of_both(alloc, ins.items(), outs.items())?;
+                Ok(Ports::Own(names))
             }
             FileBody::Config { ins, outs, .. } => {
-                push_names(&mut names, ins.items())?;
-                push_names(&mut names, outs.items())?;
+                let names = names_of_both(alloc, ins.items(), outs.items())?;
+                Ok(Ports::Own(names))
             }
-            FileBody::Child { graph, .. } => {
-                if let Some(interfaces) = self.interfaces_named(graph) {
-                    return Ok(Ports::Child(interfaces));
+            FileBody::Child { graph, .. } => match self.interfaces_named(graph) {
+                Some(interfaces) => Ok(Ports::Child(interfaces)),
+                None => {
+                    let none = Names::new(alloc, Vec::new(alloc))?;
+                    Ok(Ports::Own(none))
                 }
-            }
+            },
         }
-        Ok(Ports::Own(Names::new(alloc, names)?))
     }
 }

@@ -1,53 +1,52 @@
 ghost use Rattle.std.specs.Prelude.{◌≡◌, ◌<◌, ◌^◌, ◌++◌, ℕ, List as Seq, IfOk, OnOk, length, map};
-ghost use Rattle.std.specs.BTreeMap.{get_by_text};
 ghost use Rattle.param_expr.specs.Bind.{place_of};
 ghost use Rattle.graph_format.specs.Placed.{first_place};
+ghost use Rattle.graph_reader.specs.Lent.{lent, place_in};
 
 use param_expr::{Name, Places};
 use std::alloc::{AllocError, Global};
 use std::collections::BTreeMap;
 use std::marker::Model;
 
-/// A list of fewer than 2^32 names, each of which is found by its first place.
+/// A list of fewer than 2^32 names, each of which is found by its first place. The names are lent.
 #[derive(Drop)]
-pub(crate) struct Names {
-    names: Vec<Name>,
-    /// The first place of each name, by its text.
-    places: BTreeMap<String, u32>,
+pub(crate) struct Names<'a> {
+    names: Vec<&'a str>,
+    /// The first place of each name.
+    places: BTreeMap<&'a str, u32>,
 }
 
-impl Model for Names {
+impl<'a> Model for Names<'a> {
     ghost use Rattle.std.specs.Prelude.{List, ℕ, ◌≡◌};
-    ghost use Rattle.std.specs.BTreeMap.{get_by_text};
     ghost use Rattle.param_expr.specs.Bind.{place_of};
+    ghost use Rattle.graph_reader.specs.Lent.{lent, place_in};
 
     ghost Value = { List (List ℕ) };
 
-    ghost view = { λ n. n.names.items };
+    ghost view = { λ n. lent n.names.items };
 
-    ghost invariant = { λ n. (text : List ℕ) → get_by_text n.places text ≡ place_of n.names.items text };
+    ghost invariant = { λ n. (text : List ℕ) → place_in n.places text ≡ place_of (lent n.names.items) text };
 }
 
-/// The first place of each of these names, by its text.
-fn first_places(alloc: Global, names: &[Name]) -> Result<BTreeMap<String, u32>, AllocError>
+/// The first place of each of these names.
+fn first_places<'a>(alloc: Global, names: &[&'a str]) -> Result<BTreeMap<&'a str, u32>, AllocError>
     requires { length names.now < 2 ^ 32 }
-    ensures { IfOk result (λ places. (text : Seq ℕ) → get_by_text places text ≡ place_of names.now text) }
+    ensures { IfOk result (λ places. (text : Seq ℕ) → place_in places text ≡ place_of (lent names.now) text) }
 {
     let mut places = BTreeMap::new(alloc);
     // The last names come first, so that the first place of a name is the one that stays.
     for behind in 0..names.len() {
         let place = names.len() - 1 - behind;
-        let text = String::from_str(alloc, names[place].text())?;
-        places.insert(text, place as u32)?;
+        places.insert(names[place], place as u32)?;
     }
     Ok(places)
 }
 
-impl Names {
+impl<'a> Names<'a> {
     /// The names in this order. The error is want of memory, which 2^32 names or more are answered as too: they would
     /// take over 100 gigabytes.
-    pub(crate) fn new(alloc: Global, names: Vec<Name>) -> Result<Names, AllocError>
-        ensures { IfOk result (λ n. n ≡ names.items) }
+    pub(crate) fn new(alloc: Global, names: Vec<&'a str>) -> Result<Names<'a>, AllocError>
+        ensures { IfOk result (λ n. n ≡ lent names.entry.items) }
     {
         if names.len() > u32::MAX as usize {
             return Err(AllocError);
@@ -71,7 +70,7 @@ impl Names {
     }
 }
 
-impl Places for Names {
+impl Places for Names<'_> {
     ghost names = { λ n. n };
 
     fn first_place(&self, name: &Name) -> Option<u32> {
@@ -90,21 +89,34 @@ pub(crate) trait Named {
 }
 
 /// Puts the names of some items behind others.
-pub(crate) fn push_names<T: Named>(names: &mut Vec<Name>, items: &[T]) -> Result<(), AllocError>
-    ensures { OnOk result (names.new.items ≡ names.old.items ++ map T.named items.now) }
+fn push_names<'a, T: Named>(names: &mut Vec<&'a str>, items: &'a [T]) -> Result<(), AllocError>
+    ensures { OnOk result (lent names.new.items ≡ lent names.old.items ++ map T.named items.now) }
 {
     for item in items {
-        let name = item.name().clone()?;
-        names.push(name)?;
+        names.push(item.name().text())?;
     }
     Ok(())
 }
 
 /// The names of a list's items.
-pub(crate) fn names_of<T: Named>(alloc: Global, items: &[T]) -> Result<Names, AllocError>
+pub(crate) fn names_of<'a, T: Named>(alloc: Global, items: &'a [T]) -> Result<Names<'a>, AllocError>
     ensures { IfOk result (λ names. names ≡ map T.named items.now) }
 {
     let mut names = Vec::new(alloc);
     push_names(&mut names, items)?;
+    Names::new(alloc, names)
+}
+
+/// The names of a list's items, then those of another's.
+pub(crate) fn names_of_both<'a, A: Named, B: Named>(
+    alloc: Global,
+    front: &'a [A],
+    back: &'a [B],
+) -> Result<Names<'a>, AllocError>
+    ensures { IfOk result (λ names. names ≡ map A.named front.now ++ map B.named back.now) }
+{
+    let mut names = Vec::new(alloc);
+    push_names(&mut names, front)?;
+    push_names(&mut names, back)?;
     Names::new(alloc, names)
 }

@@ -21,7 +21,7 @@ pub(crate) trait Resolved: Drop {
 
     fn resolve(
         alloc: Global,
-        surroundings: &Surroundings<'_>,
+        surroundings: &Surroundings<'_, '_>,
         source: &Self::Source,
     ) -> Result<Self, Unresolved>
         ensures { Resolves (unknown (setting_of surroundings.now) source.now) (placed (setting_of surroundings.now) source.now) result };
@@ -30,7 +30,7 @@ pub(crate) trait Resolved: Drop {
 /// What the parts of a list become.
 pub(crate) fn resolve_each<T: Resolved>(
     alloc: Global,
-    surroundings: &Surroundings<'_>,
+    surroundings: &Surroundings<'_, '_>,
     sources: &[T::Source],
 ) -> Result<List<T>, Unresolved>
     ensures { Resolves (flat_map (T.unknown (setting_of surroundings.now)) sources.now) (map (T.placed (setting_of surroundings.now)) sources.now) result }

@@ -6,7 +6,7 @@ ghost use Rattle.graph_format.specs.References.{unknown_in_body};
 ghost use Rattle.graph_reader.specs.Resolves.{Resolves};
 ghost use Rattle.graph_reader.specs.Setting.{setting_of};
 
-use crate::names::{Named, push_names};
+use crate::names::Named;
 use crate::resolved::{Resolved, resolve_each};
 use crate::resolved_parts::reference;
 use crate::surroundings::Surroundings;
@@ -19,7 +19,7 @@ use std::alloc::{AllocError, Global};
 
 fn kernel_actor(
     alloc: Global,
-    surroundings: &Surroundings<'_>,
+    surroundings: &Surroundings<'_, '_>,
     kernel: &Name,
     args: &List<Parsed>,
     ins: &List<FilePort>,
@@ -43,13 +43,16 @@ fn copied_names(alloc: Global, names: &[Name]) -> Result<List<Name>, AllocError>
     ensures { IfOk result (λ copy. copy ≡ names.now) }
 {
     let mut copy = Vec::new(alloc);
-    push_names(&mut copy, names)?;
+    for name in names {
+        let name = name.clone()?;
+        copy.push(name)?;
+    }
     Ok(List::new(copy))
 }
 
 fn configuration_actor(
     alloc: Global,
-    surroundings: &Surroundings<'_>,
+    surroundings: &Surroundings<'_, '_>,
     kernel: &Name,
     args: &List<Parsed>,
     ins: &List<Name>,
@@ -73,7 +76,7 @@ fn configuration_actor(
 
 fn hierarchical_actor(
     alloc: Global,
-    surroundings: &Surroundings<'_>,
+    surroundings: &Surroundings<'_, '_>,
     graph: &Name,
     args: &List<Parsed>,
 ) -> Result<Body, Unresolved>
@@ -96,7 +99,7 @@ impl Resolved for Body {
 
     fn resolve(
         alloc: Global,
-        surroundings: &Surroundings<'_>,
+        surroundings: &Surroundings<'_, '_>,
         source: &FileBody,
     ) -> Result<Body, Unresolved> {
         match source {
@@ -130,7 +133,7 @@ impl Resolved for Actor {
 
     fn resolve(
         alloc: Global,
-        surroundings: &Surroundings<'_>,
+        surroundings: &Surroundings<'_, '_>,
         source: &FileActor,
     ) -> Result<Actor, Unresolved> {
         let body = Body::resolve(alloc, &*surroundings, &source.body)?;

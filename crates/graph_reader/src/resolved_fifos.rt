@@ -23,7 +23,7 @@ impl Resolved for End {
 
     fn resolve(
         alloc: Global,
-        surroundings: &Surroundings<'_>,
+        surroundings: &Surroundings<'_, '_>,
         source: &FileEnd,
     ) -> Result<End, Unresolved> {
         match source {
@@ -77,7 +77,7 @@ impl Resolved for Fifo {
 
     fn resolve(
         alloc: Global,
-        surroundings: &Surroundings<'_>,
+        surroundings: &Surroundings<'_, '_>,
         source: &FileFifo,
     ) -> Result<Fifo, Unresolved> {
         let tail = End::resolve(alloc, &*surroundings, &source.from)?;

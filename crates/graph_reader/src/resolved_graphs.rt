@@ -35,7 +35,7 @@ impl Resolved for Graph {
 
     fn resolve(
         alloc: Global,
-        surroundings: &Surroundings<'_>,
+        surroundings: &Surroundings<'_, '_>,
         source: &FileGraph,
     ) -> Result<Graph, Unresolved> {
         let params = resolve_each(alloc, &*surroundings, source.params.items())?;
@@ -56,11 +56,11 @@ impl Resolved for Graph {
 }
 
 /// A graph of a file, with places for names.
-fn resolve_graph(
+fn resolve_graph<'a>(
     alloc: Global,
-    names: &FileNames,
-    interfaces: &Names,
-    graph: &FileGraph,
+    names: &FileNames<'a>,
+    interfaces: &Names<'a>,
+    graph: &'a FileGraph,
     is_top: bool,
     delays: Delays,
 ) -> Result<Graph, Unresolved>
@@ -74,12 +74,12 @@ fn resolve_graph(
 }
 
 /// The graphs of a file, with places for names.
-fn resolve_graphs(
+fn resolve_graphs<'a>(
     alloc: Global,
-    names: &FileNames,
+    names: &FileNames<'a>,
     top: u32,
     delays: Delays,
-    graphs: &[FileGraph],
+    graphs: &'a [FileGraph],
 ) -> Result<List<Graph>, Unresolved>
     requires { AreOf graphs.now names.now }
     ensures { Resolves (flat_map (λ graph. unknown_in_graph (scope_of names.now.kernels graphs.now graph) graph) graphs.now)

@@ -14,7 +14,7 @@ use pisdf_model::{Interface, Param, ParamKind, Port};
 use std::alloc::Global;
 
 /// The first place of a name, which has to be there.
-pub(crate) fn reference(names: &Names, name: &Name) -> Result<u32, Unresolved>
+pub(crate) fn reference(names: &Names<'_>, name: &Name) -> Result<u32, Unresolved>
     ensures { Resolves (missing names.now name.now) (first_place names.now name.now) result }
 {
     match names.place_of(name) {
@@ -36,7 +36,7 @@ impl Resolved for u32 {
 
     fn resolve(
         _alloc: Global,
-        surroundings: &Surroundings<'_>,
+        surroundings: &Surroundings<'_, '_>,
         source: &Name,
     ) -> Result<u32, Unresolved> {
         reference(&surroundings.params, source)
@@ -55,7 +55,7 @@ impl Resolved for Expr {
 
     fn resolve(
         alloc: Global,
-        surroundings: &Surroundings<'_>,
+        surroundings: &Surroundings<'_, '_>,
         source: &Parsed,
     ) -> Result<Expr, Unresolved> {
         let expr = bind_in(alloc, source, &surroundings.params)?;
@@ -75,7 +75,7 @@ impl Resolved for Port {
 
     fn resolve(
         alloc: Global,
-        surroundings: &Surroundings<'_>,
+        surroundings: &Surroundings<'_, '_>,
         source: &FilePort,
     ) -> Result<Port, Unresolved> {
         let rate = Expr::resolve(alloc, &*surroundings, &source.rate)?;
@@ -96,7 +96,7 @@ impl Resolved for Interface {
 
     fn resolve(
         alloc: Global,
-        surroundings: &Surroundings<'_>,
+        surroundings: &Surroundings<'_, '_>,
         source: &FilePort,
     ) -> Result<Interface, Unresolved> {
         let rate = Expr::resolve(alloc, &*surroundings, &source.rate)?;
@@ -117,7 +117,7 @@ impl Resolved for ParamKind {
 
     fn resolve(
         alloc: Global,
-        surroundings: &Surroundings<'_>,
+        surroundings: &Surroundings<'_, '_>,
         source: &FileParamKind,
     ) -> Result<ParamKind, Unresolved> {
         match source {
@@ -143,7 +143,7 @@ impl Resolved for Param {
 
     fn resolve(
         alloc: Global,
-        surroundings: &Surroundings<'_>,
+        surroundings: &Surroundings<'_, '_>,
         source: &FileParam,
     ) -> Result<Param, Unresolved> {
         let kind = ParamKind::resolve(alloc, &*surroundings, &source.kind)?;

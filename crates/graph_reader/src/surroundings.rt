@@ -23,15 +23,15 @@ pub(crate) enum Delays {
 
 /// The ports of an actor.
 #[derive(Drop)]
-pub(crate) enum Ports<'a> {
-    Own(Names),
+pub(crate) enum Ports<'b, 'a> {
+    Own(Names<'a>),
     /// Those of a hierarchical actor are its child's interfaces.
-    Child(&'a Names),
+    Child(&'b Names<'a>),
 }
 
-impl Ports<'_> {
+impl<'b, 'a> Ports<'b, 'a> {
     /// Their names: the inputs, then the outputs.
-    fn names(&self) -> &Names
+    fn names(&self) -> &Names<'a>
         ensures { result.now ≡ ports_view self.now }
     {
         match self {
@@ -43,20 +43,20 @@ impl Ports<'_> {
 
 /// What the parts of a graph can refer to by name, and what else they need to know.
 #[derive(Drop)]
-pub(crate) struct Surroundings<'a> {
-    pub(crate) graphs: &'a Names,
-    pub(crate) kernels: &'a Names,
-    pub(crate) params: Names,
-    pub(crate) interfaces: &'a Names,
-    pub(crate) actors: Names,
+pub(crate) struct Surroundings<'b, 'a> {
+    pub(crate) graphs: &'b Names<'a>,
+    pub(crate) kernels: &'b Names<'a>,
+    pub(crate) params: Names<'a>,
+    pub(crate) interfaces: &'b Names<'a>,
+    pub(crate) actors: Names<'a>,
     /// For each actor, its ports.
-    pub(crate) ports: List<Ports<'a>>,
+    pub(crate) ports: List<Ports<'b, 'a>>,
     /// Whether the graph is the top one.
     pub(crate) is_top: bool,
     pub(crate) delays: Delays,
 }
 
-impl Surroundings<'_> {
+impl Surroundings<'_, '_> {
     /// The first actor of that name, and the first of its ports of that name.
     pub(crate) fn port_place(&self, actor: &Name, port: &Name) -> Option<(u32, u32)>
         ensures { let s = (setting_of self.now).scope in MatchOption result (place_of (ports_named s actor.now) port.now ≡ None)
@@ -70,11 +70,11 @@ impl Surroundings<'_> {
 }
 
 /// The ports of each actor.
-fn all_ports<'a>(
+fn all_ports<'b, 'a>(
     alloc: Global,
-    names: &'a FileNames,
-    actors: &[FileActor],
-) -> Result<List<Ports<'a>>, AllocError>
+    names: &'b FileNames<'a>,
+    actors: &'a [FileActor],
+) -> Result<List<Ports<'b, 'a>>, AllocError>
     ensures { (graphs : Seq FileGraph) → AreOf graphs names.now → IfOk result (λ all. map ports_view all ≡ map (λ actor. ports_of graphs actor.body) actors.now) }
 {
     let mut all = Vec::new(alloc);
@@ -86,14 +86,14 @@ fn all_ports<'a>(
 }
 
 /// What the parts of a graph of a file are resolved in.
-pub(crate) fn surroundings_of<'a>(
+pub(crate) fn surroundings_of<'b, 'a>(
     alloc: Global,
-    names: &'a FileNames,
-    interfaces: &'a Names,
-    graph: &FileGraph,
+    names: &'b FileNames<'a>,
+    interfaces: &'b Names<'a>,
+    graph: &'a FileGraph,
     is_top: bool,
     delays: Delays,
-) -> Result<Surroundings<'a>, AllocError>
+) -> Result<Surroundings<'b, 'a>, AllocError>
     requires { interfaces.now ≡ interfaces_of graph.now }
     ensures { (graphs : Seq FileGraph) → AreOf graphs names.now
         → IfOk result (λ s. setting_of s ≡ record { scope = scope_of names.now.kernels graphs graph.now; is_top = is_top; delays = delays }) }
