@@ -44,7 +44,7 @@ fn first_places<'a>(alloc: Global, names: &[&'a str]) -> Result<BTreeMap<&'a str
 
 impl<'a> Names<'a> {
     /// The names in this order. The error is want of memory, which 2^32 names or more are answered as too: they would
-    /// take over 100 gigabytes.
+    /// take over 60 gigabytes.
     pub(crate) fn new(alloc: Global, names: Vec<&'a str>) -> Result<Names<'a>, AllocError>
         ensures { IfOk result (λ n. n ≡ lent names.entry.items) }
     {

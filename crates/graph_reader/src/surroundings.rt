@@ -41,7 +41,8 @@ impl<'b, 'a> Ports<'b, 'a> {
     }
 }
 
-/// What the parts of a graph can refer to by name, and what else they need to know.
+/// What the parts of a graph can refer to by name, and what else they need to know. The file lends the names themselves
+/// (`'a`), and `FileNames` those that all its graphs share (`'b`).
 #[derive(Drop)]
 pub(crate) struct Surroundings<'b, 'a> {
     pub(crate) graphs: &'b Names<'a>,
