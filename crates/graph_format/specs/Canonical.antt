@@ -128,31 +128,43 @@ is_no_delay (Tokens tokens) = false
 abbrev pub with_delay : FileDelay → Members → Members
 with_delay delay members = if is_no_delay delay then members else member (codes "delay") (delay_value delay) members
 
+-- a FIFO without a delay, from an end to another
+abbrev pub end_members : List ℕ → List ℕ → Members
+end_members from to =
+    member (codes "from") (string from)
+    (member (codes "to") (string to)
+    no_members)
+
 unfoldable pub fifo_value : FileFifo → Data
-fifo_value fifo =
-    object (with_delay fifo.delay
-    (member (codes "from") (end_value fifo.from)
-    (member (codes "to") (end_value fifo.to)
-    no_members)))
+fifo_value fifo = object (with_delay fifo.delay (end_members (end_text fifo.from) (end_text fifo.to)))
 
 -- ---- graphs
 
+abbrev pub graph_members : List ℕ → Data → Data → Data → Data → Data → Members
+graph_members name params inputs outputs actors fifos =
+    member (codes "actors") actors
+    (member (codes "fifos") fifos
+    (member (codes "inputs") inputs
+    (member (codes "name") (string name)
+    (member (codes "outputs") outputs
+    (member (codes "params") params
+    no_members)))))
+
 unfoldable pub graph_value : FileGraph → Data
 graph_value graph =
-    object (member (codes "actors") (list_value actor_value graph.actors)
-    (member (codes "fifos") (list_value fifo_value graph.fifos)
-    (member (codes "inputs") (list_value port_value graph.inputs)
-    (member (codes "name") (string graph.name)
-    (member (codes "outputs") (list_value port_value graph.outputs)
-    (member (codes "params") (list_value param_value graph.params)
-    no_members))))))
+    object (graph_members graph.name (list_value param_value graph.params) (list_value port_value graph.inputs) (list_value port_value graph.outputs) (list_value actor_value graph.actors) (list_value fifo_value graph.fifos))
+
+-- ---- files
+
+abbrev pub root_members : ℕ → List ℕ → Data → Members
+root_members version top graphs =
+    member (codes "graphs") graphs
+    (member (codes "pisdf") (number (unsigned version))
+    (member (codes "top") (string top)
+    no_members))
 
 unfoldable pub file_value : File → Data
-file_value file =
-    object (member (codes "graphs") (list_value graph_value file.graphs)
-    (member (codes "pisdf") (number (unsigned file.version))
-    (member (codes "top") (string file.top)
-    no_members)))
+file_value file = object (root_members file.version file.top (list_value graph_value file.graphs))
 
 -- the canonical value of graphs whose kernels are places of these signatures
 abbrev pub canonical : List Signature → Graphs → Data

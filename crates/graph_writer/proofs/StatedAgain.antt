@@ -3,13 +3,13 @@ use Rattle.std.proofs.Common.{◌≡◌, ℕ, ℤ, pos, List, Bool, true, false,
 use Rattle.std.specs.Prelude.{codes}
 use Rattle.std.specs.List.{AllByRecursion}
 use Rattle.std.proofs.lemmas.Bool.Decides.{nat_tests}
-use Rattle.serde_json.specs.Data.{Data, number, unsigned, string, object, member, no_members}
+use Rattle.serde_json.specs.Data.{Data, number, unsigned, string, object, member}
 use Rattle.param_expr.specs.Named.{NamedTree}
 use Rattle.param_expr.specs.Parse.{Answers}
 use Rattle.param_expr.specs.Print.{printed}
-use Rattle.graph_format.specs.Canonical.{list_value, whole_value, expression_value, end_value, port_value, input_value, param_value, actor_value, delay_value, is_no_delay, fifo_value, graph_value, file_value}
+use Rattle.graph_format.specs.Canonical.{list_value, whole_value, expression_value, end_value, port_value, input_value, param_value, actor_value, delay_value, is_no_delay, end_members, fifo_value, graph_value, file_value}
 use Rattle.graph_format.specs.Walk.{has_form}
-use Rattle.graph_format.specs.Values.{IsList, IsWithin, StatesName, StatesKernel, StatesExpression, StatesEnd}
+use Rattle.graph_format.specs.Values.{end_text, IsList, IsWithin, StatesName, StatesKernel, StatesExpression, StatesEnd}
 use Rattle.graph_format.specs.States.{StatesParam, StatesPort, StatesInput, StatesActor, StatesDelay, StatesFifo, StatesGraph, StatesVersion, States}
 use Rattle.graph_format.specs.declared.actor.FileBody.{FileBody}
 use Rattle.graph_format.specs.declared.actor.FileBody.TheVariants.{Kernel, Config, Child}
@@ -43,7 +43,7 @@ no_delay (Tokens tokens) none = absurd cc
 -- where the delay is left out, and where it isn't
 either_again : (version : ℕ) (d : Data) (from to : FileEnd) (delay : FileDelay) (none : Bool) → is_no_delay delay ≡ none → StatesDelay (delay_value delay) delay
     → StatesFifo version d (record { from = from; to = to; delay = delay })
-    → StatesFifo version (object (cond none (member (codes "from") (end_value from) (member (codes "to") (end_value to) no_members)) (member (codes "delay") (delay_value delay) (member (codes "from") (end_value from) (member (codes "to") (end_value to) no_members))))) (record { from = from; to = to; delay = delay })
+    → StatesFifo version (object (cond none (end_members (end_text from) (end_text to)) (member (codes "delay") (delay_value delay) (end_members (end_text from) (end_text to))))) (record { from = from; to = to; delay = delay })
 unfolding has_form
 either_again version d from to delay true is again h = record {
   members = refl;

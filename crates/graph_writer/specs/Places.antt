@@ -1,7 +1,6 @@
 -- The names of lists of parts.
 use Rattle.std.specs.Prelude.{ℕ, List, [], map, slice_index_or}
 use Rattle.pisdf_model.specs.declared.param.Param.{Param}
-use Rattle.pisdf_model.specs.declared.actor.Port.{Port}
 use Rattle.pisdf_model.specs.declared.actor.Actor.{Actor}
 use Rattle.pisdf_model.specs.declared.graph.Graph.{Graph}
 use Rattle.pisdf_model.specs.declared.graph.Graphs.{Graphs}
@@ -9,9 +8,6 @@ use Rattle.graph_format.specs.Named.{name_at_place, names_of_interfaces, names_o
 
 abbrev pub param_names : List Param → List (List ℕ)
 param_names params = map (λ (p : Param). p.name) params
-
-abbrev pub port_names : List Port → List (List ℕ)
-port_names ports = map (λ (p : Port). p.name) ports
 
 abbrev pub actor_names : List Actor → List (List ℕ)
 actor_names actors = map (λ (a : Actor). a.name) actors

@@ -4,9 +4,8 @@ ghost use Rattle.std.specs.Ordering.{int_eq};
 ghost use Rattle.serde_json.specs.Data.{member, object};
 ghost use Rattle.serde_json.specs.View.{view};
 ghost use Rattle.param_expr.specs.Eval.{in_i64};
-ghost use Rattle.graph_format.specs.Canonical.{delay_value, fifo_value, whole_value};
+ghost use Rattle.graph_format.specs.Canonical.{delay_value, end_members, fifo_value, whole_value};
 ghost use Rattle.graph_format.specs.Named.{named_fifo, stated_delay};
-ghost use Rattle.graph_writer.specs.Objects.{end_members};
 
 use crate::list::{Writer, list};
 use crate::names::end_text;

@@ -1,9 +1,8 @@
 ghost use Rattle.std.specs.Prelude.{◌≡◌, IfOk};
 ghost use Rattle.serde_json.specs.Data.{object};
 ghost use Rattle.serde_json.specs.View.{view};
-ghost use Rattle.graph_format.specs.Canonical.{graph_value};
+ghost use Rattle.graph_format.specs.Canonical.{graph_members, graph_value};
 ghost use Rattle.graph_format.specs.Named.{named_graph};
-ghost use Rattle.graph_writer.specs.Objects.{graph_members};
 ghost use Rattle.graph_writer.specs.ReadAgain.{HasTokens};
 ghost use Rattle.graph_format.specs.Writable.{IsWritableGraph};
 

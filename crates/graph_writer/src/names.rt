@@ -1,7 +1,8 @@
 ghost use Rattle.std.specs.Prelude.{◌≡◌, ◌++◌, IfOk, string_bytes};
 ghost use Rattle.graph_format.specs.Named.{name_at_place, named_end, names_of_graphs, names_of_interfaces, names_of_kernels, names_of_ports};
 ghost use Rattle.graph_format.specs.Values.{end_text};
-ghost use Rattle.graph_writer.specs.Places.{actor_names, actor_port, child_port, param_names, port_names};
+ghost use Rattle.pisdf_model.specs.Parts.{port_names};
+ghost use Rattle.graph_writer.specs.Places.{actor_names, actor_port, child_port, param_names};
 
 use kernel_gate::Signature;
 use param_expr::Name;

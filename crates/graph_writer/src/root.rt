@@ -4,9 +4,8 @@ ghost use Rattle.serde_json.specs.Read.{read};
 ghost use Rattle.serde_json.specs.View.{view};
 ghost use Rattle.serde_json.specs.Written.{compact_text};
 ghost use Rattle.kernel_gate.specs.Signed.{signature_view};
-ghost use Rattle.graph_format.specs.Canonical.{canonical};
+ghost use Rattle.graph_format.specs.Canonical.{canonical, root_members};
 ghost use Rattle.graph_format.specs.Reads.{Reads};
-ghost use Rattle.graph_writer.specs.Objects.{root_members};
 ghost use Rattle.graph_writer.specs.ReadAgain.{CanBeReadAgain, HasTokens, WasRead};
 ghost use Rattle.graph_format.specs.Writable.{IsWritableGraph};
 

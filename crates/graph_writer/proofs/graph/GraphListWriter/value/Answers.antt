@@ -1,9 +1,8 @@
 use Rattle.std.proofs.Common.{◌≡◌, ◌∙◌, IfOk, ap, refl, subst}
 use Rattle.serde_json.specs.Data.{Data, object}
 use Rattle.serde_json.specs.View.{view}
-use Rattle.graph_format.specs.Canonical.{graph_value}
+use Rattle.graph_format.specs.Canonical.{graph_members, graph_value}
 use Rattle.graph_format.specs.Named.{named_graph, names_of_params}
-use Rattle.graph_writer.specs.Objects.{graph_members}
 use Rattle.graph_writer.specs.Places.{param_names}
 use Rattle.graph_writer.proofs.graph.GraphListWriter.value.Goals as goal
 
