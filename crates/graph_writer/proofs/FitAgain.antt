@@ -33,6 +33,7 @@ use Rattle.graph_format.specs.Placed.{placed, tokens_of}
 use Rattle.graph_format.specs.References.{unknown_in_file}
 use Rattle.graph_format.specs.declared.actor.FileActor.{FileActor}
 use Rattle.graph_format.proofs.Laws.{names_kept}
+use Rattle.graph_writer.proofs.KernelPlaces.{passes_named}
 use Rattle.graph_writer.specs.ReadAgain.{kind_fits, FitsSignature, ActorsFit, CanBeReadAgain}
 
 -- ---- ports
@@ -125,52 +126,10 @@ rules_fit signatures graphs fit none =
 
 -- ---- kernels
 
--- names that differ, without the first of them
-later_differ : (name : List ℕ) (names : List (List ℕ)) → Differ (name ∷ names) → Differ names
-later_differ name names differ i j li lj same =
-    let e : suc i ≡ suc j = differ (suc i) (suc j) (omega arith) (omega arith) same in
-    omega arith
-
--- a name that stands behind another one is not it
-other_name : (names : List (List ℕ)) (name : List ℕ) (k : ℕ) (b : Bool) → Differ (name ∷ names) → k < length names → bytes_eq (slice_index_or names k []) name ≡ b → b ≡ false
-other_name names name k true differ lt e =
-    let same : slice_index_or names k [] ≡ name = (bytes_decides (slice_index_or names k []) name).0 e in
-    let no : suc k ≡ 0 = differ (suc k) 0 (omega arith) (omega arith) same in
-    absurd (omega arith)
-other_name names name k false differ lt e = refl
-
-within : (signatures : List SignatureView) (k : ℕ) (s : SignatureView) → slice_get signatures k ≡ Some s → k < length (kernel_names signatures)
-within [] k s is = absurd cc
-within (first ∷ signatures) zero s is = omega arith
-within (first ∷ signatures) (suc k) s is =
-    let lt = within signatures k s is in
-    omega arith
-
--- where names differ, the signature of the name at a place is the one at that place
-found_again : (signatures : List SignatureView) (k : ℕ) (s : SignatureView) → Differ (kernel_names signatures) → slice_get signatures k ≡ Some s → signature_named signatures (name_at_place (kernel_names signatures) k) ≡ Some s
-found_again [] k s differ is = absurd cc
-found_again (first ∷ signatures) zero s differ is =
-    let here : bytes_eq first.name first.name ≡ true = (bytes_decides first.name first.name).1 refl in
-    rw here is
-found_again (first ∷ signatures) (suc k) s differ is =
-    let other : bytes_eq (slice_index_or (kernel_names signatures) k []) first.name ≡ false = other_name (kernel_names signatures) first.name k _ differ (within signatures k s is) refl in
-    rw other (found_again signatures k s (later_differ first.name (kernel_names signatures) differ) is)
-
 module _ (signatures : List Signature) (differ : Differ (names_of_kernels signatures)) where
-  kernel_found : (k : ℕ) (s : SignatureView) → slice_get (map signature_view signatures) k ≡ Some s → signature_named (map signature_view signatures) (name_at_place (names_of_kernels signatures) k) ≡ Some s
-  kernel_found k s is =
-      let names : kernel_names (map signature_view signatures) ≡ names_of_kernels signatures = of_mapped signature_view (λ (s : SignatureView). s.name) (λ (s : Signature). s.name.now) (λ s. refl) signatures in
-      ap (λ some. signature_named (map signature_view signatures) (name_at_place some k)) (sym names) ∙ found_again (map signature_view signatures) k s (subst Differ (sym names) differ) is
-
-  -- what holds of the signature at a place holds of the one of its name
-  found_so : (test : Option SignatureView → Bool) → test None ≡ false → (k : ℕ) (o : Option SignatureView) → slice_get (map signature_view signatures) k ≡ o → test o ≡ true
-      → test (signature_named (map signature_view signatures) (name_at_place (names_of_kernels signatures) k)) ≡ true
-  found_so test none k None is so = absurd cc
-  found_so test none k (Some s) is so = ap test (kernel_found k s is) ∙ so
-
   body_fits_again : (graphs : Graphs) (names : List (List ℕ)) (b : Body) → kind_fits (map signature_view signatures) b ≡ true → unfit_in_body (map signature_view signatures) (named_body signatures graphs names b) ≡ []
-  body_fits_again graphs names (body.Kernel kernel args ins outs) fit = rw (found_so is_of_kernel refl kernel _ refl fit) refl
-  body_fits_again graphs names (body.Config kernel args ins outs sets) fit = rw (found_so is_of_config refl kernel _ refl fit) refl
+  body_fits_again graphs names (body.Kernel kernel args ins outs) fit = rw (passes_named is_of_kernel refl signatures kernel differ fit) refl
+  body_fits_again graphs names (body.Config kernel args ins outs sets) fit = rw (passes_named is_of_config refl signatures kernel differ fit) refl
   body_fits_again graphs names (body.Child graph args) fit = refl
 
   actors_fit_again : (graphs : Graphs) (names : List (List ℕ)) (actors : List Actor) → AllByRecursion (FitsSignature (map signature_view signatures)) actors

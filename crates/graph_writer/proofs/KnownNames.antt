@@ -70,32 +70,3 @@ known names w none = found names w (none_where (is_none (place_of names w)) w no
 
 pub name_again : (names others : List (List ℕ)) (w : List ℕ) → others ≡ names → IsFound names w → name_at_place others (first_place names w) ≡ w
 name_again names others w same f = ap (λ ns. name_at_place ns (first_place names w)) same ∙ ap (λ (o : Option ℕ). name_at_place names (unwrap_or o 0)) f.is ∙ f.name
-
--- ---- kernels
-
--- the place of a kernel's name is that of the first signature of this name
-pub record HasSignature (signatures : List SignatureView) (w : List ℕ) (s : SignatureView) : Type 0 where
-  pub named : is_none (place_of (kernel_names signatures) w) ≡ false
-  pub signature : slice_get signatures (first_place (kernel_names signatures) w) ≡ Some s
-
-module _ (w : List ℕ) (s : SignatureView) where
-  -- the name stands at some place, counted from k, and the signature at the same place
-  abbrev StandsFrom : ℕ → List SignatureView → Type 0
-  StandsFrom k signatures = (i : ℕ) × (position_from (bytes_eq w) k (kernel_names signatures) ≡ Some (k + i)) × (slice_get signatures i ≡ Some s)
-
-  first_or_later : (k : ℕ) (v : SignatureView) (rest : List SignatureView) (b : Bool) → bytes_eq w v.name ≡ b → cond b (Some v) (signature_named rest w) ≡ Some s
-      → (signature_named rest w ≡ Some s → StandsFrom (k + 1) rest) → StandsFrom k (v ∷ rest)
-  first_or_later k v rest true same is later = (0, ap (λ c. cond c (Some k) (position_from (bytes_eq w) (k + 1) (kernel_names rest))) same ∙ ap (λ n. Some n) (omega arith), is)
-  first_or_later k v rest false other is later =
-      let f = later is in
-      (suc f.0, ap (λ c. cond c (Some k) (position_from (bytes_eq w) (k + 1) (kernel_names rest))) other ∙ f.1 ∙ ap (λ n. Some n) (omega arith), f.2)
-
-  stands_from : (k : ℕ) (signatures : List SignatureView) → signature_named signatures w ≡ Some s → StandsFrom k signatures
-  stands_from k [] is = absurd cc
-  stands_from k (v ∷ rest) is = first_or_later k v rest (bytes_eq w v.name) refl is (stands_from (k + 1) rest)
-
-  pub signature_found : (signatures : List SignatureView) → signature_named signatures w ≡ Some s → HasSignature signatures w s
-  signature_found signatures is =
-      let f = stands_from 0 signatures is in
-      let place : place_of (kernel_names signatures) w ≡ Some f.0 = position_from-zero (bytes_eq w) (kernel_names signatures) ∙ f.1 ∙ ap (λ n. Some n) (omega arith) in
-      record { named = ap (λ (o : Option ℕ). is_none o) place; signature = ap (λ (o : Option ℕ). slice_get signatures (unwrap_or o 0)) place ∙ f.2 }

@@ -3,6 +3,7 @@ pub mod Floats
 pub mod Depths
 pub mod Delays
 pub mod Distinct
+pub mod KernelPlaces
 pub mod Resolving
 pub mod PlacedAgain
 pub mod KnownAgain

@@ -31,8 +31,9 @@ use Rattle.graph_format.specs.declared.param.FileParam.{FileParam}
 use Rattle.graph_format.specs.declared.param.FileParamKind.{FileParamKind}
 use Rattle.graph_format.specs.declared.param.FileParamKind.TheVariants.{Inherited, Derived, Chosen}
 use Rattle.graph_format.specs.declared.port.FilePort.{FilePort}
+use Rattle.graph_writer.proofs.KernelPlaces.{passes_there, same_kernels}
 use Rattle.graph_writer.proofs.KeptNames.{HasNames, graph_names, graphs, here, meant, names_kept}
-use Rattle.graph_writer.proofs.KnownNames.{again_where, each_none, each_numbered, found, known, name_again, neither, none_where, signature_found, unless_none, unnumbered}
+use Rattle.graph_writer.proofs.KnownNames.{again_where, each_none, each_numbered, found, known, name_again, neither, none_where, unless_none, unnumbered}
 use Rattle.graph_writer.proofs.Resolving.{each_alike}
 
 -- ---- delays as the canonical file states them
@@ -45,21 +46,6 @@ restated_graph g = record { name = g.name; params = g.params; inputs = g.inputs;
 
 abbrev pub restated : File → File
 restated file = record { version = file.version; top = file.top; graphs = map restated_graph file.graphs }
-
--- ---- kernels
-
--- a kernel of which there is a signature
-kernel_named : (signatures : List SignatureView) (w : List ℕ) (o : Option SignatureView) → signature_named signatures w ≡ o → is_none o ≡ false → is_none (place_of (kernel_names signatures) w) ≡ false
-kernel_named signatures w None is some = absurd cc
-kernel_named signatures w (Some s) is some = (signature_found w s signatures is).named
-
-of_kernel : (o : Option SignatureView) → is_of_kernel o ≡ true → is_none o ≡ false
-of_kernel None h = absurd cc
-of_kernel (Some s) h = refl
-
-of_config : (o : Option SignatureView) → is_of_config o ≡ true → is_none o ≡ false
-of_config None h = absurd cc
-of_config (Some s) h = refl
 
 -- ---- the parts of a graph
 
@@ -104,11 +90,10 @@ module _ (signatures : List Signature) (all : Graphs) (s : Scope) (g : Graph)
   interfaces_again : (ps : List FilePort) → flat_map (unknown_in_port s) ps ≡ [] → map (named_interface names) (map (placed_interface s) ps) ≡ ps
   interfaces_again ps none = again_where (placed_interface s) (named_interface names) (unknown_in_port s) interface_again ps none
 
-  kernel_again : (w : List ℕ) → is_none (signature_named views w) ≡ false → name_at_place (names_of_kernels signatures) (first_place s.kernels w) ≡ w
+  kernel_again : (w : List ℕ) → is_none (place_of (kernel_names views) w) ≡ false → name_at_place (names_of_kernels signatures) (first_place s.kernels w) ≡ w
   kernel_again w some =
-      let same = of_mapped signature_view (λ (v : SignatureView). v.name) (λ (v : Signature). v.name.now) (λ v. refl) signatures in
       ap (λ ns. name_at_place (names_of_kernels signatures) (first_place ns w)) kernels
-      ∙ name_again (kernel_names views) (names_of_kernels signatures) w (sym same) (found (kernel_names views) w (kernel_named views w (signature_named views w) refl some))
+      ∙ name_again (kernel_names views) (names_of_kernels signatures) w (sym (same_kernels signatures)) (found (kernel_names views) w some)
 
   body_again : (b : FileBody) → unknown_in_body s b ≡ [] → unfit_in_body views b ≡ [] → named_body signatures all names (placed_body s b) ≡ b
   body_again (Kernel kernel args ins outs) none fits =
@@ -116,14 +101,14 @@ module _ (signatures : List Signature) (all : Graphs) (s : Scope) (g : Graph)
       let of_ins = flat_map (unknown_in_port s) ins in
       let front = neither (of_args ++ of_ins) (flat_map (unknown_in_port s) outs) none in
       let both = neither of_args of_ins front.0 in
-      let there = of_kernel (signature_named views kernel) (unless_none (is_of_kernel (signature_named views kernel)) kernel fits) in
+      let there = (passes_there is_of_kernel refl views kernel (unless_none (is_of_kernel (signature_named views kernel)) kernel fits)).named in
       rw (kernel_again kernel there, exprs_again args both.0, ports_again ins both.1, ports_again outs front.1) refl
   body_again (Config kernel args ins outs sets) none fits =
       let of_args = flat_map (unknown_in_expr s) args in
       let of_outs = flat_map (unknown_in_port s) outs in
       let front = neither (of_args ++ of_outs) (flat_map (missing s.params) sets) none in
       let both = neither of_args of_outs front.0 in
-      let there = of_config (signature_named views kernel) (unless_none (is_of_config (signature_named views kernel)) kernel fits) in
+      let there = (passes_there is_of_config refl views kernel (unless_none (is_of_config (signature_named views kernel)) kernel fits)).named in
       rw (kernel_again kernel there, exprs_again args both.0, ports_again outs both.1, again_where (first_place s.params) (name_at_place names) (missing s.params) param_name sets front.1) refl
   body_again (Child child args) none fits =
       let both = neither (missing s.graphs child) (flat_map (unknown_in_expr s) args) none in

@@ -26,6 +26,7 @@ use Rattle.pisdf_model.specs.declared.graph.Interface.{Interface}
 use Rattle.pisdf_model.specs.declared.param.Param.{Param}
 use Rattle.pisdf_model.specs.declared.param.ParamKind.{ParamKind}
 use Rattle.pisdf_model.specs.declared.param.ParamKind.TheVariants.{Inherited, Derived, Chosen}
+use Rattle.graph_format.specs.Kernels.{is_of_config, is_of_kernel}
 use Rattle.graph_format.specs.Named as named
 use Rattle.graph_format.specs.Named.{name_at_place, named_actor, named_body, named_end, named_fifo, named_file, named_graph, named_interface, named_kind, named_param, named_port, names_of_actors, names_of_interfaces, names_of_kernels, names_of_params, names_of_ports_at, stated_delay}
 use Rattle.graph_format.specs.Placed.{first_place, placed, placed_actor, placed_body, placed_end, placed_fifo, placed_graph, placed_interface, placed_kind, placed_param, placed_port, tokens_of, top_of}
@@ -33,7 +34,8 @@ use Rattle.graph_format.specs.Scope.{Scope, scope_of}
 use Rattle.graph_format.specs.declared.file.FileGraph.{FileGraph}
 use Rattle.graph_writer.specs.ReadAgain.{ActorsFit, CanBeReadAgain, FitsSignature}
 use Rattle.graph_writer.proofs.Distinct.{AllDiffer, PartsDiffer}
-use Rattle.graph_writer.proofs.Resolving.{StandsAt, each_alike, file_names, files, first_again, of_config_inside, of_kernel_inside, scope_again, scope_in, stands_at}
+use Rattle.graph_writer.proofs.KernelPlaces.{is_place_of_kernel}
+use Rattle.graph_writer.proofs.Resolving.{StandsAt, each_alike, file_names, files, first_again, scope_again, scope_in, stands_at}
 use Rattle.param_expr.proofs.Printed.{place_again, placed_again}
 
 each_again : {A B : Type 0} (m : A → B) (f : B → A) (P : A → Type 0) → ((x : A) → P x → f (m x) ≡ x) → (xs : List A) → All P xs → map f (map m xs) ≡ xs
@@ -107,10 +109,10 @@ module _ (signatures : List Signature) (graphs : Graphs) (all : AllDiffer graphs
 
   body_again : (b : Body) → IsBodyInRange (length graphs.graphs) count b → (actor : Actor) → actor.body ≡ b → FitsSignature (map signature_view signatures) actor → placed_body here (named_body signatures graphs names b) ≡ b
   body_again (body.Kernel kernel args ins outs) range actor is fits =
-      let inside = of_kernel_inside signatures kernel (rw is at fits.kind) in
+      let inside = is_place_of_kernel is_of_kernel refl signatures kernel (rw is at fits.kind) in
       rw (first_again (names_of_kernels signatures) kernel kernels inside, exprs_again args range.0, ports_again ins range.1, ports_again outs range.2) refl
   body_again (body.Config kernel args ins outs sets) range actor is fits =
-      let inside = of_config_inside signatures kernel (rw is at fits.kind) in
+      let inside = is_place_of_kernel is_of_config refl signatures kernel (rw is at fits.kind) in
       rw (first_again (names_of_kernels signatures) kernel kernels inside, exprs_again args range.0, ports_again outs range.1, sets_again sets range.2) refl
   body_again (body.Child child args) range actor is fits =
       let inside : child < length (named.names_of_graphs graphs) = omega (arith, range.0, length-map graphs.graphs (λ (g : Graph). g.name)) in

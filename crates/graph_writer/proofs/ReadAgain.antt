@@ -23,12 +23,10 @@ use Rattle.graph_writer.specs.ReadAgain.{CanBeReadAgain, HasTokens}
 use Rattle.graph_writer.proofs.Distinct.{all_differ}
 use Rattle.graph_writer.proofs.DelaysAgain.{delays_again}
 use Rattle.graph_writer.proofs.FitAgain.{counts_fit, names_differ, no_faults}
+use Rattle.graph_writer.proofs.KernelPlaces.{same_kernels}
 use Rattle.graph_writer.proofs.KnownAgain.{file_known}
 use Rattle.graph_writer.proofs.PlacedAgain.{graphs_again}
 use Rattle.graph_writer.proofs.StatedAgain.{file_again}
-
-same_kernels : (signatures : List Signature) → kernel_names (map signature_view signatures) ≡ names_of_kernels signatures
-same_kernels signatures = of_mapped signature_view (λ (s : SignatureView). s.name) (λ (s : Signature). s.name.now) (λ s. refl) signatures
 
 pub placed_as_before : (signatures : List Signature) (graphs : Graphs) → CanBeReadAgain signatures graphs → placed tokens_of (kernel_names (map signature_view signatures)) (named_file signatures graphs) ≡ graphs
 placed_as_before signatures graphs can =

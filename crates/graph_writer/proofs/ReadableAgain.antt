@@ -40,8 +40,9 @@ use Rattle.graph_format.specs.declared.file.FileGraph.{FileGraph}
 use Rattle.graph_format.specs.declared.graph_fault.GraphFault.TheVariants as fault
 use Rattle.graph_writer.specs.ReadAgain.{CanBeReadAgain, HasTokens, kind_fits}
 use Rattle.graph_writer.proofs.DelaysAgain.{delays_again}
+use Rattle.graph_writer.proofs.KernelPlaces.{passes_there}
 use Rattle.graph_writer.proofs.KeptNames.{here, meant}
-use Rattle.graph_writer.proofs.KnownNames.{each_none, each_numbered, neither, signature_found, unless_none}
+use Rattle.graph_writer.proofs.KnownNames.{each_none, each_numbered, neither, unless_none}
 use Rattle.graph_writer.proofs.NamedAgain.{named_again, restated}
 use Rattle.graph_writer.proofs.Restated.{HasValue, file_valued}
 use Rattle.graph_writer.proofs.StatedAgain.{HasDelaysAgain}
@@ -49,18 +50,13 @@ use Rattle.graph_writer.proofs.StatedAgain.{HasDelaysAgain}
 -- ---- kinds of kernels
 
 module _ (views : List SignatureView) where
-  -- where a name's first signature passes a test that no missing one does, the one at the name's place passes it
-  stands : (test : Option SignatureView → Bool) → test None ≡ false → (w : List ℕ) (o : Option SignatureView) → signature_named views w ≡ o → test o ≡ true → test (slice_get views (first_place (kernel_names views) w)) ≡ true
-  stands test fails w None is h = absurd (false≢true (sym fails ∙ h))
-  stands test fails w (Some s) is h = ap test (signature_found w s views is).signature ∙ h
-
   kind_kept : (s : Scope) → s.kernels ≡ kernel_names views → (b : FileBody) → unfit_in_body views b ≡ [] → kind_fits views (placed_body s b) ≡ true
   kind_kept s same (Kernel kernel args ins outs) fits =
       ap (λ names. is_of_kernel (slice_get views (first_place names kernel))) same
-      ∙ stands is_of_kernel refl kernel (signature_named views kernel) refl (unless_none (is_of_kernel (signature_named views kernel)) kernel fits)
+      ∙ (passes_there is_of_kernel refl views kernel (unless_none (is_of_kernel (signature_named views kernel)) kernel fits)).passes
   kind_kept s same (Config kernel args ins outs sets) fits =
       ap (λ names. is_of_config (slice_get views (first_place names kernel))) same
-      ∙ stands is_of_config refl kernel (signature_named views kernel) refl (unless_none (is_of_config (signature_named views kernel)) kernel fits)
+      ∙ (passes_there is_of_config refl views kernel (unless_none (is_of_config (signature_named views kernel)) kernel fits)).passes
   kind_kept s same (Child graph args) fits = refl
 
   abbrev KindsFit : Graph → Type 0

@@ -43,17 +43,6 @@ each_alike m f g P same (x ∷ xs) all = rw (same x (all 0 x (omega arith)), eac
 pub first_again : (names : List (List ℕ)) (i : ℕ) → Differ names → i < length names → first_place names (name_at_place names i) ≡ i
 first_again names i differ inside = ap (λ (o : Option ℕ). unwrap_or o 0) (place_again names i differ inside)
 
--- a place at which a kernel's signature stands
-pub of_kernel_inside : (signatures : List Signature) (k : ℕ) → is_of_kernel (slice_get (map signature_view signatures) k) ≡ true → k < length (names_of_kernels signatures)
-of_kernel_inside [] k h = absurd cc
-of_kernel_inside (s ∷ signatures) zero h = omega arith
-of_kernel_inside (s ∷ signatures) (suc k) h = omega (arith, of_kernel_inside signatures k h)
-
-pub of_config_inside : (signatures : List Signature) (k : ℕ) → is_of_config (slice_get (map signature_view signatures) k) ≡ true → k < length (names_of_kernels signatures)
-of_config_inside [] k h = absurd cc
-of_config_inside (s ∷ signatures) zero h = omega arith
-of_config_inside (s ∷ signatures) (suc k) h = omega (arith, of_config_inside signatures k h)
-
 -- ---- ports
 
 child_ports : (graphs : List Graph) (k : ℕ) → slice_index_or (map names_of_interfaces graphs) k [] ≡ interface_names (inputs_of (slice_get graphs k)) ++ interface_names (outputs_of (slice_get graphs k))
