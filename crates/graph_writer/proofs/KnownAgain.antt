@@ -29,7 +29,7 @@ use Rattle.graph_format.specs.Named.{name_at_place, named_actor, named_body, nam
 use Rattle.graph_format.specs.References.{missing, unknown_in_actor, unknown_in_body, unknown_in_end, unknown_in_expr, unknown_in_fifo, unknown_in_file, unknown_in_graph, unknown_in_kind, unknown_in_param, unknown_in_port}
 use Rattle.graph_format.specs.Scope.{Scope, scope_of}
 use Rattle.graph_writer.proofs.Distinct.{AllDiffer, PartsDiffer}
-use Rattle.graph_writer.proofs.Resolving.{StandsAt, file_names, files, scope_again, scope_in, stands_at}
+use Rattle.graph_writer.proofs.Resolving.{end_found, file_names, files, scope_again, scope_in}
 use Rattle.param_expr.proofs.Printed.{place_again}
 
 -- ---- lists
@@ -88,19 +88,8 @@ module _ (signatures : List Signature) (graphs : Graphs) (all : AllDiffer graphs
       let inside : child < length (named.names_of_graphs graphs) = omega (arith, range.0, length-map graphs.graphs (λ (g : Graph). g.name)) in
       rw (known_at (named.names_of_graphs graphs) child all.names inside, exprs_known args range.1) refl
 
-  end_known : All (λ a. IsActorInRange (length graphs.graphs) count a) g.actors → (e : End) → IsEndInRange graphs.graphs g e → unknown_in_end here (named_end graphs g e) ≡ []
-  end_known range (end.Interface i) inside =
-      let within : i < length (names_of_interfaces g) = omega (arith, inside, length-append (map (λ (x : Interface). x.name) g.inputs) (map (λ (x : Interface). x.name) g.outputs), length-map g.inputs (λ (x : Interface). x.name), length-map g.outputs (λ (x : Interface). x.name)) in
-      known_at (names_of_interfaces g) i parts.interfaces within
-  end_known range (end.Port a p) h =
-      let there : StandsAt graphs g a p = stands_at graphs g count a p all parts range h in
-      let within : a < length (names_of_actors g) = omega (arith, there.actor, length-map g.actors (λ (a : Actor). a.name)) in
-      let actor = place_again (names_of_actors g) a parts.actors within in
-      let port = place_again (names_of_ports_at graphs g a) p there.differ there.port in
-      rw (actor, port) refl
-
   fifo_known : (is_top : Bool) → All (λ a. IsActorInRange (length graphs.graphs) count a) g.actors → (f : Fifo) → IsFifoInRange graphs.graphs is_top g f → unknown_in_fifo here (named_fifo graphs g f) ≡ []
-  fifo_known is_top range f h = rw (end_known range f.tail h.tail, end_known range f.head h.head) refl
+  fifo_known is_top range f h = rw ((end_found [] graphs g all parts count range f.tail h.tail).known, (end_found [] graphs g all parts count range f.head h.head).known) refl
 
   pub graph_known : (is_top : Bool) → IsGraphInRange graphs.graphs is_top g → unknown_in_graph here (named_graph signatures graphs g) ≡ []
   unfolding named_graph

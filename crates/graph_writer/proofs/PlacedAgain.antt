@@ -35,7 +35,7 @@ use Rattle.graph_format.specs.declared.file.FileGraph.{FileGraph}
 use Rattle.graph_writer.specs.ReadAgain.{ActorsFit, CanBeReadAgain, FitsSignature}
 use Rattle.graph_writer.proofs.Distinct.{AllDiffer, PartsDiffer}
 use Rattle.graph_writer.proofs.KernelPlaces.{is_place_of_kernel}
-use Rattle.graph_writer.proofs.Resolving.{StandsAt, each_alike, file_names, files, first_again, scope_again, scope_in, stands_at}
+use Rattle.graph_writer.proofs.Resolving.{each_alike, end_found, file_names, files, first_again, scope_again, scope_in}
 use Rattle.param_expr.proofs.Printed.{place_again, placed_again}
 
 each_again : {A B : Type 0} (m : A → B) (f : B → A) (P : A → Type 0) → ((x : A) → P x → f (m x) ≡ x) → (xs : List A) → All P xs → map f (map m xs) ≡ xs
@@ -121,20 +121,11 @@ module _ (signatures : List Signature) (graphs : Graphs) (all : AllDiffer graphs
   actor_again : (a : Actor) → IsActorInRange (length graphs.graphs) count a × FitsSignature (map signature_view signatures) a → placed_actor here (named_actor signatures graphs names a) ≡ a
   actor_again a h = ap (λ b. record { name = a.name; body = b }) (body_again a.body h.0 a refl h.1)
 
-  end_again : All (λ a. IsActorInRange (length graphs.graphs) count a) g.actors → (e : End) → IsEndInRange graphs.graphs g e → placed_end here (named_end graphs g e) ≡ e
-  end_again range (end.Interface i) inside =
-      let within : i < length (names_of_interfaces g) = omega (arith, inside, length-append (map (λ (x : Interface). x.name) g.inputs) (map (λ (x : Interface). x.name) g.outputs), length-map g.inputs (λ (x : Interface). x.name), length-map g.outputs (λ (x : Interface). x.name)) in
-      ap (λ n. end.Interface n) (first_again (names_of_interfaces g) i parts.interfaces within)
-  end_again range (end.Port a p) h =
-      let there : StandsAt graphs g a p = stands_at graphs g count a p all parts range h in
-      let within : a < length (names_of_actors g) = omega (arith, there.actor, length-map g.actors (λ (a : Actor). a.name)) in
-      let actor = place_again (names_of_actors g) a parts.actors within in
-      let port = first_again (names_of_ports_at graphs g a) p there.differ there.port in
-      rw (actor, port) refl
-
   fifo_again : (is_top : Bool) → All (λ a. IsActorInRange (length graphs.graphs) count a) g.actors → (f : Fifo) → IsFifoInRange graphs.graphs is_top g f → placed_fifo tokens_of is_top here (named_fifo graphs g f) ≡ f
   fifo_again is_top range f h =
-      rw (end_again range f.tail h.tail, end_again range f.head h.head, delay_again f.delay)
+      let tail = end_found (names_of_kernels signatures) graphs g all parts count range f.tail h.tail in
+      let head = end_found (names_of_kernels signatures) graphs g all parts count range f.head h.head in
+      rw (tail.placed, head.placed, delay_again f.delay)
       (ap (λ life. record { tail = f.tail; head = f.head; delay = f.delay; life = life }) (sym h.life))
 
   pub graph_again : (is_top : Bool) → IsGraphInRange graphs.graphs is_top g → ActorsFit (map signature_view signatures) g → placed_graph tokens_of is_top here (named_graph signatures graphs g) ≡ g

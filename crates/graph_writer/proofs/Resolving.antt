@@ -8,18 +8,21 @@ use Rattle.param_expr.specs.Bind.{place_of}
 use Rattle.param_expr.specs.Print.{Differ}
 use Rattle.pisdf_model.proofs.Alike.{of_mapped}
 use Rattle.pisdf_model.specs.Parts.{interface_names, inputs_of, outputs_of, port_names, port_count}
-use Rattle.pisdf_model.specs.Range.{HasPort, IsActorInRange, IsBodyInRange}
+use Rattle.pisdf_model.specs.Range.{HasPort, IsActorInRange, IsBodyInRange, IsEndInRange}
 use Rattle.pisdf_model.specs.declared.actor.Actor.{Actor}
 use Rattle.pisdf_model.specs.declared.actor.Body.{Body}
 use Rattle.pisdf_model.specs.declared.actor.Body.TheVariants as body
+use Rattle.pisdf_model.specs.declared.fifo.End.{End}
+use Rattle.pisdf_model.specs.declared.fifo.End.TheVariants as end
 use Rattle.pisdf_model.specs.declared.graph.Graph.{Graph}
 use Rattle.pisdf_model.specs.declared.graph.Graphs.{Graphs}
 use Rattle.pisdf_model.specs.declared.graph.Interface.{Interface}
 use Rattle.pisdf_model.specs.Names.{own_port_names}
 use Rattle.graph_format.specs.Kernels.{is_of_config, is_of_kernel}
 use Rattle.graph_format.specs.Named as named
-use Rattle.graph_format.specs.Named.{name_at_place, named_actor, named_body, named_graph, named_interface, named_param, named_port, names_of_actors, names_of_interfaces, names_of_kernels, names_of_params, names_of_ports, names_of_ports_at}
-use Rattle.graph_format.specs.Placed.{first_place}
+use Rattle.graph_format.specs.Named.{name_at_place, named_actor, named_body, named_end, named_graph, named_interface, named_param, named_port, names_of_actors, names_of_interfaces, names_of_kernels, names_of_params, names_of_ports, names_of_ports_at}
+use Rattle.graph_format.specs.Placed.{first_place, placed_end}
+use Rattle.graph_format.specs.References.{unknown_in_end}
 use Rattle.graph_format.specs.Scope.{Scope, scope_of, interfaces_of, interfaces_named, names_at, ports_of}
 use Rattle.graph_format.specs.Scope as file
 use Rattle.graph_format.specs.declared.actor.FileActor.{FileActor}
@@ -67,12 +70,12 @@ ports_differ graphs differ n (body.Child k args) range own = go graphs.graphs k 
     go (g ∷ gs) (suc k) inside h = go gs k (omega arith) h
 
 -- an actor that is there, and has the port
-pub record StandsAt (graphs : Graphs) (g : Graph) (a p : ℕ) : Type 0 where
+record StandsAt (graphs : Graphs) (g : Graph) (a p : ℕ) : Type 0 where
   pub actor : a < length g.actors
   pub port : p < length (names_of_ports_at graphs g a)
   pub differ : Differ (names_of_ports_at graphs g a)
 
-pub stands_at : (graphs : Graphs) (g : Graph) (n a p : ℕ) → AllDiffer graphs → PartsDiffer g → All (λ a. IsActorInRange (length graphs.graphs) n a) g.actors → HasPort graphs.graphs p (slice_get g.actors a) → StandsAt graphs g a p
+stands_at : (graphs : Graphs) (g : Graph) (n a p : ℕ) → AllDiffer graphs → PartsDiffer g → All (λ a. IsActorInRange (length graphs.graphs) n a) g.actors → HasPort graphs.graphs p (slice_get g.actors a) → StandsAt graphs g a p
 stands_at graphs g n a p all parts range h =
     let f = go g.actors a range parts.ports h in
     record { actor = f.0; port = f.1; differ = f.2 }
@@ -103,6 +106,27 @@ scope_in kernels graphs g = record {
   actors = names_of_actors g;
   ports = map (λ (a : Actor). names_of_ports graphs a.body) g.actors;
 }
+
+-- ---- ends
+
+-- an end is found by its names: they are known, and stand at its places
+pub record IsFoundAgain (kernels : List (List ℕ)) (graphs : Graphs) (g : Graph) (e : End) : Type 0 where
+  pub known : unknown_in_end (scope_in kernels graphs g) (named_end graphs g e) ≡ []
+  pub placed : placed_end (scope_in kernels graphs g) (named_end graphs g e) ≡ e
+
+pub end_found : (kernels : List (List ℕ)) (graphs : Graphs) (g : Graph) → AllDiffer graphs → PartsDiffer g → (n : ℕ) → All (λ a. IsActorInRange (length graphs.graphs) n a) g.actors → (e : End) → IsEndInRange graphs.graphs g e → IsFoundAgain kernels graphs g e
+end_found kernels graphs g all parts n range (end.Interface i) h =
+    let inside : i < length (names_of_interfaces g) = omega (arith, h, length-append (map (λ (x : Interface). x.name) g.inputs) (map (λ (x : Interface). x.name) g.outputs), length-map g.inputs (λ (x : Interface). x.name), length-map g.outputs (λ (x : Interface). x.name)) in
+    let place = place_again (names_of_interfaces g) i parts.interfaces inside in
+    record { known = rw place refl; placed = rw place refl }
+end_found kernels graphs g all parts n range (end.Port a p) h =
+    let there : StandsAt graphs g a p = stands_at graphs g n a p all parts range h in
+    let inside : a < length (names_of_actors g) = omega (arith, there.actor, length-map g.actors (λ (a : Actor). a.name)) in
+    let actor = place_again (names_of_actors g) a parts.actors inside in
+    let port = place_again (names_of_ports_at graphs g a) p there.differ there.port in
+    record { known = rw (actor, port) refl; placed = rw (actor, port) refl }
+
+-- ---- a file
 
 module _ (signatures : List Signature) (graphs : Graphs) where
   abbrev pub files : List FileGraph
