@@ -33,6 +33,7 @@ use Rattle.pisdf_model.specs.declared.graph.Graph.{Graph}
 use Rattle.pisdf_model.specs.declared.graph.Interface.{Interface}
 use Rattle.pisdf_model.proofs.Alike.{alike_each, alike_numbered, of_mapped}
 use Rattle.pisdf_model.proofs.Lists.{left_none, right_none, unmapped}
+use Rattle.graph_format.proofs.NoFaults.{HasNoRuleFaults, no_file_faults, no_rule_faults}
 use Rattle.graph_format.specs.FileNames.{actor_walk, graph_walk, names_of_file, own_port_names}
 use Rattle.graph_format.specs.Placed.{mark_of, placed, placed_actor, placed_body, placed_end, placed_fifo, placed_graph, placed_interface, placed_param, placed_port, tokens_of, top_of}
 use Rattle.graph_format.specs.Scope.{Scope, scope_of}
@@ -165,43 +166,15 @@ graphs_fit_any fits graphs top n (g ∷ some) none =
     let rest = from_number (n + 1) (λ n g. graph_ports fits graphs (n == top) g) some in
     rw (graph_fits_any fits graphs (n == top) g (left_none here rest none), graphs_fit_any fits graphs top (n + 1) some (right_none here rest none)) refl
 
-all_none : (fits : Body → Bool) (g : Graphs) → model.duplicate_faults g ≡ [] → rule_faults fits g ≡ [] → count_faults g ≡ [] → WellFormed g
-all_none fits g duplicates rules counts =
-    let ports = map Ports (ports_faults fits g) in
-    let wires = map Wire (wire_faults g) in
-    let fifos = map at_fifo (interface_wire_faults g) in
-    let orders = map ParamOrder (param_order_faults g) in
-    let cycles = map GraphCycle (graph_cycle_faults g) in
-    let depths = map Depth (depth_faults g) in
-    let from_depths = depths in
-    let from_cycles = cycles ++ from_depths in
-    let from_orders = orders ++ from_cycles in
-    let from_fifos = fifos ++ from_orders in
-    let from_wires = wires ++ from_fifos in
-    let none_wires : from_wires ≡ [] = right_none ports from_wires rules in
-    let none_fifos : from_fifos ≡ [] = right_none wires from_fifos none_wires in
-    let none_orders : from_orders ≡ [] = right_none fifos from_orders none_fifos in
-    let none_cycles : from_cycles ≡ [] = right_none orders from_cycles none_orders in
-    let e7 = graphs_fit_any fits g.graphs g.top 0 g.graphs (unmapped Ports (ports_faults fits g) (left_none ports from_wires rules)) in
-    let e8 = unmapped Wire (wire_faults g) (left_none wires from_fifos none_wires) in
-    let e9 = unmapped at_fifo (interface_wire_faults g) (left_none fifos from_orders none_fifos) in
-    let e10 = unmapped ParamOrder (param_order_faults g) (left_none orders from_cycles none_orders) in
-    let e11 = unmapped GraphCycle (graph_cycle_faults g) (left_none cycles from_depths none_cycles) in
-    let e12 = unmapped Depth (depth_faults g) (right_none cycles from_depths none_cycles) in
-    rw (duplicates, e7, e8, e9, e10, e11, e12, counts) refl
+all_none : (fits : Body → Bool) (g : Graphs) → model.duplicate_faults g ≡ [] → HasNoRuleFaults fits g → count_faults g ≡ [] → WellFormed g
+all_none fits g duplicates none counts =
+    let ports = graphs_fit_any fits g.graphs g.top 0 g.graphs none.ports in
+    rw (duplicates, ports, none.wires, none.interface_wires, none.orders, none.cycles, none.depths, counts) refl
 
 -- the graphs of a file without a fault are well formed
 pub well_formed : (signatures : List SignatureView) (file : File) → file_faults signatures file ≡ [] → WellFormed (graphs_of signatures file)
 well_formed signatures file none =
     let g = graphs_of signatures file in
     let fits = fits_kernel signatures in
-    let duplicates = map Duplicate (model.repeats (names_of_file file)) in
-    let unknown = map Unknown (unknown_in_file file) in
-    let kernels = map fault.Kernel (unfit_in_file signatures file) in
-    let rules = rule_faults fits g in
-    let counts = map too_many (count_faults g) in
-    let from_rules : rules ++ counts ≡ [] = right_none kernels (rules ++ counts) (right_none unknown (kernels ++ (rules ++ counts)) (right_none duplicates (unknown ++ (kernels ++ (rules ++ counts))) none)) in
-    all_none fits g
-    (ap model.repeats (names_kept tokens_of (kernel_names signatures) file) ∙ unmapped Duplicate (model.repeats (names_of_file file)) (left_none duplicates (unknown ++ (kernels ++ (rules ++ counts))) none))
-    (left_none rules counts from_rules)
-    (unmapped too_many (count_faults g) (right_none rules counts from_rules))
+    let has = no_file_faults signatures file none in
+    all_none fits g (ap model.repeats (names_kept tokens_of (kernel_names signatures) file) ∙ has.duplicates) (no_rule_faults fits g has.rules) has.counts

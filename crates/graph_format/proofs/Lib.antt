@@ -3,6 +3,7 @@ pub mod Walked
 pub mod Stated
 pub mod StatedActors
 pub mod StatedFiles
+pub mod NoFaults
 pub mod Laws
 pub mod InPlace
 pub mod Ranged

@@ -26,6 +26,7 @@ use Rattle.graph_format.specs.declared.file.File.{File}
 use Rattle.graph_format.specs.declared.graph_fault.GraphFault.{GraphFault}
 use Rattle.graph_format.specs.declared.graph_fault.GraphFault.TheVariants.{Duplicate, Kernel, Memory, NotJson, Unknown}
 use Rattle.graph_format.proofs.Laws.{well_formed}
+use Rattle.graph_format.proofs.NoFaults.{no_file_faults}
 use Rattle.graph_format.proofs.StatedFiles.{file_reads}
 use Rattle.graph_format.proofs.Writable.{writable}
 use Rattle.graph_format.proofs.Ranged.{file_in_range}
@@ -88,26 +89,17 @@ found signatures bytes graphs h =
     record { value = h.0; json = h.1; file = walk.0; states = (file_reads 1).found [] h.0 walk.0 walk.1; none = read.0; is = read.1 }
 
 module _ (signatures : List SignatureView) (bytes : List ℕ) where
-  pub known : (file : File) → file_faults signatures file ≡ [] → (unknown_in_file file ≡ []) × (unfit_in_file signatures file ≡ [])
-  known file none =
-      let duplicates = map Duplicate (repeats (names_of_file file)) in
-      let unknown = map Unknown (unknown_in_file file) in
-      let kernels = map Kernel (unfit_in_file signatures file) in
-      let after = rule_faults (fits_kernel signatures) (graphs_of signatures file) ++ map too_many (count_faults (graphs_of signatures file)) in
-      let from_unknown : unknown ++ (kernels ++ after) ≡ [] = right_none duplicates (unknown ++ (kernels ++ after)) none in
-      (unmapped Unknown (unknown_in_file file) (left_none unknown (kernels ++ after) from_unknown), unmapped Kernel (unfit_in_file signatures file) (left_none kernels after (right_none unknown (kernels ++ after) from_unknown)))
-
   pub reads_mean : (r : Result Graphs GraphFault) → Reads 1 signatures bytes r → IfOk r (λ graphs. (d : Data) × IsJson bytes d × ((file : File) × States 1 d file × Means signatures file graphs))
   reads_mean (Ok graphs) h =
       let f = found signatures bytes graphs h in
-      let names = known f.file f.none in
-      (f.value, f.json, (f.file, f.states, record { references = names.0; kernels = names.1; is = f.is }))
+      let has = no_file_faults signatures f.file f.none in
+      (f.value, f.json, (f.file, f.states, record { references = has.unknown; kernels = has.unfit; is = f.is }))
   reads_mean (Err fault) h = tt
 
   pub reads_in_range : (r : Result Graphs GraphFault) → Reads 1 signatures bytes r → IfOk r (λ graphs. InRange graphs)
   reads_in_range (Ok graphs) h =
       let f = found signatures bytes graphs h in
-      subst InRange (sym f.is) (file_in_range tokens_of (kernel_names signatures) f.file f.states.pisdf.states.is_version (known f.file f.none).0)
+      subst InRange (sym f.is) (file_in_range tokens_of (kernel_names signatures) f.file f.states.pisdf.states.is_version (no_file_faults signatures f.file f.none).unknown)
   reads_in_range (Err fault) h = tt
 
   pub reads_well_formed : (r : Result Graphs GraphFault) → Reads 1 signatures bytes r → IfOk r (λ graphs. WellFormed graphs)
@@ -119,7 +111,7 @@ module _ (signatures : List SignatureView) (bytes : List ℕ) where
   pub reads_writable : (r : Result Graphs GraphFault) → Reads 1 signatures bytes r → IfOk r (λ graphs. All IsWritableGraph graphs.graphs)
   reads_writable (Ok graphs) h =
       let f = found signatures bytes graphs h in
-      let range = file_in_range tokens_of (kernel_names signatures) f.file f.states.pisdf.states.is_version (known f.file f.none).0 in
+      let range = file_in_range tokens_of (kernel_names signatures) f.file f.states.pisdf.states.is_version (no_file_faults signatures f.file f.none).unknown in
       subst (λ (g : Graphs). All IsWritableGraph g.graphs) (sym f.is) (writable signatures f.value f.file f.states range)
   reads_writable (Err fault) h = tt
 

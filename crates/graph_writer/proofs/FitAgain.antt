@@ -33,6 +33,7 @@ use Rattle.graph_format.specs.Placed.{placed, tokens_of}
 use Rattle.graph_format.specs.References.{unknown_in_file}
 use Rattle.graph_format.specs.declared.actor.FileActor.{FileActor}
 use Rattle.graph_format.proofs.Laws.{names_kept}
+use Rattle.graph_format.proofs.NoFaults.{no_model_faults}
 use Rattle.graph_writer.proofs.KernelPlaces.{passes_named}
 use Rattle.graph_writer.specs.ReadAgain.{kind_fits, FitsSignature, ActorsFit, CanBeReadAgain}
 
@@ -66,63 +67,13 @@ module _ (signatures : List SignatureView) where
       let rest = from_number (n + 1) (λ n g. graph_ports (λ body. true) graphs (n == top) g) some in
       rw (graph_fits graphs (n == top) g fit.0 (left_none here rest none), graphs_fit graphs top (n + 1) some fit.1 (right_none here rest none)) refl
 
--- ---- the faults of well-formed graphs
-
--- each list of faults that well-formed graphs have not
-record FaultsNone (g : Graphs) : Type 0 where
-  pub duplicates : repeats (names_of g) ≡ []
-  pub ports : ports_faults (λ body. true) g ≡ []
-  pub wires : wire_faults g ≡ []
-  pub fifos : interface_wire_faults g ≡ []
-  pub orders : param_order_faults g ≡ []
-  pub cycles : graph_cycle_faults g ≡ []
-  pub depths : depth_faults g ≡ []
-  pub counts : count_faults g ≡ []
-
-faults_none : (g : Graphs) → WellFormed g → FaultsNone g
-faults_none g none =
-    let duplicates = with_number 4 (duplicate_faults g) in
-    let ports = with_number 7 (ports_faults (λ body. true) g) in
-    let wires = with_number 8 (wire_faults g) in
-    let fifos = with_number 9 (graphs_at (interface_wire_faults g)) in
-    let orders = with_number 10 (param_order_faults g) in
-    let cycles = with_number 11 (graph_cycle_faults g) in
-    let depths = with_number 12 (depth_faults g) in
-    let counts = with_number 13 (map word_of (count_faults g)) in
-    let from_depths = depths ++ counts in
-    let from_cycles = cycles ++ from_depths in
-    let from_orders = orders ++ from_cycles in
-    let from_fifos = fifos ++ from_orders in
-    let from_wires = wires ++ from_fifos in
-    let from_ports = ports ++ from_wires in
-    let none_ports : from_ports ≡ [] = right_none duplicates from_ports none in
-    let none_wires : from_wires ≡ [] = right_none ports from_wires none_ports in
-    let none_fifos : from_fifos ≡ [] = right_none wires from_fifos none_wires in
-    let none_orders : from_orders ≡ [] = right_none fifos from_orders none_fifos in
-    let none_cycles : from_cycles ≡ [] = right_none orders from_cycles none_orders in
-    let none_depths : from_depths ≡ [] = right_none cycles from_depths none_cycles in
-    record {
-      duplicates = unmapped _ (duplicate_faults g) (left_none duplicates from_ports none);
-      ports = unmapped _ (ports_faults (λ body. true) g) (left_none ports from_wires none_ports);
-      wires = unmapped _ (wire_faults g) (left_none wires from_fifos none_wires);
-      fifos = unmapped (λ (place : FifoPlace). place.graph) (interface_wire_faults g) (unmapped _ (graphs_at (interface_wire_faults g)) (left_none fifos from_orders none_fifos));
-      orders = unmapped _ (param_order_faults g) (left_none orders from_cycles none_orders);
-      cycles = unmapped _ (graph_cycle_faults g) (left_none cycles from_depths none_cycles);
-      depths = unmapped _ (depth_faults g) (left_none depths counts none_depths);
-      counts = unmapped word_of (count_faults g) (unmapped _ (map word_of (count_faults g)) (right_none depths counts none_depths));
-    }
-
-pub names_differ : (graphs : Graphs) → WellFormed graphs → repeats (names_of graphs) ≡ []
-names_differ graphs none = (faults_none graphs none).duplicates
-
-pub counts_fit : (graphs : Graphs) → WellFormed graphs → count_faults graphs ≡ []
-counts_fit graphs none = (faults_none graphs none).counts
+-- ---- the rules
 
 pub rules_fit : (signatures : List SignatureView) (graphs : Graphs) → All (ActorsFit signatures) graphs.graphs → WellFormed graphs → rule_faults (fits_kernel signatures) graphs ≡ []
 rules_fit signatures graphs fit none =
-    let f = faults_none graphs none in
+    let f = (no_model_faults graphs none).rules in
     let ports : ports_faults (fits_kernel signatures) graphs ≡ [] = graphs_fit signatures graphs.graphs graphs.top 0 graphs.graphs (recursion_from_All (ActorsFit signatures) graphs.graphs fit) f.ports in
-    rw (ports, f.wires, f.fifos, f.orders, f.cycles, f.depths) refl
+    rw (ports, f.wires, f.interface_wires, f.orders, f.cycles, f.depths) refl
 
 -- ---- kernels
 
@@ -157,8 +108,9 @@ pub no_faults : (signatures : List Signature) (graphs : Graphs) → CanBeReadAga
 no_faults signatures graphs can references means =
     let views = map signature_view signatures in
     let file = named_file signatures graphs in
-    let names : repeats (names_of_file file) ≡ [] = ap repeats (sym (names_kept tokens_of (kernel_names views) file) ∙ ap names_of means) ∙ names_differ graphs can.well_formed in
+    let has = no_model_faults graphs can.well_formed in
+    let names : repeats (names_of_file file) ≡ [] = ap repeats (sym (names_kept tokens_of (kernel_names views) file) ∙ ap names_of means) ∙ has.duplicates in
     let rules : rule_faults (fits_kernel views) (graphs_of views file) ≡ [] = ap (rule_faults (fits_kernel views)) means ∙ rules_fit views graphs can.kernels can.well_formed in
-    let counts : count_faults (graphs_of views file) ≡ [] = ap count_faults means ∙ counts_fit graphs can.well_formed in
+    let counts : count_faults (graphs_of views file) ≡ [] = ap count_faults means ∙ has.counts in
     let kernels : unfit_in_file views file ≡ [] = kernels_fit signatures graphs can.differ can.kernels in
     rw (names, references, kernels, rules, counts) refl

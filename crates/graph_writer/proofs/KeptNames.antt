@@ -15,7 +15,8 @@ use Rattle.graph_format.specs.declared.actor.FileBody.{FileBody}
 use Rattle.graph_format.specs.declared.actor.FileBody.TheVariants.{Kernel, Config, Child}
 use Rattle.graph_format.specs.declared.file.File.{File}
 use Rattle.graph_format.specs.declared.file.FileGraph.{FileGraph}
-use Rattle.graph_writer.proofs.KnownNames.{each_none, known, neither, unnumbered}
+use Rattle.graph_format.proofs.NoFaults.{neither}
+use Rattle.graph_writer.proofs.KnownNames.{each_none, known, unnumbered}
 use Rattle.graph_writer.proofs.Resolving.{each_alike}
 
 -- the names that stand at the places of a graph are those of the scope

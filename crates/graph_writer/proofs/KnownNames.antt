@@ -14,13 +14,10 @@ use Rattle.graph_format.specs.Kernels.{kernel_names, signature_named}
 use Rattle.graph_format.specs.Named.{name_at_place}
 use Rattle.graph_format.specs.Placed.{first_place}
 use Rattle.graph_format.specs.References.{missing}
-use Rattle.pisdf_model.proofs.Lists.{left_none, right_none}
+use Rattle.graph_format.proofs.NoFaults.{neither}
 use Rattle.graph_writer.proofs.Resolving.{each_alike}
 
 -- ---- lists
-
-pub neither : {A : Type 0} (xs ys : List A) → xs ++ ys ≡ [] → (xs ≡ []) × (ys ≡ [])
-neither xs ys none = (left_none xs ys none, right_none xs ys none)
 
 pub each_none : {A D : Type 0} (f : A → List D) (xs : List A) → flat_map f xs ≡ [] → All (λ x. f x ≡ []) xs
 each_none f [] none = All-nil (λ x. f x ≡ [])

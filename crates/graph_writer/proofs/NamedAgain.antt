@@ -33,7 +33,8 @@ use Rattle.graph_format.specs.declared.param.FileParamKind.TheVariants.{Inherite
 use Rattle.graph_format.specs.declared.port.FilePort.{FilePort}
 use Rattle.graph_writer.proofs.KernelPlaces.{passes_there, same_kernels}
 use Rattle.graph_writer.proofs.KeptNames.{HasNames, graph_names, graphs, here, meant, names_kept}
-use Rattle.graph_writer.proofs.KnownNames.{again_where, each_none, each_numbered, found, known, name_again, neither, none_where, unless_none, unnumbered}
+use Rattle.graph_format.proofs.NoFaults.{neither}
+use Rattle.graph_writer.proofs.KnownNames.{again_where, each_none, each_numbered, found, known, name_again, none_where, unless_none, unnumbered}
 use Rattle.graph_writer.proofs.Resolving.{each_alike}
 
 -- ---- delays as the canonical file states them

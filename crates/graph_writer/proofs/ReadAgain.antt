@@ -8,6 +8,7 @@ use Rattle.kernel_gate.specs.declared.signature.Signature.{Signature}
 use Rattle.param_expr.proofs.Printed.{printed_answers}
 use Rattle.pisdf_model.proofs.Alike.{of_mapped}
 use Rattle.pisdf_model.specs.declared.graph.Graphs.{Graphs}
+use Rattle.graph_format.proofs.NoFaults.{no_model_faults}
 use Rattle.graph_format.proofs.StatedFiles.{file_reads}
 use Rattle.graph_format.specs.Canonical.{canonical}
 use Rattle.graph_format.specs.Faults.{file_faults}
@@ -22,7 +23,7 @@ use Rattle.graph_format.specs.declared.file.File.{File}
 use Rattle.graph_writer.specs.ReadAgain.{CanBeReadAgain, HasTokens}
 use Rattle.graph_writer.proofs.Distinct.{all_differ}
 use Rattle.graph_writer.proofs.DelaysAgain.{delays_again}
-use Rattle.graph_writer.proofs.FitAgain.{counts_fit, names_differ, no_faults}
+use Rattle.graph_writer.proofs.FitAgain.{no_faults}
 use Rattle.graph_writer.proofs.KernelPlaces.{same_kernels}
 use Rattle.graph_writer.proofs.KnownAgain.{file_known}
 use Rattle.graph_writer.proofs.PlacedAgain.{graphs_again}
@@ -31,19 +32,19 @@ use Rattle.graph_writer.proofs.StatedAgain.{file_again}
 pub placed_as_before : (signatures : List Signature) (graphs : Graphs) → CanBeReadAgain signatures graphs → placed tokens_of (kernel_names (map signature_view signatures)) (named_file signatures graphs) ≡ graphs
 placed_as_before signatures graphs can =
     ap (λ kernels. placed tokens_of kernels (named_file signatures graphs)) (same_kernels signatures)
-    ∙ graphs_again signatures graphs (all_differ graphs (names_differ graphs can.well_formed)) can
+    ∙ graphs_again signatures graphs (all_differ graphs (no_model_faults graphs can.well_formed).duplicates) can
 
 pub faultless : (signatures : List Signature) (graphs : Graphs) → CanBeReadAgain signatures graphs → file_faults (map signature_view signatures) (named_file signatures graphs) ≡ []
 faultless signatures graphs can =
     no_faults signatures graphs can
-    (file_known signatures graphs (all_differ graphs (names_differ graphs can.well_formed)) can.in_range)
+    (file_known signatures graphs (all_differ graphs (no_model_faults graphs can.well_formed).duplicates) can.in_range)
     (placed_as_before signatures graphs can)
 
 -- the canonical value states the file
 states_again : (signatures : List Signature) (graphs : Graphs) → CanBeReadAgain signatures graphs → All HasTokens graphs.graphs → States 1 (canonical signatures graphs) (named_file signatures graphs)
 states_again signatures graphs can tokens =
     file_again (λ text t answers. printed_answers t (record { text = text; answers = answers })) can.value (named_file signatures graphs)
-    (delays_again signatures graphs tokens (counts_fit graphs can.well_formed)) can.stated
+    (delays_again signatures graphs tokens (no_model_faults graphs can.well_formed).counts) can.stated
 
 -- a value of this version is of no other
 this_version : (d : Data) (file : File) → States 1 d file → other_version 1 (stated_version d) ≡ None

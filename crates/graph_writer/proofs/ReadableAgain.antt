@@ -24,6 +24,7 @@ use Rattle.pisdf_model.specs.declared.actor.Body.TheVariants as body
 use Rattle.pisdf_model.specs.declared.graph.Graph.{Graph}
 use Rattle.pisdf_model.specs.declared.graph.Graphs.{Graphs}
 use Rattle.graph_format.proofs.Laws.{well_formed}
+use Rattle.graph_format.proofs.NoFaults.{neither, no_file_faults, no_rule_faults}
 use Rattle.graph_format.specs.Faults.{at_fifo, file_faults, fits_kernel, graphs_of, rule_faults, too_many}
 use Rattle.graph_format.specs.FileNames.{names_of_file}
 use Rattle.graph_format.specs.Kernels.{is_of_config, is_of_kernel, kernel_names, signature_named, unfit_in_body, unfit_in_file, unfit_in_graph}
@@ -42,7 +43,7 @@ use Rattle.graph_writer.specs.ReadAgain.{CanBeReadAgain, HasTokens, kind_fits}
 use Rattle.graph_writer.proofs.DelaysAgain.{delays_again}
 use Rattle.graph_writer.proofs.KernelPlaces.{passes_there}
 use Rattle.graph_writer.proofs.KeptNames.{here, meant}
-use Rattle.graph_writer.proofs.KnownNames.{each_none, each_numbered, neither, unless_none}
+use Rattle.graph_writer.proofs.KnownNames.{each_none, each_numbered, unless_none}
 use Rattle.graph_writer.proofs.NamedAgain.{named_again, restated}
 use Rattle.graph_writer.proofs.Restated.{HasValue, file_valued}
 use Rattle.graph_writer.proofs.StatedAgain.{HasDelaysAgain}
@@ -103,46 +104,17 @@ module _ (views : List SignatureView) (graphs : Graphs) where
 
 -- ---- files
 
--- no fault of the kinds that are looked at here
-record HasNone (signatures : List SignatureView) (file : File) : Type 0 where
-  pub unknown : unknown_in_file file ≡ []
-  pub unfit : unfit_in_file signatures file ≡ []
-  pub ports : ports_faults (fits_kernel signatures) (graphs_of signatures file) ≡ []
-  pub counts : count_faults (graphs_of signatures file) ≡ []
-
-none_of : (signatures : List SignatureView) (file : File) → file_faults signatures file ≡ [] → HasNone signatures file
-none_of signatures file none =
-    let g = graphs_of signatures file in
-    let fits = fits_kernel signatures in
-    let duplicates = map fault.Duplicate (repeats (names_of_file file)) in
-    let unknown = map fault.Unknown (unknown_in_file file) in
-    let kernels = map fault.Kernel (unfit_in_file signatures file) in
-    let ports = map fault.Ports (ports_faults fits g) in
-    let others = map fault.Wire (wire_faults g) ++ (map at_fifo (interface_wire_faults g) ++ (map fault.ParamOrder (param_order_faults g) ++ (map fault.GraphCycle (graph_cycle_faults g) ++ map fault.Depth (depth_faults g)))) in
-    let rules = rule_faults fits g in
-    let counts = map too_many (count_faults g) in
-    let from_unknown = (neither duplicates (unknown ++ (kernels ++ (rules ++ counts))) none).1 in
-    let unknowns = neither unknown (kernels ++ (rules ++ counts)) from_unknown in
-    let unfits = neither kernels (rules ++ counts) unknowns.1 in
-    let last = neither rules counts unfits.1 in
-    record {
-      unknown = unmapped fault.Unknown (unknown_in_file file) unknowns.0;
-      unfit = unmapped fault.Kernel (unfit_in_file signatures file) unfits.0;
-      ports = unmapped fault.Ports (ports_faults fits g) (neither ports others last.0).0;
-      counts = unmapped too_many (count_faults g) last.1;
-    }
-
 pub can_be_read_again : (signatures : List Signature) (d : Data) (file : File) → Differ (names_of_kernels signatures) → States 1 d file → file_faults (map signature_view signatures) file ≡ []
     → InRange (graphs_of (map signature_view signatures) file) → All HasTokens (graphs_of (map signature_view signatures) file).graphs → CanBeReadAgain signatures (graphs_of (map signature_view signatures) file)
 can_be_read_again signatures d file differ states none range tokens =
     let views = map signature_view signatures in
     let graphs = graphs_of views file in
-    let has = none_of views file none in
+    let has = no_file_faults views file none in
     let same : named_file signatures graphs ≡ restated file = named_again signatures file has.unknown has.unfit in
     let delays = subst (λ (f : File). AllByRecursion HasDelaysAgain f.graphs) same (delays_again signatures graphs tokens has.counts) in
     let valued : HasValue (States 1) (restated file) = file_valued d file delays states in
     let kinds = kinds_kept views file has.unfit in
-    let counts = counts_fitted views graphs has.ports in
+    let counts = counts_fitted views graphs (no_rule_faults (fits_kernel views) graphs has.rules).ports in
     record {
       value = valued.value;
       stated = subst (States 1 valued.value) (sym same) valued.states;
