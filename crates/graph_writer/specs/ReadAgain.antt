@@ -35,8 +35,8 @@ abbrev pub ActorsFit : List SignatureView → Graph → Type 0
 ActorsFit signatures graph = All (FitsSignature signatures) graph.actors
 
 -- each token of each delay is an i64
-abbrev pub HasTokens : Graph → Type 0
-HasTokens graph = All (λ (fifo : Fifo). AllPass in_i64 fifo.delay) graph.fifos
+abbrev pub HasI64Tokens : Graph → Type 0
+HasI64Tokens graph = All (λ (fifo : Fifo). AllPass in_i64 fifo.delay) graph.fifos
 
 -- What can be written and read again: graphs without a fault, which a file can state, over signatures of which no two
 -- have one name.
@@ -46,7 +46,7 @@ pub record CanBeReadAgain (signatures : List Signature) (graphs : Graphs) : Type
   pub in_range : InRange graphs
   pub well_formed : WellFormed graphs
   pub kernels : All (ActorsFit (map signature_view signatures)) graphs.graphs
-  pub differ : Differ (names_of_kernels signatures)
+  pub names_differ : Differ (names_of_kernels signatures)
 
 -- Graphs that these bytes are read as, over signatures of which no two have one name.
 pub record WasRead (signatures : List Signature) (bytes : List ℕ) (graphs : Graphs) : Type 0 where

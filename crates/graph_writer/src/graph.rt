@@ -3,7 +3,7 @@ ghost use Rattle.serde_json.specs.Data.{object};
 ghost use Rattle.serde_json.specs.View.{view};
 ghost use Rattle.graph_format.specs.Canonical.{graph_members, graph_value};
 ghost use Rattle.graph_format.specs.Named.{named_graph};
-ghost use Rattle.graph_writer.specs.ReadAgain.{HasTokens};
+ghost use Rattle.graph_writer.specs.ReadAgain.{HasI64Tokens};
 ghost use Rattle.graph_format.specs.Writable.{IsWritableGraph};
 
 use crate::actor::Actors;
@@ -51,7 +51,7 @@ impl Writer for GraphList<'_> {
 
     ghost shown = { graph_value };
 
-    ghost IsKept = { HasTokens };
+    ghost IsKept = { HasI64Tokens };
 
     #[tactic(auto, unfolding(graph_format::specs::Canonical::graph_value, graph_format::specs::Named::named_graph))]
     fn value(&self, alloc: Global, graph: &Graph) -> Result<Value, AllocError> {

@@ -6,7 +6,7 @@ ghost use Rattle.serde_json.specs.Written.{compact_text};
 ghost use Rattle.kernel_gate.specs.Signed.{signature_view};
 ghost use Rattle.graph_format.specs.Canonical.{canonical, root_members};
 ghost use Rattle.graph_format.specs.Reads.{Reads};
-ghost use Rattle.graph_writer.specs.ReadAgain.{CanBeReadAgain, HasTokens, WasRead};
+ghost use Rattle.graph_writer.specs.ReadAgain.{CanBeReadAgain, HasI64Tokens, WasRead};
 ghost use Rattle.graph_format.specs.Writable.{IsWritableGraph};
 
 use crate::graph::GraphList;
@@ -29,7 +29,7 @@ fn root_object(alloc: Global, version: u32, top: &str, graphs: Value) -> Result<
 fn root(alloc: Global, graphs: &Graphs, signatures: &[Signature]) -> Result<Value, AllocError>
     requires { All IsWritableGraph graphs.now.graphs }
     ensures canonical { IfOk result (λ v. view v ≡ canonical signatures.now graphs.now) }
-    ensures tokens { OnOk result (All HasTokens graphs.now.graphs) }
+    ensures tokens { OnOk result (All HasI64Tokens graphs.now.graphs) }
 {
     let version = graphs.version;
     let top = graph_name(graphs, graphs.top);
@@ -46,7 +46,7 @@ fn root(alloc: Global, graphs: &Graphs, signatures: &[Signature]) -> Result<Valu
 /// # Errors
 ///
 /// Want of memory.
-#[tactic(auto, using(crate::proofs::Floats::no_float, crate::proofs::Depths::nests_little, crate::proofs::ReadAgain::read_again, crate::proofs::ReadGraphs::read_rewritten))]
+#[tactic(auto, using(crate::proofs::Floats::no_float, crate::proofs::Depths::nests_little, crate::proofs::WrittenFile::read_again, crate::proofs::WrittenFile::read_rewritten))]
 pub fn write(
     alloc: Global,
     graphs: &Graphs,

@@ -1,8 +1,8 @@
 use Rattle.std.proofs.Common.{arith}
 use Rattle.graph_writer.specs.ReadAgain.{CanBeReadAgain}
 use Rattle.graph_writer.proofs.Depths.{nests_little}
-use Rattle.graph_writer.proofs.ReadAgain.{read_again}
-use Rattle.graph_writer.proofs.ReadGraphs.{read_can_be_read_again}
+use Rattle.graph_writer.proofs.WrittenFile.{read_again}
+use Rattle.graph_writer.proofs.ReadableGraphs.{read_can_be_read_again}
 use Rattle.graph_writer.proofs.root.write.Goals as goal
 
 pub returns-clause-rewritten : goal.returns-clause-rewritten

@@ -1,6 +1,6 @@
--- The graphs that a file without a fault means can be written and read again.
+-- Graphs that were read from a file can be written, and read again.
 use Rattle.std.proofs.Common.{◌≡◌, ℕ, ◌+◌, ◌==◌, Bool, true, false, List, [], ◌∷◌, ◌++◌, map, All, refl, sym, ap, subst, ◌∙◌}
-use Rattle.std.specs.Prelude.{Option, Some, None, slice_get}
+use Rattle.std.specs.Prelude.{Option, Some, None, slice_get, IsUtf8, Ok}
 use Rattle.std.specs.List.{AllByRecursion, enumerate_from}
 use Rattle.std.proofs.lemmas.Bool.{false≢true}
 use Rattle.std.proofs.lemmas.List.Elements.{All-nil, All-cons, All-map, All-weaker}
@@ -39,14 +39,17 @@ use Rattle.graph_format.specs.declared.actor.FileBody.TheVariants.{Kernel, Confi
 use Rattle.graph_format.specs.declared.file.File.{File}
 use Rattle.graph_format.specs.declared.file.FileGraph.{FileGraph}
 use Rattle.graph_format.specs.declared.graph_fault.GraphFault.TheVariants as fault
-use Rattle.graph_writer.specs.ReadAgain.{CanBeReadAgain, HasTokens, kind_fits}
-use Rattle.graph_writer.proofs.DelaysAgain.{delays_again}
+use Rattle.graph_writer.specs.ReadAgain.{CanBeReadAgain, HasI64Tokens, kind_fits, WasRead}
+use Rattle.graph_writer.proofs.CanonicalDelays.{canonical_states_delays}
 use Rattle.graph_writer.proofs.KernelPlaces.{passes_there}
-use Rattle.graph_writer.proofs.KeptNames.{here, meant}
-use Rattle.graph_writer.proofs.KnownNames.{each_none, each_numbered, unless_none}
-use Rattle.graph_writer.proofs.NamedAgain.{named_again, restated}
-use Rattle.graph_writer.proofs.Restated.{HasValue, file_valued}
-use Rattle.graph_writer.proofs.StatedAgain.{HasDelaysAgain}
+use Rattle.graph_writer.proofs.KeptNames.{here, meant, each_none, each_numbered, unless_none}
+use Rattle.graph_writer.proofs.NamedFile.{placed_then_named, restated}
+use Rattle.graph_writer.proofs.RestatedFile.{HasValue, file_valued}
+use Rattle.graph_writer.proofs.CanonicalValue.{HasStatedDelays}
+use Rattle.serde_json.specs.Read as json
+use Rattle.graph_format.proofs.Reading.{found, reads_in_range}
+use Rattle.graph_format.specs.Canonical.{canonical}
+use Rattle.graph_format.specs.Reads.{Reads}
 
 -- ---- kinds of kernels
 
@@ -105,13 +108,13 @@ module _ (views : List SignatureView) (graphs : Graphs) where
 -- ---- files
 
 pub can_be_read_again : (signatures : List Signature) (d : Data) (file : File) → Differ (names_of_kernels signatures) → States 1 d file → file_faults (map signature_view signatures) file ≡ []
-    → InRange (graphs_of (map signature_view signatures) file) → All HasTokens (graphs_of (map signature_view signatures) file).graphs → CanBeReadAgain signatures (graphs_of (map signature_view signatures) file)
+    → InRange (graphs_of (map signature_view signatures) file) → All HasI64Tokens (graphs_of (map signature_view signatures) file).graphs → CanBeReadAgain signatures (graphs_of (map signature_view signatures) file)
 can_be_read_again signatures d file differ states none range tokens =
     let views = map signature_view signatures in
     let graphs = graphs_of views file in
     let has = no_file_faults views file none in
-    let same : named_file signatures graphs ≡ restated file = named_again signatures file has.unknown has.unfit in
-    let delays = subst (λ (f : File). AllByRecursion HasDelaysAgain f.graphs) same (delays_again signatures graphs tokens has.counts) in
+    let same : named_file signatures graphs ≡ restated file = placed_then_named signatures file has.unknown has.unfit in
+    let delays = subst (λ (f : File). AllByRecursion HasStatedDelays f.graphs) same (canonical_states_delays signatures graphs tokens has.counts) in
     let valued : HasValue (States 1) (restated file) = file_valued d file delays states in
     let kinds = kinds_kept views file has.unfit in
     let counts = counts_fitted views graphs (no_rule_faults (fits_kernel views) graphs has.rules).ports in
@@ -121,5 +124,14 @@ can_be_read_again signatures d file differ states none range tokens =
       in_range = range;
       well_formed = well_formed views file none;
       kernels = λ n e inside a f there. record { kind = kinds n e inside a f there; counts = counts n e inside a f there };
-      differ = differ;
+      names_differ = differ;
     }
+
+-- what was read from bytes can be written and read again
+pub read_can_be_read_again : (signatures : List Signature) (bytes : List ℕ) (graphs : Graphs) → WasRead signatures bytes graphs → All HasI64Tokens graphs.graphs → CanBeReadAgain signatures graphs
+read_can_be_read_again signatures bytes graphs was tokens =
+    let views = map signature_view signatures in
+    let f = found views bytes graphs was.reads in
+    let range : InRange (graphs_of views f.file) = subst InRange f.is (reads_in_range views bytes (Ok graphs) was.reads) in
+    let inside : All HasI64Tokens (graphs_of views f.file).graphs = subst (λ (g : Graphs). All HasI64Tokens g.graphs) f.is tokens in
+    subst (CanBeReadAgain signatures) (sym f.is) (can_be_read_again signatures f.value f.file was.names_differ f.states f.none range inside)

@@ -1,4 +1,4 @@
--- The kernels of graphs that fit them are those of their file, and well-formed graphs break no rule.
+-- The file of graphs without a fault has none: its kernels are those of its actors, and its graphs break no rule.
 use Rattle.std.proofs.Common.{◌≡◌, ◌<◌, ◌+◌, ◌==◌, ℕ, zero, suc, List, [], ◌∷◌, ◌++◌, map, length, Bool, true, false, Option, Some, None, refl, sym, ap, ◌∙◌, subst, arith}
 use Rattle.std.specs.Prelude.{slice_get, slice_index_or}
 use Rattle.std.specs.List.{All, AllByRecursion, flat_map}
@@ -112,5 +112,5 @@ no_faults signatures graphs can references means =
     let names : repeats (names_of_file file) ≡ [] = ap repeats (sym (names_kept tokens_of (kernel_names views) file) ∙ ap names_of means) ∙ has.duplicates in
     let rules : rule_faults (fits_kernel views) (graphs_of views file) ≡ [] = ap (rule_faults (fits_kernel views)) means ∙ rules_fit views graphs can.kernels can.well_formed in
     let counts : count_faults (graphs_of views file) ≡ [] = ap count_faults means ∙ has.counts in
-    let kernels : unfit_in_file views file ≡ [] = kernels_fit signatures graphs can.differ can.kernels in
+    let kernels : unfit_in_file views file ≡ [] = kernels_fit signatures graphs can.names_differ can.kernels in
     rw (names, references, kernels, rules, counts) refl

@@ -1,4 +1,4 @@
--- Graphs that are named in a file, and placed again, are these graphs.
+-- The file of graphs, placed again, is these graphs.
 use Rattle.std.proofs.Common.{◌≡◌, ℕ, zero, suc, ◌+◌, ◌<◌, ℤ, pos, negsuc, ◌==◌, Bool, true, false, List, [], ◌∷◌, map, All, length, get_or, refl, sym, ap, ◌∙◌, subst, arith, length-append, map-id}
 use Rattle.std.specs.Prelude.{replicate}
 use Rattle.std.specs.List.{enumerate_from, list_all}
@@ -145,9 +145,9 @@ numbered_again m f n [] same = refl
 numbered_again m f n (x ∷ xs) same =
     rw (same 0 n x (omega arith) (omega arith), numbered_again m f (n + 1) xs (λ i k d is inside. same (suc i) k d (omega arith) (omega arith))) refl
 
-pub graphs_again : (signatures : List Signature) (graphs : Graphs) → AllDiffer graphs → CanBeReadAgain signatures graphs → placed tokens_of (names_of_kernels signatures) (named_file signatures graphs) ≡ graphs
+pub named_then_placed : (signatures : List Signature) (graphs : Graphs) → AllDiffer graphs → CanBeReadAgain signatures graphs → placed tokens_of (names_of_kernels signatures) (named_file signatures graphs) ≡ graphs
 unfolding named_file
-graphs_again signatures graphs all can =
+named_then_placed signatures graphs all can =
     let file = named_file signatures graphs in
     let inside : graphs.top < length (named.names_of_graphs graphs) = omega (arith, can.in_range.top, length-map graphs.graphs (λ (g : Graph). g.name)) in
     let top : top_of file ≡ graphs.top = ap (λ names. first_place names (name_at_place (named.names_of_graphs graphs) graphs.top)) (file_names signatures graphs) ∙ first_again (named.names_of_graphs graphs) graphs.top all.names inside in
@@ -160,4 +160,4 @@ graphs_again signatures graphs all can =
         let g = get_or graphs.graphs i d in
         let range : IsGraphInRange graphs.graphs (k == graphs.top) g = subst (λ n. IsGraphInRange graphs.graphs (n == graphs.top) g) same (can.in_range.each_graph i d within) in
         ap (λ s. placed_graph tokens_of (k == graphs.top) s (named_graph signatures graphs g)) (scope_again signatures graphs (names_of_kernels signatures) (length g.params) g all.names range.actors)
-        ∙ graph_again signatures graphs all can.differ g (all.parts i d within) (k == graphs.top) range (can.kernels i d within)
+        ∙ graph_again signatures graphs all can.names_differ g (all.parts i d within) (k == graphs.top) range (can.kernels i d within)

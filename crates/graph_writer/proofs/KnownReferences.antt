@@ -1,4 +1,4 @@
--- Each reference of graphs that are named in a file is known there.
+-- Each reference of the file of graphs is known there.
 use Rattle.std.proofs.Common.{◌≡◌, ℕ, suc, ◌<◌, ◌==◌, List, [], ◌∷◌, ◌++◌, map, All, length, get_or, refl, ap, ◌∙◌, arith, length-append}
 use Rattle.std.specs.Prelude.{Bool, Option, is_none, cond}
 use Rattle.std.specs.List.{flat_map}

@@ -12,8 +12,8 @@ use Rattle.graph_format.specs.Walk.{has_form}
 use Rattle.graph_format.specs.declared.fifo.FileFifo.{FileFifo}
 use Rattle.graph_format.specs.declared.file.File.{File}
 use Rattle.graph_format.specs.declared.file.FileGraph.{FileGraph}
-use Rattle.graph_writer.proofs.NamedAgain.{restated, restated_fifo, restated_graph}
-use Rattle.graph_writer.proofs.StatedAgain.{HasDelayAgain, HasDelaysAgain}
+use Rattle.graph_writer.proofs.NamedFile.{restated, restated_fifo, restated_graph}
+use Rattle.graph_writer.proofs.CanonicalValue.{HasStatedDelay, HasStatedDelays}
 
 -- ---- values
 
@@ -38,7 +38,7 @@ each_valued R m P valued (item d ds) (x ∷ xs) p items =
 
 -- ---- FIFOs, graphs and files
 
-fifo_valued : (d : Data) (f : FileFifo) → HasDelayAgain (restated_fifo f) → StatesFifo 1 d f → HasValue (StatesFifo 1) (restated_fifo f)
+fifo_valued : (d : Data) (f : FileFifo) → HasStatedDelay (restated_fifo f) → StatesFifo 1 d f → HasValue (StatesFifo 1) (restated_fifo f)
 unfolding has_form
 fifo_valued d f delay h =
     record {
@@ -51,10 +51,10 @@ fifo_valued d f delay h =
       };
     }
 
-graph_valued : (d : Data) (g : FileGraph) → HasDelaysAgain (restated_graph g) → StatesGraph 1 d g → HasValue (StatesGraph 1) (restated_graph g)
+graph_valued : (d : Data) (g : FileGraph) → HasStatedDelays (restated_graph g) → StatesGraph 1 d g → HasValue (StatesGraph 1) (restated_graph g)
 unfolding has_form
 graph_valued d g delays h =
-    let fifos = each_valued (StatesFifo 1) restated_fifo HasDelayAgain fifo_valued h.fifos.states.values g.fifos delays h.fifos.states.items in
+    let fifos = each_valued (StatesFifo 1) restated_fifo HasStatedDelay fifo_valued h.fifos.states.values g.fifos delays h.fifos.states.items in
     record {
       value = object (member (codes "actors") h.actors.value (member (codes "fifos") (array fifos.values) (member (codes "inputs") h.inputs.value (member (codes "name") h.name.value (member (codes "outputs") h.outputs.value (member (codes "params") h.params.value no_members))))));
       states = record {
@@ -68,10 +68,10 @@ graph_valued d g delays h =
       };
     }
 
-pub file_valued : (d : Data) (file : File) → AllByRecursion HasDelaysAgain (restated file).graphs → States 1 d file → HasValue (States 1) (restated file)
+pub file_valued : (d : Data) (file : File) → AllByRecursion HasStatedDelays (restated file).graphs → States 1 d file → HasValue (States 1) (restated file)
 unfolding has_form
 file_valued d file delays h =
-    let graphs = each_valued (StatesGraph 1) restated_graph HasDelaysAgain graph_valued h.graphs.states.values file.graphs delays h.graphs.states.items in
+    let graphs = each_valued (StatesGraph 1) restated_graph HasStatedDelays graph_valued h.graphs.states.values file.graphs delays h.graphs.states.items in
     record {
       value = object (member (codes "graphs") (array graphs.values) (member (codes "pisdf") h.pisdf.value (member (codes "top") h.top.value no_members)));
       states = record {

@@ -1,4 +1,4 @@
--- The delays of graphs without a fault are stated by their canonical values.
+-- The canonical value of each delay states it, where graphs have no fault.
 use Rattle.std.proofs.Common.{◌≡◌, ℕ, suc, ◌+◌, ◌^◌, ℤ, pos, negsuc, Bool, true, false, not, List, [], ◌∷◌, ◌++◌, map, All, length, refl, arith}
 use Rattle.std.specs.Prelude.{nat_le, nat_lt}
 use Rattle.std.specs.List.{AllByRecursion, AllPass, list_all}
@@ -20,9 +20,9 @@ use Rattle.graph_format.specs.Canonical.{delay_value, whole_value}
 use Rattle.graph_format.specs.Named.{named_fifo, named_file, named_graph, stated_delay}
 use Rattle.graph_format.specs.States.{StatesDelay}
 use Rattle.graph_format.specs.Values.{AreItems, IsWhole}
-use Rattle.graph_writer.specs.ReadAgain.{HasTokens}
+use Rattle.graph_writer.specs.ReadAgain.{HasI64Tokens}
 use Rattle.graph_writer.proofs.Distinct.{not_told}
-use Rattle.graph_writer.proofs.StatedAgain.{HasDelayAgain, HasDelaysAgain}
+use Rattle.graph_writer.proofs.CanonicalValue.{HasStatedDelay, HasStatedDelays}
 
 -- ---- numbers
 
@@ -67,22 +67,22 @@ not_long g none =
     not_told (has_long_delay g.fifos) counted.Delay none_delays
 
 module _ (signatures : List Signature) (graphs : Graphs) where
-  fifos_again : (g : Graph) (fifos : List Fifo) → All (λ (f : Fifo). AllPass in_i64 f.delay) fifos → has_long_delay fifos ≡ false → AllByRecursion HasDelayAgain (map (named_fifo graphs g) fifos)
+  fifos_again : (g : Graph) (fifos : List Fifo) → All (λ (f : Fifo). AllPass in_i64 f.delay) fifos → has_long_delay fifos ≡ false → AllByRecursion HasStatedDelay (map (named_fifo graphs g) fifos)
   fifos_again g [] inside short = tt
   fifos_again g (f ∷ fs) inside short =
       let parts = or_parts (nat_lt MAX_DELAY_TOKENS (length f.delay)) (has_long_delay fs) short in
       (delay_again f.delay (inside 0 f (omega arith)) parts.0, fifos_again g fs (λ k d lt. inside (suc k) d (omega arith)) parts.1)
 
-  graph_again : (g : Graph) → HasTokens g → graph_counts g ≡ [] → HasDelaysAgain (named_graph signatures graphs g)
+  graph_again : (g : Graph) → HasI64Tokens g → graph_counts g ≡ [] → HasStatedDelays (named_graph signatures graphs g)
   unfolding named_graph
   graph_again g inside none = fifos_again g g.fifos inside (not_long g none)
 
-  each_again : (n : ℕ) (some : List Graph) → All HasTokens some → from_number n (λ n g. graph_counts g) some ≡ [] → AllByRecursion HasDelaysAgain (map (named_graph signatures graphs) some)
+  each_again : (n : ℕ) (some : List Graph) → All HasI64Tokens some → from_number n (λ n g. graph_counts g) some ≡ [] → AllByRecursion HasStatedDelays (map (named_graph signatures graphs) some)
   each_again n [] inside none = tt
   each_again n (g ∷ some) inside none =
       let rest = from_number (n + 1) (λ n g. graph_counts g) some in
       (graph_again g (inside 0 g (omega arith)) (left_none (graph_counts g) rest none), each_again (n + 1) some (λ k d lt. inside (suc k) d (omega arith)) (right_none (graph_counts g) rest none))
 
-pub delays_again : (signatures : List Signature) (graphs : Graphs) → All HasTokens graphs.graphs → count_faults graphs ≡ [] → AllByRecursion HasDelaysAgain (named_file signatures graphs).graphs
+pub canonical_states_delays : (signatures : List Signature) (graphs : Graphs) → All HasI64Tokens graphs.graphs → count_faults graphs ≡ [] → AllByRecursion HasStatedDelays (named_file signatures graphs).graphs
 unfolding named_file
-delays_again signatures graphs inside none = each_again signatures graphs 0 graphs.graphs inside (right_none (unless (nat_le (length graphs.graphs) MAX_GRAPHS) counted.Graphs) (from_number 0 (λ n g. graph_counts g) graphs.graphs) none)
+canonical_states_delays signatures graphs inside none = each_again signatures graphs 0 graphs.graphs inside (right_none (unless (nat_le (length graphs.graphs) MAX_GRAPHS) counted.Graphs) (from_number 0 (λ n g. graph_counts g) graphs.graphs) none)

@@ -32,9 +32,8 @@ use Rattle.graph_format.specs.declared.param.FileParamKind.{FileParamKind}
 use Rattle.graph_format.specs.declared.param.FileParamKind.TheVariants.{Inherited, Derived, Chosen}
 use Rattle.graph_format.specs.declared.port.FilePort.{FilePort}
 use Rattle.graph_writer.proofs.KernelPlaces.{passes_there, same_kernels}
-use Rattle.graph_writer.proofs.KeptNames.{HasNames, graph_names, graphs, here, meant, names_kept}
+use Rattle.graph_writer.proofs.KeptNames.{HasNames, graph_names, graphs, here, meant, names_kept, again_where, each_none, each_numbered, found, known, name_again, none_where, unless_none, unnumbered}
 use Rattle.graph_format.proofs.NoFaults.{neither}
-use Rattle.graph_writer.proofs.KnownNames.{again_where, each_none, each_numbered, found, known, name_again, none_where, unless_none, unnumbered}
 use Rattle.graph_writer.proofs.Resolving.{each_alike}
 
 -- ---- delays as the canonical file states them
@@ -181,9 +180,9 @@ module _ (signatures : List Signature) (file : File) where
 
   -- ---- files
 
-  pub named_again : unknown_in_file file ≡ [] → unfit_in_file (map signature_view signatures) file ≡ [] → named_file signatures (graphs kernels file) ≡ restated file
+  pub placed_then_named : unknown_in_file file ≡ [] → unfit_in_file (map signature_view signatures) file ≡ [] → named_file signatures (graphs kernels file) ≡ restated file
   unfolding named_file
-  named_again unknown unfit =
+  placed_then_named unknown unfit =
       let all = graphs kernels file in
       let both = neither (missing (names_of_graphs file.graphs) file.top) (flat_map (λ g. unknown_in_graph (here [] file g) g) file.graphs) unknown in
       let top = name_again (names_of_graphs file.graphs) (named.names_of_graphs all) file.top (graph_names kernels file) (known (names_of_graphs file.graphs) file.top both.0) in
