@@ -1,5 +1,5 @@
 -- The canonical value of each delay states it, where graphs have no fault.
-use Rattle.std.proofs.Common.{◌≡◌, ℕ, suc, ◌+◌, ◌^◌, ℤ, pos, negsuc, Bool, true, false, not, List, [], ◌∷◌, ◌++◌, map, All, length, refl, arith}
+use Rattle.std.proofs.Common.{◌≡◌, ℕ, suc, ◌+◌, ◌^◌, ℤ, pos, negsuc, Bool, true, false, not, List, [], ◌∷◌, ◌++◌, map, All, length, refl, arith, ◌==◌, ◌∙◌, if◌then◌else◌, sym}
 use Rattle.std.specs.Prelude.{nat_le, nat_lt}
 use Rattle.std.specs.List.{AllByRecursion, AllPass, list_all}
 use Rattle.std.specs.Ordering.{int_eq}
@@ -16,13 +16,14 @@ use Rattle.pisdf_model.specs.declared.fifo.Fifo.{Fifo}
 use Rattle.pisdf_model.specs.declared.graph.Graph.{Graph}
 use Rattle.pisdf_model.specs.declared.graph.Graphs.{Graphs}
 use Rattle.pisdf_model.specs.declared.limits.TheConstants.{MAX_GRAPHS, MAX_PARAMS, MAX_INPUTS, MAX_OUTPUTS, MAX_ACTORS, MAX_FIFOS, MAX_DELAY_TOKENS}
-use Rattle.graph_format.specs.Canonical.{delay_value, whole_value}
+use Rattle.graph_format.specs.Canonical.{delay_value, whole_value, is_no_delay}
 use Rattle.graph_format.specs.Named.{named_fifo, named_file, named_graph, stated_delay}
 use Rattle.graph_format.specs.States.{StatesDelay}
 use Rattle.graph_format.specs.Values.{AreItems, IsWhole}
 use Rattle.graph_writer.specs.ReadAgain.{HasI64Tokens}
 use Rattle.graph_writer.proofs.Distinct.{not_told}
 use Rattle.graph_writer.proofs.CanonicalValue.{HasStatedDelay, HasStatedDelays}
+use Rattle.graph_format.specs.declared.fifo.FileDelay.TheVariants.{Zeros, Tokens}
 
 -- ---- numbers
 
@@ -46,6 +47,19 @@ delay_again tokens inside short = go (list_all (λ token. int_eq token (pos 0)) 
         let below : nat_lt (length tokens) (2 ^ 63) ≡ true = grind (arith, nat_tests) in
         rw (is, below) refl
     go false is = rw is (record { values = items_of (map whole_value tokens); is_array = refl; items = wholes_again tokens inside })
+
+-- ---- when a delay is left out
+
+not_zero : (n : ℕ) → (suc n == 0) ≡ false
+not_zero n = grind (arith, nat_tests)
+
+is_some_delay : (b : Bool) (t : ℤ) (ts : List ℤ) → is_no_delay (if b then Zeros (length (t ∷ ts)) else Tokens (t ∷ ts)) ≡ false
+is_some_delay true t ts = not_zero (length ts)
+is_some_delay false t ts = refl
+
+pub only_empty : (tokens : List ℤ) → is_no_delay (stated_delay tokens) ≡ (length tokens == 0)
+only_empty [] = refl
+only_empty (t ∷ ts) = is_some_delay (list_all (λ token. int_eq token (pos 0)) (t ∷ ts)) t ts ∙ sym (not_zero (length ts))
 
 -- ---- graphs
 

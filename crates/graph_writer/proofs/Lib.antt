@@ -1,7 +1,6 @@
 pub mod Listed
 pub mod Floats
 pub mod Depths
-pub mod Delays
 pub mod Distinct
 pub mod KernelPlaces
 pub mod Resolving

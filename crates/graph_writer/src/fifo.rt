@@ -90,7 +90,7 @@ impl Writer for Fifos<'_> {
 
     ghost IsKept = { λ fifo. AllPass in_i64 fifo.delay };
 
-    #[tactic(auto, using(crate::proofs::Delays::only_empty), unfolding(graph_format::specs::Canonical::fifo_value))]
+    #[tactic(auto, using(crate::proofs::CanonicalDelays::only_empty), unfolding(graph_format::specs::Canonical::fifo_value))]
     fn value(&self, alloc: Global, fifo: &Fifo) -> Result<Value, AllocError> {
         let from = end_text(alloc, self.graphs, self.graph, fifo.tail)?;
         let to = end_text(alloc, self.graphs, self.graph, fifo.head)?;
