@@ -34,6 +34,7 @@ use Rattle.pisdf_model.specs.declared.graph.Interface.{Interface}
 use Rattle.pisdf_model.proofs.Alike.{alike_each, alike_numbered, of_mapped}
 use Rattle.pisdf_model.proofs.Lists.{left_none, right_none, unmapped}
 use Rattle.graph_format.proofs.NoFaults.{HasNoRuleFaults, no_file_faults, no_rule_faults}
+use Rattle.graph_format.proofs.PortFaults.{graphs_pass}
 use Rattle.graph_format.specs.FileNames.{actor_walk, graph_walk, names_of_file, own_port_names}
 use Rattle.graph_format.specs.Placed.{mark_of, placed, placed_actor, placed_body, placed_end, placed_fifo, placed_graph, placed_interface, placed_param, placed_port, tokens_of, top_of}
 use Rattle.graph_format.specs.Scope.{Scope, scope_of}
@@ -146,29 +147,9 @@ fit_any fits graphs (body.Kernel kernel args ins outs) name none = refl
 fit_any fits graphs (body.Config kernel args ins outs sets) name none = refl
 fit_any fits graphs (body.Child graph args) name none = none
 
-actors_fit_any : (fits : Body → Bool) (graphs : List Graph) (n : ℕ) (actors : List Actor) → from_number n (λ a actor. actor_ports fits graphs actor) actors ≡ [] → from_number n (λ a actor. actor_ports (λ body. true) graphs actor) actors ≡ []
-actors_fit_any fits graphs n [] none = refl
-actors_fit_any fits graphs n (actor ∷ actors) none =
-    let here = actor_ports fits graphs actor in
-    let rest = from_number (n + 1) (λ a actor. actor_ports fits graphs actor) actors in
-    rw (fit_any fits graphs actor.body actor.name (left_none here rest none), actors_fit_any fits graphs (n + 1) actors (right_none here rest none)) refl
-
-graph_fits_any : (fits : Body → Bool) (graphs : List Graph) (is_top : Bool) (g : Graph) → graph_ports fits graphs is_top g ≡ [] → graph_ports (λ body. true) graphs is_top g ≡ []
-graph_fits_any fits graphs is_top g none =
-    let actors = of_each (λ a actor. actor_ports fits graphs actor) g.actors in
-    let params = of_each (λ i p. param_ports is_top (all_sets g.actors) i p) g.params in
-    rw (actors_fit_any fits graphs 0 g.actors (left_none actors params none), right_none actors params none) refl
-
-graphs_fit_any : (fits : Body → Bool) (graphs : List Graph) (top n : ℕ) (some : List Graph) → from_number n (λ n g. graph_ports fits graphs (n == top) g) some ≡ [] → from_number n (λ n g. graph_ports (λ body. true) graphs (n == top) g) some ≡ []
-graphs_fit_any fits graphs top n [] none = refl
-graphs_fit_any fits graphs top n (g ∷ some) none =
-    let here = graph_ports fits graphs (n == top) g in
-    let rest = from_number (n + 1) (λ n g. graph_ports fits graphs (n == top) g) some in
-    rw (graph_fits_any fits graphs (n == top) g (left_none here rest none), graphs_fit_any fits graphs top (n + 1) some (right_none here rest none)) refl
-
 all_none : (fits : Body → Bool) (g : Graphs) → model.duplicate_faults g ≡ [] → HasNoRuleFaults fits g → count_faults g ≡ [] → WellFormed g
 all_none fits g duplicates none counts =
-    let ports = graphs_fit_any fits g.graphs g.top 0 g.graphs none.ports in
+    let ports = graphs_pass fits (λ body. true) (λ actor. Unit {0}) g.graphs (λ actor unit. fit_any fits g.graphs actor.body actor.name) g.top 0 g.graphs (λ n h inside a actor there. tt) none.ports in
     rw (duplicates, ports, none.wires, none.interface_wires, none.orders, none.cycles, none.depths, counts) refl
 
 -- the graphs of a file without a fault are well formed

@@ -4,6 +4,7 @@ pub mod Stated
 pub mod StatedActors
 pub mod StatedFiles
 pub mod NoFaults
+pub mod PortFaults
 pub mod Laws
 pub mod InPlace
 pub mod Ranged

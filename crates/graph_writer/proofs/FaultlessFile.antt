@@ -34,6 +34,7 @@ use Rattle.graph_format.specs.References.{unknown_in_file}
 use Rattle.graph_format.specs.declared.actor.FileActor.{FileActor}
 use Rattle.graph_format.proofs.Laws.{names_kept}
 use Rattle.graph_format.proofs.NoFaults.{no_model_faults}
+use Rattle.graph_format.proofs.PortFaults.{graphs_pass}
 use Rattle.graph_writer.proofs.KernelPlaces.{passes_named}
 use Rattle.graph_writer.specs.ReadAgain.{kind_fits, FitsSignature, ActorsFit, CanBeReadAgain}
 
@@ -44,35 +45,13 @@ fit_where fits graphs (body.Kernel kernel args ins outs) name fit none = rw fit 
 fit_where fits graphs (body.Config kernel args ins outs sets) name fit none = rw fit refl
 fit_where fits graphs (body.Child graph args) name fit none = none
 
-module _ (signatures : List SignatureView) where
-  actors_fit : (graphs : List Graph) (n : ℕ) (actors : List Actor) → AllByRecursion (FitsSignature signatures) actors → from_number n (λ a actor. actor_ports (λ body. true) graphs actor) actors ≡ []
-      → from_number n (λ a actor. actor_ports (fits_kernel signatures) graphs actor) actors ≡ []
-  actors_fit graphs n [] fit none = refl
-  actors_fit graphs n (actor ∷ actors) fit none =
-      let here = actor_ports (λ body. true) graphs actor in
-      let rest = from_number (n + 1) (λ a actor. actor_ports (λ body. true) graphs actor) actors in
-      rw (fit_where (fits_kernel signatures) graphs actor.body actor.name fit.0.counts (left_none here rest none), actors_fit graphs (n + 1) actors fit.1 (right_none here rest none)) refl
-
-  graph_fits : (graphs : List Graph) (is_top : Bool) (g : Graph) → ActorsFit signatures g → graph_ports (λ body. true) graphs is_top g ≡ [] → graph_ports (fits_kernel signatures) graphs is_top g ≡ []
-  graph_fits graphs is_top g fit none =
-      let actors = of_each (λ a actor. actor_ports (λ body. true) graphs actor) g.actors in
-      let params = of_each (λ i p. param_ports is_top (all_sets g.actors) i p) g.params in
-      rw (actors_fit graphs 0 g.actors (recursion_from_All (FitsSignature signatures) g.actors fit) (left_none actors params none), right_none actors params none) refl
-
-  graphs_fit : (graphs : List Graph) (top n : ℕ) (some : List Graph) → AllByRecursion (ActorsFit signatures) some → from_number n (λ n g. graph_ports (λ body. true) graphs (n == top) g) some ≡ []
-      → from_number n (λ n g. graph_ports (fits_kernel signatures) graphs (n == top) g) some ≡ []
-  graphs_fit graphs top n [] fit none = refl
-  graphs_fit graphs top n (g ∷ some) fit none =
-      let here = graph_ports (λ body. true) graphs (n == top) g in
-      let rest = from_number (n + 1) (λ n g. graph_ports (λ body. true) graphs (n == top) g) some in
-      rw (graph_fits graphs (n == top) g fit.0 (left_none here rest none), graphs_fit graphs top (n + 1) some fit.1 (right_none here rest none)) refl
-
 -- ---- the rules
 
 pub rules_fit : (signatures : List SignatureView) (graphs : Graphs) → All (ActorsFit signatures) graphs.graphs → WellFormed graphs → rule_faults (fits_kernel signatures) graphs ≡ []
 rules_fit signatures graphs fit none =
     let f = (no_model_faults graphs none).rules in
-    let ports : ports_faults (fits_kernel signatures) graphs ≡ [] = graphs_fit signatures graphs.graphs graphs.top 0 graphs.graphs (recursion_from_All (ActorsFit signatures) graphs.graphs fit) f.ports in
+    let ports : ports_faults (fits_kernel signatures) graphs ≡ [] =
+    graphs_pass (λ body. true) (fits_kernel signatures) (FitsSignature signatures) graphs.graphs (λ actor here. fit_where (fits_kernel signatures) graphs.graphs actor.body actor.name here.counts) graphs.top 0 graphs.graphs fit f.ports in
     rw (ports, f.wires, f.interface_wires, f.orders, f.cycles, f.depths) refl
 
 -- ---- kernels
