@@ -1,27 +1,24 @@
 -- Laws of the graphs that a file means.
-use Rattle.std.proofs.Common.{◌≡◌, ◌==◌, ℕ, zero, suc, ◌+◌, ℤ, pos, List, [], ◌∷◌, ◌++◌, map, Bool, true, false, replicate, refl, sym, ap, ◌∙◌, arith}
+use Rattle.std.proofs.Common.{◌≡◌, ◌==◌, ℕ, zero, suc, ℤ, pos, List, [], ◌∷◌, ◌++◌, map, Bool, true, false, replicate, refl, sym, ap, ◌∙◌, arith}
 use Rattle.std.specs.List.{enumerate_from}
 use Rattle.std.proofs.lemmas.Bool.{cond-false}
 use Rattle.std.proofs.lemmas.Bool.Decides.{nat_tests}
 use Rattle.pisdf_model.specs.Count.{count_faults}
-use Rattle.pisdf_model.specs.Details.{from_number, of_each, unless}
+use Rattle.pisdf_model.specs.Details.{of_each, unless}
 use Rattle.pisdf_model.specs.WellFormed.{WellFormed}
 use Rattle.pisdf_model.specs.declared.actor.Body.TheVariants as body
 use Rattle.kernel_gate.specs.Signed.{SignatureView}
-use Rattle.graph_format.specs.Kernels.{kernel_names, unfit_in_file}
-use Rattle.graph_format.specs.References.{unknown_in_file}
+use Rattle.graph_format.specs.Kernels.{kernel_names}
 use Rattle.pisdf_model.specs.InterfaceWires.{interface_wire_faults}
 use Rattle.pisdf_model.specs.Nesting.{depth_faults, graph_cycle_faults}
 use Rattle.pisdf_model.specs.ParamOrder.{param_order_faults}
-use Rattle.pisdf_model.specs.Ports.{actor_ports, all_sets, body_fits, graph_ports, param_ports, ports_faults}
+use Rattle.pisdf_model.specs.Ports.{body_fits, ports_faults}
 use Rattle.pisdf_model.specs.Wires.{wire_faults}
-use Rattle.pisdf_model.specs.declared.actor.Actor.{Actor}
 use Rattle.pisdf_model.specs.declared.actor.Body.{Body}
 use Rattle.pisdf_model.specs.declared.graph.Graphs.{Graphs}
 use Rattle.pisdf_model.proofs.MarkedFaults.{cycles_marked, depths_marked, interface_wires_marked, param_orders_marked, ports_marked, wires_marked}
-use Rattle.graph_format.specs.Faults.{at_fifo, file_faults, fits_kernel, graphs_of, rule_faults, too_many}
-use Rattle.graph_format.specs.declared.graph_fault.GraphFault.TheVariants as fault
-use Rattle.graph_format.specs.declared.graph_fault.GraphFault.TheVariants.{Depth, Duplicate, GraphCycle, ParamOrder, Ports, Unknown, Wire}
+use Rattle.graph_format.specs.Faults.{at_fifo, file_faults, fits_kernel, graphs_of, rule_faults}
+use Rattle.graph_format.specs.declared.graph_fault.GraphFault.TheVariants.{Depth, GraphCycle, ParamOrder, Ports, Wire}
 use Rattle.pisdf_model.specs.Marked.{marked, marked_fifo, marked_graph, marked_graphs}
 use Rattle.pisdf_model.specs.Names as model
 use Rattle.pisdf_model.specs.Range.{life_of}
@@ -32,7 +29,6 @@ use Rattle.pisdf_model.specs.declared.param.Param.{Param}
 use Rattle.pisdf_model.specs.declared.graph.Graph.{Graph}
 use Rattle.pisdf_model.specs.declared.graph.Interface.{Interface}
 use Rattle.pisdf_model.proofs.Alike.{alike_each, alike_numbered, of_mapped}
-use Rattle.pisdf_model.proofs.Lists.{left_none, right_none, unmapped}
 use Rattle.graph_format.proofs.NoFaults.{HasNoRuleFaults, no_file_faults, no_rule_faults}
 use Rattle.graph_format.proofs.PortFaults.{graphs_pass}
 use Rattle.graph_format.specs.FileNames.{actor_walk, graph_walk, names_of_file, own_port_names}

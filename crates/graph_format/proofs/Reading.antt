@@ -1,30 +1,25 @@
 -- What the bytes of a file are read as, in terms of the file that they state.
-use Rattle.std.proofs.Common.{◌≡◌, ◌⊎◌, inl, inr, ⊎_elim, ℕ, ◌==◌, ℤ, pos, List, [], ◌∷◌, ◌++◌, map, All, true, Option, Some, None, Result, Ok, Err, refl, sym, ap, ◌∙◌, subst, arith}
+use Rattle.std.proofs.Common.{◌≡◌, ◌⊎◌, inl, inr, ⊎_elim, ℕ, ◌==◌, ℤ, pos, List, [], ◌∷◌, All, true, Option, Some, None, Result, Ok, Err, refl, sym, ap, ◌∙◌, subst, arith}
 use Rattle.std.specs.Prelude.{IfErr, IfOk, option_and_then}
 use Rattle.std.proofs.lemmas.Bool.Decides.{nat_tests}
 use Rattle.serde_json.specs.Data.{Data}
 use Rattle.kernel_gate.specs.Signed.{SignatureView}
-use Rattle.pisdf_model.proofs.Lists.{left_none, right_none, unmapped}
-use Rattle.pisdf_model.specs.Count.{count_faults}
 use Rattle.pisdf_model.specs.Details.{first}
-use Rattle.pisdf_model.specs.Names.{repeats}
 use Rattle.pisdf_model.specs.Range.{InRange}
 use Rattle.pisdf_model.specs.WellFormed.{WellFormed}
 use Rattle.pisdf_model.specs.declared.graph.Graphs.{Graphs}
-use Rattle.graph_format.specs.Faults.{Tells, file_faults, fits_kernel, graphs_of, rule_faults, too_many}
-use Rattle.graph_format.specs.FileNames.{names_of_file}
-use Rattle.graph_format.specs.Kernels.{kernel_names, unfit_in_file}
+use Rattle.graph_format.specs.Faults.{Tells, file_faults, graphs_of}
+use Rattle.graph_format.specs.Kernels.{kernel_names}
 use Rattle.graph_format.specs.Means.{Means}
 use Rattle.graph_format.specs.Objects.{file_at, stated_version}
 use Rattle.graph_format.specs.Placed.{tokens_of}
 use Rattle.graph_format.specs.Reads.{AreReadAs, IsJson, Reads, graphs_or_fault, of_version, other_version, reading, unless_faulty}
-use Rattle.graph_format.specs.References.{unknown_in_file}
 use Rattle.graph_format.specs.States.{States}
 use Rattle.graph_format.specs.Walk.{whole_of}
 use Rattle.graph_format.specs.Writable.{IsWritableGraph}
 use Rattle.graph_format.specs.declared.file.File.{File}
 use Rattle.graph_format.specs.declared.graph_fault.GraphFault.{GraphFault}
-use Rattle.graph_format.specs.declared.graph_fault.GraphFault.TheVariants.{Duplicate, Kernel, Memory, NotJson, Unknown}
+use Rattle.graph_format.specs.declared.graph_fault.GraphFault.TheVariants.{Memory, NotJson}
 use Rattle.graph_format.proofs.Laws.{well_formed}
 use Rattle.graph_format.proofs.NoFaults.{no_file_faults}
 use Rattle.graph_format.proofs.StatedFiles.{file_reads}

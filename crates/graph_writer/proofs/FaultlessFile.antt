@@ -1,34 +1,24 @@
 -- The file of graphs without a fault has none: its kernels are those of its actors, and its graphs break no rule.
-use Rattle.std.proofs.Common.{◌≡◌, ◌<◌, ◌+◌, ◌==◌, ℕ, zero, suc, List, [], ◌∷◌, ◌++◌, map, length, Bool, true, false, Option, Some, None, refl, sym, ap, ◌∙◌, subst, arith}
-use Rattle.std.specs.Prelude.{slice_get, slice_index_or}
+use Rattle.std.proofs.Common.{◌≡◌, ℕ, List, [], ◌∷◌, map, Bool, true, refl, sym, ap, ◌∙◌}
 use Rattle.std.specs.List.{All, AllByRecursion, flat_map}
-use Rattle.std.specs.Str.{bytes_eq}
-use Rattle.std.specs.Cmp.Lexicographic.{bytes_decides}
 use Rattle.std.proofs.lemmas.List.Elements.{recursion_from_All}
 use Rattle.kernel_gate.specs.Signed.{SignatureView, signature_view}
 use Rattle.kernel_gate.specs.declared.signature.Signature.{Signature}
 use Rattle.param_expr.specs.Print.{Differ}
-use Rattle.pisdf_model.proofs.Lists.{left_none, right_none, unmapped}
-use Rattle.pisdf_model.specs.Count.{count_faults, word_of}
-use Rattle.pisdf_model.specs.Details.{from_number, of_each, unless}
-use Rattle.pisdf_model.specs.InterfaceWires.{interface_wire_faults}
-use Rattle.pisdf_model.specs.Names.{duplicate_faults, repeats, names_of}
-use Rattle.pisdf_model.specs.Nesting.{depth_faults, graph_cycle_faults}
-use Rattle.pisdf_model.specs.ParamOrder.{param_order_faults}
-use Rattle.pisdf_model.specs.Ports.{actor_ports, all_sets, body_fits, graph_ports, param_ports, ports_faults}
-use Rattle.pisdf_model.specs.WellFormed.{WellFormed, with_number, graphs_at}
-use Rattle.pisdf_model.specs.Wires.{wire_faults}
+use Rattle.pisdf_model.specs.Count.{count_faults}
+use Rattle.pisdf_model.specs.Details.{unless}
+use Rattle.pisdf_model.specs.Names.{repeats, names_of}
+use Rattle.pisdf_model.specs.Ports.{body_fits, ports_faults}
+use Rattle.pisdf_model.specs.WellFormed.{WellFormed}
 use Rattle.pisdf_model.specs.declared.actor.Actor.{Actor}
 use Rattle.pisdf_model.specs.declared.actor.Body.{Body}
 use Rattle.pisdf_model.specs.declared.actor.Body.TheVariants as body
 use Rattle.pisdf_model.specs.declared.graph.Graph.{Graph}
 use Rattle.pisdf_model.specs.declared.graph.Graphs.{Graphs}
-use Rattle.pisdf_model.specs.declared.interface_wires.FifoPlace.{FifoPlace}
-use Rattle.pisdf_model.proofs.Alike.{of_mapped}
 use Rattle.graph_format.specs.Faults.{file_faults, fits_kernel, graphs_of, rule_faults}
 use Rattle.graph_format.specs.FileNames.{names_of_file}
-use Rattle.graph_format.specs.Kernels.{is_of_config, is_of_kernel, kernel_names, signature_named, unfit_in_body, unfit_in_file, unfit_in_graph}
-use Rattle.graph_format.specs.Named.{name_at_place, named_actor, named_body, named_file, named_graph, names_of_kernels, names_of_params}
+use Rattle.graph_format.specs.Kernels.{is_of_config, is_of_kernel, kernel_names, unfit_in_body, unfit_in_file, unfit_in_graph}
+use Rattle.graph_format.specs.Named.{named_actor, named_body, named_file, named_graph, names_of_kernels, names_of_params}
 use Rattle.graph_format.specs.Placed.{placed, tokens_of}
 use Rattle.graph_format.specs.References.{unknown_in_file}
 use Rattle.graph_format.specs.declared.actor.FileActor.{FileActor}

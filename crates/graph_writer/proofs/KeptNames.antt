@@ -1,16 +1,13 @@
 -- What a file means has the names of the file, at the places of their parts.
-use Rattle.std.proofs.Common.{◌≡◌, ℕ, suc, ◌+◌, Bool, true, false, cond, List, [], ◌∷◌, ◌++◌, map, All, refl, sym, ap, ◌∙◌, arith, map-id, ◌==◌}
-use Rattle.std.specs.Prelude.{Option, Some, None, is_none, unwrap_or, slice_get}
-use Rattle.std.specs.List.{enumerate_from, flat_map, position_from}
+use Rattle.std.proofs.Common.{◌≡◌, ℕ, ◌+◌, Bool, true, false, cond, List, [], ◌∷◌, ◌++◌, map, All, refl, sym, ap, ◌∙◌, map-id, ◌==◌}
+use Rattle.std.specs.Prelude.{Option, Some, None, is_none, unwrap_or}
+use Rattle.std.specs.List.{enumerate_from, flat_map}
 use Rattle.std.specs.Str.{bytes_eq}
-use Rattle.std.proofs.lemmas.Iterator.Adapters.{position_from-zero}
 use Rattle.std.proofs.lemmas.List.Elements.{All-nil, All-cons, All-head, All-tail}
 use Rattle.std.proofs.lemmas.List.Quantifiers.{position-Some}
 use Rattle.std.proofs.lemmas.Slice.Eq.{bytes_eq-Decides}
-use Rattle.kernel_gate.specs.Signed.{SignatureView}
 use Rattle.param_expr.specs.Bind.{place_of}
 use Rattle.pisdf_model.specs.Details.{unless}
-use Rattle.graph_format.specs.Kernels.{kernel_names, signature_named}
 use Rattle.graph_format.specs.Named.{name_at_place}
 use Rattle.graph_format.specs.Placed.{first_place, placed, placed_actor, placed_body, placed_graph, tokens_of, top_of}
 use Rattle.graph_format.specs.References.{missing, unknown_in_actor, unknown_in_body, unknown_in_expr}

@@ -1,5 +1,5 @@
 -- Each reference of the file of graphs is known there.
-use Rattle.std.proofs.Common.{◌≡◌, ℕ, suc, ◌<◌, ◌==◌, List, [], ◌∷◌, ◌++◌, map, All, length, get_or, refl, ap, ◌∙◌, arith, length-append}
+use Rattle.std.proofs.Common.{◌≡◌, ℕ, suc, ◌<◌, ◌==◌, List, [], ◌∷◌, ◌++◌, map, All, length, get_or, refl, ap, ◌∙◌, arith}
 use Rattle.std.specs.Prelude.{Bool, Option, is_none, cond}
 use Rattle.std.specs.List.{flat_map}
 use Rattle.std.proofs.lemmas.List.{length-map}
@@ -10,13 +10,10 @@ use Rattle.param_expr.specs.Eval.{RefersBelow}
 use Rattle.param_expr.specs.Tree as tree
 use Rattle.param_expr.specs.Tree.{Tree}
 use Rattle.param_expr.specs.Print.{Differ, with_names}
-use Rattle.pisdf_model.specs.Range.{InRange, IsKindInRange, IsParamInRange, IsPortInRange, IsInterfaceInRange, IsBodyInRange, IsActorInRange, IsEndInRange, IsFifoInRange, IsGraphInRange}
-use Rattle.pisdf_model.specs.declared.actor.Actor.{Actor}
+use Rattle.pisdf_model.specs.Range.{InRange, IsKindInRange, IsParamInRange, IsPortInRange, IsInterfaceInRange, IsBodyInRange, IsActorInRange, IsFifoInRange, IsGraphInRange}
 use Rattle.pisdf_model.specs.declared.actor.Body.{Body}
 use Rattle.pisdf_model.specs.declared.actor.Body.TheVariants as body
 use Rattle.pisdf_model.specs.declared.actor.Port.{Port}
-use Rattle.pisdf_model.specs.declared.fifo.End.{End}
-use Rattle.pisdf_model.specs.declared.fifo.End.TheVariants as end
 use Rattle.pisdf_model.specs.declared.fifo.Fifo.{Fifo}
 use Rattle.pisdf_model.specs.declared.graph.Graph.{Graph}
 use Rattle.pisdf_model.specs.declared.graph.Graphs.{Graphs}
@@ -26,7 +23,7 @@ use Rattle.pisdf_model.specs.declared.param.ParamKind.{ParamKind}
 use Rattle.pisdf_model.specs.declared.param.ParamKind.TheVariants.{Inherited, Derived, Chosen}
 use Rattle.graph_format.specs.Named as named
 use Rattle.graph_format.specs.Named.{name_at_place, named_actor, named_body, named_end, named_fifo, named_file, named_graph, named_interface, named_kind, named_param, named_port, names_of_actors, names_of_interfaces, names_of_params, names_of_ports_at}
-use Rattle.graph_format.specs.References.{missing, unknown_in_actor, unknown_in_body, unknown_in_end, unknown_in_expr, unknown_in_fifo, unknown_in_file, unknown_in_graph, unknown_in_kind, unknown_in_param, unknown_in_port}
+use Rattle.graph_format.specs.References.{missing, unknown_in_actor, unknown_in_body, unknown_in_expr, unknown_in_fifo, unknown_in_file, unknown_in_graph, unknown_in_kind, unknown_in_param, unknown_in_port}
 use Rattle.graph_format.specs.Scope.{Scope, scope_of}
 use Rattle.graph_writer.proofs.Distinct.{AllDiffer, PartsDiffer}
 use Rattle.graph_writer.proofs.Resolving.{end_found, file_names, files, scope_again, scope_in}

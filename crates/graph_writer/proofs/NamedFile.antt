@@ -1,5 +1,5 @@
 -- The graphs that a file means, named again, are the file with its delays as the canonical file states them.
-use Rattle.std.proofs.Common.{◌≡◌, ℕ, ◌==◌, Bool, true, false, List, [], ◌++◌, map, refl, sym, ap, ◌∙◌, map-id}
+use Rattle.std.proofs.Common.{◌≡◌, ℕ, ◌==◌, Bool, false, List, [], ◌++◌, map, refl, sym, ap, ◌∙◌, map-id}
 use Rattle.std.specs.Prelude.{Option, Some, None, is_none, slice_index_or, unwrap_or}
 use Rattle.std.specs.List.{enumerate_from, flat_map}
 use Rattle.std.proofs.lemmas.List.Concat.{flat_map-append}
@@ -9,7 +9,6 @@ use Rattle.param_expr.specs.Bind.{names_of, place_of, placed_in}
 use Rattle.param_expr.specs.Named as expr
 use Rattle.param_expr.specs.Named.{NamedTree}
 use Rattle.param_expr.specs.Print.{with_names}
-use Rattle.pisdf_model.proofs.Alike.{of_mapped}
 use Rattle.pisdf_model.specs.Wires.{port_text}
 use Rattle.pisdf_model.specs.declared.graph.Graph.{Graph}
 use Rattle.pisdf_model.specs.declared.graph.Graphs.{Graphs}

@@ -1,5 +1,5 @@
 -- The file of graphs, placed again, is these graphs.
-use Rattle.std.proofs.Common.{◌≡◌, ℕ, zero, suc, ◌+◌, ◌<◌, ℤ, pos, negsuc, ◌==◌, Bool, true, false, List, [], ◌∷◌, map, All, length, get_or, refl, sym, ap, ◌∙◌, subst, arith, length-append, map-id}
+use Rattle.std.proofs.Common.{◌≡◌, ℕ, zero, suc, ◌+◌, ◌<◌, ℤ, pos, negsuc, ◌==◌, Bool, true, false, List, [], ◌∷◌, map, All, length, get_or, refl, sym, ap, ◌∙◌, subst, arith, map-id}
 use Rattle.std.specs.Prelude.{replicate}
 use Rattle.std.specs.List.{enumerate_from, list_all}
 use Rattle.std.specs.Ordering.{int_eq}
@@ -12,13 +12,11 @@ use Rattle.param_expr.specs.Eval.{RefersBelow}
 use Rattle.param_expr.specs.Tree.{Tree}
 use Rattle.param_expr.specs.Bind.{placed_in}
 use Rattle.param_expr.specs.Print.{Differ, with_names}
-use Rattle.pisdf_model.specs.Range.{IsKindInRange, IsParamInRange, IsPortInRange, IsInterfaceInRange, IsBodyInRange, IsActorInRange, IsEndInRange, IsFifoInRange, IsGraphInRange}
+use Rattle.pisdf_model.specs.Range.{IsKindInRange, IsParamInRange, IsPortInRange, IsInterfaceInRange, IsBodyInRange, IsActorInRange, IsFifoInRange, IsGraphInRange}
 use Rattle.pisdf_model.specs.declared.actor.Actor.{Actor}
 use Rattle.pisdf_model.specs.declared.actor.Body.{Body}
 use Rattle.pisdf_model.specs.declared.actor.Body.TheVariants as body
 use Rattle.pisdf_model.specs.declared.actor.Port.{Port}
-use Rattle.pisdf_model.specs.declared.fifo.End.{End}
-use Rattle.pisdf_model.specs.declared.fifo.End.TheVariants as end
 use Rattle.pisdf_model.specs.declared.fifo.Fifo.{Fifo}
 use Rattle.pisdf_model.specs.declared.graph.Graph.{Graph}
 use Rattle.pisdf_model.specs.declared.graph.Graphs.{Graphs}
@@ -29,14 +27,14 @@ use Rattle.pisdf_model.specs.declared.param.ParamKind.TheVariants.{Inherited, De
 use Rattle.graph_format.specs.Kernels.{is_of_config, is_of_kernel}
 use Rattle.graph_format.specs.Named as named
 use Rattle.graph_format.specs.Named.{name_at_place, named_actor, named_body, named_end, named_fifo, named_file, named_graph, named_interface, named_kind, named_param, named_port, names_of_actors, names_of_interfaces, names_of_kernels, names_of_params, names_of_ports_at, stated_delay}
-use Rattle.graph_format.specs.Placed.{first_place, placed, placed_actor, placed_body, placed_end, placed_fifo, placed_graph, placed_interface, placed_kind, placed_param, placed_port, tokens_of, top_of}
+use Rattle.graph_format.specs.Placed.{first_place, placed, placed_actor, placed_body, placed_fifo, placed_graph, placed_interface, placed_kind, placed_param, placed_port, tokens_of, top_of}
 use Rattle.graph_format.specs.Scope.{Scope, scope_of}
 use Rattle.graph_format.specs.declared.file.FileGraph.{FileGraph}
 use Rattle.graph_writer.specs.ReadAgain.{ActorsFit, CanBeReadAgain, FitsSignature}
 use Rattle.graph_writer.proofs.Distinct.{AllDiffer, PartsDiffer}
 use Rattle.graph_writer.proofs.KernelPlaces.{is_place_of_kernel}
 use Rattle.graph_writer.proofs.Resolving.{each_alike, end_found, file_names, files, first_again, scope_again, scope_in}
-use Rattle.param_expr.proofs.Printed.{place_again, placed_again}
+use Rattle.param_expr.proofs.Printed.{placed_again}
 
 each_again : {A B : Type 0} (m : A → B) (f : B → A) (P : A → Type 0) → ((x : A) → P x → f (m x) ≡ x) → (xs : List A) → All P xs → map f (map m xs) ≡ xs
 each_again m f P same xs all = each_alike m f (λ x. x) P same xs all ∙ map-id xs

@@ -1,23 +1,15 @@
 -- Graphs that were read from a file can be written, and read again.
-use Rattle.std.proofs.Common.{◌≡◌, ℕ, ◌+◌, ◌==◌, Bool, true, false, List, [], ◌∷◌, ◌++◌, map, All, refl, sym, ap, subst, ◌∙◌}
-use Rattle.std.specs.Prelude.{Option, Some, None, slice_get, IsUtf8, Ok}
+use Rattle.std.proofs.Common.{◌≡◌, ℕ, ◌+◌, ◌==◌, Bool, true, List, [], ◌∷◌, map, All, refl, sym, ap, subst, ◌∙◌}
+use Rattle.std.specs.Prelude.{slice_get, Ok}
 use Rattle.std.specs.List.{AllByRecursion, enumerate_from}
-use Rattle.std.proofs.lemmas.Bool.{false≢true}
 use Rattle.std.proofs.lemmas.List.Elements.{All-nil, All-cons, All-map, All-weaker}
 use Rattle.serde_json.specs.Data.{Data}
 use Rattle.kernel_gate.specs.Signed.{SignatureView, signature_view}
 use Rattle.kernel_gate.specs.declared.signature.Signature.{Signature}
 use Rattle.param_expr.specs.Print.{Differ}
-use Rattle.pisdf_model.proofs.Lists.{unmapped}
-use Rattle.pisdf_model.specs.Count.{count_faults}
 use Rattle.pisdf_model.specs.Details.{from_number, of_each}
-use Rattle.pisdf_model.specs.InterfaceWires.{interface_wire_faults}
-use Rattle.pisdf_model.specs.Names.{repeats}
-use Rattle.pisdf_model.specs.Nesting.{depth_faults, graph_cycle_faults}
-use Rattle.pisdf_model.specs.ParamOrder.{param_order_faults}
 use Rattle.pisdf_model.specs.Ports.{actor_ports, all_sets, body_fits, graph_ports, param_ports, ports_faults}
 use Rattle.pisdf_model.specs.Range.{InRange}
-use Rattle.pisdf_model.specs.Wires.{wire_faults}
 use Rattle.pisdf_model.specs.declared.actor.Actor.{Actor}
 use Rattle.pisdf_model.specs.declared.actor.Body.{Body}
 use Rattle.pisdf_model.specs.declared.actor.Body.TheVariants as body
@@ -25,12 +17,10 @@ use Rattle.pisdf_model.specs.declared.graph.Graph.{Graph}
 use Rattle.pisdf_model.specs.declared.graph.Graphs.{Graphs}
 use Rattle.graph_format.proofs.Laws.{well_formed}
 use Rattle.graph_format.proofs.NoFaults.{neither, no_file_faults, no_rule_faults}
-use Rattle.graph_format.specs.Faults.{at_fifo, file_faults, fits_kernel, graphs_of, rule_faults, too_many}
-use Rattle.graph_format.specs.FileNames.{names_of_file}
+use Rattle.graph_format.specs.Faults.{file_faults, fits_kernel, graphs_of}
 use Rattle.graph_format.specs.Kernels.{is_of_config, is_of_kernel, kernel_names, signature_named, unfit_in_body, unfit_in_file, unfit_in_graph}
 use Rattle.graph_format.specs.Named.{named_file, names_of_kernels}
 use Rattle.graph_format.specs.Placed.{first_place, placed_actor, placed_body}
-use Rattle.graph_format.specs.References.{unknown_in_file}
 use Rattle.graph_format.specs.Scope.{Scope}
 use Rattle.graph_format.specs.States.{States}
 use Rattle.graph_format.specs.declared.actor.FileActor.{FileActor}
@@ -38,7 +28,6 @@ use Rattle.graph_format.specs.declared.actor.FileBody.{FileBody}
 use Rattle.graph_format.specs.declared.actor.FileBody.TheVariants.{Kernel, Config, Child}
 use Rattle.graph_format.specs.declared.file.File.{File}
 use Rattle.graph_format.specs.declared.file.FileGraph.{FileGraph}
-use Rattle.graph_format.specs.declared.graph_fault.GraphFault.TheVariants as fault
 use Rattle.graph_writer.specs.ReadAgain.{CanBeReadAgain, HasI64Tokens, kind_fits, WasRead}
 use Rattle.graph_writer.proofs.CanonicalDelays.{canonical_states_delays}
 use Rattle.graph_writer.proofs.KernelPlaces.{passes_there}
@@ -46,10 +35,7 @@ use Rattle.graph_writer.proofs.KeptNames.{here, meant, each_none, each_numbered,
 use Rattle.graph_writer.proofs.NamedFile.{placed_then_named, restated}
 use Rattle.graph_writer.proofs.RestatedFile.{HasValue, file_valued}
 use Rattle.graph_writer.proofs.CanonicalValue.{HasStatedDelays}
-use Rattle.serde_json.specs.Read as json
 use Rattle.graph_format.proofs.Reading.{found, reads_in_range}
-use Rattle.graph_format.specs.Canonical.{canonical}
-use Rattle.graph_format.specs.Reads.{Reads}
 
 -- ---- kinds of kernels
 

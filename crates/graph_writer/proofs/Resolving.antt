@@ -1,8 +1,7 @@
 -- What stands at places of a graph, and is found there by its name again.
 use Rattle.std.proofs.Common.{◌≡◌, ℕ, zero, suc, ◌<◌, List, [], ◌∷◌, ◌++◌, map, All, length, get_or, refl, sym, ap, ◌∙◌, subst, arith, length-append}
-use Rattle.std.specs.Prelude.{true, Option, unwrap_or, slice_get, slice_index_or}
+use Rattle.std.specs.Prelude.{Option, unwrap_or, slice_get, slice_index_or}
 use Rattle.std.proofs.lemmas.List.{length-map}
-use Rattle.kernel_gate.specs.Signed.{signature_view}
 use Rattle.kernel_gate.specs.declared.signature.Signature.{Signature}
 use Rattle.param_expr.specs.Bind.{place_of}
 use Rattle.param_expr.specs.Print.{Differ}
@@ -18,7 +17,6 @@ use Rattle.pisdf_model.specs.declared.graph.Graph.{Graph}
 use Rattle.pisdf_model.specs.declared.graph.Graphs.{Graphs}
 use Rattle.pisdf_model.specs.declared.graph.Interface.{Interface}
 use Rattle.pisdf_model.specs.Names.{own_port_names}
-use Rattle.graph_format.specs.Kernels.{is_of_config, is_of_kernel}
 use Rattle.graph_format.specs.Named as named
 use Rattle.graph_format.specs.Named.{name_at_place, named_actor, named_body, named_end, named_graph, named_interface, named_param, named_port, names_of_actors, names_of_interfaces, names_of_kernels, names_of_params, names_of_ports, names_of_ports_at}
 use Rattle.graph_format.specs.Placed.{first_place, placed_end}

@@ -1,19 +1,18 @@
 -- What is written of graphs is read as these graphs again.
-use Rattle.std.proofs.Common.{◌≡◌, ℕ, pos, List, [], map, All, refl, ap, ◌∙◌}
+use Rattle.std.proofs.Common.{◌≡◌, ℕ, pos, List, [], map, All, ap, ◌∙◌}
 use Rattle.std.specs.Prelude.{None, Some, Ok, IsUtf8, option_and_then}
 use Rattle.serde_json.specs.Data.{Data}
 use Rattle.serde_json.specs.Read.{read}
-use Rattle.kernel_gate.specs.Signed.{SignatureView, signature_view}
+use Rattle.kernel_gate.specs.Signed.{signature_view}
 use Rattle.kernel_gate.specs.declared.signature.Signature.{Signature}
 use Rattle.param_expr.proofs.Printed.{printed_answers}
-use Rattle.pisdf_model.proofs.Alike.{of_mapped}
 use Rattle.pisdf_model.specs.declared.graph.Graphs.{Graphs}
 use Rattle.graph_format.proofs.NoFaults.{no_model_faults}
 use Rattle.graph_format.proofs.StatedFiles.{file_reads}
 use Rattle.graph_format.specs.Canonical.{canonical}
 use Rattle.graph_format.specs.Faults.{file_faults}
 use Rattle.graph_format.specs.Kernels.{kernel_names}
-use Rattle.graph_format.specs.Named.{named_file, names_of_kernels}
+use Rattle.graph_format.specs.Named.{named_file}
 use Rattle.graph_format.specs.Objects.{file_at, stated_version}
 use Rattle.graph_format.specs.Placed.{placed, tokens_of}
 use Rattle.graph_format.specs.Reads.{Reads, other_version}
