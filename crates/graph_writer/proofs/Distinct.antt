@@ -22,7 +22,7 @@ use Rattle.graph_format.specs.Named.{names_of_params, names_of_actors, names_of_
 
 -- ---- lists of which nothing is told
 
-none_at : {X D : Type 0} (f : ℕ → X → List D) (n : ℕ) (xs : List X) (i m : ℕ) (d : X) → n + i ≡ m → i < length xs → from_number n f xs ≡ [] → f m (get_or xs i d) ≡ []
+pub none_at : {X D : Type 0} (f : ℕ → X → List D) (n : ℕ) (xs : List X) (i m : ℕ) (d : X) → n + i ≡ m → i < length xs → from_number n f xs ≡ [] → f m (get_or xs i d) ≡ []
 none_at f n [] i m d is inside none = absurd (omega arith)
 none_at f n (x ∷ xs) zero m d is inside none =
     let here : n ≡ m = omega arith in

@@ -1,5 +1,5 @@
 -- What a file means has the names of the file, at the places of their parts.
-use Rattle.std.proofs.Common.{◌≡◌, ℕ, ◌+◌, Bool, true, false, cond, List, [], ◌∷◌, ◌++◌, map, All, refl, sym, ap, ◌∙◌, map-id, ◌==◌}
+use Rattle.std.proofs.Common.{◌≡◌, ℕ, ◌+◌, Bool, true, false, cond, List, [], ◌∷◌, ◌++◌, map, All, refl, sym, ap, ◌∙◌, ◌==◌}
 use Rattle.std.specs.Prelude.{Option, Some, None, is_none, unwrap_or}
 use Rattle.std.specs.List.{enumerate_from, flat_map}
 use Rattle.std.specs.Str.{bytes_eq}
@@ -12,7 +12,7 @@ use Rattle.graph_format.specs.Named.{name_at_place}
 use Rattle.graph_format.specs.Placed.{first_place, placed, placed_actor, placed_body, placed_graph, tokens_of, top_of}
 use Rattle.graph_format.specs.References.{missing, unknown_in_actor, unknown_in_body, unknown_in_expr}
 use Rattle.graph_format.proofs.NoFaults.{neither}
-use Rattle.graph_writer.proofs.Resolving.{each_alike}
+use Rattle.graph_writer.proofs.Resolving.{each_again, each_alike}
 use Rattle.pisdf_model.proofs.Alike.{of_mapped}
 use Rattle.pisdf_model.specs.declared.actor.Actor.{Actor}
 use Rattle.pisdf_model.specs.declared.graph.Graph.{Graph}
@@ -34,9 +34,9 @@ each_none f (x ∷ xs) none =
     let both = neither (f x) (flat_map f xs) none in
     All-cons (λ x. f x ≡ []) x xs both.0 (each_none f xs both.1)
 
--- parts of which nothing is told become what they were
+-- parts in which nothing is unknown become what they were
 pub again_where : {A B D : Type 0} (m : A → B) (f : B → A) (u : A → List D) → ((x : A) → u x ≡ [] → f (m x) ≡ x) → (xs : List A) → flat_map u xs ≡ [] → map f (map m xs) ≡ xs
-again_where m f u same xs none = each_alike m f (λ x. x) (λ x. u x ≡ []) same xs (each_none u xs none) ∙ map-id xs
+again_where m f u same xs none = each_again m f (λ x. u x ≡ []) same xs (each_none u xs none)
 
 pub unnumbered : {A B : Type 0} (f : A → B) (n : ℕ) (xs : List A) → map (λ (p : ℕ × A). f p.1) (enumerate_from n xs) ≡ map f xs
 unnumbered f n [] = refl

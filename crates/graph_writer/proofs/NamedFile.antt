@@ -1,5 +1,5 @@
 -- The graphs that a file means, named again, are the file with its delays as the canonical file states them.
-use Rattle.std.proofs.Common.{◌≡◌, ℕ, ◌==◌, Bool, false, List, [], ◌++◌, map, refl, sym, ap, ◌∙◌, map-id}
+use Rattle.std.proofs.Common.{◌≡◌, ℕ, ◌==◌, Bool, false, List, [], ◌++◌, map, refl, sym, ap, ◌∙◌}
 use Rattle.std.specs.Prelude.{Option, Some, None, is_none, slice_index_or, unwrap_or}
 use Rattle.std.specs.List.{enumerate_from, flat_map}
 use Rattle.std.proofs.lemmas.List.Concat.{flat_map-append}
@@ -33,7 +33,7 @@ use Rattle.graph_format.specs.declared.port.FilePort.{FilePort}
 use Rattle.graph_writer.proofs.KernelPlaces.{passes_there, same_kernels}
 use Rattle.graph_writer.proofs.KeptNames.{HasNames, graph_names, graphs, here, meant, names_kept, again_where, each_none, each_numbered, found, known, name_again, none_where, unless_none, unnumbered}
 use Rattle.graph_format.proofs.NoFaults.{neither}
-use Rattle.graph_writer.proofs.Resolving.{each_alike}
+use Rattle.graph_writer.proofs.Resolving.{each_again, each_alike}
 
 -- ---- delays as the canonical file states them
 
@@ -170,8 +170,8 @@ module _ (signatures : List Signature) (file : File) where
       let inputs = interfaces_again signatures all s placed_g children refl kept g.inputs with_inputs.1 in
       let outputs = interfaces_again signatures all s placed_g children refl kept g.outputs with_outputs.1 in
       let actors =
-      each_alike (placed_actor s) (named_actor signatures all (names_of_params placed_g)) (λ a. a) (λ a. (unknown_in_actor s a ≡ []) × (unfit_in_body (map signature_view signatures) a.body ≡ []))
-      (actor_again signatures all s placed_g children refl kept) g.actors (λ k d inside. (unknown k d inside, unfit k d inside)) ∙ map-id g.actors in
+      each_again (placed_actor s) (named_actor signatures all (names_of_params placed_g)) (λ a. (unknown_in_actor s a ≡ []) × (unfit_in_body (map signature_view signatures) a.body ≡ []))
+      (actor_again signatures all s placed_g children refl kept) g.actors (λ k d inside. (unknown k d inside, unfit k d inside)) in
       let fifos =
       each_alike (placed_fifo tokens_of is_top s) (named_fifo all placed_g) restated_fifo (λ f. unknown_in_fifo s f ≡ [])
       (fifo_again signatures all s placed_g children refl kept is_top) g.fifos (each_none (unknown_in_fifo s) g.fifos with_fifos.1) in

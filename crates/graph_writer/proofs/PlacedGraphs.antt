@@ -1,5 +1,5 @@
 -- The file of graphs, placed again, is these graphs.
-use Rattle.std.proofs.Common.{◌≡◌, ℕ, zero, suc, ◌+◌, ◌<◌, ℤ, pos, negsuc, ◌==◌, Bool, true, false, List, [], ◌∷◌, map, All, length, get_or, refl, sym, ap, ◌∙◌, subst, arith, map-id}
+use Rattle.std.proofs.Common.{◌≡◌, ℕ, zero, suc, ◌+◌, ◌<◌, ℤ, pos, negsuc, ◌==◌, Bool, true, false, List, [], ◌∷◌, map, All, length, get_or, refl, sym, ap, ◌∙◌, subst, arith}
 use Rattle.std.specs.Prelude.{replicate}
 use Rattle.std.specs.List.{enumerate_from, list_all}
 use Rattle.std.specs.Ordering.{int_eq}
@@ -33,11 +33,8 @@ use Rattle.graph_format.specs.declared.file.FileGraph.{FileGraph}
 use Rattle.graph_writer.specs.ReadAgain.{ActorsFit, CanBeReadAgain, FitsSignature}
 use Rattle.graph_writer.proofs.Distinct.{AllDiffer, PartsDiffer}
 use Rattle.graph_writer.proofs.KernelPlaces.{is_place_of_kernel}
-use Rattle.graph_writer.proofs.Resolving.{each_alike, end_found, file_names, files, first_again, scope_again, scope_in}
+use Rattle.graph_writer.proofs.Resolving.{each_again, end_found, file_names, files, first_again, scope_again, scope_in}
 use Rattle.param_expr.proofs.Printed.{placed_again}
-
-each_again : {A B : Type 0} (m : A → B) (f : B → A) (P : A → Type 0) → ((x : A) → P x → f (m x) ≡ x) → (xs : List A) → All P xs → map f (map m xs) ≡ xs
-each_again m f P same xs all = each_alike m f (λ x. x) P same xs all ∙ map-id xs
 
 -- ---- delays
 

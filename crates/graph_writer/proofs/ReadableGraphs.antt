@@ -1,8 +1,8 @@
 -- Graphs that were read from a file can be written, and read again.
-use Rattle.std.proofs.Common.{◌≡◌, ℕ, ◌+◌, ◌==◌, Bool, true, List, [], ◌∷◌, map, All, refl, sym, ap, subst, ◌∙◌}
+use Rattle.std.proofs.Common.{◌≡◌, ℕ, ◌+◌, ◌==◌, Bool, true, List, [], map, All, refl, sym, ap, subst, ◌∙◌, get_or}
 use Rattle.std.specs.Prelude.{slice_get, Ok}
 use Rattle.std.specs.List.{AllByRecursion, enumerate_from}
-use Rattle.std.proofs.lemmas.List.Elements.{All-nil, All-cons, All-map, All-weaker}
+use Rattle.std.proofs.lemmas.List.Elements.{All-map, All-weaker}
 use Rattle.serde_json.specs.Data.{Data}
 use Rattle.kernel_gate.specs.Signed.{SignatureView, signature_view}
 use Rattle.kernel_gate.specs.declared.signature.Signature.{Signature}
@@ -30,6 +30,7 @@ use Rattle.graph_format.specs.declared.file.File.{File}
 use Rattle.graph_format.specs.declared.file.FileGraph.{FileGraph}
 use Rattle.graph_writer.specs.ReadAgain.{CanBeReadAgain, HasI64Tokens, kind_fits, WasRead}
 use Rattle.graph_writer.proofs.CanonicalDelays.{canonical_states_delays}
+use Rattle.graph_writer.proofs.Distinct.{none_at}
 use Rattle.graph_writer.proofs.KernelPlaces.{passes_there}
 use Rattle.graph_writer.proofs.KeptNames.{here, meant, each_none, each_numbered, unless_none}
 use Rattle.graph_writer.proofs.NamedFile.{placed_then_named, restated}
@@ -68,10 +69,7 @@ module _ (views : List SignatureView) where
 -- ---- numbers of arguments, ports and sets
 
 each_number_none : {X D : Type 0} (f : ℕ → X → List D) (P : X → Type 0) → ((n : ℕ) (x : X) → f n x ≡ [] → P x) → (n : ℕ) (xs : List X) → from_number n f xs ≡ [] → All P xs
-each_number_none f P shown n [] none = All-nil P
-each_number_none f P shown n (x ∷ xs) none =
-    let both = neither (f n x) (from_number (n + 1) f xs) none in
-    All-cons P x xs (shown n x both.0) (each_number_none f P shown (n + 1) xs both.1)
+each_number_none f P shown n xs none = λ k d inside. shown (n + k) (get_or xs k d) (none_at f n xs k (n + k) d refl inside none)
 
 module _ (views : List SignatureView) (graphs : Graphs) where
   abbrev CountsFit : Graph → Type 0

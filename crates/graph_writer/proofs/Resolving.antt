@@ -1,5 +1,5 @@
 -- What stands at places of a graph, and is found there by its name again.
-use Rattle.std.proofs.Common.{◌≡◌, ℕ, zero, suc, ◌<◌, List, [], ◌∷◌, ◌++◌, map, All, length, get_or, refl, sym, ap, ◌∙◌, subst, arith, length-append}
+use Rattle.std.proofs.Common.{◌≡◌, ℕ, zero, suc, ◌<◌, List, [], ◌∷◌, ◌++◌, map, All, length, get_or, refl, sym, ap, ◌∙◌, subst, arith, length-append, map-id}
 use Rattle.std.specs.Prelude.{Option, unwrap_or, slice_get, slice_index_or}
 use Rattle.std.proofs.lemmas.List.{length-map}
 use Rattle.kernel_gate.specs.declared.signature.Signature.{Signature}
@@ -38,6 +38,10 @@ use Rattle.param_expr.proofs.Printed.{place_again}
 pub each_alike : {A B C : Type 0} (m : A → B) (f : B → C) (g : A → C) (P : A → Type 0) → ((x : A) → P x → f (m x) ≡ g x) → (xs : List A) → All P xs → map f (map m xs) ≡ map g xs
 each_alike m f g P same [] all = refl
 each_alike m f g P same (x ∷ xs) all = rw (same x (all 0 x (omega arith)), each_alike m f g P same xs (λ k d inside. all (suc k) d (omega arith))) refl
+
+-- what becomes each part again, becomes all of them
+pub each_again : {A B : Type 0} (m : A → B) (f : B → A) (P : A → Type 0) → ((x : A) → P x → f (m x) ≡ x) → (xs : List A) → All P xs → map f (map m xs) ≡ xs
+each_again m f P same xs all = each_alike m f (λ x. x) P same xs all ∙ map-id xs
 
 -- ---- places
 
