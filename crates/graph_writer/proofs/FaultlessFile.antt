@@ -1,7 +1,6 @@
 -- The file of graphs without a fault has none: its kernels are those of its actors, and its graphs break no rule.
-use Rattle.std.proofs.Common.{◌≡◌, ℕ, List, [], ◌∷◌, map, Bool, true, refl, sym, ap, ◌∙◌}
-use Rattle.std.specs.List.{All, AllByRecursion, flat_map}
-use Rattle.std.proofs.lemmas.List.Elements.{recursion_from_All}
+use Rattle.std.proofs.Common.{◌≡◌, ℕ, List, [], map, Bool, true, refl, sym, ap, ◌∙◌}
+use Rattle.std.specs.List.{All}
 use Rattle.kernel_gate.specs.Signed.{SignatureView, signature_view}
 use Rattle.kernel_gate.specs.declared.signature.Signature.{Signature}
 use Rattle.param_expr.specs.Print.{Differ}
@@ -10,7 +9,6 @@ use Rattle.pisdf_model.specs.Details.{unless}
 use Rattle.pisdf_model.specs.Names.{repeats, names_of}
 use Rattle.pisdf_model.specs.Ports.{body_fits, ports_faults}
 use Rattle.pisdf_model.specs.WellFormed.{WellFormed}
-use Rattle.pisdf_model.specs.declared.actor.Actor.{Actor}
 use Rattle.pisdf_model.specs.declared.actor.Body.{Body}
 use Rattle.pisdf_model.specs.declared.actor.Body.TheVariants as body
 use Rattle.pisdf_model.specs.declared.graph.Graph.{Graph}
@@ -26,6 +24,7 @@ use Rattle.graph_format.proofs.Laws.{names_kept}
 use Rattle.graph_format.proofs.NoFaults.{no_model_faults}
 use Rattle.graph_format.proofs.PortFaults.{graphs_pass}
 use Rattle.graph_writer.proofs.KernelPlaces.{passes_named}
+use Rattle.graph_writer.proofs.Resolving.{none_of_each}
 use Rattle.graph_writer.specs.ReadAgain.{kind_fits, FitsSignature, ActorsFit, CanBeReadAgain}
 
 -- ---- ports
@@ -52,22 +51,18 @@ module _ (signatures : List Signature) (differ : Differ (names_of_kernels signat
   body_fits_again graphs names (body.Config kernel args ins outs sets) fit = rw (passes_named is_of_config refl signatures kernel differ fit) refl
   body_fits_again graphs names (body.Child graph args) fit = refl
 
-  actors_fit_again : (graphs : Graphs) (names : List (List ℕ)) (actors : List Actor) → AllByRecursion (FitsSignature (map signature_view signatures)) actors
-      → flat_map (λ (a : FileActor). unfit_in_body (map signature_view signatures) a.body) (map (named_actor signatures graphs names) actors) ≡ []
-  actors_fit_again graphs names [] fit = refl
-  actors_fit_again graphs names (actor ∷ actors) fit = rw (body_fits_again graphs names actor.body fit.0.kind) (actors_fit_again graphs names actors fit.1)
-
   graph_fits_again : (graphs : Graphs) (g : Graph) → ActorsFit (map signature_view signatures) g → unfit_in_graph (map signature_view signatures) (named_graph signatures graphs g) ≡ []
   unfolding named_graph
-  graph_fits_again graphs g fit = actors_fit_again graphs (names_of_params g) g.actors (recursion_from_All (FitsSignature (map signature_view signatures)) g.actors fit)
-
-  graphs_fit_again : (graphs : Graphs) (some : List Graph) → AllByRecursion (ActorsFit (map signature_view signatures)) some → flat_map (unfit_in_graph (map signature_view signatures)) (map (named_graph signatures graphs) some) ≡ []
-  graphs_fit_again graphs [] fit = refl
-  graphs_fit_again graphs (g ∷ some) fit = rw (graph_fits_again graphs g fit.0) (graphs_fit_again graphs some fit.1)
+  graph_fits_again graphs g fit =
+      let views = map signature_view signatures in
+      let names = names_of_params g in
+      none_of_each (named_actor signatures graphs names) (λ (a : FileActor). unfit_in_body views a.body) (FitsSignature views) (λ actor here. body_fits_again graphs names actor.body here.kind) g.actors fit
 
 pub kernels_fit : (signatures : List Signature) (graphs : Graphs) → Differ (names_of_kernels signatures) → All (ActorsFit (map signature_view signatures)) graphs.graphs → unfit_in_file (map signature_view signatures) (named_file signatures graphs) ≡ []
 unfolding named_file
-kernels_fit signatures graphs differ fit = graphs_fit_again signatures differ graphs graphs.graphs (recursion_from_All (ActorsFit (map signature_view signatures)) graphs.graphs fit)
+kernels_fit signatures graphs differ fit =
+    let views = map signature_view signatures in
+    none_of_each (named_graph signatures graphs) (unfit_in_graph views) (ActorsFit views) (graph_fits_again signatures differ graphs) graphs.graphs fit
 
 -- ---- files
 

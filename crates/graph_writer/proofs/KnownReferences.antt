@@ -1,5 +1,5 @@
 -- Each reference of the file of graphs is known there.
-use Rattle.std.proofs.Common.{◌≡◌, ℕ, suc, ◌<◌, ◌==◌, List, [], ◌∷◌, ◌++◌, map, All, length, get_or, refl, ap, ◌∙◌, arith}
+use Rattle.std.proofs.Common.{◌≡◌, ℕ, ◌<◌, ◌==◌, List, [], ◌∷◌, ◌++◌, map, All, length, get_or, refl, ap, ◌∙◌, arith}
 use Rattle.std.specs.Prelude.{Bool, Option, is_none, cond}
 use Rattle.std.specs.List.{flat_map}
 use Rattle.std.proofs.lemmas.List.{length-map}
@@ -25,15 +25,12 @@ use Rattle.graph_format.specs.Named as named
 use Rattle.graph_format.specs.Named.{name_at_place, named_actor, named_body, named_end, named_fifo, named_file, named_graph, named_interface, named_kind, named_param, named_port, names_of_actors, names_of_interfaces, names_of_params, names_of_ports_at}
 use Rattle.graph_format.specs.References.{missing, unknown_in_actor, unknown_in_body, unknown_in_expr, unknown_in_fifo, unknown_in_file, unknown_in_graph, unknown_in_kind, unknown_in_param, unknown_in_port}
 use Rattle.graph_format.specs.Scope.{Scope, scope_of}
+use Rattle.graph_format.specs.declared.file.FileGraph.{FileGraph}
 use Rattle.graph_writer.proofs.Distinct.{AllDiffer, PartsDiffer}
-use Rattle.graph_writer.proofs.Resolving.{end_found, file_names, files, scope_again, scope_in}
+use Rattle.graph_writer.proofs.Resolving.{end_found, file_names, files, none_of_each, scope_again, scope_in}
 use Rattle.param_expr.proofs.Printed.{place_again}
 
--- ---- lists
-
-each_known : {A B D : Type 0} (m : A → B) (f : B → List D) (P : A → Type 0) → ((x : A) → P x → f (m x) ≡ []) → (xs : List A) → All P xs → flat_map f (map m xs) ≡ []
-each_known m f P known [] all = refl
-each_known m f P known (x ∷ xs) all = rw (known x (all 0 x (omega arith)), each_known m f P known xs (λ k d inside. all (suc k) d (omega arith))) refl
+-- ---- places
 
 known_at : (names : List (List ℕ)) (i : ℕ) → Differ names → i < length names → missing names (name_at_place names i) ≡ []
 known_at names i differ inside = ap (λ (o : Option ℕ). cond (is_none o) (name_at_place names i ∷ []) []) (place_again names i differ inside)
@@ -62,7 +59,7 @@ module _ (signatures : List Signature) (graphs : Graphs) (all : AllDiffer graphs
       ∙ expr_known b below.1
 
   exprs_known : (ts : List Tree) → All (λ t. RefersBelow count t) ts → flat_map (unknown_in_expr here) (map (with_names names) ts) ≡ []
-  exprs_known ts below = each_known (with_names names) (unknown_in_expr here) (λ t. RefersBelow count t) expr_known ts below
+  exprs_known ts below = none_of_each (with_names names) (unknown_in_expr here) (λ t. RefersBelow count t) expr_known ts below
 
   kind_known : (k : ParamKind) → IsKindInRange count k → unknown_in_kind here (named_kind names k) ≡ []
   kind_known Inherited below = refl
@@ -70,13 +67,13 @@ module _ (signatures : List Signature) (graphs : Graphs) (all : AllDiffer graphs
   kind_known Chosen below = refl
 
   ports_known : (ps : List Port) → All (λ p. IsPortInRange count p) ps → flat_map (unknown_in_port here) (map (named_port names) ps) ≡ []
-  ports_known ps below = each_known (named_port names) (unknown_in_port here) (λ p. IsPortInRange count p) (λ p. expr_known p.rate) ps below
+  ports_known ps below = none_of_each (named_port names) (unknown_in_port here) (λ p. IsPortInRange count p) (λ p. expr_known p.rate) ps below
 
   interfaces_known : (xs : List Interface) → All (λ x. IsInterfaceInRange count x) xs → flat_map (unknown_in_port here) (map (named_interface names) xs) ≡ []
-  interfaces_known xs below = each_known (named_interface names) (unknown_in_port here) (λ x. IsInterfaceInRange count x) (λ x. expr_known x.rate) xs below
+  interfaces_known xs below = none_of_each (named_interface names) (unknown_in_port here) (λ x. IsInterfaceInRange count x) (λ x. expr_known x.rate) xs below
 
   sets_known : (sets : List ℕ) → All (λ i. i < count) sets → flat_map (missing names) (map (name_at_place names) sets) ≡ []
-  sets_known sets inside = each_known (name_at_place names) (missing names) (λ i. i < count) (λ i below. known_at names i parts.params (omega (arith, counted))) sets inside
+  sets_known sets inside = none_of_each (name_at_place names) (missing names) (λ i. i < count) (λ i below. known_at names i parts.params (omega (arith, counted))) sets inside
 
   body_known : (b : Body) → IsBodyInRange (length graphs.graphs) count b → unknown_in_body here (named_body signatures graphs names b) ≡ []
   body_known (body.Kernel kernel args ins outs) range = rw (exprs_known args range.0, ports_known ins range.1, ports_known outs range.2) refl
@@ -91,9 +88,9 @@ module _ (signatures : List Signature) (graphs : Graphs) (all : AllDiffer graphs
   pub graph_known : (is_top : Bool) → IsGraphInRange graphs.graphs is_top g → unknown_in_graph here (named_graph signatures graphs g) ≡ []
   unfolding named_graph
   graph_known is_top range =
-      let params = each_known (named_param names) (unknown_in_param here) (λ p. IsParamInRange count p) (λ p. kind_known p.kind) g.params range.params in
-      let actors = each_known (named_actor signatures graphs names) (unknown_in_actor here) (λ a. IsActorInRange (length graphs.graphs) count a) (λ a. body_known a.body) g.actors range.actors in
-      let fifos = each_known (named_fifo graphs g) (unknown_in_fifo here) (λ f. IsFifoInRange graphs.graphs is_top g f) (fifo_known is_top range.actors) g.fifos range.fifos in
+      let params = none_of_each (named_param names) (unknown_in_param here) (λ p. IsParamInRange count p) (λ p. kind_known p.kind) g.params range.params in
+      let actors = none_of_each (named_actor signatures graphs names) (unknown_in_actor here) (λ a. IsActorInRange (length graphs.graphs) count a) (λ a. body_known a.body) g.actors range.actors in
+      let fifos = none_of_each (named_fifo graphs g) (unknown_in_fifo here) (λ f. IsFifoInRange graphs.graphs is_top g f) (fifo_known is_top range.actors) g.fifos range.fifos in
       rw (params, interfaces_known g.inputs range.inputs, interfaces_known g.outputs range.outputs, actors, fifos) refl
 
 -- ---- files
@@ -103,13 +100,10 @@ unfolding named_file
 file_known signatures graphs all range =
     let inside : graphs.top < length (named.names_of_graphs graphs) = omega (arith, range.top, length-map graphs.graphs (λ (g : Graph). g.name)) in
     let top = ap (λ names. missing names (name_at_place (named.names_of_graphs graphs) graphs.top)) (file_names signatures graphs) ∙ known_at (named.names_of_graphs graphs) graphs.top all.names inside in
-    rw (top, each_graph graphs.graphs (λ i d within. one i d within)) refl
+    let stated = named_graph signatures graphs in
+    let unknown = λ (g : FileGraph). unknown_in_graph (scope_of [] (files signatures graphs) g) g in
+    rw (top, none_of_each stated unknown (λ (g : Graph). unknown (stated g) ≡ []) (λ g none. none) graphs.graphs one) refl
   where
-    each_graph : (gs : List Graph) → ((i : ℕ) (d : Graph) → i < length gs → unknown_in_graph (scope_of [] (files signatures graphs) (named_graph signatures graphs (get_or gs i d))) (named_graph signatures graphs (get_or gs i d)) ≡ [])
-        → flat_map (λ g. unknown_in_graph (scope_of [] (files signatures graphs) g) g) (map (named_graph signatures graphs) gs) ≡ []
-    each_graph [] known = refl
-    each_graph (g ∷ gs) known = rw (known 0 g (omega arith), each_graph gs (λ i d within. known (suc i) d (omega arith))) refl
-
     one : (i : ℕ) (d : Graph) → i < length graphs.graphs → unknown_in_graph (scope_of [] (files signatures graphs) (named_graph signatures graphs (get_or graphs.graphs i d))) (named_graph signatures graphs (get_or graphs.graphs i d)) ≡ []
     one i d within =
         let g = get_or graphs.graphs i d in

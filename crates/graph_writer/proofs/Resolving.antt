@@ -1,6 +1,7 @@
 -- What stands at places of a graph, and is found there by its name again.
 use Rattle.std.proofs.Common.{◌≡◌, ℕ, zero, suc, ◌<◌, List, [], ◌∷◌, ◌++◌, map, All, length, get_or, refl, sym, ap, ◌∙◌, subst, arith, length-append, map-id}
 use Rattle.std.specs.Prelude.{Option, unwrap_or, slice_get, slice_index_or}
+use Rattle.std.specs.List.{flat_map}
 use Rattle.std.proofs.lemmas.List.{length-map}
 use Rattle.kernel_gate.specs.declared.signature.Signature.{Signature}
 use Rattle.param_expr.specs.Bind.{place_of}
@@ -38,6 +39,11 @@ use Rattle.param_expr.proofs.Printed.{place_again}
 pub each_alike : {A B C : Type 0} (m : A → B) (f : B → C) (g : A → C) (P : A → Type 0) → ((x : A) → P x → f (m x) ≡ g x) → (xs : List A) → All P xs → map f (map m xs) ≡ map g xs
 each_alike m f g P same [] all = refl
 each_alike m f g P same (x ∷ xs) all = rw (same x (all 0 x (omega arith)), each_alike m f g P same xs (λ k d inside. all (suc k) d (omega arith))) refl
+
+-- where each part becomes one of which there is nothing to tell, there is nothing to tell of all
+pub none_of_each : {A B D : Type 0} (m : A → B) (f : B → List D) (P : A → Type 0) → ((x : A) → P x → f (m x) ≡ []) → (xs : List A) → All P xs → flat_map f (map m xs) ≡ []
+none_of_each m f P none [] all = refl
+none_of_each m f P none (x ∷ xs) all = rw (none x (all 0 x (omega arith)), none_of_each m f P none xs (λ k d inside. all (suc k) d (omega arith))) refl
 
 -- what becomes each part again, becomes all of them
 pub each_again : {A B : Type 0} (m : A → B) (f : B → A) (P : A → Type 0) → ((x : A) → P x → f (m x) ≡ x) → (xs : List A) → All P xs → map f (map m xs) ≡ xs
