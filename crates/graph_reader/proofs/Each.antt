@@ -26,9 +26,6 @@ rest_fails front rest e none h = rw none h
 pub none_in_both : (front rest : List (List ℕ)) → front ≡ [] → rest ≡ [] → front ++ rest ≡ []
 none_in_both front rest none nothing = rw (none, nothing) refl
 
-pub starts : {A B : Type 0} (unknown : A → List (List ℕ)) (placed : A → B) (xs : List A) → Stands unknown placed xs 0 []
-starts unknown placed xs = record { known = refl; made = refl }
-
 take_next : {A : Type 0} (xs : List A) (i : ℕ) (x : A) → i < length xs → x ≡ get_or xs i x → take (i + 1) xs ≡ take i xs ++ x ∷ []
 take_next xs i x lt is = take_more xs i x lt ∙ ap (λ y. take i xs ++ y ∷ []) (sym is)
 

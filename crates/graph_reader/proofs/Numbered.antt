@@ -1,6 +1,5 @@
 -- The graphs of a file, each behind its number.
 use Rattle.std.proofs.Common.{◌≡◌, ℕ, ◌+◌, ◌<◌, ◌≤◌, List, [], ◌∷◌, ◌++◌, length, get_or, take, map, Ok, refl, sym, ap, ◌∙◌, subst, zero-add, arith}
-use Rattle.std.proofs.lemmas.List.{get_or-map}
 use Rattle.std.specs.List.{enumerate_from, flat_map}
 use Rattle.std.proofs.lemmas.List.FromFn.{get_or-enumerate_from, length-enumerate_from}
 use Rattle.graph_reader.specs.Resolves.{Fails, Resolves}
@@ -16,11 +15,6 @@ at_number xs i x lt is =
 pub flat_map-numbered : {A B : Type 0} (f : A → List B) (n : ℕ) (xs : List A) → flat_map (λ (p : ℕ × A). f p.1) (enumerate_from n xs) ≡ flat_map f xs
 flat_map-numbered f n [] = refl
 flat_map-numbered f n (x ∷ xs) = ap (λ r. f x ++ r) (flat_map-numbered f (n + 1) xs)
-
--- what stands at a place of a list that is another one's image
-pub mapped_at : {A B : Type 0} (f : A → B) (xs : List A) (ys : List B) (i : ℕ) (x : A) (y : B) → ys ≡ map f xs → i < length xs → x ≡ get_or xs i x → y ≡ get_or ys i y → y ≡ f x
-mapped_at f xs ys i x y image lt is is' =
-    is' ∙ ap (λ zs. get_or zs i y) image ∙ get_or-map f xs i x y lt ∙ ap f (sym is)
 
 -- a graph of which the names are resolved, or which fails, among graphs with their numbers
 pub numbered_fails : {A : Type 0} (f : A → List (List ℕ)) (xs : List A) (i : ℕ) (x : A) (e : Unresolved) → i < length xs → x ≡ get_or xs i x → flat_map (λ (p : ℕ × A). f p.1) (take i (enumerate_from 0 xs)) ≡ [] → Fails (f x) e → Fails (flat_map f xs) e

@@ -1,5 +1,5 @@
 -- The first of faults that are told list by list.
-use Rattle.std.proofs.Common.{◌≡◌, ◌⊎◌, inl, inr, ⊎_elim, List, [], ◌∷◌, ◌++◌, map, Some, Result, refl, sym, subst}
+use Rattle.std.proofs.Common.{◌≡◌, ◌⊎◌, inl, inr, ⊎_elim, List, [], ◌++◌, Some, Result, sym, subst}
 use Rattle.pisdf_model.specs.Details.{first}
 use Rattle.pisdf_model.proofs.Walking.{first-append}
 use Rattle.graph_format.specs.Faults.{Tells}
