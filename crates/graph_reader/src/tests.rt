@@ -112,86 +112,90 @@ fn check_items(
 const PASS: &str =
     "{\"pisdf\":1,\"top\":\"g\",\"graphs\":[{\"name\":\"g\",\"params\":[],\"inputs\":[{\"name\":\"x\",\"rate\":\"1\"}],\"outputs\":[{\"name\":\"y\",\"rate\":\"1\"}],\"actors\":[{\"name\":\"a\",\"kind\":\"kernel\",\"kernel\":\"pass\",\"args\":[],\"ins\":[{\"name\":\"i\",\"rate\":\"1\"}],\"outs\":[{\"name\":\"o\",\"rate\":\"1\"}]}],\"fifos\":[{\"from\":\"x\",\"to\":\"a.i\"},{\"from\":\"a.o\",\"to\":\"y\"}]}]}";
 
+/// Files, and what they give.
+const ROOTS: [(&str, &str); 14] = [
+    (
+        PASS,
+        "read interface x port a i zeros 0 port a o interface y zeros 0",
+    ),
+    ("{", "not json"),
+    ("{}", "shape /"),
+    ("[{\"pisdf\":3}]", "shape /"),
+    ("{\"pisdf\":3}", "version 3"),
+    ("{\"pisdf\":-1,\"top\":1}", "version -1"),
+    ("{\"pisdf\":1}", "shape /"),
+    (
+        "{\"pisdf\":1,\"top\":\"g\",\"graphs\":[],\"x\":1}",
+        "shape /",
+    ),
+    (
+        "{\"pisdf\":1.0,\"top\":\"g\",\"graphs\":[]}",
+        "shape /pisdf",
+    ),
+    (
+        "{\"pisdf\":9223372036854775808,\"top\":1,\"graphs\":[]}",
+        "shape /pisdf",
+    ),
+    ("{\"pisdf\":1,\"top\":\"g\",\"graphs\":[]}", "read"),
+    ("{\"graphs\":{},\"top\":\"max\",\"pisdf\":1}", "shape /top"),
+    (
+        "{\"graphs\":{},\"top\":\"g\",\"pisdf\":2,\"pisdf\":1}",
+        "shape /graphs",
+    ),
+    (
+        "{\"graphs\":[[],0],\"top\":\"g\",\"pisdf\":1}",
+        "shape /graphs/0",
+    ),
+];
+
 #[test]
 fn a_root_is_read_or_its_first_fault_named(rt: HostRuntime) -> Result<(), Fail> {
-    let cases = [
-        (
-            PASS,
-            "read interface x port a i zeros 0 port a o interface y zeros 0",
-        ),
-        ("{", "not json"),
-        ("{}", "shape /"),
-        ("[{\"pisdf\":3}]", "shape /"),
-        ("{\"pisdf\":3}", "version 3"),
-        ("{\"pisdf\":-1,\"top\":1}", "version -1"),
-        ("{\"pisdf\":1}", "shape /"),
-        (
-            "{\"pisdf\":1,\"top\":\"g\",\"graphs\":[],\"x\":1}",
-            "shape /",
-        ),
-        (
-            "{\"pisdf\":1.0,\"top\":\"g\",\"graphs\":[]}",
-            "shape /pisdf",
-        ),
-        (
-            "{\"pisdf\":9223372036854775808,\"top\":1,\"graphs\":[]}",
-            "shape /pisdf",
-        ),
-        ("{\"pisdf\":1,\"top\":\"g\",\"graphs\":[]}", "read"),
-        ("{\"graphs\":{},\"top\":\"max\",\"pisdf\":1}", "shape /top"),
-        (
-            "{\"graphs\":{},\"top\":\"g\",\"pisdf\":2,\"pisdf\":1}",
-            "shape /graphs",
-        ),
-        (
-            "{\"graphs\":[[],0],\"top\":\"g\",\"pisdf\":1}",
-            "shape /graphs/0",
-        ),
-    ];
-    for (text, wanted) in cases {
+    for (text, wanted) in ROOTS {
         let answer = told(rt.alloc(), text)?;
         assert_eq!(rt; answer.as_str(), wanted, "{text}");
     }
     Ok(())
 }
 
+/// Members of a second graph, and what their files give.
+const GRAPH_MEMBERS: [(&str, &str); 8] = [
+    (
+        "\"name\":\"g\",\"params\":[],\"inputs\":[],\"outputs\":[],\"actors\":[],\"fifos\":[]",
+        "read",
+    ),
+    (
+        "\"name\":\"g\",\"params\":[],\"inputs\":[],\"outputs\":[],\"actors\":[]",
+        "shape /graphs/1",
+    ),
+    (
+        "\"fifos\":0,\"actors\":0,\"outputs\":0,\"inputs\":0,\"params\":0,\"name\":0",
+        "shape /graphs/1/name",
+    ),
+    (
+        "\"fifos\":0,\"actors\":0,\"outputs\":0,\"inputs\":0,\"params\":0,\"name\":\"h\"",
+        "shape /graphs/1/params",
+    ),
+    (
+        "\"fifos\":0,\"actors\":0,\"outputs\":0,\"inputs\":0,\"params\":[],\"name\":\"h\"",
+        "shape /graphs/1/inputs",
+    ),
+    (
+        "\"fifos\":0,\"actors\":0,\"outputs\":0,\"inputs\":[],\"params\":[],\"name\":\"h\"",
+        "shape /graphs/1/outputs",
+    ),
+    (
+        "\"fifos\":0,\"actors\":0,\"outputs\":[],\"inputs\":[],\"params\":[],\"name\":\"h\"",
+        "shape /graphs/1/actors",
+    ),
+    (
+        "\"fifos\":0,\"actors\":[],\"outputs\":[],\"inputs\":[],\"params\":[],\"name\":\"h\"",
+        "shape /graphs/1/fifos",
+    ),
+];
+
 #[test]
 fn a_graph_has_six_members(rt: HostRuntime) -> Result<(), Fail> {
-    let cases = [
-        (
-            "\"name\":\"g\",\"params\":[],\"inputs\":[],\"outputs\":[],\"actors\":[],\"fifos\":[]",
-            "read",
-        ),
-        (
-            "\"name\":\"g\",\"params\":[],\"inputs\":[],\"outputs\":[],\"actors\":[]",
-            "shape /graphs/1",
-        ),
-        (
-            "\"fifos\":0,\"actors\":0,\"outputs\":0,\"inputs\":0,\"params\":0,\"name\":0",
-            "shape /graphs/1/name",
-        ),
-        (
-            "\"fifos\":0,\"actors\":0,\"outputs\":0,\"inputs\":0,\"params\":0,\"name\":\"h\"",
-            "shape /graphs/1/params",
-        ),
-        (
-            "\"fifos\":0,\"actors\":0,\"outputs\":0,\"inputs\":0,\"params\":[],\"name\":\"h\"",
-            "shape /graphs/1/inputs",
-        ),
-        (
-            "\"fifos\":0,\"actors\":0,\"outputs\":0,\"inputs\":[],\"params\":[],\"name\":\"h\"",
-            "shape /graphs/1/outputs",
-        ),
-        (
-            "\"fifos\":0,\"actors\":0,\"outputs\":[],\"inputs\":[],\"params\":[],\"name\":\"h\"",
-            "shape /graphs/1/actors",
-        ),
-        (
-            "\"fifos\":0,\"actors\":[],\"outputs\":[],\"inputs\":[],\"params\":[],\"name\":\"h\"",
-            "shape /graphs/1/fifos",
-        ),
-    ];
-    for (members, wanted) in cases {
+    for (members, wanted) in GRAPH_MEMBERS {
         let mut text = String::from_str(rt.alloc(), "{\"pisdf\":1,\"top\":\"g\",\"graphs\":[")?;
         text.push_str(
             "{\"name\":\"g\",\"params\":[],\"inputs\":[],\"outputs\":[],\"actors\":[],\"fifos\":[]},{",
@@ -234,52 +238,54 @@ fn parameters_by_their_kind(rt: HostRuntime) -> Result<(), Fail> {
     check_items(&rt, rt.alloc(), "params", &cases)
 }
 
+/// Parameters, and what they give.
+const PARAM_RANGES: [(&str, &str); 14] = [
+    (
+        "{\"name\":\"n\",\"kind\":\"in\",\"low\":2}",
+        "read n in 2 2147483647",
+    ),
+    (
+        "{\"name\":\"n\",\"kind\":\"in\",\"high\":0}",
+        "read n in 0 0",
+    ),
+    (
+        "{\"name\":\"n\",\"kind\":\"in\",\"low\":5,\"high\":5}",
+        "read n in 5 5",
+    ),
+    (
+        "{\"name\":\"n\",\"kind\":\"in\",\"low\":2147483647}",
+        "read n in 2147483647 2147483647",
+    ),
+    (
+        "{\"name\":\"n\",\"kind\":\"in\",\"low\":2147483648}",
+        "//low",
+    ),
+    (
+        "{\"name\":\"n\",\"kind\":\"in\",\"high\":2147483648}",
+        "//high",
+    ),
+    ("{\"name\":\"n\",\"kind\":\"in\",\"low\":-1}", "//low"),
+    (
+        "{\"name\":\"n\",\"kind\":\"in\",\"low\":3,\"high\":2}",
+        "//high",
+    ),
+    (
+        "{\"high\":-1,\"low\":-1,\"name\":\"n\",\"kind\":\"in\"}",
+        "//low",
+    ),
+    ("{\"name\":\"n\",\"kind\":\"in\",\"low\":1.0}", "//low"),
+    ("{\"name\":\"n\",\"kind\":\"in\",\"low\":1e0}", "//low"),
+    ("{\"name\":\"n\",\"kind\":\"in\",\"low\":-0}", "//low"),
+    ("{\"name\":\"n\",\"kind\":\"in\",\"low\":null}", "//low"),
+    (
+        "{\"name\":\"n\",\"kind\":\"in\",\"low\":1,\"low\":2}",
+        "read n in 2 2147483647",
+    ),
+];
+
 #[test]
 fn parameters_by_their_range(rt: HostRuntime) -> Result<(), Fail> {
-    let cases = [
-        (
-            "{\"name\":\"n\",\"kind\":\"in\",\"low\":2}",
-            "read n in 2 2147483647",
-        ),
-        (
-            "{\"name\":\"n\",\"kind\":\"in\",\"high\":0}",
-            "read n in 0 0",
-        ),
-        (
-            "{\"name\":\"n\",\"kind\":\"in\",\"low\":5,\"high\":5}",
-            "read n in 5 5",
-        ),
-        (
-            "{\"name\":\"n\",\"kind\":\"in\",\"low\":2147483647}",
-            "read n in 2147483647 2147483647",
-        ),
-        (
-            "{\"name\":\"n\",\"kind\":\"in\",\"low\":2147483648}",
-            "//low",
-        ),
-        (
-            "{\"name\":\"n\",\"kind\":\"in\",\"high\":2147483648}",
-            "//high",
-        ),
-        ("{\"name\":\"n\",\"kind\":\"in\",\"low\":-1}", "//low"),
-        (
-            "{\"name\":\"n\",\"kind\":\"in\",\"low\":3,\"high\":2}",
-            "//high",
-        ),
-        (
-            "{\"high\":-1,\"low\":-1,\"name\":\"n\",\"kind\":\"in\"}",
-            "//low",
-        ),
-        ("{\"name\":\"n\",\"kind\":\"in\",\"low\":1.0}", "//low"),
-        ("{\"name\":\"n\",\"kind\":\"in\",\"low\":1e0}", "//low"),
-        ("{\"name\":\"n\",\"kind\":\"in\",\"low\":-0}", "//low"),
-        ("{\"name\":\"n\",\"kind\":\"in\",\"low\":null}", "//low"),
-        (
-            "{\"name\":\"n\",\"kind\":\"in\",\"low\":1,\"low\":2}",
-            "read n in 2 2147483647",
-        ),
-    ];
-    check_items(&rt, rt.alloc(), "params", &cases)
+    check_items(&rt, rt.alloc(), "params", &PARAM_RANGES)
 }
 
 #[test]
@@ -317,112 +323,116 @@ fn ports_by_their_rate(rt: HostRuntime) -> Result<(), Fail> {
     check_items(&rt, rt.alloc(), "outputs", &cases)
 }
 
+/// Actors, and what they give.
+const ACTOR_KINDS: [(&str, &str); 13] = [
+    (
+        "{\"name\":\"a\",\"kind\":\"kernel\",\"kernel\":\"min\",\"args\":[\"1\"],\"ins\":[],\"outs\":[]}",
+        "read",
+    ),
+    (
+        "{\"name\":\"a\",\"kind\":\"config\",\"kernel\":\"max\",\"args\":[],\"ins\":[{\"name\":\"i\"}],\"outs\":[],\"sets\":[\"n\"]}",
+        "read",
+    ),
+    (
+        "{\"name\":\"a\",\"kind\":\"graph\",\"graph\":\"b\",\"args\":[\"n\"]}",
+        "read",
+    ),
+    (
+        "{\"name\":\"a\",\"kind\":\"kernels\",\"kernel\":1,\"args\":[],\"ins\":[],\"outs\":[]}",
+        "/",
+    ),
+    ("{\"name\":\"1\",\"kind\":null}", "/"),
+    ("{\"name\":\"a\",\"graph\":\"b\",\"args\":[]}", "/"),
+    (
+        "{\"name\":\"a\",\"kind\":\"kernel\",\"kernel\":\"pass\",\"ins\":[],\"outs\":[]}",
+        "/",
+    ),
+    (
+        "{\"name\":\"a\",\"kind\":\"kernel\",\"kernel\":\"pass\",\"args\":[],\"ins\":[],\"outs\":[],\"sets\":[]}",
+        "/",
+    ),
+    (
+        "{\"name\":\"a\",\"kind\":\"config\",\"kernel\":\"pick\",\"args\":[],\"ins\":[],\"outs\":[]}",
+        "/",
+    ),
+    (
+        "{\"name\":\"a\",\"kind\":\"graph\",\"graph\":\"b\",\"args\":[],\"ins\":[]}",
+        "/",
+    ),
+    (
+        "{\"name\":\"a\",\"kind\":\"graph\",\"graph\":\"min\",\"args\":1}",
+        "//graph",
+    ),
+    (
+        "{\"name\":\"a\",\"kind\":\"graph\",\"graph\":\"b\",\"args\":[\"n\",0]}",
+        "//args/1",
+    ),
+    (
+        "{\"name\":\"max\",\"kind\":\"graph\",\"graph\":\"1\",\"args\":[]}",
+        "//name",
+    ),
+];
+
 #[test]
 fn actors_by_their_kind(rt: HostRuntime) -> Result<(), Fail> {
-    let cases = [
-        (
-            "{\"name\":\"a\",\"kind\":\"kernel\",\"kernel\":\"min\",\"args\":[\"1\"],\"ins\":[],\"outs\":[]}",
-            "read",
-        ),
-        (
-            "{\"name\":\"a\",\"kind\":\"config\",\"kernel\":\"max\",\"args\":[],\"ins\":[{\"name\":\"i\"}],\"outs\":[],\"sets\":[\"n\"]}",
-            "read",
-        ),
-        (
-            "{\"name\":\"a\",\"kind\":\"graph\",\"graph\":\"b\",\"args\":[\"n\"]}",
-            "read",
-        ),
-        (
-            "{\"name\":\"a\",\"kind\":\"kernels\",\"kernel\":1,\"args\":[],\"ins\":[],\"outs\":[]}",
-            "/",
-        ),
-        ("{\"name\":\"1\",\"kind\":null}", "/"),
-        ("{\"name\":\"a\",\"graph\":\"b\",\"args\":[]}", "/"),
-        (
-            "{\"name\":\"a\",\"kind\":\"kernel\",\"kernel\":\"pass\",\"ins\":[],\"outs\":[]}",
-            "/",
-        ),
-        (
-            "{\"name\":\"a\",\"kind\":\"kernel\",\"kernel\":\"pass\",\"args\":[],\"ins\":[],\"outs\":[],\"sets\":[]}",
-            "/",
-        ),
-        (
-            "{\"name\":\"a\",\"kind\":\"config\",\"kernel\":\"pick\",\"args\":[],\"ins\":[],\"outs\":[]}",
-            "/",
-        ),
-        (
-            "{\"name\":\"a\",\"kind\":\"graph\",\"graph\":\"b\",\"args\":[],\"ins\":[]}",
-            "/",
-        ),
-        (
-            "{\"name\":\"a\",\"kind\":\"graph\",\"graph\":\"min\",\"args\":1}",
-            "//graph",
-        ),
-        (
-            "{\"name\":\"a\",\"kind\":\"graph\",\"graph\":\"b\",\"args\":[\"n\",0]}",
-            "//args/1",
-        ),
-        (
-            "{\"name\":\"max\",\"kind\":\"graph\",\"graph\":\"1\",\"args\":[]}",
-            "//name",
-        ),
-    ];
-    check_items(&rt, rt.alloc(), "actors", &cases)
+    check_items(&rt, rt.alloc(), "actors", &ACTOR_KINDS)
 }
+
+/// Actors of which a member has not its form, and where it stands.
+const ACTOR_MEMBERS: [(&str, &str); 12] = [
+    (
+        "{\"outs\":0,\"ins\":0,\"args\":0,\"kernel\":\"1\",\"kind\":\"kernel\",\"name\":\"a\"}",
+        "//kernel",
+    ),
+    (
+        "{\"outs\":0,\"ins\":0,\"args\":0,\"kernel\":\"k\",\"kind\":\"kernel\",\"name\":\"a\"}",
+        "//args",
+    ),
+    (
+        "{\"outs\":0,\"ins\":0,\"args\":[],\"kernel\":\"k\",\"kind\":\"kernel\",\"name\":\"a\"}",
+        "//ins",
+    ),
+    (
+        "{\"outs\":0,\"ins\":[{\"name\":\"i\"}],\"args\":[],\"kernel\":\"k\",\"kind\":\"kernel\",\"name\":\"a\"}",
+        "//ins/0",
+    ),
+    (
+        "{\"outs\":[{\"name\":\"o\",\"rate\":0}],\"ins\":[],\"args\":[],\"kernel\":\"k\",\"kind\":\"kernel\",\"name\":\"a\"}",
+        "//outs/0/rate",
+    ),
+    (
+        "{\"sets\":0,\"outs\":0,\"ins\":0,\"args\":0,\"kernel\":0,\"kind\":\"config\",\"name\":0}",
+        "//name",
+    ),
+    (
+        "{\"sets\":0,\"outs\":0,\"ins\":0,\"args\":0,\"kernel\":0,\"kind\":\"config\",\"name\":\"a\"}",
+        "//kernel",
+    ),
+    (
+        "{\"sets\":0,\"outs\":0,\"ins\":0,\"args\":{},\"kernel\":\"k\",\"kind\":\"config\",\"name\":\"a\"}",
+        "//args",
+    ),
+    (
+        "{\"sets\":0,\"outs\":0,\"ins\":[{\"name\":\"i\",\"rate\":\"1\"}],\"args\":[],\"kernel\":\"k\",\"kind\":\"config\",\"name\":\"a\"}",
+        "//ins/0",
+    ),
+    (
+        "{\"sets\":0,\"outs\":0,\"ins\":[{\"name\":\"1\"}],\"args\":[],\"kernel\":\"k\",\"kind\":\"config\",\"name\":\"a\"}",
+        "//ins/0/name",
+    ),
+    (
+        "{\"sets\":0,\"outs\":0,\"ins\":[],\"args\":[],\"kernel\":\"k\",\"kind\":\"config\",\"name\":\"a\"}",
+        "//outs",
+    ),
+    (
+        "{\"sets\":[\"n\",\"min\"],\"outs\":[],\"ins\":[],\"args\":[],\"kernel\":\"k\",\"kind\":\"config\",\"name\":\"a\"}",
+        "//sets/1",
+    ),
+];
 
 #[test]
 fn actors_by_their_members(rt: HostRuntime) -> Result<(), Fail> {
-    let cases = [
-        (
-            "{\"outs\":0,\"ins\":0,\"args\":0,\"kernel\":\"1\",\"kind\":\"kernel\",\"name\":\"a\"}",
-            "//kernel",
-        ),
-        (
-            "{\"outs\":0,\"ins\":0,\"args\":0,\"kernel\":\"k\",\"kind\":\"kernel\",\"name\":\"a\"}",
-            "//args",
-        ),
-        (
-            "{\"outs\":0,\"ins\":0,\"args\":[],\"kernel\":\"k\",\"kind\":\"kernel\",\"name\":\"a\"}",
-            "//ins",
-        ),
-        (
-            "{\"outs\":0,\"ins\":[{\"name\":\"i\"}],\"args\":[],\"kernel\":\"k\",\"kind\":\"kernel\",\"name\":\"a\"}",
-            "//ins/0",
-        ),
-        (
-            "{\"outs\":[{\"name\":\"o\",\"rate\":0}],\"ins\":[],\"args\":[],\"kernel\":\"k\",\"kind\":\"kernel\",\"name\":\"a\"}",
-            "//outs/0/rate",
-        ),
-        (
-            "{\"sets\":0,\"outs\":0,\"ins\":0,\"args\":0,\"kernel\":0,\"kind\":\"config\",\"name\":0}",
-            "//name",
-        ),
-        (
-            "{\"sets\":0,\"outs\":0,\"ins\":0,\"args\":0,\"kernel\":0,\"kind\":\"config\",\"name\":\"a\"}",
-            "//kernel",
-        ),
-        (
-            "{\"sets\":0,\"outs\":0,\"ins\":0,\"args\":{},\"kernel\":\"k\",\"kind\":\"config\",\"name\":\"a\"}",
-            "//args",
-        ),
-        (
-            "{\"sets\":0,\"outs\":0,\"ins\":[{\"name\":\"i\",\"rate\":\"1\"}],\"args\":[],\"kernel\":\"k\",\"kind\":\"config\",\"name\":\"a\"}",
-            "//ins/0",
-        ),
-        (
-            "{\"sets\":0,\"outs\":0,\"ins\":[{\"name\":\"1\"}],\"args\":[],\"kernel\":\"k\",\"kind\":\"config\",\"name\":\"a\"}",
-            "//ins/0/name",
-        ),
-        (
-            "{\"sets\":0,\"outs\":0,\"ins\":[],\"args\":[],\"kernel\":\"k\",\"kind\":\"config\",\"name\":\"a\"}",
-            "//outs",
-        ),
-        (
-            "{\"sets\":[\"n\",\"min\"],\"outs\":[],\"ins\":[],\"args\":[],\"kernel\":\"k\",\"kind\":\"config\",\"name\":\"a\"}",
-            "//sets/1",
-        ),
-    ];
-    check_items(&rt, rt.alloc(), "actors", &cases)
+    check_items(&rt, rt.alloc(), "actors", &ACTOR_MEMBERS)
 }
 
 #[test]

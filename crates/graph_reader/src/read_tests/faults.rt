@@ -24,59 +24,61 @@ fn what_is_no_json(rt: HostRuntime) -> Result<(), Fail> {
     Ok(())
 }
 
+/// Changes of the whole file, and the place of what has not its form.
+const OTHER_FORMS: [(&[(&str, &str)], &str); 15] = [
+    (&[("'pisdf':1,", "'pisdf':1.0,")], "2 shape /pisdf"),
+    (&[("'top':'g',", "")], "2 shape /"),
+    (
+        &[("'low':1,'high':8", "'low':8,'high':1")],
+        "2 shape /graphs/0/params/0/high",
+    ),
+    (
+        &[("'kind':'in'", "'kind':'max'")],
+        "2 shape /graphs/1/params/0/kind",
+    ),
+    (
+        &[("'kind':'is','expr':'n+q'", "'kind':'is'")],
+        "2 shape /graphs/0/params/2",
+    ),
+    (
+        &[("{'name':'in'}", "{'name':'in','rate':'1'}")],
+        "2 shape /graphs/0/actors/1/ins/0",
+    ),
+    (
+        &[("'sets':['q']", "'sets':['q',1]")],
+        "2 shape /graphs/0/actors/1/sets/1",
+    ),
+    (
+        &[("'delay':2", "'delay':-2")],
+        "2 shape /graphs/0/fifos/3/delay",
+    ),
+    (
+        &[("'delay':2", "'delay':2,'life':'firing'")],
+        "2 shape /graphs/0/fifos/3",
+    ),
+    (
+        &[("[5,-6]", "[5,-6.0]")],
+        "2 shape /graphs/1/fifos/3/delay/1",
+    ),
+    (&[("'b.u'", "'b.u.v'")], "2 shape /graphs/0/fifos/3/to"),
+    (&[("'p+1'", "'p+'")], "2 shape /graphs/1/outputs/0/rate"),
+    (
+        &[("'kind':'graph'", "'kind':'graphs'")],
+        "2 shape /graphs/0/actors/3",
+    ),
+    (
+        &[("'kernel':'gain'", "'kernel':'gain.x'")],
+        "2 shape /graphs/0/actors/2/kernel",
+    ),
+    (
+        &[("'graph':'h'", "'graph':'min'")],
+        "2 shape /graphs/0/actors/3/graph",
+    ),
+];
+
 #[test]
 fn what_has_not_the_form(rt: HostRuntime) -> Result<(), Fail> {
-    let cases: [(&[(&str, &str)], &str); 15] = [
-        (&[("'pisdf':1,", "'pisdf':1.0,")], "2 shape /pisdf"),
-        (&[("'top':'g',", "")], "2 shape /"),
-        (
-            &[("'low':1,'high':8", "'low':8,'high':1")],
-            "2 shape /graphs/0/params/0/high",
-        ),
-        (
-            &[("'kind':'in'", "'kind':'max'")],
-            "2 shape /graphs/1/params/0/kind",
-        ),
-        (
-            &[("'kind':'is','expr':'n+q'", "'kind':'is'")],
-            "2 shape /graphs/0/params/2",
-        ),
-        (
-            &[("{'name':'in'}", "{'name':'in','rate':'1'}")],
-            "2 shape /graphs/0/actors/1/ins/0",
-        ),
-        (
-            &[("'sets':['q']", "'sets':['q',1]")],
-            "2 shape /graphs/0/actors/1/sets/1",
-        ),
-        (
-            &[("'delay':2", "'delay':-2")],
-            "2 shape /graphs/0/fifos/3/delay",
-        ),
-        (
-            &[("'delay':2", "'delay':2,'life':'firing'")],
-            "2 shape /graphs/0/fifos/3",
-        ),
-        (
-            &[("[5,-6]", "[5,-6.0]")],
-            "2 shape /graphs/1/fifos/3/delay/1",
-        ),
-        (&[("'b.u'", "'b.u.v'")], "2 shape /graphs/0/fifos/3/to"),
-        (&[("'p+1'", "'p+'")], "2 shape /graphs/1/outputs/0/rate"),
-        (
-            &[("'kind':'graph'", "'kind':'graphs'")],
-            "2 shape /graphs/0/actors/3",
-        ),
-        (
-            &[("'kernel':'gain'", "'kernel':'gain.x'")],
-            "2 shape /graphs/0/actors/2/kernel",
-        ),
-        (
-            &[("'graph':'h'", "'graph':'min'")],
-            "2 shape /graphs/0/actors/3/graph",
-        ),
-    ];
-    check_changes(&rt, rt.alloc(), &cases)
+    check_changes(&rt, rt.alloc(), &OTHER_FORMS)
 }
 
 #[test]

@@ -238,51 +238,53 @@ fn the_first_kernel_and_the_first_numbers(rt: HostRuntime) -> Result<(), Fail> {
     check_changes(&rt, rt.alloc(), &cases)
 }
 
+/// Changes of the whole file, and the fault that stands first.
+const WIRES_AND_FIFOS: [(&[(&str, &str)], &str); 6] = [
+    // The FIFOs that run the wrong way stand before the ends of their graph that are at none.
+    (
+        &[
+            ("{'from':'w','to':'c.i'},", ""),
+            ("'from':'b.v'", "'from':'b.u'"),
+        ],
+        "8 wire b.u",
+    ),
+    (
+        &[
+            ("{'from':'w','to':'c.i'},", ""),
+            ("'from':'e.g'", "'from':'e.f'"),
+        ],
+        "8 wire w",
+    ),
+    (
+        &[("'from':'a.y','to':'b.u'", "'from':'a.x','to':'b.v'")],
+        "8 wire a.x",
+    ),
+    (
+        &[
+            ("{'from':'z.t','to':'d.l'},", ""),
+            ("{'from':'d.o','to':'v'},", ""),
+        ],
+        "8 wire v",
+    ),
+    (
+        &[
+            ("{'from':'z.t','to':'d.l'},", ""),
+            (",{'from':'e.g','to':'e.f','delay':[5,-6]}", ""),
+        ],
+        "8 wire d.l",
+    ),
+    (
+        &[
+            ("'to':'d.r'", "'to':'d.r','delay':1"),
+            ("'to':'a.x'", "'to':'a.x','delay':3"),
+        ],
+        "9 interface g 2",
+    ),
+];
+
 #[test]
 fn the_first_wire_and_the_first_fifo(rt: HostRuntime) -> Result<(), Fail> {
-    let cases: [(&[(&str, &str)], &str); 6] = [
-        // The FIFOs that run the wrong way stand before the ends of their graph that are at none.
-        (
-            &[
-                ("{'from':'w','to':'c.i'},", ""),
-                ("'from':'b.v'", "'from':'b.u'"),
-            ],
-            "8 wire b.u",
-        ),
-        (
-            &[
-                ("{'from':'w','to':'c.i'},", ""),
-                ("'from':'e.g'", "'from':'e.f'"),
-            ],
-            "8 wire w",
-        ),
-        (
-            &[("'from':'a.y','to':'b.u'", "'from':'a.x','to':'b.v'")],
-            "8 wire a.x",
-        ),
-        (
-            &[
-                ("{'from':'z.t','to':'d.l'},", ""),
-                ("{'from':'d.o','to':'v'},", ""),
-            ],
-            "8 wire v",
-        ),
-        (
-            &[
-                ("{'from':'z.t','to':'d.l'},", ""),
-                (",{'from':'e.g','to':'e.f','delay':[5,-6]}", ""),
-            ],
-            "8 wire d.l",
-        ),
-        (
-            &[
-                ("'to':'d.r'", "'to':'d.r','delay':1"),
-                ("'to':'a.x'", "'to':'a.x','delay':3"),
-            ],
-            "9 interface g 2",
-        ),
-    ];
-    check_changes(&rt, rt.alloc(), &cases)
+    check_changes(&rt, rt.alloc(), &WIRES_AND_FIFOS)
 }
 
 #[test]
