@@ -3,6 +3,7 @@ use super::graphs::{
     EMPTY_GRAPH, Lists, NONE, RING, check, file, file_of, graph, joined, numbered, ring,
 };
 use std::alloc::Global;
+use std::fmt::Write;
 use std::test::Fail;
 
 /// So many times a letter.
@@ -95,6 +96,34 @@ fn a_graph_has_up_to_64_parameters(rt: HostRuntime) -> Result<(), Fail> {
         check(&rt, alloc, file.as_str(), wanted)?;
     }
     Ok(())
+}
+
+/// A file of parameters of which each depends on the next one, and the last, with this number, on this expression.
+fn chain(alloc: Global, last: usize, expression: &str) -> Result<String, Fail> {
+    let mut params = numbered(alloc, "{'name':'n#','kind':'is','expr':'n@'}", last)?;
+    write!(
+        params,
+        ",{{'name':'n{last}','kind':'is','expr':'{expression}'}}"
+    )?;
+    let lists = Lists {
+        params: params.as_str(),
+        ..NONE
+    };
+    file_of(alloc, lists)
+}
+
+#[test]
+fn a_long_chain_of_parameters_is_too_long(rt: HostRuntime) -> Result<(), Fail> {
+    let alloc = rt.alloc();
+    let file = chain(alloc, 20_000, "1")?;
+    check(&rt, alloc, file.as_str(), "13 count params")
+}
+
+#[test]
+fn the_last_of_a_long_chain_of_parameters_depends_on_itself(rt: HostRuntime) -> Result<(), Fail> {
+    let alloc = rt.alloc();
+    let file = chain(alloc, 20_000, "n20000")?;
+    check(&rt, alloc, file.as_str(), "10 order n20000")
 }
 
 /// A graph that passes so many inputs on.
