@@ -1,4 +1,4 @@
-//! Writes graphs as graph files, in the canonical form: compact JSON with all members, in the order of their bytes.
+//! Writes graphs as graph files, in the canonical form: compact JSON, members in the order of their bytes.
 #![tactic(auto)]
 
 mod actor;

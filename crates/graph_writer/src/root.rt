@@ -38,10 +38,14 @@ fn root(alloc: Global, graphs: &Graphs, signatures: &[Signature]) -> Result<Valu
     root_object(alloc, version, top, graphs)
 }
 
-/// The canonical graph file: compact JSON, all members in the order of their bytes. Each place is replaced by the name
+/// The canonical graph file: compact JSON, members in the order of their bytes. Each place is replaced by the name
 /// that stands there, a kernel's place by the name of its signature. A parameter's `low` and `high` always stand there;
 /// `delay` is left out where it is empty, a number where all its tokens are 0, and a list else. Expressions are printed
-/// with the fewest parentheses.
+/// with the fewest parentheses. The file is read as these graphs again, where a file can state them, they have no fault,
+/// and no two signatures have one name.
+///
+/// In each expression, parameters are places of names, and numbers are at least 0 (`writable`). Where a place names no
+/// part, the empty text is written.
 ///
 /// # Errors
 ///

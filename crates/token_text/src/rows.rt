@@ -7,7 +7,11 @@ use std::alloc::{AllocError, Global};
 use std::fmt::Write;
 
 /// The row of the tokens that an iteration put at the output of a name: `tokens,ITERATION,NAME`, then each token, joined
-/// by commas and ended by a line feed.
+/// by commas and ended by a line feed. Without tokens it has just the three fields.
+///
+/// # Errors
+///
+/// Want of memory.
 pub fn tokens_row(
     alloc: Global,
     iteration: u32,
@@ -22,7 +26,11 @@ pub fn tokens_row(
 }
 
 /// The row of the value that an iteration gave a chosen parameter: `param,ITERATION,PATH,NAME,VALUE`, ended by a line
-/// feed.
+/// feed, where the path leads to the graph of the parameter.
+///
+/// # Errors
+///
+/// Want of memory.
 pub fn param_row(
     alloc: Global,
     iteration: u32,

@@ -115,15 +115,15 @@ fn chain(alloc: Global, last: usize, expression: &str) -> Result<String, Fail> {
 #[test]
 fn a_long_chain_of_parameters_is_too_long(rt: HostRuntime) -> Result<(), Fail> {
     let alloc = rt.alloc();
-    let file = chain(alloc, 20_000, "1")?;
+    let file = chain(alloc, 4_000, "1")?;
     check(&rt, alloc, file.as_str(), "13 count params")
 }
 
 #[test]
 fn the_last_of_a_long_chain_of_parameters_depends_on_itself(rt: HostRuntime) -> Result<(), Fail> {
     let alloc = rt.alloc();
-    let file = chain(alloc, 20_000, "n20000")?;
-    check(&rt, alloc, file.as_str(), "10 order n20000")
+    let file = chain(alloc, 4_000, "n4000")?;
+    check(&rt, alloc, file.as_str(), "10 order n4000")
 }
 
 /// A graph that passes so many inputs on.

@@ -25,7 +25,7 @@ fn graphs_nest_to_8(rt: HostRuntime) -> Result<(), Fail> {
         (9, "12 depth g0"),
         (32, "12 depth g0"),
         (33, "12 depth g0"),
-        (20_000, "12 depth g0"),
+        (4_000, "12 depth g0"),
     ] {
         let graphs = nested(alloc, deep)?;
         let file = file(alloc, "g0", graphs.as_str())?;
