@@ -1,4 +1,4 @@
--- What can be written: each expression is one that a file can state, over parameters with names.
+-- What can be written: expressions over parameters with names, without numbers below 0.
 use Rattle.std.specs.Prelude.{ℕ, List, length, All}
 use Rattle.param_expr.specs.Tree.{Tree}
 use Rattle.param_expr.specs.Words.{IsName}
