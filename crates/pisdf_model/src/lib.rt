@@ -12,6 +12,7 @@ mod duplicates;
 mod end_times;
 mod fifo;
 mod graph;
+mod holding;
 mod interface_wires;
 mod limits;
 mod named_params;
@@ -32,10 +33,11 @@ pub use detail_fault::DetailFault;
 pub use duplicates::duplicate;
 pub use fifo::{End, Fifo, Life};
 pub use graph::{Graph, Graphs, Interface};
+pub use holding::{capped, capped_sum, large_holds};
 pub use interface_wires::{FifoPlace, interface_wire};
 pub use limits::{
-    MAX_ACTORS, MAX_DELAY_TOKENS, MAX_FIFOS, MAX_GRAPHS, MAX_INPUTS, MAX_NESTING, MAX_OUTPUTS,
-    MAX_PARAMS,
+    MAX_ACTORS, MAX_DELAY_TOKENS, MAX_EXPORTS, MAX_FIFOS, MAX_GRAPHS, MAX_HOLD, MAX_INPUTS,
+    MAX_NESTING, MAX_OUTPUTS, MAX_PARAMS,
 };
 pub use names::{Scope, ScopedName, push_name, repeat};
 pub use nesting::{depth, graph_cycle};
@@ -45,26 +47,3 @@ pub use port_counts::{AnyCounts, Counts, ports};
 pub use range::{in_range, life_of};
 pub use rules::{ModelFault, well_formed};
 pub use wires::{port_text, wire};
-
-#[cfg(test)]
-mod built;
-#[cfg(test)]
-mod components_tests;
-#[cfg(test)]
-mod counting_tests;
-#[cfg(test)]
-mod inside;
-#[cfg(test)]
-mod names_tests;
-#[cfg(test)]
-mod nesting_tests;
-#[cfg(test)]
-mod ordering_tests;
-#[cfg(test)]
-mod ports_tests;
-#[cfg(test)]
-mod range_tests;
-#[cfg(test)]
-mod rules_tests;
-#[cfg(test)]
-mod wires_tests;
