@@ -1,5 +1,5 @@
 -- Which file a JSON value states, by the table of the format's objects: an object has the members of its row and no others, and a member that is left out stands for its default.
-use Rattle.std.specs.Prelude.{◌≡◌, ℕ, pos, List, [], ◌∷◌, Bool, true, false, Some, codes}
+use Rattle.std.specs.Prelude.{◌≡◌, ℕ, ◌≤◌, pos, List, [], ◌∷◌, Bool, true, false, Some, codes}
 use Rattle.serde_json.specs.Data.{Data}
 use Rattle.serde_json.specs.Find.{get}
 use Rattle.param_expr.specs.Named.{NamedTree}
@@ -157,3 +157,9 @@ pub record States (version : ℕ) (d : Data) (file : File) : Type 0 where
   pub pisdf : HasMember (StatesVersion version) d (codes "pisdf") file.version
   pub top : HasMember StatesName d (codes "top") file.top
   pub graphs : HasMember (IsList (StatesGraph version)) d (codes "graphs") file.graphs
+
+-- the value states the file, in one of the versions of the format
+pub record StatesFile (d : Data) (file : File) : Type 0 where
+  pub first_version : 1 ≤ file.version
+  pub last_version : file.version ≤ 3
+  pub states : States file.version d file

@@ -1,8 +1,9 @@
 -- How many tokens go on in a graph, counted over its own delays and the graphs that it holds.
-use Rattle.std.proofs.Common.{◌≡◌, ℕ, zero, suc, ◌+◌, ◌≤◌, ◌==◌, ◌&&◌, ◌||◌, ℤ, Bool, min, nat_lt, List, [], ◌∷◌, ◌++◌, length, map, Option, Some, None, option_map, refl, sym, ap, ◌∙◌, arith, get_or, take}
+use Rattle.std.proofs.Common.{◌≡◌, ℕ, zero, suc, ◌+◌, ◌≤◌, ◌==◌, ◌&&◌, ◌||◌, ℤ, Bool, min, nat_lt, List, [], ◌∷◌, ◌++◌, length, map, Option, Some, None, option_map, refl, sym, ap, ◌∙◌, ⊎_elim, ◌<◌, add-one, arith, get_or, replicate}
 use Rattle.std.specs.Prelude.{slice_get, slice_index_or, sum_by}
 use Rattle.std.specs.List.{flat_map, list_any, range_with_len}
-use Rattle.std.proofs.lemmas.Bool.{lt-ltb, ltb-true}
+use Rattle.std.proofs.lemmas.Bool.{cases_lt, lt-ltb, ltb-true}
+use Rattle.std.proofs.lemmas.List.{get_or_past}
 use Rattle.std.proofs.lemmas.List.Concat.{length-flat_map}
 use Rattle.std.proofs.lemmas.List.Folds.{flat_map-map}
 use Rattle.std.proofs.lemmas.List.FromFn.{get_or-map-range_with_len, length-map-range_with_len}
@@ -127,3 +128,49 @@ pub large_hold : (graphs : List Graph) (place : ℕ) → has_large_hold graphs p
 large_hold graphs place =
     ap (λ named. named && nat_lt 262144 (hold graphs place)) (named_held graphs place)
     ∙ ap (λ n. is_held (map children graphs) place && nat_lt 262144 n) (held_tokens graphs 8 place)
+
+-- ---- level by level
+
+map_same : {X : Type 0} (f g : ℕ → X) → ((x : ℕ) → f x ≡ g x) → (xs : List ℕ) → map f xs ≡ map g xs
+map_same f g same [] = refl
+map_same f g same (x ∷ xs) = ap (λ y. y ∷ map f xs) (same x) ∙ ap (λ ys. g x ∷ ys) (map_same f g same xs)
+
+module _ (own : List ℕ) (arrows : List (List ℕ)) (long : length own ≡ length arrows) where
+  outside : (n place : ℕ) → length arrows ≤ place → hold_to own arrows n place ≡ 0
+  unfolding hold_to
+  outside zero place past = refl
+  outside (suc n) place past = rw (get_or_past own place 0 (omega arith), get_or_past arrows place [] past) refl
+
+  -- what each graph holds over n levels
+  abbrev pub level : ℕ → List ℕ
+  level n = map (λ place. capped (hold_to own arrows n place)) (range_with_len 0 (length arrows))
+
+  read_level : (n place : ℕ) → get_or (level n) place 0 ≡ capped (hold_to own arrows n place)
+  read_level n place =
+      ⊎_elim
+      (λ (inside : place < length arrows). get_or-map-range_with_len (λ place. capped (hold_to own arrows n place)) 0 (length arrows) place place 0 inside (omega arith))
+      (λ (past : length arrows ≤ place). get_or_past (level n) place 0 (rw (length-map-range_with_len (λ place. capped (hold_to own arrows n place)) 0 (length arrows)) past) ∙ ap capped (sym (outside n place past)))
+      (cases_lt place (length arrows))
+
+  pub level_most : (n k : ℕ) → get_or (level n) k 0 ≤ 262145
+  level_most n k = rw (read_level n k) (omega arith)
+
+  one_place : (n place : ℕ) → capped (get_or own place 0 + sum_by (λ k. get_or (level n) k 0) (to_of arrows place)) ≡ capped (hold_to own arrows (suc n) place)
+  unfolding hold_to
+  one_place n place =
+      capped_both (get_or own place 0) (sum_by (λ k. get_or (level n) k 0) (to_of arrows place)) (get_or own place 0) (sum_by (hold_to own arrows n) (to_of arrows place)) refl
+      (capped_sums (λ k. get_or (level n) k 0) (hold_to own arrows n) (λ k. ap capped (read_level n k) ∙ (omega arith)) (to_of arrows place))
+
+  pub next_level : (n : ℕ) (holds : List ℕ) → holds ≡ level n → map (λ place. capped (get_or own place 0 + sum_by (λ k. get_or holds k 0) (to_of arrows place))) (range_with_len 0 (length arrows)) ≡ level (n + 1)
+  next_level n holds is =
+      ap (λ (hs : List ℕ). map (λ place. capped (get_or own place 0 + sum_by (λ k. get_or hs k 0) (to_of arrows place))) (range_with_len 0 (length arrows))) is
+      ∙ map_same (λ place. capped (get_or own place 0 + sum_by (λ k. get_or (level n) k 0) (to_of arrows place))) (λ place. capped (hold_to own arrows (n + 1) place))
+      (λ place. one_place n place ∙ ap (λ k. capped (hold_to own arrows k place)) (sym (add-one n))) (range_with_len 0 (length arrows))
+
+  pub first_level : replicate (length arrows) 0 ≡ level 0
+  unfolding hold_to
+  first_level = from 0 (length arrows)
+    where
+      from : (a n : ℕ) → replicate n 0 ≡ map (λ place. capped (hold_to own arrows 0 place)) (range_with_len a n)
+      from a zero = refl
+      from a (suc n) = ap (λ ys. 0 ∷ ys) (from (a + 1) n)

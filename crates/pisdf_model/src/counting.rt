@@ -5,7 +5,7 @@ ghost use Rattle.pisdf_model.specs.Count.{count_faults, counts_of, excess_of, ha
 use crate::detail_fault::DetailFault;
 use crate::fifo::Fifo;
 use crate::graph::{Graph, Graphs};
-use crate::holding::{large_holds, own_holds};
+use crate::state_tokens::{large_holds, own_holds};
 use crate::limits::{
     MAX_ACTORS, MAX_DELAY_TOKENS, MAX_EXPORTS, MAX_FIFOS, MAX_GRAPHS, MAX_INPUTS, MAX_OUTPUTS,
     MAX_PARAMS,

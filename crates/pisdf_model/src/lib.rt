@@ -12,7 +12,6 @@ mod duplicates;
 mod end_times;
 mod fifo;
 mod graph;
-mod holding;
 mod interface_wires;
 mod limits;
 mod named_params;
@@ -24,6 +23,7 @@ mod parts;
 mod port_counts;
 mod range;
 mod rules;
+mod state_tokens;
 mod tally;
 mod wires;
 
@@ -33,7 +33,6 @@ pub use detail_fault::DetailFault;
 pub use duplicates::duplicate;
 pub use fifo::{End, Fifo, Life};
 pub use graph::{Graph, Graphs, Interface};
-pub use holding::{capped, capped_sum, large_holds};
 pub use interface_wires::{FifoPlace, interface_wire};
 pub use limits::{
     MAX_ACTORS, MAX_DELAY_TOKENS, MAX_EXPORTS, MAX_FIFOS, MAX_GRAPHS, MAX_HOLD, MAX_INPUTS,
@@ -46,4 +45,5 @@ pub use param::{Param, ParamKind};
 pub use port_counts::{AnyCounts, Counts, ports};
 pub use range::{in_range, life_of};
 pub use rules::{ModelFault, well_formed};
+pub use state_tokens::{capped, capped_sum, large_holds};
 pub use wires::{port_text, wire};

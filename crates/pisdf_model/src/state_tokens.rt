@@ -102,6 +102,7 @@ fn one_level(
 
 /// How many tokens go on in each graph, counted to one more than the limit.
 fn holds_of(alloc: Global, own: &[usize], children: &[List<u32>]) -> Result<Vec<usize>, AllocError>
+    requires { length own.now ≡ length children.now }
     ensures { IfOk result (λ v. v.items ≡ map (λ place. capped (hold_to own.now children.now 8 place)) (range_with_len 0 (length children.now))) }
 {
     let mut holds = vec![in alloc; 0; children.len()]?;
@@ -128,6 +129,7 @@ fn is_held(children: &[List<u32>], place: usize) -> bool
 /// of each graph's own delays go on. The time taken goes with the number of graphs times that of hierarchical actors.
 /// The error is want of memory.
 pub fn large_holds(alloc: Global, graphs: &[Graph], own: &[usize]) -> Result<Vec<bool>, AllocError>
+    requires { length own.now ≡ length graphs.now }
     ensures { IfOk result (λ v. v.items ≡ map (is_large own.now (map children graphs.now)) (range_with_len 0 (length graphs.now))) }
 {
     let children = holds(alloc, graphs)?;
