@@ -1,30 +1,9 @@
-//! Runs PiSDF graphs on token files: `run GRAPH TOKENS ITERATIONS WORKERS`.
+//! Runs a command of `pisdf_program` on the files of the system and its two output streams.
 #![tactic(auto)]
 
-mod first_form;
-#[cfg(test)]
-mod graph_fault_tests;
-mod iterate;
-mod limits;
-mod line;
-mod load;
-mod number;
-mod program;
-mod put;
-#[cfg(test)]
-mod rewriting_tests;
-mod run;
-mod status;
-mod streams;
-#[cfg(test)]
-mod tests;
-mod texts;
-mod words;
-
-use crate::program::run_program;
-use crate::status::Status;
 use kernel_library::Library;
 use outer_world::{FileShelf, StreamSink};
+use pisdf_program::{Status, run_program};
 use std::io::ErrorKind;
 use std::process::ExitCode;
 use std::{env, io};
@@ -38,7 +17,7 @@ fn main(rt: HostRuntime) -> ExitCode {
     let words = match arguments(&rt) {
         Ok(words) => words,
         Err(error) if error.kind() == ErrorKind::OutOfMemory => {
-            return ExitCode::from(Status::WantOfMemory.code());
+            return Status::WantOfMemory.exit_code();
         }
         // Words that aren't text are read by no command.
         Err(_) => Vec::new(rt.alloc()),
@@ -51,5 +30,5 @@ fn main(rt: HostRuntime) -> ExitCode {
         &mut StreamSink::new(rt.stderr()),
         &Library,
     );
-    ExitCode::from(status.code())
+    status.exit_code()
 }
