@@ -11,6 +11,3 @@ mod port;
 mod root;
 
 pub use root::write;
-
-#[cfg(test)]
-mod tests;

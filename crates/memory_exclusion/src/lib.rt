@@ -7,6 +7,3 @@ mod relation;
 
 pub use closure::reach;
 pub use relation::Reach;
-
-#[cfg(test)]
-mod tests;

@@ -25,7 +25,7 @@ pub(crate) enum IterationFault {
 }
 
 /// A board for one worker on which nothing is claimed: the top graph's firing for the tokens that it takes.
-pub(crate) fn opened<K: Gate>(
+pub fn opened<K: Gate>(
     alloc: Global,
     graphs: &Arc<Graphs>,
     delays: &Delays,
@@ -74,7 +74,7 @@ pub(crate) fn iterate<K: Gate>(
 }
 
 /// Claims and finishes the items of a board for its one worker, until the job is quiet or memory ran out.
-pub(crate) fn drive<K: Gate>(mut board: Board, gate: &K) -> Board
+pub fn drive<K: Gate>(mut board: Board, gate: &K) -> Board
     requires one { board.key.workers ≡ 1 }
     requires kernels { board.key.signatures ≡ unnamed (K.kernels gate.now) }
     requires idle { running_at (now board).running 0 ≡ None }

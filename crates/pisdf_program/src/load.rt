@@ -28,10 +28,10 @@ use token_text::{TokenFault, read_tokens};
 
 /// Graphs that can be run.
 #[derive(Drop)]
-pub(crate) struct Runnable {
-    pub(crate) graphs: Arc<Graphs>,
+pub struct Runnable {
+    pub graphs: Arc<Graphs>,
     /// How many tokens an iteration takes from each input.
-    pub(crate) needs: List<u32>,
+    pub needs: List<u32>,
 }
 
 /// Graphs of this rate, which is what an iteration takes.
@@ -86,7 +86,7 @@ fn parse_graph(alloc: Global, bytes: &[u8], signatures: &[Signature]) -> Result<
 }
 
 /// Loads the graph file, and reads it.
-pub(crate) fn load_graph<S: Shelf>(
+pub fn load_graph<S: Shelf>(
     alloc: Global,
     shelf: &mut S,
     name: &str,

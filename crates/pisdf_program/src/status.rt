@@ -1,9 +1,11 @@
 ghost use Rattle.std.specs.Prelude.{◌≡◌};
+ghost use Rattle.std.specs.Process.{exit_status};
 ghost use Rattle.pisdf_program.specs.Codes.{code_of};
 
 use firing_board::Refusal;
 use graph_format::GraphFault;
 use param_expr::Name;
+use std::process::ExitCode;
 use token_text::TokenFault;
 
 /// How a call of the program ended.
@@ -77,5 +79,11 @@ impl Status {
             Status::WantOfMemory => 7,
             Status::NotYet(_) => 8,
         }
+    }
+    /// The exit code, as a process ends with it.
+    pub fn exit_code(&self) -> ExitCode
+        ensures { exit_status result ≡ code_of self.now }
+    {
+        ExitCode::from(self.code())
     }
 }

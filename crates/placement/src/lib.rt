@@ -6,8 +6,3 @@ mod order;
 mod placing;
 
 pub use placing::{Placement, place};
-
-#[cfg(test)]
-mod plain_search;
-#[cfg(test)]
-mod tests;

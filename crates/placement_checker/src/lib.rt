@@ -6,6 +6,3 @@ mod exclusion;
 
 pub use checker::{Clash, check};
 pub use exclusion::Exclusion;
-
-#[cfg(test)]
-mod tests;

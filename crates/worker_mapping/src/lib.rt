@@ -11,10 +11,3 @@ mod schedule;
 
 pub use entry::Entry;
 pub use mapping::{Mapping, map};
-
-#[cfg(test)]
-mod plain_search;
-#[cfg(test)]
-mod small_graphs;
-#[cfg(test)]
-mod tests;

@@ -1,0 +1,21 @@
+//! The commands of the program, over files by name and two sinks of bytes: `run GRAPH TOKENS ITERATIONS WORKERS`.
+#![tactic(auto)]
+
+mod first_form;
+mod iterate;
+mod limits;
+mod line;
+mod load;
+mod number;
+mod program;
+mod put;
+mod run;
+mod status;
+mod streams;
+mod texts;
+mod words;
+
+pub use iterate::{drive, opened};
+pub use load::{Runnable, load_graph};
+pub use program::run_program;
+pub use status::{GraphCause, Later, Status, TokenCause, Which};
