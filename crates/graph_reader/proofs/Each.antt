@@ -27,7 +27,7 @@ rest_fails front rest e none h = rw none h
 pub none_in_both : (front rest : List (List ℕ)) → front ≡ [] → rest ≡ [] → front ++ rest ≡ []
 none_in_both front rest none nothing = rw (none, nothing) refl
 
-take_next : {A : Type 0} (xs : List A) (i : ℕ) (x : A) → i < length xs → x ≡ get_or xs i x → take (i + 1) xs ≡ take i xs ++ x ∷ []
+pub take_next : {A : Type 0} (xs : List A) (i : ℕ) (x : A) → i < length xs → x ≡ get_or xs i x → take (i + 1) xs ≡ take i xs ++ x ∷ []
 take_next xs i x lt is = take_more xs i x lt ∙ ap (λ y. take i xs ++ y ∷ []) (sym is)
 
 pub goes_on : {A B : Type 0} (unknown : A → List (List ℕ)) (placed : A → B) (xs : List A) (i : ℕ) (x : A) (y : B) (done : List B) → i < length xs → x ≡ get_or xs i x → Resolves (unknown x) (placed x) (Ok y) → Stands unknown placed xs i done

@@ -1,54 +1,163 @@
 -- The counts of a file's parts are those of its graphs.
-use Rattle.std.proofs.Common.{◌≡◌, ◌==◌, ◌||◌, ◌≤◌, ◌<◌, ℕ, List, [], ◌∷◌, ◌++◌, ◌+◌, length, get_or, map, Bool, true, false, Option, Some, None, refl, sym, ap, ◌∙◌, arith}
-use Rattle.std.specs.Prelude.{is_some, nat_le, nat_lt}
-use Rattle.std.specs.List.{enumerate_from, list_any}
+use Rattle.std.proofs.Common.{◌≡◌, ◌==◌, ◌||◌, ◌≤◌, ◌<◌, ℕ, suc, List, [], ◌∷◌, ◌++◌, ◌+◌, length, get_or, map, min, take, ℤ, pos, Bool, true, false, Some, refl, sym, ap, ◌∙◌, arith}
+use Rattle.std.specs.Prelude.{nat_le, nat_lt, slice_index_or, sum_by}
+use Rattle.std.specs.List.{enumerate_from, list_any, range_with_len}
 use Rattle.std.proofs.lemmas.Bool.Decides.{nat_tests}
 use Rattle.std.proofs.lemmas.List.{length-map}
-use Rattle.std.proofs.lemmas.List.FromFn.{length-enumerate_from}
-use Rattle.pisdf_model.specs.Count.{count_faults, graph_counts, has_long_delay}
-use Rattle.pisdf_model.specs.Details.{first, of_each, unless}
+use Rattle.std.proofs.lemmas.List.FromFn.{get_or-map-range_with_len, length-enumerate_from}
+use Rattle.std.proofs.lemmas.List.Sums.{sum_by-cons, sum_by_more}
+use Rattle.pisdf_model.specs.Count.{count_faults, counts_of, excess_of, graph_counts}
+use Rattle.pisdf_model.specs.Count as model
+use Rattle.pisdf_model.specs.Details.{first, from_number, of_each, unless}
+use Rattle.pisdf_model.specs.Hold.{capped, has_large_hold, is_large, kept_in, kept_tokens, own_hold}
+use Rattle.pisdf_model.specs.Nesting.{children}
+use Rattle.pisdf_model.specs.Range.{life_of}
 use Rattle.pisdf_model.specs.declared.counting.Counted.{Counted}
 use Rattle.pisdf_model.specs.declared.counting.Counted.TheVariants as counted
+use Rattle.pisdf_model.specs.declared.fifo.Fifo.{Fifo}
+use Rattle.pisdf_model.specs.declared.fifo.Life.{Life}
+use Rattle.pisdf_model.specs.declared.fifo.Life.TheVariants.{Firing, Permanent}
 use Rattle.pisdf_model.specs.declared.graph.Graph.{Graph}
-use Rattle.pisdf_model.proofs.Alike.{alike_numbered}
-use Rattle.pisdf_model.proofs.Walking.{Stands, ends}
-use Rattle.graph_format.specs.Placed.{placed, placed_fifo, placed_graph, tokens_of, top_of}
+use Rattle.pisdf_model.specs.declared.graph.Graphs.{Graphs}
+use Rattle.pisdf_model.proofs.Alike.{of_mapped}
+use Rattle.pisdf_model.proofs.Holds.{large_capped, large_hold}
+use Rattle.graph_format.specs.Placed.{mark_of, placed, placed_actor, placed_fifo, placed_graph, placed_interface, placed_param, first_place, tokens_of, top_of}
 use Rattle.graph_format.specs.Scope.{Scope, scope_of}
 use Rattle.graph_format.specs.declared.fifo.FileFifo.{FileFifo}
 use Rattle.graph_format.specs.declared.file.File.{File}
 use Rattle.graph_format.specs.declared.file.FileGraph.{FileGraph}
+use Rattle.graph_reader.specs.Counted.{has_long_delay, kept_count, own_count, own_counts, part_counts}
 
-pub delays_kept : (is_top : Bool) (s : Scope) (fifos : List FileFifo) → list_any (λ (f : FileFifo). nat_lt 65536 (length (tokens_of f.delay))) fifos ≡ has_long_delay (map (placed_fifo tokens_of is_top s) fifos)
-delays_kept is_top s [] = refl
-delays_kept is_top s (f ∷ fifos) = ap (λ any. nat_lt 65536 (length (tokens_of f.delay)) || any) (delays_kept is_top s fifos)
+-- ---- one graph
 
--- what a graph has too many of, as its file states it
-abbrev pub counts_at : List (List ℕ) → File → ℕ → FileGraph → List Counted
-counts_at kernels file n g = graph_counts (placed_graph tokens_of (n == top_of file) (scope_of kernels file.graphs g) g)
+-- numbers counted to the limit are added to the limit
+capped_add : (a b : ℕ) → capped (capped a + capped b) ≡ capped (a + b)
+capped_add a b = omega arith
+
+delays_kept : (version : ℕ) (is_top : Bool) (s : Scope) (fifos : List FileFifo) → model.has_long_delay (map (placed_fifo version tokens_of is_top s) fifos) ≡ has_long_delay fifos
+delays_kept version is_top s [] = refl
+delays_kept version is_top s (f ∷ fifos) = ap (λ any. nat_lt 65536 (length (tokens_of f.delay)) || any) (delays_kept version is_top s fifos)
+
+parts_kept : (large : Bool) (version : ℕ) (is_top : Bool) (s : Scope) (g : FileGraph) → counts_of large (placed_graph version tokens_of is_top s g) ≡ part_counts large g
+parts_kept large version is_top s g =
+    let params = length-map g.params (placed_param s) in
+    let inputs = length-map g.inputs (placed_interface s) in
+    let outputs = length-map g.outputs (placed_interface s) in
+    let actors = length-map g.actors (placed_actor s) in
+    let fifos = length-map g.fifos (placed_fifo version tokens_of is_top s) in
+    let exports = length-map g.exports (first_place s.params) in
+    let long = delays_kept version is_top s g.fifos in
+    rw (params, inputs, outputs, actors, fifos, exports, long) refl
+
+tokens_kept : (version : ℕ) (is_top : Bool) (s : Scope) (fifos : List FileFifo) → sum_by (λ (f : Fifo). length (kept_in f)) (map (placed_fifo version tokens_of is_top s) fifos) ≡ sum_by (kept_count version is_top) fifos
+tokens_kept version is_top s [] = refl
+tokens_kept version is_top s (f ∷ fifos) =
+    let size : Fifo → ℕ = λ (f : Fifo). length (kept_in f) in
+    let made : FileFifo → Fifo = placed_fifo version tokens_of is_top s in
+    sum_by-cons size (made f) (map made fifos) ∙ ap (λ n. kept_count version is_top f + n) (tokens_kept version is_top s fifos) ∙ sym (sum_by-cons (kept_count version is_top) f fifos)
+
+-- the tokens of one FIFO more
+pub one_more : (f : FileFifo → ℕ) (fifos : List FileFifo) (i : ℕ) (fifo : FileFifo) (total here : ℕ) → i < length fifos → fifo ≡ get_or fifos i fifo → total ≡ capped (sum_by f (take i fifos)) → here ≡ capped (f fifo)
+    → capped (total + here) ≡ capped (sum_by f (take (i + 1) fifos))
+one_more f fifos i fifo total here inside is so_far kept =
+    let before = sum_by f (take i fifos) in
+    ap (λ n. capped (n + here)) so_far ∙ ap (λ n. capped (capped before + n)) kept ∙ capped_add before (f fifo) ∙ ap (λ x. capped (before + f x)) is ∙ sym (ap capped (sum_by_more f fifos i fifo inside))
+
+-- the life of a delay depends only on whether it has tokens
+pub life_without : (version : ℕ) (is_top : Bool) (stated : Life) (tokens : List ℤ) → length tokens ≡ 0 → life_of version is_top stated [] ≡ life_of version is_top stated tokens
+life_without version is_top stated [] none = refl
+life_without version is_top stated (t ∷ tokens) none = absurd cc
+
+pub life_with : (version : ℕ) (is_top : Bool) (stated : Life) (tokens : List ℤ) → (length tokens ≡ 0 → ⊥) → life_of version is_top stated (pos 0 ∷ []) ≡ life_of version is_top stated tokens
+life_with version is_top stated [] some = absurd (some refl)
+life_with version is_top stated (t ∷ tokens) some = refl
+
+-- tokens go on where their life is permanent
+pub kept_firing : (version : ℕ) (is_top : Bool) (f : FileFifo) → Firing ≡ life_of version is_top f.life (tokens_of f.delay) → 0 ≡ capped (kept_count version is_top f)
+kept_firing version is_top f is = ap (λ life. capped (length (kept_tokens life (tokens_of f.delay)))) is
+
+pub kept_permanent : (version : ℕ) (is_top : Bool) (f : FileFifo) → Permanent ≡ life_of version is_top f.life (tokens_of f.delay) → capped (length (tokens_of f.delay)) ≡ capped (kept_count version is_top f)
+kept_permanent version is_top f is = ap (λ life. capped (length (kept_tokens life (tokens_of f.delay)))) is
+
+-- ---- all graphs
+
+numbered_below : {X Y D : Type 0} (m : ℕ × X → Y) (f : ℕ → Y → List D) (g : ℕ → X → List D) (most : ℕ) → ((n : ℕ) (x : X) → n < most → f n (m (n, x)) ≡ g n x) → (n : ℕ) (xs : List X) → n + length xs ≤ most
+    → from_number n f (map m (enumerate_from n xs)) ≡ from_number n g xs
+numbered_below m f g most alike n [] within = refl
+numbered_below m f g most alike n (x ∷ xs) within =
+    ap (λ ds. ds ++ from_number (n + 1) f (map m (enumerate_from (n + 1) xs))) (alike n x (omega arith)) ∙ ap (λ ds. g n x ++ ds) (numbered_below m f g most alike (n + 1) xs (omega arith))
 
 module _ (kernels : List (List ℕ)) (file : File) where
-  all_counts : count_faults (placed tokens_of kernels file) ≡ unless (nat_le (length file.graphs) 32) counted.Graphs ++ of_each (counts_at kernels file) file.graphs
-  all_counts =
-      let each : ℕ × FileGraph → Graph = λ p. placed_graph tokens_of (p.0 == top_of file) (scope_of kernels file.graphs p.1) p.1 in
-      let graphs = map each (enumerate_from 0 file.graphs) in
-      let long : length graphs ≡ length file.graphs = length-map (enumerate_from 0 file.graphs) each ∙ length-enumerate_from 0 file.graphs in
-      ap (λ n. unless (nat_le n 32) counted.Graphs ++ of_each (λ n g. graph_counts g) graphs) long
-      ∙ ap (λ ds. unless (nat_le (length file.graphs) 32) counted.Graphs ++ ds) (alike_numbered each (λ n g. graph_counts g) (counts_at kernels file) (λ n g. refl) file.graphs)
+  abbrev made : ℕ × FileGraph → Graph
+  made n = placed_graph file.version tokens_of (n.0 == top_of file) (scope_of kernels file.graphs n.1) n.1
 
-  pub too_many_graphs : 32 < length file.graphs → Some counted.Graphs ≡ first (count_faults (placed tokens_of kernels file))
+  abbrev marked : ℕ × FileGraph → Graph
+  marked n = placed_graph file.version mark_of (n.0 == top_of file) (scope_of kernels file.graphs n.1) n.1
+
+  abbrev numbered : List (ℕ × FileGraph)
+  numbered = enumerate_from 0 file.graphs
+
+  abbrev own : ℕ × FileGraph → ℕ
+  own n = own_count file.version (n.0 == top_of file) n.1
+
+  owns : map capped (map own_hold (map made numbered)) ≡ own_counts file (top_of file)
+  owns =
+      ap (map capped) (of_mapped made own_hold own (λ n. tokens_kept file.version (n.0 == top_of file) (scope_of kernels file.graphs n.1) n.1.fifos) numbered)
+      ∙ of_mapped own capped (λ n. capped (own n)) (λ n. refl) numbered
+
+  same_children : map children (map made numbered) ≡ map children (map marked numbered)
+  same_children = of_mapped made children (λ n. children (marked n)) (λ n. refl) numbered ∙ sym (of_mapped marked children (λ n. children (marked n)) (λ n. refl) numbered)
+
+  large_in : (n : ℕ) → has_large_hold (map made numbered) n ≡ is_large (own_counts file (top_of file)) (map children (map marked numbered)) n
+  large_in n =
+      large_hold (map made numbered) n
+      ∙ sym (large_capped (map own_hold (map made numbered)) (map children (map made numbered)) n)
+      ∙ ap (λ os. is_large os (map children (map made numbered)) n) owns
+      ∙ ap (λ cs. is_large (own_counts file (top_of file)) cs n) same_children
+
+  long : {A : Type 0} (f : ℕ × FileGraph → A) → length (map f numbered) ≡ length file.graphs
+  long f = length-map numbered f ∙ length-enumerate_from 0 file.graphs
+
+  -- whether the holds are too large, by number
+  abbrev larges : List Bool
+  larges = map (is_large (own_counts file (top_of file)) (map children (map marked numbered))) (range_with_len 0 (length (map marked numbered)))
+
+  abbrev excess : ℕ → FileGraph → List Counted
+  excess n g = excess_of (part_counts (slice_index_or larges n false) g)
+
+  excess_is : (n : ℕ) (g : FileGraph) → n < length file.graphs → graph_counts (map made numbered) n (made (n, g)) ≡ excess n g
+  excess_is n g within =
+      let inside : n < length (map marked numbered) = rw (long marked) within in
+      let test = is_large (own_counts file (top_of file)) (map children (map marked numbered)) in
+      let read : slice_index_or larges n false ≡ test n = get_or-map-range_with_len test 0 (length (map marked numbered)) n n false inside (omega arith) in
+      ap excess_of (parts_kept (has_large_hold (map made numbered) n) file.version (n == top_of file) (scope_of kernels file.graphs g) g ∙ ap (λ b. part_counts b g) (large_in n ∙ sym read))
+
+  all_counts : count_faults (placed tokens_of kernels file) ≡ unless (nat_le (length file.graphs) 32) counted.Graphs ++ of_each excess file.graphs
+  all_counts =
+      ap (λ n. unless (nat_le n 32) counted.Graphs ++ of_each (graph_counts (map made numbered)) (map made numbered)) (long made)
+      ∙ ap (λ ds. unless (nat_le (length file.graphs) 32) counted.Graphs ++ ds) (numbered_below made (graph_counts (map made numbered)) excess (length file.graphs) excess_is 0 file.graphs (omega arith))
+
+  pub too_many_graphs : 32 < length file.graphs → first (count_faults (placed tokens_of kernels file)) ≡ Some counted.Graphs
   too_many_graphs more =
       let no : nat_le (length file.graphs) 32 ≡ false = grind (arith, nat_tests) in
       rw (all_counts, no) refl
 
-  pub graphs_within : length file.graphs ≤ 32 → first (of_each (counts_at kernels file) file.graphs) ≡ first (count_faults (placed tokens_of kernels file))
+  graphs_within : length file.graphs ≤ 32 → of_each excess file.graphs ≡ count_faults (placed tokens_of kernels file)
   graphs_within within =
       let yes : nat_le (length file.graphs) 32 ≡ true = grind (arith, nat_tests) in
       rw (all_counts, yes) refl
 
-  -- the first of what there are too many of stands at the first graph that has too many of something
-  pub excess_at : (n : ℕ) (graph : FileGraph) (counted : Option Counted) → n < length file.graphs → graph ≡ get_or file.graphs n graph → is_some counted ≡ true → counted ≡ first (counts_at kernels file n graph) → length file.graphs ≤ 32
-      → Stands 0 (counts_at kernels file) n file.graphs → counted ≡ first (count_faults (placed tokens_of kernels file))
-  excess_at n graph None inside is some counted within stands = absurd cc
-  excess_at n graph (Some d) inside is some counted within stands =
-      let at_n : 0 + n ≡ n = omega arith in
-      sym (ends 0 (counts_at kernels file) n file.graphs graph d inside is (rw at_n (sym counted)) stands) ∙ graphs_within within
+  -- what is counted of the file, where these are its graphs with their delays marked, is what its graphs have too many of
+  pub all_counted : (graphs : Graphs) (own_tokens : List ℕ) (large : List Bool) (parts : List FileGraph) → graphs ≡ placed mark_of kernels file → own_tokens ≡ own_counts file graphs.top
+      → large ≡ map (is_large own_tokens (map children graphs.graphs)) (range_with_len 0 (length graphs.graphs)) → parts ≡ file.graphs → length file.graphs ≤ 32
+      → of_each (λ (n : ℕ) (g : FileGraph). excess_of (part_counts (slice_index_or large n false) g)) parts ≡ count_faults (placed tokens_of kernels file)
+  all_counted graphs own_tokens large parts is owned told same within =
+      let top : graphs.top ≡ top_of file = ap (λ (gs : Graphs). gs.top) is in
+      let all : graphs.graphs ≡ map marked numbered = ap (λ (gs : Graphs). gs.graphs) is in
+      let counts : own_tokens ≡ own_counts file (top_of file) = owned ∙ ap (own_counts file) top in
+      let larges_are : large ≡ larges =
+      told ∙ ap (λ (os : List ℕ). map (is_large os (map children graphs.graphs)) (range_with_len 0 (length graphs.graphs))) counts
+      ∙ ap (λ (gs : List Graph). map (is_large (own_counts file (top_of file)) (map children gs)) (range_with_len 0 (length gs))) all in
+      ap (λ (ls : List Bool). of_each (λ (n : ℕ) (g : FileGraph). excess_of (part_counts (slice_index_or ls n false) g)) parts) larges_are
+      ∙ ap (of_each excess) same
+      ∙ graphs_within within

@@ -1,16 +1,23 @@
 -- The graphs of a file, each behind its number.
 use Rattle.std.proofs.Common.{◌≡◌, ℕ, ◌+◌, ◌<◌, ◌≤◌, List, [], ◌∷◌, ◌++◌, length, get_or, take, map, Ok, refl, sym, ap, ◌∙◌, subst, zero-add, arith}
 use Rattle.std.specs.List.{enumerate_from, flat_map}
+use Rattle.std.proofs.lemmas.List.{map_push}
 use Rattle.std.proofs.lemmas.List.FromFn.{get_or-enumerate_from, length-enumerate_from}
 use Rattle.pisdf_model.specs.Details.{Refuses}
 use Rattle.graph_reader.specs.Resolves.{Resolves}
 use Rattle.pisdf_model.specs.declared.detail_fault.DetailFault.{DetailFault}
-use Rattle.graph_reader.proofs.Each.{Stands, first_at, goes_on, is_done}
+use Rattle.graph_reader.proofs.Each.{Stands, first_at, goes_on, is_done, take_next}
 
 -- what stands at a number
 pub at_number : {A : Type 0} (xs : List A) (i : ℕ) (x : A) → i < length xs → x ≡ get_or xs i x → (i, x) ≡ get_or (enumerate_from 0 xs) i (i, x)
 at_number xs i x lt is =
     ap (λ (n : ℕ). (n, x)) (sym (zero-add i)) ∙ ap (λ (y : _). (0 + i, y)) is ∙ sym (get_or-enumerate_from 0 xs i (i, x) lt)
+
+-- what becomes of one more, with its number
+pub numbered_push : {A B : Type 0} (f : ℕ × A → B) (xs : List A) (i : ℕ) (x : A) (done : List B) → i < length xs → x ≡ get_or xs i x → done ≡ map f (take i (enumerate_from 0 xs)) → done ++ f (i, x) ∷ [] ≡ map f (take (i + 1) (enumerate_from 0 xs))
+numbered_push f xs i x done lt is so_far =
+    let fits : i < length (enumerate_from 0 xs) = omega (arith, length-enumerate_from 0 xs) in
+    ap (λ d. d ++ f (i, x) ∷ []) so_far ∙ sym (map_push f (take i (enumerate_from 0 xs)) (i, x)) ∙ sym (ap (map f) (take_next (enumerate_from 0 xs) i (i, x) fits (at_number xs i x lt is)))
 
 -- numbers change nothing for what doesn't look at them
 pub flat_map-numbered : {A B : Type 0} (f : A → List B) (n : ℕ) (xs : List A) → flat_map (λ (p : ℕ × A). f p.1) (enumerate_from n xs) ≡ flat_map f xs

@@ -1,3 +1,4 @@
+pub mod Counted
 pub mod Gives
 pub mod Lent
 pub mod Place

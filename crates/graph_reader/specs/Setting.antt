@@ -14,6 +14,7 @@ use Rattle.graph_reader.specs.declared.surroundings.Surroundings.{Surroundings}
 
 pub record Setting : Type 0 where
   pub scope : Scope
+  pub version : ℕ
   pub is_top : Bool
   pub delays : Delays
 
@@ -35,6 +36,7 @@ setting_of s = record {
     actors = s.actors;
     ports = map ports_view s.ports;
   };
+  version = s.version;
   is_top = s.is_top;
   delays = s.delays;
 }

@@ -1,7 +1,7 @@
-ghost use Rattle.std.specs.Prelude.{[]};
+ghost use Rattle.std.specs.Prelude.{◌≡◌, ◌&&◌, [], codes};
 ghost use Rattle.serde_json.specs.View.{view};
-ghost use Rattle.graph_format.specs.Walk.{formed};
-ghost use Rattle.graph_format.specs.Objects.{actor_at, child_members_at, child_names, config_members_at, config_names, config_ports_at, kernel_members_at, kernel_names};
+ghost use Rattle.graph_format.specs.Walk.{formed, says};
+ghost use Rattle.graph_format.specs.Objects.{actor_at, child_members_at, child_keys, config_child_members_at, config_child_keys, config_members_at, config_keys, config_ports_at, has_exports, kernel_members_at, kernel_keys};
 ghost use Rattle.graph_reader.specs.Place.{pointer_of};
 ghost use Rattle.graph_reader.specs.Gives.{Gives};
 
@@ -9,6 +9,7 @@ use crate::place::Place;
 use crate::port::{Input, Port};
 use crate::shape::{Form, has_form, list_member, member, says};
 use crate::text::{Expression, KernelName, PlainName};
+use crate::versions::has_exports;
 use graph_format::{FileActor, FileBody};
 use param_expr::{Name, Parsed};
 use pisdf_model::DetailFault;
@@ -22,7 +23,7 @@ fn kernel_actor(
     place: &Place<'_>,
     value: &Value,
 ) -> Result<FileActor, DetailFault<Name>>
-    ensures { Gives result (formed kernel_names [] kernel_members_at (pointer_of place.now) (view value.now)) }
+    ensures { Gives result (formed kernel_keys [] kernel_members_at (pointer_of place.now) (view value.now)) }
 {
     if !has_form(
         value,
@@ -76,7 +77,7 @@ fn config_actor(
     place: &Place<'_>,
     value: &Value,
 ) -> Result<FileActor, DetailFault<Name>>
-    ensures { Gives result (formed config_names [] config_members_at (pointer_of place.now) (view value.now)) }
+    ensures { Gives result (formed config_keys [] config_members_at (pointer_of place.now) (view value.now)) }
 {
     if !has_form(
         value,
@@ -97,7 +98,7 @@ fn child_actor(
     place: &Place<'_>,
     value: &Value,
 ) -> Result<FileActor, DetailFault<Name>>
-    ensures { Gives result (formed child_names [] child_members_at (pointer_of place.now) (view value.now)) }
+    ensures { Gives result (formed child_keys [] child_members_at (pointer_of place.now) (view value.now)) }
 {
     if !has_form(value, &["name", "kind", "graph", "args"], &[]) {
         return Err(place.misshapen(alloc));
@@ -109,13 +110,42 @@ fn child_actor(
     Ok(FileActor { name, body })
 }
 
-/// An actor, by its kind.
-pub(crate) struct Actor;
+#[tactic(auto, unfolding(graph_format::specs::Objects::config_child_members_at))]
+fn config_child_actor(
+    alloc: Global,
+    place: &Place<'_>,
+    value: &Value,
+) -> Result<FileActor, DetailFault<Name>>
+    ensures { Gives result (formed config_child_keys [] config_child_members_at (pointer_of place.now) (view value.now)) }
+{
+    if !has_form(value, &["name", "kind", "graph", "args", "sets"], &[]) {
+        return Err(place.misshapen(alloc));
+    }
+    let name = member(alloc, place, value, "name", &PlainName)?;
+    let graph = member(alloc, place, value, "graph", &PlainName)?;
+    let args = list_member(alloc, place, value, "args", &Expression)?;
+    let sets = list_member(alloc, place, value, "sets", &PlainName)?;
+    let body = FileBody::ConfigChild { graph, args, sets };
+    Ok(FileActor { name, body })
+}
+
+/// Whether a value is a hierarchical configuration actor, in a version that has such actors.
+fn is_config_child(version: u32, value: &Value) -> bool
+    ensures { result ≡ (has_exports version && says (codes "kind") (codes "setgraph") (view value.now)) }
+{
+    has_exports(version) && says(value, "kind", "setgraph")
+}
+
+/// An actor, by its kind, in this version of the format.
+#[derive(Clone, Copy)]
+pub(crate) struct Actor {
+    pub(crate) version: u32,
+}
 
 impl Form for Actor {
     type Stated = FileActor;
 
-    ghost reads = { λ _. actor_at };
+    ghost reads = { λ actor. actor_at actor.version };
 
     #[tactic(auto, unfolding(graph_format::specs::Objects::actor_at))]
     fn read_at(
@@ -130,6 +160,8 @@ impl Form for Actor {
             config_actor(alloc, place, value)
         } else if says(value, "kind", "graph") {
             child_actor(alloc, place, value)
+        } else if is_config_child(self.version, value) {
+            config_child_actor(alloc, place, value)
         } else {
             Err(place.misshapen(alloc))
         }

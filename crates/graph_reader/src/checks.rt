@@ -84,12 +84,17 @@ fn told_at_fifo(answer: Result<(), DetailFault<FifoPlace>>) -> Result<(), GraphF
     }
 }
 
-/// The answer at what there are too many of, if there are.
-pub(crate) fn told_count(alloc: Global, counted: Option<Counted>) -> Result<(), GraphFault>
-    ensures { (all : Seq Counted) → counted ≡ first all → Tells (map too_many all) result }
+/// The answer at what there are too many of.
+pub(crate) fn told_count(
+    alloc: Global,
+    answer: Result<(), DetailFault<Counted>>,
+) -> Result<(), GraphFault>
+    ensures { (all : Seq Counted) → Answers all answer → Tells (map too_many all) result }
 {
-    let Some(counted) = counted else {
-        return Ok(());
+    let counted = match answer {
+        Ok(()) => return Ok(()),
+        Err(DetailFault::Fault(counted)) => counted,
+        Err(DetailFault::Memory) => return Err(GraphFault::Memory),
     };
     match String::from_str(alloc, counted.word()) {
         Ok(word) => Err(GraphFault::Count(Name::new(word))),

@@ -81,6 +81,23 @@ impl<'a> FileNames<'a> {
         self.interfaces.items().get(place as usize)
     }
 
+    /// The ports of an actor whose child is the first graph of that name.
+    fn ports_of_child<'b>(
+        &'b self,
+        alloc: Global,
+        graph: &Name,
+    ) -> Result<Ports<'b, 'a>, AllocError>
+        ensures { IfOk result (λ ports. ports_view ports ≡ names_at self.now.interfaces (place_of self.now.graphs graph.now)) }
+    {
+        match self.interfaces_named(graph) {
+            Some(interfaces) => Ok(Ports::Child(interfaces)),
+            None => {
+                let none = Names::new(alloc, Vec::new(alloc))?;
+                Ok(Ports::Own(none))
+            }
+        }
+    }
+
     /// The ports of an actor.
     pub(crate) fn ports_of<'b>(
         &'b self,
@@ -98,13 +115,8 @@ impl<'a> FileNames<'a> {
                 let names = names_of_both(alloc, ins.items(), outs.items())?;
                 Ok(Ports::Own(names))
             }
-            FileBody::Child { graph, .. } => match self.interfaces_named(graph) {
-                Some(interfaces) => Ok(Ports::Child(interfaces)),
-                None => {
-                    let none = Names::new(alloc, Vec::new(alloc))?;
-                    Ok(Ports::Own(none))
-                }
-            },
+            FileBody::Child { graph, .. } => self.ports_of_child(alloc, graph),
+            FileBody::ConfigChild { graph, .. } => self.ports_of_child(alloc, graph),
         }
     }
 }

@@ -20,7 +20,7 @@ fn push_ports(names: &mut Vec<ScopedName>, scope: Scope, body: &FileBody) -> Res
             push_names(names, scope, ins.items())?;
             push_names(names, scope, outs.items())
         }
-        FileBody::Child { .. } => Ok(()),
+        FileBody::Child { .. } | FileBody::ConfigChild { .. } => Ok(()),
     }
 }
 

@@ -68,7 +68,7 @@ impl Counts for Signatures<'_> {
                 outs.items().len(),
                 sets.items().len(),
             ),
-            Body::Child { .. } => true,
+            Body::Child { .. } | Body::ConfigChild { .. } => true,
         }
     }
 }

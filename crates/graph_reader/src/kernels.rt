@@ -38,7 +38,7 @@ fn unfit_in_body<'a>(signatures: &[Signature], body: &'a FileBody) -> Option<&'a
             Some(signature) if signature.config => None,
             _ => Some(kernel),
         },
-        FileBody::Child { .. } => None,
+        FileBody::Child { .. } | FileBody::ConfigChild { .. } => None,
     }
 }
 

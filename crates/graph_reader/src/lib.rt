@@ -24,6 +24,7 @@ mod shape;
 mod stated_file;
 mod surroundings;
 mod text;
+mod versions;
 
 pub use graph_format::GraphFault;
 pub use reader::read;

@@ -1,7 +1,7 @@
 ghost use Rattle.std.specs.Prelude.{◌≡◌};
 ghost use Rattle.serde_json.specs.View.{view};
 ghost use Rattle.graph_format.specs.Walk.{formed};
-ghost use Rattle.graph_format.specs.Objects.{bound_at, bound_names, derived_members_at, derived_names, given_kind, given_kind_at, given_members_at, given_names, param_at, ranged_at};
+ghost use Rattle.graph_format.specs.Objects.{bound_at, optional_param_keys, derived_members_at, derived_keys, given_kind, given_kind_at, given_members_at, given_keys, param_at, ranged_at};
 ghost use Rattle.graph_reader.specs.Place.{pointer_of};
 ghost use Rattle.graph_reader.specs.Gives.{Gives};
 
@@ -68,7 +68,7 @@ fn ranged(
 
 #[tactic(auto, unfolding(graph_format::specs::Objects::derived_members_at))]
 fn derived(alloc: Global, place: &Place<'_>, value: &Value) -> Result<FileParam, DetailFault<Name>>
-    ensures { Gives result (formed derived_names bound_names derived_members_at (pointer_of place.now) (view value.now)) }
+    ensures { Gives result (formed derived_keys optional_param_keys derived_members_at (pointer_of place.now) (view value.now)) }
 {
     if !has_form(value, &["name", "kind", "expr"], &["low", "high"]) {
         return Err(place.misshapen(alloc));
@@ -113,7 +113,7 @@ impl Form for GivenKind {
 
 #[tactic(auto, unfolding(graph_format::specs::Objects::given_members_at))]
 fn given(alloc: Global, place: &Place<'_>, value: &Value) -> Result<FileParam, DetailFault<Name>>
-    ensures { Gives result (formed given_names bound_names given_members_at (pointer_of place.now) (view value.now)) }
+    ensures { Gives result (formed given_keys optional_param_keys given_members_at (pointer_of place.now) (view value.now)) }
 {
     if !has_form(value, &["name", "kind"], &["low", "high"]) {
         return Err(place.misshapen(alloc));

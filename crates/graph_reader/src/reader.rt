@@ -1,4 +1,4 @@
-ghost use Rattle.std.specs.Prelude.{◌≡◌, IfOk, All, map};
+ghost use Rattle.std.specs.Prelude.{◌≡◌, IfErr, IfOk, All, map};
 ghost use Rattle.serde_json.specs.Data.{Data};
 ghost use Rattle.kernel_gate.specs.Signed.{signature_view};
 ghost use Rattle.pisdf_model.specs.Range.{InRange};
@@ -9,9 +9,10 @@ ghost use Rattle.graph_format.specs.FileNames.{names_of_file};
 ghost use Rattle.graph_format.specs.Kernels.{kernel_names};
 ghost use Rattle.graph_format.specs.Means.{Means};
 ghost use Rattle.graph_format.specs.Placed.{placed};
-ghost use Rattle.graph_format.specs.Reads.{IsJson, Reads};
+ghost use Rattle.graph_format.specs.Reads.{IsJson, Reads, TellsShape};
 ghost use Rattle.graph_format.specs.References.{unknown_in_file};
 ghost use Rattle.graph_format.specs.States.{States};
+ghost use Rattle.graph_format.specs.Versions.{IsOfVersion};
 ghost use Rattle.graph_format.specs.Writable.{IsWritableGraph};
 ghost use Rattle.graph_format.specs.declared.file.File.{File};
 ghost use Rattle.graph_format.specs.declared.graph_fault.GraphFault.TheVariants.{Duplicate, Unknown};
@@ -57,14 +58,14 @@ fn resolved(
 /// Whether a file has none of the faults 4 to 13. Delays are marked for that, and not made: they may hold far more tokens
 /// than their limit, or than there is memory for.
 fn check(alloc: Global, file: &File, signatures: &[Signature]) -> Result<(), GraphFault>
-    requires { file.now.version ≡ 1 }
+    requires { IsOfVersion file.now }
     ensures { Tells (file_faults (map signature_view signatures.now) file.now) result }
 {
     no_duplicate(alloc, file)?;
     let marked = resolved(alloc, file, signatures, Delays::Marks)?;
     told_kernel(unfit_kernel(signatures, file))?;
     follow_rules(alloc, signatures, &marked)?;
-    told_count(alloc, count(file))
+    told_count(alloc, count(alloc, file, &marked))
 }
 
 /// The graphs that a file means.
@@ -73,7 +74,7 @@ fn graphs_of_file(
     file: &File,
     signatures: &[Signature],
 ) -> Result<Graphs, GraphFault>
-    requires { file.now.version ≡ 1 }
+    requires { IsOfVersion file.now }
     ensures tells { Tells (file_faults (map signature_view signatures.now) file.now) result }
     ensures graphs { IfOk result (λ graphs. graphs ≡ graphs_of (map signature_view signatures.now) file.now) }
 {
@@ -87,7 +88,7 @@ fn graphs_of_bytes(
     bytes: &[u8],
     signatures: &[Signature],
 ) -> Result<Graphs, GraphFault>
-    ensures { Reads 1 (map signature_view signatures.now) bytes.now result }
+    ensures { Reads (map signature_view signatures.now) bytes.now result }
 {
     let file = file_of_bytes(alloc, bytes)?;
     graphs_of_file(alloc, &file, signatures)
@@ -100,13 +101,13 @@ fn graphs_of_bytes(
 /// The first of these, in this order:
 ///
 /// - `NotJson`: `serde_json` has no reading of the bytes.
-/// - `Shape`: the first value in the walk that has not the form of version 1, unless the file is of another version.
-/// - `Version`: the root is an object whose `pisdf` is a whole number other than 1.
+/// - `Shape`: the first value in the walk that has not the form of the file's version, unless that is none of the format's.
+/// - `Version`: the root is an object whose `pisdf` is a whole number other than 1, 2 and 3.
 /// - `Duplicate`: the first name in the walk that is equal to an earlier one of its scope.
 /// - `Unknown`: the first reference in the walk that names nothing of the kind that its place asks for.
 /// - `Kernel`: the first kernel of an actor that has no signature, or whose first signature is of the other kind.
-/// - `Ports`: graph by graph, the first actor whose numbers of arguments, ports or sets don't fit, then the first
-///   parameter that isn't set as its kind says.
+/// - `Ports`: graph by graph, the first actor whose numbers of arguments, ports or sets don't fit its kernel or its child,
+///   then the first parameter that isn't set as its kind says.
 /// - `Wire`: graph by graph, the first end of a FIFO at which tokens run the wrong way, then the first interface or port
 ///   that doesn't stand at one FIFO end.
 /// - `InterfaceWire`: the first FIFO that may not be where it is, at interfaces or at a configuration actor.
@@ -114,19 +115,22 @@ fn graphs_of_bytes(
 ///   where an early one must be.
 /// - `GraphCycle`: the first graph that holds itself.
 /// - `Depth`: the first graph that is nested too deep.
-/// - `Count`: the first of what there are too many of.
+/// - `Count`: the first of what there are too many of: graphs, then graph by graph its parts, and the tokens that go on
+///   over the firings of a graph that an actor names.
 /// - `Memory`: want of memory, at any time.
 pub fn read(alloc: Global, bytes: &[u8], signatures: &[Signature]) -> Result<Graphs, GraphFault>
     // What is read is what a value states and means.
-    ensures means { IfOk result (λ graphs. (d : Data) × IsJson bytes.now d × ((file : File) × States 1 d file × Means (map signature_view signatures.now) file graphs)) }
+    ensures means { IfOk result (λ graphs. (d : Data) × IsJson bytes.now d × ((file : File) × States d file × Means (map signature_view signatures.now) file graphs)) }
     ensures in_range { IfOk result (λ graphs. InRange graphs) }
     ensures well_formed { IfOk result (λ graphs. WellFormed graphs) }
     ensures writable { IfOk result (λ graphs. All IsWritableGraph graphs.graphs) }
     // What is stated is read where it has no fault, and else its first fault is answered, unless memory runs out.
-    ensures stated { (d : Data) (file : File) → IsJson bytes.now d → States 1 d file
+    ensures stated { (d : Data) (file : File) → IsJson bytes.now d → States d file
         → Tells (file_faults (map signature_view signatures.now) file) result × IfOk result (λ graphs. graphs ≡ graphs_of (map signature_view signatures.now) file) }
+    // A fault of shape stands at a value that has not its form, and every value before it in the walk has.
+    ensures shape { IfErr result (λ fault. TellsShape bytes.now fault) }
     // Which answer it is for any bytes.
-    ensures exact { Reads 1 (map signature_view signatures.now) bytes.now result }
+    ensures exact { Reads (map signature_view signatures.now) bytes.now result }
 {
     graphs_of_bytes(alloc, bytes, signatures)
 }

@@ -85,6 +85,21 @@ fn hierarchical_actor(
     Ok(Body::Child { graph, args })
 }
 
+fn hierarchical_configuration_actor(
+    alloc: Global,
+    surroundings: &Surroundings<'_, '_>,
+    graph: &Name,
+    args: &List<Parsed>,
+    sets: &List<Name>,
+) -> Result<Body, DetailFault<Name>>
+    ensures { let body = FileBody.ConfigChild graph.now args.now sets.now in let s = (setting_of surroundings.now).scope in Resolves (unknown_in_body s body) (placed_body s body) result }
+{
+    let graph = reference(surroundings.graphs, graph)?;
+    let args = resolve_each(alloc, &*surroundings, args.items())?;
+    let sets = resolve_each(alloc, &*surroundings, sets.items())?;
+    Ok(Body::ConfigChild { graph, args, sets })
+}
+
 impl Resolved for Body {
     type Source = FileBody;
 
@@ -115,6 +130,9 @@ impl Resolved for Body {
                 sets,
             } => configuration_actor(alloc, surroundings, kernel, args, ins, outs, sets),
             FileBody::Child { graph, args } => hierarchical_actor(alloc, surroundings, graph, args),
+            FileBody::ConfigChild { graph, args, sets } => {
+                hierarchical_configuration_actor(alloc, surroundings, graph, args, sets)
+            }
         }
     }
 }

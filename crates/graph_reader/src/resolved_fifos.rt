@@ -73,7 +73,7 @@ impl Resolved for Fifo {
 
     ghost unknown = { λ s fifo. unknown_in_fifo s.scope fifo };
 
-    ghost placed = { λ s fifo. placed_fifo (delays_by s.delays) s.is_top s.scope fifo };
+    ghost placed = { λ s fifo. placed_fifo s.version (delays_by s.delays) s.is_top s.scope fifo };
 
     fn resolve(
         alloc: Global,
@@ -86,7 +86,12 @@ impl Resolved for Fifo {
             Delays::Tokens => all_tokens(alloc, &source.delay)?,
             Delays::Marks => mark(alloc, &source.delay)?,
         };
-        let life = life_of(surroundings.is_top, delay.as_slice());
+        let life = life_of(
+            surroundings.version,
+            surroundings.is_top,
+            source.life,
+            delay.as_slice(),
+        );
         Ok(Fifo {
             tail,
             head,

@@ -31,7 +31,7 @@ impl Resolved for Graph {
 
     ghost unknown = { λ s graph. unknown_in_graph s.scope graph };
 
-    ghost placed = { λ s graph. placed_graph (delays_by s.delays) s.is_top s.scope graph };
+    ghost placed = { λ s graph. placed_graph s.version (delays_by s.delays) s.is_top s.scope graph };
 
     fn resolve(
         alloc: Global,
@@ -43,6 +43,7 @@ impl Resolved for Graph {
         let outputs = resolve_each(alloc, &*surroundings, source.outputs.items())?;
         let actors = resolve_each(alloc, &*surroundings, source.actors.items())?;
         let fifos = resolve_each(alloc, &*surroundings, source.fifos.items())?;
+        let exports = resolve_each(alloc, &*surroundings, source.exports.items())?;
         let name = source.name.clone()?;
         Ok(Graph {
             name,
@@ -51,6 +52,7 @@ impl Resolved for Graph {
             outputs,
             actors,
             fifos,
+            exports,
         })
     }
 }
@@ -61,14 +63,15 @@ fn resolve_graph<'a>(
     names: &FileNames<'a>,
     interfaces: &Names<'a>,
     graph: &'a FileGraph,
+    version: u32,
     is_top: bool,
     delays: Delays,
 ) -> Result<Graph, DetailFault<Name>>
     requires { interfaces.now ≡ interfaces_of graph.now }
     ensures { (graphs : Seq FileGraph) → AreOf graphs names.now
-        → Resolves (unknown_in_graph (scope_of names.now.kernels graphs graph.now) graph.now) (placed_graph (delays_by delays) is_top (scope_of names.now.kernels graphs graph.now) graph.now) result }
+        → Resolves (unknown_in_graph (scope_of names.now.kernels graphs graph.now) graph.now) (placed_graph version (delays_by delays) is_top (scope_of names.now.kernels graphs graph.now) graph.now) result }
 {
-    let surroundings = surroundings_of(alloc, names, interfaces, graph, is_top, delays)?;
+    let surroundings = surroundings_of(alloc, names, interfaces, graph, version, is_top, delays)?;
     let resolved = Graph::resolve(alloc, &surroundings, graph)?;
     Ok(resolved)
 }
@@ -77,19 +80,20 @@ fn resolve_graph<'a>(
 fn resolve_graphs<'a>(
     alloc: Global,
     names: &FileNames<'a>,
+    version: u32,
     top: u32,
     delays: Delays,
     graphs: &'a [FileGraph],
 ) -> Result<List<Graph>, DetailFault<Name>>
     requires { AreOf graphs.now names.now }
     ensures { Resolves (flat_map (λ graph. unknown_in_graph (scope_of names.now.kernels graphs.now graph) graph) graphs.now)
-        (map (λ numbered. placed_graph (delays_by delays) (numbered.0 == top) (scope_of names.now.kernels graphs.now numbered.1) numbered.1) (enumerate_from 0 graphs.now)) result }
+        (map (λ numbered. placed_graph version (delays_by delays) (numbered.0 == top) (scope_of names.now.kernels graphs.now numbered.1) numbered.1) (enumerate_from 0 graphs.now)) result }
 {
     let mut resolved = Vec::new(alloc);
     for (place, graph) in graphs.iter().enumerate() {
         let interfaces = &names.interfaces.items()[place];
         let is_top = place == top as usize;
-        let one = resolve_graph(alloc, names, interfaces, graph, is_top, delays)?;
+        let one = resolve_graph(alloc, names, interfaces, graph, version, is_top, delays)?;
         resolved.push(one)?;
     }
     Ok(List::new(resolved))
@@ -112,7 +116,7 @@ pub(crate) fn graphs_of(
     let parts = file.graphs.items();
     let names = FileNames::new(alloc, signatures, parts)?;
     let top = reference(&names.graphs, &file.top)?;
-    let graphs = resolve_graphs(alloc, &names, top, delays, parts)?;
+    let graphs = resolve_graphs(alloc, &names, file.version, top, delays, parts)?;
     Ok(Graphs {
         version: file.version,
         top,

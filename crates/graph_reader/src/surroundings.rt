@@ -52,6 +52,8 @@ pub(crate) struct Surroundings<'b, 'a> {
     pub(crate) actors: Names<'a>,
     /// For each actor, its ports.
     pub(crate) ports: List<Ports<'b, 'a>>,
+    /// The version of the format that the file is of.
+    pub(crate) version: u32,
     /// Whether the graph is the top one.
     pub(crate) is_top: bool,
     pub(crate) delays: Delays,
@@ -92,12 +94,13 @@ pub(crate) fn surroundings_of<'b, 'a>(
     names: &'b FileNames<'a>,
     interfaces: &'b Names<'a>,
     graph: &'a FileGraph,
+    version: u32,
     is_top: bool,
     delays: Delays,
 ) -> Result<Surroundings<'b, 'a>, AllocError>
     requires { interfaces.now ≡ interfaces_of graph.now }
     ensures { (graphs : Seq FileGraph) → AreOf graphs names.now
-        → IfOk result (λ s. setting_of s ≡ record { scope = scope_of names.now.kernels graphs graph.now; is_top = is_top; delays = delays }) }
+        → IfOk result (λ s. setting_of s ≡ record { scope = scope_of names.now.kernels graphs graph.now; version = version; is_top = is_top; delays = delays }) }
 {
     let params = names_of(alloc, graph.params.items())?;
     let actors = names_of(alloc, graph.actors.items())?;
@@ -109,6 +112,7 @@ pub(crate) fn surroundings_of<'b, 'a>(
         interfaces,
         actors,
         ports,
+        version,
         is_top,
         delays,
     })

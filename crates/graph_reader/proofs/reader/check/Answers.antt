@@ -59,4 +59,4 @@ returns c =
     (tells_after unknown (kernels ++ (rules ++ counts)) answer c.in_ok-marked.ensures.tells
     (tells_after kernels (rules ++ counts) answer (c.in_ok-told_kernel.ensures (unfit_in_file signatures file) c.unfit_kernel.ensures)
     (tells_after rules counts answer (sym same ∙ c.in_ok-follow_rules.ensures)
-    (c.told_count.ensures (count_faults graphs) (c.count.ensures (kernel_names signatures))))))
+    (c.told_count.ensures (count_faults graphs) (c.count.ensures (kernel_names signatures) c.in_ok-marked.ensures.graphs)))))

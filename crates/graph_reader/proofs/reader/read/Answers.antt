@@ -1,5 +1,6 @@
 use Rattle.std.proofs.Common.{map}
 use Rattle.kernel_gate.specs.Signed.{signature_view}
+use Rattle.graph_format.proofs.Misshapen.{tells_shape}
 use Rattle.graph_format.proofs.Reading.{reads_in_range, reads_mean, reads_stated, reads_well_formed, reads_writable}
 use Rattle.graph_reader.proofs.reader.read.Goals as goal
 
@@ -17,3 +18,6 @@ returns-clause-writable c = reads_writable (map signature_view c.args.signatures
 
 pub returns-clause-stated : goal.returns-clause-stated
 returns-clause-stated c = reads_stated (map signature_view c.args.signatures.now) c.args.bytes.now c.graphs_of_bytes.result c.graphs_of_bytes.ensures
+
+pub returns-clause-shape : goal.returns-clause-shape
+returns-clause-shape c = tells_shape (map signature_view c.args.signatures.now) c.args.bytes.now c.graphs_of_bytes.result c.graphs_of_bytes.ensures

@@ -19,10 +19,10 @@ pub loop-place-preserved : goal.loop-place-preserved
 loop-place-preserved c =
     let graphs = c.args.graphs.now in
     let kernels = c.args.names.now.kernels in
-    rw c.in_ok-push.ensures.items (numbered_goes_on (λ (g : FileGraph). unknown_in_graph (scope_of kernels graphs g) g) (λ (n : ℕ × FileGraph). placed_graph (delays_by c.args.delays) (n.0 == c.args.top) (scope_of kernels graphs n.1) n.1) graphs c.loop-place.place c.index-graphs-place.result c.in_ok-one.one c.loop-place.resolved.items c.loop-place-test.true c.index-graphs-place.is (c.in_ok-one.ensures graphs c.requires) c.loop-place.invariant)
+    rw c.in_ok-push.ensures.items (numbered_goes_on (λ (g : FileGraph). unknown_in_graph (scope_of kernels graphs g) g) (λ (n : ℕ × FileGraph). placed_graph c.args.version (delays_by c.args.delays) (n.0 == c.args.top) (scope_of kernels graphs n.1) n.1) graphs c.loop-place.place c.index-graphs-place.result c.in_ok-one.one c.loop-place.resolved.items c.loop-place-test.true c.index-graphs-place.is (c.in_ok-one.ensures graphs c.requires) c.loop-place.invariant)
 
 pub returns : goal.returns
 returns c =
     let graphs = c.args.graphs.now in
     let kernels = c.args.names.now.kernels in
-    rw c.new.ensures (numbered_done (λ (g : FileGraph). unknown_in_graph (scope_of kernels graphs g) g) (λ (n : ℕ × FileGraph). placed_graph (delays_by c.args.delays) (n.0 == c.args.top) (scope_of kernels graphs n.1) n.1) graphs c.loop-place.place c.loop-place.resolved.items c.loop-place-test.false c.loop-place.invariant)
+    rw c.new.ensures (numbered_done (λ (g : FileGraph). unknown_in_graph (scope_of kernels graphs g) g) (λ (n : ℕ × FileGraph). placed_graph c.args.version (delays_by c.args.delays) (n.0 == c.args.top) (scope_of kernels graphs n.1) n.1) graphs c.loop-place.place c.loop-place.resolved.items c.loop-place-test.false c.loop-place.invariant)

@@ -10,4 +10,4 @@ use Rattle.graph_reader.proofs.resolved_graphs.resolve_graphs.Given as goal
 
 abbrev pub invariant-loop-place : goal.invariant-loop-place
 invariant-loop-place l =
-    Stands (λ (n : ℕ × FileGraph). unknown_in_graph (scope_of l.names.kernels l.graphs n.1) n.1) (λ (n : ℕ × FileGraph). placed_graph (delays_by l.delays) (n.0 == l.top) (scope_of l.names.kernels l.graphs n.1) n.1) (enumerate_from 0 l.graphs) l.place l.resolved.items
+    Stands (λ (n : ℕ × FileGraph). unknown_in_graph (scope_of l.names.kernels l.graphs n.1) n.1) (λ (n : ℕ × FileGraph). placed_graph l.version (delays_by l.delays) (n.0 == l.top) (scope_of l.names.kernels l.graphs n.1) n.1) (enumerate_from 0 l.graphs) l.place l.resolved.items
