@@ -81,6 +81,9 @@ kept_permanent version is_top f is = ap (λ life. capped (length (kept_tokens li
 
 -- ---- all graphs
 
+pub own_length : (file : File) (top : ℕ) → length (own_counts file top) ≡ length file.graphs
+own_length file top = length-map (enumerate_from 0 file.graphs) (λ (n : ℕ × FileGraph). capped (own_count file.version (n.0 == top) n.1)) ∙ length-enumerate_from 0 file.graphs
+
 numbered_below : {X Y D : Type 0} (m : ℕ × X → Y) (f : ℕ → Y → List D) (g : ℕ → X → List D) (most : ℕ) → ((n : ℕ) (x : X) → n < most → f n (m (n, x)) ≡ g n x) → (n : ℕ) (xs : List X) → n + length xs ≤ most
     → from_number n f (map m (enumerate_from n xs)) ≡ from_number n g xs
 numbered_below m f g most alike n [] within = refl
@@ -117,6 +120,9 @@ module _ (kernels : List (List ℕ)) (file : File) where
 
   long : {A : Type 0} (f : ℕ × FileGraph → A) → length (map f numbered) ≡ length file.graphs
   long f = length-map numbered f ∙ length-enumerate_from 0 file.graphs
+
+  pub as_many : (graphs : Graphs) → graphs ≡ placed mark_of kernels file → length graphs.graphs ≡ length file.graphs
+  as_many graphs is = ap (λ (gs : Graphs). length gs.graphs) is ∙ long marked
 
   -- whether the holds are too large, by number
   abbrev larges : List Bool

@@ -9,4 +9,4 @@ pub mod Numbered
 pub mod Placing
 pub mod Pushed
 pub mod Telling
-pub mod Versions
+pub mod OneVersion

@@ -1,7 +1,7 @@
 -- The graphs of a file, each behind its number.
 use Rattle.std.proofs.Common.{◌≡◌, ℕ, ◌+◌, ◌<◌, ◌≤◌, List, [], ◌∷◌, ◌++◌, length, get_or, take, map, Ok, refl, sym, ap, ◌∙◌, subst, zero-add, arith}
 use Rattle.std.specs.List.{enumerate_from, flat_map}
-use Rattle.std.proofs.lemmas.List.{map_push}
+use Rattle.std.proofs.lemmas.List.{map_push, take_all}
 use Rattle.std.proofs.lemmas.List.FromFn.{get_or-enumerate_from, length-enumerate_from}
 use Rattle.pisdf_model.specs.Details.{Refuses}
 use Rattle.graph_reader.specs.Resolves.{Resolves}
@@ -18,6 +18,11 @@ pub numbered_push : {A B : Type 0} (f : ℕ × A → B) (xs : List A) (i : ℕ) 
 numbered_push f xs i x done lt is so_far =
     let fits : i < length (enumerate_from 0 xs) = omega (arith, length-enumerate_from 0 xs) in
     ap (λ d. d ++ f (i, x) ∷ []) so_far ∙ sym (map_push f (take i (enumerate_from 0 xs)) (i, x)) ∙ sym (ap (map f) (take_next (enumerate_from 0 xs) i (i, x) fits (at_number xs i x lt is)))
+
+pub numbered_all : {A B : Type 0} (f : ℕ × A → B) (xs : List A) (i : ℕ) (done : List B) → length xs ≤ i → done ≡ map f (take i (enumerate_from 0 xs)) → done ≡ map f (enumerate_from 0 xs)
+numbered_all f xs i done past so_far =
+    let all : length (enumerate_from 0 xs) ≤ i = omega (arith, length-enumerate_from 0 xs) in
+    so_far ∙ ap (map f) (take_all i (enumerate_from 0 xs) all)
 
 -- numbers change nothing for what doesn't look at them
 pub flat_map-numbered : {A B : Type 0} (f : A → List B) (n : ℕ) (xs : List A) → flat_map (λ (p : ℕ × A). f p.1) (enumerate_from n xs) ≡ flat_map f xs

@@ -126,6 +126,7 @@ fn count_graphs(graphs: &[FileGraph], large: &[bool]) -> Result<(), DetailFault<
 /// by graph, parameters, inputs, outputs, actors, FIFOs, exports, tokens of a delay, and tokens of the state of a graph
 /// that an actor names.
 pub(crate) fn count(alloc: Global, file: &File, marked: &Graphs) -> Result<(), DetailFault<Counted>>
+    requires { length marked.now.graphs ≡ length file.now.graphs }
     ensures { (kernels : Seq (Seq ℕ)) → marked.now ≡ placed mark_of kernels file.now → Answers (count_faults (placed tokens_of kernels file.now)) result }
 {
     let graphs = file.graphs.items();

@@ -13,6 +13,7 @@ use Rattle.graph_format.specs.References.{unknown_in_file}
 use Rattle.graph_format.specs.declared.graph_fault.GraphFault.TheVariants.{Duplicate, Kernel, Unknown}
 use Rattle.graph_format.proofs.Laws.{placed_marked, rules_marked}
 use Rattle.graph_format.proofs.Ranged.{file_in_range}
+use Rattle.graph_reader.proofs.FileCounts.{as_many}
 use Rattle.graph_reader.proofs.Telling.{passes, stops, tells_after}
 use Rattle.graph_reader.proofs.reader.check.Goals as goal
 
@@ -21,6 +22,9 @@ follow_rules-requires c =
     let file = c.args.file.now in
     subst InRange (sym c.in_ok-marked.ensures.graphs)
     (file_in_range mark_of (kernel_names (map signature_view c.args.signatures.now)) file c.requires (unmapped Unknown (unknown_in_file file) c.in_ok-marked.ensures.tells))
+
+pub count-requires : goal.count-requires
+count-requires c = as_many (kernel_names (map signature_view c.args.signatures.now)) c.args.file.now c.in_ok-marked.marked c.in_ok-marked.ensures.graphs
 
 pub returns-in_err-follow_rules : goal.returns-in_err-follow_rules
 returns-in_err-follow_rules c =
