@@ -25,6 +25,7 @@ use Rattle.pisdf_model.specs.Range.{life_of}
 use Rattle.pisdf_model.specs.declared.names.Scope.TheVariants as scope
 use Rattle.pisdf_model.specs.declared.names.ScopedName.{ScopedName}
 use Rattle.pisdf_model.specs.declared.actor.Port.{Port}
+use Rattle.pisdf_model.specs.declared.fifo.Life.{Life}
 use Rattle.pisdf_model.specs.declared.param.Param.{Param}
 use Rattle.pisdf_model.specs.declared.graph.Graph.{Graph}
 use Rattle.pisdf_model.specs.declared.graph.Interface.{Interface}
@@ -36,7 +37,7 @@ use Rattle.graph_format.specs.Placed.{mark_of, placed, placed_actor, placed_body
 use Rattle.graph_format.specs.Scope.{Scope, scope_of}
 use Rattle.graph_format.specs.declared.actor.FileActor.{FileActor}
 use Rattle.graph_format.specs.declared.actor.FileBody.{FileBody}
-use Rattle.graph_format.specs.declared.actor.FileBody.TheVariants.{Kernel, Config, Child}
+use Rattle.graph_format.specs.declared.actor.FileBody.TheVariants.{Kernel, Config, Child, ConfigChild}
 use Rattle.graph_format.specs.declared.fifo.FileDelay.{FileDelay}
 use Rattle.graph_format.specs.declared.fifo.FileDelay.TheVariants.{Zeros, Tokens}
 use Rattle.graph_format.specs.declared.fifo.FileFifo.{FileFifo}
@@ -62,12 +63,13 @@ module _ (s : Scope) where
       ap (λ names. names ++ map (λ (p : Port). p.name) (map (placed_port s) outs)) (port_names_kept ins) ∙ ap (λ names. map (λ (p : FilePort). p.name) ins ++ names) (port_names_kept outs)
   own_names_kept (Config kernel args ins outs sets) = ap (λ names. ins ++ names) (port_names_kept outs)
   own_names_kept (Child graph args) = refl
+  own_names_kept (ConfigChild graph args sets) = refl
 
   actor_names_kept : (n a : ℕ) (actor : FileActor) → model.actor_walk n a (placed_actor s actor) ≡ actor_walk n a actor
   actor_names_kept n a actor = ap (λ names. record { scope = scope.Parts n; name = actor.name } ∷ model.scoped (scope.Ports n a) names) (own_names_kept actor.body)
 
-  graph_names_kept : (tokens : FileDelay → List ℤ) (is_top : Bool) (n : ℕ) (g : FileGraph) → model.graph_walk n (placed_graph tokens is_top s g) ≡ graph_walk n g
-  graph_names_kept tokens is_top n g =
+  graph_names_kept : (version : ℕ) (tokens : FileDelay → List ℤ) (is_top : Bool) (n : ℕ) (g : FileGraph) → model.graph_walk n (placed_graph version tokens is_top s g) ≡ graph_walk n g
+  graph_names_kept version tokens is_top n g =
       let own : ScopedName = record { scope = scope.Graphs; name = g.name } in
       let scoped : List (List ℕ) → List ScopedName = model.scoped (scope.Parts n) in
       let inputs = map (placed_interface s) g.inputs in
@@ -84,8 +86,8 @@ module _ (s : Scope) where
 -- the names of graphs are those of their file
 pub names_kept : (tokens : FileDelay → List ℤ) (kernels : List (List ℕ)) (file : File) → model.names_of (placed tokens kernels file) ≡ names_of_file file
 names_kept tokens kernels file =
-    alike_numbered (λ (p : ℕ × FileGraph). placed_graph tokens (p.0 == top_of file) (scope_of kernels file.graphs p.1) p.1) (λ n g. model.graph_walk n g) (λ n g. graph_walk n g)
-    (λ n g. graph_names_kept (scope_of kernels file.graphs g) tokens (n == top_of file) n g) file.graphs
+    alike_numbered (λ (p : ℕ × FileGraph). placed_graph file.version tokens (p.0 == top_of file) (scope_of kernels file.graphs p.1) p.1) (λ n g. model.graph_walk n g) (λ n g. graph_walk n g)
+    (λ n g. graph_names_kept (scope_of kernels file.graphs g) file.version tokens (n == top_of file) n g) file.graphs
 
 -- ---- marks
 
@@ -99,30 +101,30 @@ marked_delay : (delay : FileDelay) → marked (tokens_of delay) ≡ mark_of dela
 marked_delay (Zeros n) = marked_zeros n
 marked_delay (Tokens tokens) = refl
 
-life_kept : (is_top : Bool) (tokens : List ℤ) → life_of is_top tokens ≡ life_of is_top (marked tokens)
-life_kept is_top [] = refl
-life_kept true (t ∷ ts) = refl
-life_kept false (t ∷ ts) = refl
+module _ (version : ℕ) (is_top : Bool) (s : Scope) where
+  life_kept : (stated : Life) (tokens : List ℤ) → life_of version is_top stated tokens ≡ life_of version is_top stated (marked tokens)
+  life_kept stated [] = refl
+  life_kept stated (t ∷ ts) = refl
 
-fifo_marked : (is_top : Bool) (s : Scope) (f : FileFifo) → marked_fifo (placed_fifo tokens_of is_top s f) ≡ placed_fifo mark_of is_top s f
-fifo_marked is_top s f =
-    ap (λ life. record { tail = placed_end s f.from; head = placed_end s f.to; delay = marked (tokens_of f.delay); life = life }) (life_kept is_top (tokens_of f.delay))
-    ∙ ap (λ delay. record { tail = placed_end s f.from; head = placed_end s f.to; delay = delay; life = life_of is_top delay }) (marked_delay f.delay)
+  fifo_marked : (f : FileFifo) → marked_fifo (placed_fifo version tokens_of is_top s f) ≡ placed_fifo version mark_of is_top s f
+  fifo_marked f =
+      ap (λ life. record { tail = placed_end s f.from; head = placed_end s f.to; delay = marked (tokens_of f.delay); life = life }) (life_kept f.life (tokens_of f.delay))
+      ∙ ap (λ delay. record { tail = placed_end s f.from; head = placed_end s f.to; delay = delay; life = life_of version is_top f.life delay }) (marked_delay f.delay)
 
-fifos_marked : (is_top : Bool) (s : Scope) (fs : List FileFifo) → map marked_fifo (map (placed_fifo tokens_of is_top s) fs) ≡ map (placed_fifo mark_of is_top s) fs
-fifos_marked is_top s fs = of_mapped (placed_fifo tokens_of is_top s) marked_fifo (placed_fifo mark_of is_top s) (fifo_marked is_top s) fs
+  fifos_marked : (fs : List FileFifo) → map marked_fifo (map (placed_fifo version tokens_of is_top s) fs) ≡ map (placed_fifo version mark_of is_top s) fs
+  fifos_marked fs = of_mapped (placed_fifo version tokens_of is_top s) marked_fifo (placed_fifo version mark_of is_top s) fifo_marked fs
 
-graph_marked : (is_top : Bool) (s : Scope) (g : FileGraph) → marked_graph (placed_graph tokens_of is_top s g) ≡ placed_graph mark_of is_top s g
-graph_marked is_top s g =
-    let placed_g = placed_graph tokens_of is_top s g in
-    ap (λ fifos. record { name = placed_g.name; params = placed_g.params; inputs = placed_g.inputs; outputs = placed_g.outputs; actors = placed_g.actors; fifos = fifos }) (fifos_marked is_top s g.fifos)
+  graph_marked : (g : FileGraph) → marked_graph (placed_graph version tokens_of is_top s g) ≡ placed_graph version mark_of is_top s g
+  graph_marked g =
+      let placed_g = placed_graph version tokens_of is_top s g in
+      ap (λ fifos. record { name = placed_g.name; params = placed_g.params; inputs = placed_g.inputs; outputs = placed_g.outputs; actors = placed_g.actors; fifos = fifos; exports = placed_g.exports }) (fifos_marked g.fifos)
 
 -- resolving with marks gives the graphs with marks
 pub placed_marked : (kernels : List (List ℕ)) (file : File) → marked_graphs (placed tokens_of kernels file) ≡ placed mark_of kernels file
 placed_marked kernels file =
-    let each : (FileDelay → List ℤ) → ℕ × FileGraph → Graph = λ tokens p. placed_graph tokens (p.0 == top_of file) (scope_of kernels file.graphs p.1) p.1 in
+    let each : (FileDelay → List ℤ) → ℕ × FileGraph → Graph = λ tokens p. placed_graph file.version tokens (p.0 == top_of file) (scope_of kernels file.graphs p.1) p.1 in
     ap (λ (graphs : List Graph). record { version = file.version; top = top_of file; graphs = graphs })
-    (of_mapped (each tokens_of) marked_graph (each mark_of) (λ p. graph_marked (p.0 == top_of file) (scope_of kernels file.graphs p.1) p.1) (enumerate_from 0 file.graphs))
+    (of_mapped (each tokens_of) marked_graph (each mark_of) (λ p. graph_marked file.version (p.0 == top_of file) (scope_of kernels file.graphs p.1) p.1) (enumerate_from 0 file.graphs))
 
 -- and those change no fault of graphs but that of too many tokens
 pub rules_marked : (fits : Body → Bool) (graphs : Graphs) → rule_faults fits (marked_graphs graphs) ≡ rule_faults fits graphs
@@ -142,6 +144,7 @@ fit_any : (fits : Body → Bool) (graphs : List Graph) (b : Body) (name : List �
 fit_any fits graphs (body.Kernel kernel args ins outs) name none = refl
 fit_any fits graphs (body.Config kernel args ins outs sets) name none = refl
 fit_any fits graphs (body.Child graph args) name none = none
+fit_any fits graphs (body.ConfigChild graph args sets) name none = none
 
 all_none : (fits : Body → Bool) (g : Graphs) → model.duplicate_faults g ≡ [] → HasNoRuleFaults fits g → count_faults g ≡ [] → WellFormed g
 all_none fits g duplicates none counts =

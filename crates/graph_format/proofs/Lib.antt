@@ -7,6 +7,7 @@ pub mod NoFaults
 pub mod PortFaults
 pub mod Laws
 pub mod InPlace
+pub mod OfVersion
 pub mod Ranged
 pub mod Writable
 pub mod Reading

@@ -24,7 +24,7 @@ use Rattle.graph_format.specs.States.{States, StatesActor, StatesBody, StatesGra
 use Rattle.graph_format.specs.Values.{AreItems, IsList, StatesExpression}
 use Rattle.graph_format.specs.declared.actor.FileActor.{FileActor}
 use Rattle.graph_format.specs.declared.actor.FileBody.{FileBody}
-use Rattle.graph_format.specs.declared.actor.FileBody.TheVariants.{Kernel, Config, Child}
+use Rattle.graph_format.specs.declared.actor.FileBody.TheVariants.{Kernel, Config, Child, ConfigChild}
 use Rattle.graph_format.specs.declared.file.File.{File}
 use Rattle.graph_format.specs.declared.file.FileGraph.{FileGraph}
 use Rattle.graph_format.specs.declared.param.FileParam.{FileParam}
@@ -94,16 +94,17 @@ module _ (s : Scope) (params : List Param) (named : All IsName (map (λ (p : Par
   interfaces_writable : (d : Data) (ps : List FilePort) → IsList StatesPort d ps → All (λ x. IsInterfaceInRange (length params) x) (map (placed_interface s) ps) → All (IsWritableInterface names) (map (placed_interface s) ps)
   interfaces_writable d ps h below = each_shown StatesPort (placed_interface s) (λ x. IsInterfaceInRange (length params) x) (IsWritableInterface names) interface_writable h.values ps h.items below
 
-  body_writable : (graphs : ℕ) (d : Data) (b : FileBody) → StatesBody d b → IsBodyInRange graphs (length params) (placed_body s b) → IsWritableBody names (placed_body s b)
-  body_writable graphs d (Kernel kernel args ins outs) h range =
+  body_writable : (version graphs : ℕ) (d : Data) (b : FileBody) → StatesBody version d b → IsBodyInRange version graphs (length params) (placed_body s b) → IsWritableBody names (placed_body s b)
+  body_writable version graphs d (Kernel kernel args ins outs) h range =
       (exprs_writable h.args.value args h.args.states range.0, ports_writable h.ins.value ins h.ins.states range.1, ports_writable h.outs.value outs h.outs.states range.2)
-  body_writable graphs d (Config kernel args ins outs sets) h range =
+  body_writable version graphs d (Config kernel args ins outs sets) h range =
       (exprs_writable h.args.value args h.args.states range.0, ports_writable h.outs.value outs h.outs.states range.1)
-  body_writable graphs d (Child graph args) h range = exprs_writable h.args.value args h.args.states range.1
+  body_writable version graphs d (Child graph args) h range = exprs_writable h.args.value args h.args.states range.1
+  body_writable version graphs d (ConfigChild graph args sets) h range = exprs_writable h.args.value args h.args.states range.2
 
-  actors_writable : (graphs : ℕ) (d : Data) (actors : List FileActor) → IsList StatesActor d actors → All (λ a. IsActorInRange graphs (length params) a) (map (placed_actor s) actors) → All (IsWritableActor names) (map (placed_actor s) actors)
-  actors_writable graphs d actors h range =
-      each_shown StatesActor (placed_actor s) (λ a. IsActorInRange graphs (length params) a) (IsWritableActor names) (λ d a states inside. body_writable graphs d a.body states.body inside) h.values actors h.items range
+  actors_writable : (version graphs : ℕ) (d : Data) (actors : List FileActor) → IsList (StatesActor version) d actors → All (λ a. IsActorInRange version graphs (length params) a) (map (placed_actor s) actors) → All (IsWritableActor names) (map (placed_actor s) actors)
+  actors_writable version graphs d actors h range =
+      each_shown (StatesActor version) (placed_actor s) (λ a. IsActorInRange version graphs (length params) a) (IsWritableActor names) (λ d a states inside. body_writable version graphs d a.body states.body inside) h.values actors h.items range
 
 -- ---- graphs
 
@@ -114,25 +115,25 @@ param_named s (item d ds) [] items = absurd items
 param_named s (item d ds) (p ∷ ps) items = All-cons IsName p.name (map (λ (p : Param). p.name) (map (placed_param s) ps)) items.0.name.states.valid (param_named s ds ps items.1)
 
 -- in range in some file, as its top or as another graph of it
-abbrev IsSomewhereInRange : List Graph → Graph → Type 0
-IsSomewhereInRange graphs g = (is_top : Bool) × IsGraphInRange graphs is_top g
+abbrev IsSomewhereInRange : ℕ → List Graph → Graph → Type 0
+IsSomewhereInRange version graphs g = (is_top : Bool) × IsGraphInRange version graphs is_top g
 
-graph_writable : (graphs : List Graph) (is_top : Bool) (s : Scope) (d : Data) (g : FileGraph) → StatesGraph 1 d g → IsSomewhereInRange graphs (placed_graph tokens_of is_top s g) → IsWritableGraph (placed_graph tokens_of is_top s g)
-graph_writable graphs is_top s d g h range =
+graph_writable : (version : ℕ) (graphs : List Graph) (is_top : Bool) (s : Scope) (d : Data) (g : FileGraph) → StatesGraph version d g → IsSomewhereInRange version graphs (placed_graph version tokens_of is_top s g) → IsWritableGraph (placed_graph version tokens_of is_top s g)
+graph_writable version graphs is_top s d g h range =
     let params = map (placed_param s) g.params in
     let named = param_named s h.params.states.values g.params h.params.states.items in
     record {
       params = each_shown StatesParam (placed_param s) (λ p. IsParamInRange (length params) p) (IsWritableParam (map (λ (p : Param). p.name) params)) (param_writable s params named) h.params.states.values g.params h.params.states.items range.1.params;
       inputs = interfaces_writable s params named h.inputs.value g.inputs h.inputs.states range.1.inputs;
       outputs = interfaces_writable s params named h.outputs.value g.outputs h.outputs.states range.1.outputs;
-      actors = actors_writable s params named (length graphs) h.actors.value g.actors h.actors.states range.1.actors;
+      actors = actors_writable s params named version (length graphs) h.actors.value g.actors h.actors.states range.1.actors;
     }
 
-pub writable : (signatures : List SignatureView) (d : Data) (file : File) → States 1 d file → InRange (graphs_of signatures file) → All IsWritableGraph (graphs_of signatures file).graphs
+pub writable : (signatures : List SignatureView) (d : Data) (file : File) → States file.version d file → InRange (graphs_of signatures file) → All IsWritableGraph (graphs_of signatures file).graphs
 writable signatures d file h range =
     let graphs : Graphs = graphs_of signatures file in
     let here = λ (p : ℕ × FileGraph). scope_of (kernel_names signatures) file.graphs p.1 in
-    each_shown (λ d (p : ℕ × FileGraph). StatesGraph 1 d p.1) (λ (p : ℕ × FileGraph). placed_graph tokens_of (p.0 == top_of file) (here p) p.1) (IsSomewhereInRange graphs.graphs) IsWritableGraph
-    (λ d p states inside. graph_writable graphs.graphs (p.0 == top_of file) (here p) d p.1 states inside)
-    h.graphs.states.values (enumerate_from 0 file.graphs) (numbered (StatesGraph 1) 0 h.graphs.states.values file.graphs h.graphs.states.items)
+    each_shown (λ d (p : ℕ × FileGraph). StatesGraph file.version d p.1) (λ (p : ℕ × FileGraph). placed_graph file.version tokens_of (p.0 == top_of file) (here p) p.1) (IsSomewhereInRange file.version graphs.graphs) IsWritableGraph
+    (λ d p states inside. graph_writable file.version graphs.graphs (p.0 == top_of file) (here p) d p.1 states inside)
+    h.graphs.states.values (enumerate_from 0 file.graphs) (numbered (StatesGraph file.version) 0 h.graphs.states.values file.graphs h.graphs.states.items)
     (λ k d inside. (k == graphs.top, range.each_graph k d inside))

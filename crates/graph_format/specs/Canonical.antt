@@ -1,5 +1,5 @@
 -- The canonical JSON value of graphs: all members, in the order of their bytes.
-use Rattle.std.specs.Prelude.{ℕ, ◌==◌, ℤ, List, map, codes, Bool, false, if◌then◌else◌}
+use Rattle.std.specs.Prelude.{ℕ, ◌==◌, ℤ, List, map, codes, Bool, false, not, ◌&&◌, if◌then◌else◌}
 use Rattle.serde_json.specs.Data.{Data, number, unsigned, string, array, object, Members, no_members, member}
 use Rattle.serde_json.specs.Find.{of_integer}
 use Rattle.serde_json.specs.View.{items_of}
@@ -7,8 +7,10 @@ use Rattle.param_expr.specs.Named.{NamedTree}
 use Rattle.param_expr.specs.Print.{printed}
 use Rattle.kernel_gate.specs.declared.signature.Signature.{Signature}
 use Rattle.pisdf_model.specs.declared.graph.Graphs.{Graphs}
+use Rattle.pisdf_model.specs.declared.fifo.Life.{Life}
 use Rattle.graph_format.specs.Values.{end_text}
-use Rattle.graph_format.specs.States.{kind_text}
+use Rattle.graph_format.specs.States.{kind_text, life_text}
+use Rattle.graph_format.specs.Objects.{has_exports, has_lives}
 use Rattle.graph_format.specs.Named.{named_file}
 use Rattle.graph_format.specs.declared.param.FileParam.{FileParam}
 use Rattle.graph_format.specs.declared.param.FileParamKind.{FileParamKind}
@@ -16,7 +18,7 @@ use Rattle.graph_format.specs.declared.param.FileParamKind.TheVariants.{Inherite
 use Rattle.graph_format.specs.declared.port.FilePort.{FilePort}
 use Rattle.graph_format.specs.declared.actor.FileActor.{FileActor}
 use Rattle.graph_format.specs.declared.actor.FileBody.{FileBody}
-use Rattle.graph_format.specs.declared.actor.FileBody.TheVariants.{Kernel, Config, Child}
+use Rattle.graph_format.specs.declared.actor.FileBody.TheVariants.{Kernel, Config, Child, ConfigChild}
 use Rattle.graph_format.specs.declared.fifo.FileEnd.{FileEnd}
 use Rattle.graph_format.specs.declared.fifo.FileDelay.{FileDelay}
 use Rattle.graph_format.specs.declared.fifo.FileDelay.TheVariants.{Zeros, Tokens}
@@ -105,10 +107,21 @@ child_members name graph args =
     (member (codes "name") (string name)
     no_members)))
 
+-- a hierarchical configuration actor, which also sets parameters
+abbrev pub config_child_members : List ℕ → List ℕ → Data → Data → Members
+config_child_members name graph args sets =
+    member (codes "args") args
+    (member (codes "graph") (string graph)
+    (member (codes "kind") (string (codes "setgraph"))
+    (member (codes "name") (string name)
+    (member (codes "sets") sets
+    no_members))))
+
 abbrev pub body_members : List ℕ → FileBody → Members
 body_members name (Kernel kernel args ins outs) = kernel_members name kernel (list_value expression_value args) (list_value port_value ins) (list_value port_value outs)
 body_members name (Config kernel args ins outs sets) = config_members name kernel (list_value expression_value args) (list_value input_value ins) (list_value port_value outs) (list_value string sets)
 body_members name (Child graph args) = child_members name graph (list_value expression_value args)
+body_members name (ConfigChild graph args sets) = config_child_members name graph (list_value expression_value args) (list_value string sets)
 
 unfoldable pub actor_value : FileActor → Data
 actor_value actor = object (body_members actor.name actor.body)
@@ -128,31 +141,41 @@ is_no_delay (Tokens tokens) = false
 abbrev pub with_delay : FileDelay → Members → Members
 with_delay delay members = if is_no_delay delay then members else member (codes "delay") (delay_value delay) members
 
--- a FIFO without a delay, from an end to another
-abbrev pub end_members : List ℕ → List ℕ → Members
-end_members from to =
-    member (codes "from") (string from)
-    (member (codes "to") (string to)
-    no_members)
+-- the life before the other members, where the version states lives and there is a delay
+abbrev pub with_life : Bool → Life → Members → Members
+with_life stated life members = if stated then member (codes "life") (string (life_text life)) members else members
 
-unfoldable pub fifo_value : FileFifo → Data
-fifo_value fifo = object (with_delay fifo.delay (end_members (end_text fifo.from) (end_text fifo.to)))
+-- a FIFO without a delay, from an end to another
+abbrev pub end_members : Bool → Life → List ℕ → List ℕ → Members
+end_members stated life from to =
+    member (codes "from") (string from)
+    (with_life stated life
+    (member (codes "to") (string to)
+    no_members))
+
+unfoldable pub fifo_value : ℕ → FileFifo → Data
+fifo_value version fifo = object (with_delay fifo.delay (end_members (has_lives version && not (is_no_delay fifo.delay)) fifo.life (end_text fifo.from) (end_text fifo.to)))
 
 -- ---- graphs
 
-abbrev pub graph_members : List ℕ → Data → Data → Data → Data → Data → Members
-graph_members name params inputs outputs actors fifos =
+-- the exports before the other members, where the version has them
+abbrev pub with_exports : Bool → Data → Members → Members
+with_exports stated exports members = if stated then member (codes "exports") exports members else members
+
+abbrev pub graph_members : Bool → List ℕ → Data → Data → Data → Data → Data → Data → Members
+graph_members exporting name params inputs outputs actors fifos exports =
     member (codes "actors") actors
+    (with_exports exporting exports
     (member (codes "fifos") fifos
     (member (codes "inputs") inputs
     (member (codes "name") (string name)
     (member (codes "outputs") outputs
     (member (codes "params") params
-    no_members)))))
+    no_members))))))
 
-unfoldable pub graph_value : FileGraph → Data
-graph_value graph =
-    object (graph_members graph.name (list_value param_value graph.params) (list_value port_value graph.inputs) (list_value port_value graph.outputs) (list_value actor_value graph.actors) (list_value fifo_value graph.fifos))
+unfoldable pub graph_value : ℕ → FileGraph → Data
+graph_value version graph =
+    object (graph_members (has_exports version) graph.name (list_value param_value graph.params) (list_value port_value graph.inputs) (list_value port_value graph.outputs) (list_value actor_value graph.actors) (list_value (fifo_value version) graph.fifos) (list_value string graph.exports))
 
 -- ---- files
 
@@ -164,7 +187,7 @@ root_members version top graphs =
     no_members))
 
 unfoldable pub file_value : File → Data
-file_value file = object (root_members file.version file.top (list_value graph_value file.graphs))
+file_value file = object (root_members file.version file.top (list_value (graph_value file.version) file.graphs))
 
 -- the canonical value of graphs whose kernels are places of these signatures
 abbrev pub canonical : List Signature → Graphs → Data

@@ -37,6 +37,7 @@ abbrev pub fits_kernel : List SignatureView → Body → Bool
 fits_kernel signatures (body.Kernel kernel args ins outs) = fit_signature (slice_get signatures kernel) (length args) (length ins) (length outs) 0
 fits_kernel signatures (body.Config kernel args ins outs sets) = fit_signature (slice_get signatures kernel) (length args) (length ins) (length outs) (length sets)
 fits_kernel signatures (body.Child graph args) = true
+fits_kernel signatures (body.ConfigChild graph args sets) = true
 
 -- ---- graphs
 

@@ -7,7 +7,7 @@ use Rattle.pisdf_model.specs.declared.names.ScopedName.{ScopedName}
 use Rattle.graph_format.specs.Scope.{names_of_params, names_of_ports}
 use Rattle.graph_format.specs.declared.actor.FileActor.{FileActor}
 use Rattle.graph_format.specs.declared.actor.FileBody.{FileBody}
-use Rattle.graph_format.specs.declared.actor.FileBody.TheVariants.{Kernel, Config, Child}
+use Rattle.graph_format.specs.declared.actor.FileBody.TheVariants.{Kernel, Config, Child, ConfigChild}
 use Rattle.graph_format.specs.declared.file.File.{File}
 use Rattle.graph_format.specs.declared.file.FileGraph.{FileGraph}
 
@@ -16,6 +16,7 @@ abbrev pub own_port_names : FileBody → List (List ℕ)
 own_port_names (Kernel kernel args ins outs) = names_of_ports ins ++ names_of_ports outs
 own_port_names (Config kernel args ins outs sets) = ins ++ names_of_ports outs
 own_port_names (Child graph args) = []
+own_port_names (ConfigChild graph args sets) = []
 
 -- an actor's name, then those of its ports
 abbrev pub actor_walk : ℕ → ℕ → FileActor → List ScopedName

@@ -5,7 +5,7 @@ use Rattle.std.specs.Str.{bytes_eq}
 use Rattle.kernel_gate.specs.Signed.{SignatureView}
 use Rattle.graph_format.specs.declared.actor.FileActor.{FileActor}
 use Rattle.graph_format.specs.declared.actor.FileBody.{FileBody}
-use Rattle.graph_format.specs.declared.actor.FileBody.TheVariants.{Kernel, Config, Child}
+use Rattle.graph_format.specs.declared.actor.FileBody.TheVariants.{Kernel, Config, Child, ConfigChild}
 use Rattle.graph_format.specs.declared.file.File.{File}
 use Rattle.graph_format.specs.declared.file.FileGraph.{FileGraph}
 
@@ -30,6 +30,7 @@ abbrev pub unfit_in_body : List SignatureView → FileBody → List (List ℕ)
 unfit_in_body signatures (Kernel kernel args ins outs) = if is_of_kernel (signature_named signatures kernel) then [] else kernel ∷ []
 unfit_in_body signatures (Config kernel args ins outs sets) = if is_of_config (signature_named signatures kernel) then [] else kernel ∷ []
 unfit_in_body signatures (Child graph args) = []
+unfit_in_body signatures (ConfigChild graph args sets) = []
 
 abbrev pub unfit_in_graph : List SignatureView → FileGraph → List (List ℕ)
 unfit_in_graph signatures g = flat_map (λ (a : FileActor). unfit_in_body signatures a.body) g.actors

@@ -13,5 +13,6 @@ pub mod Scope
 pub mod States
 pub mod Texts
 pub mod Values
+pub mod Versions
 pub mod Walk
 pub mod Writable

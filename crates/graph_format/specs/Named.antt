@@ -1,5 +1,5 @@
 -- The file that graphs are written as: each place is replaced by the name that stands there.
-use Rattle.std.specs.Prelude.{ℕ, ℤ, pos, List, [], ◌++◌, map, length, slice_index_or, if◌then◌else◌}
+use Rattle.std.specs.Prelude.{ℕ, ◌==◌, ℤ, pos, List, [], ◌++◌, map, length, slice_index_or, if◌then◌else◌}
 use Rattle.std.specs.List.{list_all}
 use Rattle.std.specs.Ordering.{int_eq}
 use Rattle.param_expr.specs.Print.{with_names}
@@ -13,6 +13,8 @@ use Rattle.pisdf_model.specs.declared.actor.Body.{Body}
 use Rattle.pisdf_model.specs.declared.actor.Body.TheVariants as body
 use Rattle.pisdf_model.specs.declared.fifo.Fifo.{Fifo}
 use Rattle.pisdf_model.specs.declared.fifo.End.{End}
+use Rattle.pisdf_model.specs.declared.fifo.Life.{Life}
+use Rattle.pisdf_model.specs.declared.fifo.Life.TheVariants.{Firing}
 use Rattle.pisdf_model.specs.declared.fifo.End.TheVariants as end
 use Rattle.pisdf_model.specs.declared.graph.Interface.{Interface}
 use Rattle.pisdf_model.specs.declared.graph.Graph.{Graph}
@@ -23,7 +25,7 @@ use Rattle.graph_format.specs.declared.param.FileParamKind.TheVariants.{Inherite
 use Rattle.graph_format.specs.declared.port.FilePort.{FilePort}
 use Rattle.graph_format.specs.declared.actor.FileActor.{FileActor}
 use Rattle.graph_format.specs.declared.actor.FileBody.{FileBody}
-use Rattle.graph_format.specs.declared.actor.FileBody.TheVariants.{Kernel, Config, Child}
+use Rattle.graph_format.specs.declared.actor.FileBody.TheVariants.{Kernel, Config, Child, ConfigChild}
 use Rattle.graph_format.specs.declared.fifo.FileEnd.{FileEnd}
 use Rattle.graph_format.specs.declared.fifo.FileEnd.TheVariants as stated
 use Rattle.graph_format.specs.declared.fifo.FileDelay.{FileDelay}
@@ -59,6 +61,7 @@ abbrev pub names_of_ports : Graphs → Body → List (List ℕ)
 names_of_ports graphs (body.Kernel kernel args ins outs) = map (λ (p : Port). p.name) ins ++ map (λ (p : Port). p.name) outs
 names_of_ports graphs (body.Config kernel args ins outs sets) = ins ++ map (λ (p : Port). p.name) outs
 names_of_ports graphs (body.Child child args) = slice_index_or (map names_of_interfaces graphs.graphs) child []
+names_of_ports graphs (body.ConfigChild child args sets) = slice_index_or (map names_of_interfaces graphs.graphs) child []
 
 -- the ports of the actor at a place
 abbrev pub names_of_ports_at : Graphs → Graph → ℕ → List (List ℕ)
@@ -84,6 +87,7 @@ abbrev pub named_body : List Signature → Graphs → List (List ℕ) → Body �
 named_body signatures graphs names (body.Kernel kernel args ins outs) = Kernel (name_at_place (names_of_kernels signatures) kernel) (map (with_names names) args) (map (named_port names) ins) (map (named_port names) outs)
 named_body signatures graphs names (body.Config kernel args ins outs sets) = Config (name_at_place (names_of_kernels signatures) kernel) (map (with_names names) args) ins (map (named_port names) outs) (map (name_at_place names) sets)
 named_body signatures graphs names (body.Child child args) = Child (name_at_place (names_of_graphs graphs) child) (map (with_names names) args)
+named_body signatures graphs names (body.ConfigChild child args sets) = ConfigChild (name_at_place (names_of_graphs graphs) child) (map (with_names names) args) (map (name_at_place names) sets)
 
 abbrev pub named_actor : List Signature → Graphs → List (List ℕ) → Actor → FileActor
 named_actor signatures graphs names actor = record { name = actor.name; body = named_body signatures graphs names actor.body }
@@ -92,12 +96,16 @@ abbrev pub named_end : Graphs → Graph → End → FileEnd
 named_end graphs graph (end.Interface place) = stated.Interface (name_at_place (names_of_interfaces graph) place)
 named_end graphs graph (end.Port actor port) = stated.Port (name_at_place (names_of_actors graph) actor) (name_at_place (names_of_ports_at graphs graph actor) port)
 
+-- the life that a file of this version states: version 1 states none
+abbrev pub stated_life : ℕ → Life → Life
+stated_life version life = if version == 1 then Firing else life
+
 -- a number where all tokens are 0, else a list
 abbrev pub stated_delay : List ℤ → FileDelay
 stated_delay tokens = if list_all (λ token. int_eq token (pos 0)) tokens then Zeros (length tokens) else Tokens tokens
 
 abbrev pub named_fifo : Graphs → Graph → Fifo → FileFifo
-named_fifo graphs graph fifo = record { from = named_end graphs graph fifo.tail; to = named_end graphs graph fifo.head; delay = stated_delay fifo.delay }
+named_fifo graphs graph fifo = record { from = named_end graphs graph fifo.tail; to = named_end graphs graph fifo.head; delay = stated_delay fifo.delay; life = stated_life graphs.version fifo.life }
 
 -- ---- graphs
 
@@ -111,6 +119,7 @@ named_graph signatures graphs graph =
       outputs = map (named_interface names) graph.outputs;
       actors = map (named_actor signatures graphs names) graph.actors;
       fifos = map (named_fifo graphs graph) graph.fifos;
+      exports = map (name_at_place names) graph.exports;
     }
 
 unfoldable pub named_file : List Signature → Graphs → File

@@ -1,5 +1,5 @@
 -- The walk over a graph file: each object's own form, then its members in the order of the format.
-use Rattle.std.specs.Prelude.{ℕ, ◌&&◌, ℤ, pos, negsuc, int_le, List, [], ◌∷◌, ◌==◌, if◌then◌else◌, Option, Some, None, option_and_then, Result, Ok, Err, codes}
+use Rattle.std.specs.Prelude.{ℕ, ◌&&◌, nat_le, Bool, ℤ, pos, negsuc, int_le, List, [], ◌∷◌, ◌==◌, if◌then◌else◌, Option, Some, None, option_and_then, Result, Ok, Err, codes}
 use Rattle.std.specs.Str.{bytes_eq}
 use Rattle.serde_json.specs.Data.{Data, Items}
 use Rattle.serde_json.specs.Find.{get, as_str, as_array}
@@ -7,24 +7,35 @@ use Rattle.param_expr.specs.Named.{NamedTree}
 use Rattle.graph_format.specs.Pointer.{pointer_text}
 use Rattle.graph_format.specs.Walk.{◌>>=◌, shaped, formed, member_at, member_or, says, items_at, list_at, whole_of, whole_at}
 use Rattle.graph_format.specs.Texts.{name_at, kernel_at, expression_at, end_at}
-use Rattle.graph_format.specs.declared.param.TheConstants.{GREATEST_BOUND}
+use Rattle.pisdf_model.specs.declared.fifo.Life.{Life}
+use Rattle.pisdf_model.specs.declared.fifo.Life.TheVariants.{Firing, Permanent}
 use Rattle.graph_format.specs.declared.param.FileParam.{FileParam}
 use Rattle.graph_format.specs.declared.param.FileParamKind.{FileParamKind}
 use Rattle.graph_format.specs.declared.param.FileParamKind.TheVariants.{Inherited, Derived, Chosen}
 use Rattle.graph_format.specs.declared.port.FilePort.{FilePort}
 use Rattle.graph_format.specs.declared.actor.FileActor.{FileActor}
-use Rattle.graph_format.specs.declared.actor.FileBody.TheVariants.{Kernel, Config, Child}
+use Rattle.graph_format.specs.declared.actor.FileBody.TheVariants.{Kernel, Config, Child, ConfigChild}
 use Rattle.graph_format.specs.declared.fifo.FileDelay.{FileDelay}
 use Rattle.graph_format.specs.declared.fifo.FileDelay.TheVariants.{Zeros, Tokens}
 use Rattle.graph_format.specs.declared.fifo.FileFifo.{FileFifo}
 use Rattle.graph_format.specs.declared.file.FileGraph.{FileGraph}
 use Rattle.graph_format.specs.declared.file.File.{File}
 
+-- ---- versions
+
+-- versions 2 and 3 state the life of a delay
+abbrev pub has_lives : ℕ → Bool
+has_lives version = nat_le 2 version
+
+-- version 3 has exports, and actors that set parameters to them
+abbrev pub has_exports : ℕ → Bool
+has_exports version = nat_le 3 version
+
 -- ---- parameters
 
--- a number from the least one to the greatest that a bound may be
+-- a number from the least one to 2,147,483,647
 abbrev pub within : ℤ → ℤ → Option ℤ
-within least z = if int_le least z && int_le z GREATEST_BOUND then Some z else None
+within least z = if int_le least z && int_le z (pos 2147483647) then Some z else None
 
 abbrev pub bound_at : ℤ → List ℕ → Data → Result ℤ (List ℕ)
 bound_at least at d = shaped at (option_and_then (within least) (whole_of d))
@@ -33,7 +44,7 @@ bound_at least at d = shaped at (option_and_then (within least) (whole_of d))
 unfoldable pub ranged_at : List ℕ → FileParamKind → List ℕ → Data → Result FileParam (List ℕ)
 ranged_at name kind at d = do
   low ← member_or (pos 0) (bound_at (pos 0)) at (codes "low") d
-  high ← member_or GREATEST_BOUND (bound_at low) at (codes "high") d
+  high ← member_or (pos 2147483647) (bound_at low) at (codes "high") d
   Ok (record { name = name; kind = kind; low = low; high = high })
 
 unfoldable pub derived_members_at : List ℕ → Data → Result FileParam (List ℕ)
@@ -134,12 +145,24 @@ child_members_at at d = do
 abbrev pub child_names : List (List ℕ)
 child_names = codes "name" ∷ codes "kind" ∷ codes "graph" ∷ codes "args" ∷ []
 
--- An actor of another kind has not the form itself, whatever its other members are.
-unfoldable pub actor_at : List ℕ → Data → Result FileActor (List ℕ)
-actor_at at d =
+unfoldable pub config_child_members_at : List ℕ → Data → Result FileActor (List ℕ)
+config_child_members_at at d = do
+  name ← member_at name_at at (codes "name") d
+  graph ← member_at name_at at (codes "graph") d
+  args ← member_at (list_at expression_at) at (codes "args") d
+  sets ← member_at (list_at name_at) at (codes "sets") d
+  Ok (record { name = name; body = ConfigChild graph args sets })
+
+abbrev pub config_child_names : List (List ℕ)
+config_child_names = codes "name" ∷ codes "kind" ∷ codes "graph" ∷ codes "args" ∷ codes "sets" ∷ []
+
+-- An actor of another kind has not the form itself, whatever its other members are. Version 3 alone has the kind `setgraph`.
+unfoldable pub actor_at : ℕ → List ℕ → Data → Result FileActor (List ℕ)
+actor_at version at d =
     if says (codes "kind") (codes "kernel") d then formed kernel_names [] kernel_members_at at d else
     if says (codes "kind") (codes "config") d then formed config_names [] config_members_at at d else
     if says (codes "kind") (codes "graph") d then formed child_names [] child_members_at at d else
+    if has_exports version && says (codes "kind") (codes "setgraph") d then formed config_child_names [] config_child_members_at at d else
     Err (pointer_text at)
 
 -- ---- FIFOs
@@ -156,33 +179,45 @@ tokens_or_zeros_at at d (Some values) = items_at whole_at at 0 values >>= λ tok
 unfoldable pub delay_at : List ℕ → Data → Result FileDelay (List ℕ)
 delay_at at d = tokens_or_zeros_at at d (as_array d)
 
+abbrev pub life_from : List ℕ → Option Life
+life_from text = if bytes_eq text (codes "firing") then Some Firing else if bytes_eq text (codes "permanent") then Some Permanent else None
+
+abbrev pub life_at : List ℕ → Data → Result Life (List ℕ)
+life_at at d = shaped at (option_and_then life_from (as_str d))
+
 unfoldable pub fifo_members_at : List ℕ → Data → Result FileFifo (List ℕ)
 fifo_members_at at d = do
   from ← member_at end_at at (codes "from") d
   to ← member_at end_at at (codes "to") d
   delay ← member_or (Zeros 0) delay_at at (codes "delay") d
-  Ok (record { from = from; to = to; delay = delay })
+  life ← member_or Firing life_at at (codes "life") d
+  Ok (record { from = from; to = to; delay = delay; life = life })
 
 abbrev pub fifo_names : List (List ℕ)
 fifo_names = codes "from" ∷ codes "to" ∷ []
 
 -- what a FIFO may leave out in a version of the format
 abbrev pub fifo_options : ℕ → List (List ℕ)
-fifo_options version = codes "delay" ∷ []
+fifo_options version = if has_lives version then codes "delay" ∷ codes "life" ∷ [] else codes "delay" ∷ []
 
 unfoldable pub fifo_at : ℕ → List ℕ → Data → Result FileFifo (List ℕ)
 fifo_at version at d = formed fifo_names (fifo_options version) fifo_members_at at d
 
 -- ---- graphs
 
--- the interfaces, actors and FIFOs, after the members before
+-- the names of the parameters that a graph exports, where the version has exports
+abbrev pub exports_at : ℕ → List ℕ → Data → Result (List (List ℕ)) (List ℕ)
+exports_at version at d = if has_exports version then member_at (list_at name_at) at (codes "exports") d else Ok []
+
+-- the interfaces, actors, FIFOs and exports, after the members before
 unfoldable pub graph_parts_at : ℕ → List ℕ → List FileParam → List ℕ → Data → Result FileGraph (List ℕ)
 graph_parts_at version name params at d = do
   inputs ← member_at (list_at port_at) at (codes "inputs") d
   outputs ← member_at (list_at port_at) at (codes "outputs") d
-  actors ← member_at (list_at actor_at) at (codes "actors") d
+  actors ← member_at (list_at (actor_at version)) at (codes "actors") d
   fifos ← member_at (list_at (fifo_at version)) at (codes "fifos") d
-  Ok (record { name = name; params = params; inputs = inputs; outputs = outputs; actors = actors; fifos = fifos })
+  exports ← exports_at version at d
+  Ok (record { name = name; params = params; inputs = inputs; outputs = outputs; actors = actors; fifos = fifos; exports = exports })
 
 unfoldable pub graph_members_at : ℕ → List ℕ → Data → Result FileGraph (List ℕ)
 graph_members_at version at d = do
@@ -190,11 +225,14 @@ graph_members_at version at d = do
   params ← member_at (list_at param_at) at (codes "params") d
   graph_parts_at version name params at d
 
-abbrev pub graph_names : List (List ℕ)
-graph_names = codes "name" ∷ codes "params" ∷ codes "inputs" ∷ codes "outputs" ∷ codes "actors" ∷ codes "fifos" ∷ []
+abbrev pub graph_names : ℕ → List (List ℕ)
+graph_names version =
+    if has_exports version
+    then codes "name" ∷ codes "params" ∷ codes "inputs" ∷ codes "outputs" ∷ codes "actors" ∷ codes "fifos" ∷ codes "exports" ∷ []
+    else codes "name" ∷ codes "params" ∷ codes "inputs" ∷ codes "outputs" ∷ codes "actors" ∷ codes "fifos" ∷ []
 
 unfoldable pub graph_at : ℕ → List ℕ → Data → Result FileGraph (List ℕ)
-graph_at version at d = formed graph_names [] (graph_members_at version) at d
+graph_at version at d = formed (graph_names version) [] (graph_members_at version) at d
 
 -- ---- the root
 

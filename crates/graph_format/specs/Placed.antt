@@ -21,7 +21,7 @@ use Rattle.pisdf_model.specs.declared.param.ParamKind.{ParamKind}
 use Rattle.pisdf_model.specs.declared.param.ParamKind.TheVariants as kind
 use Rattle.graph_format.specs.declared.actor.FileActor.{FileActor}
 use Rattle.graph_format.specs.declared.actor.FileBody.{FileBody}
-use Rattle.graph_format.specs.declared.actor.FileBody.TheVariants.{Kernel, Config, Child}
+use Rattle.graph_format.specs.declared.actor.FileBody.TheVariants.{Kernel, Config, Child, ConfigChild}
 use Rattle.graph_format.specs.declared.fifo.FileDelay.{FileDelay}
 use Rattle.graph_format.specs.declared.fifo.FileDelay.TheVariants.{Zeros, Tokens}
 use Rattle.graph_format.specs.declared.fifo.FileEnd.{FileEnd}
@@ -60,6 +60,7 @@ abbrev pub placed_body : Scope → FileBody → Body
 placed_body s (Kernel kernel args ins outs) = body.Kernel (first_place s.kernels kernel) (placed_exprs s args) (map (placed_port s) ins) (map (placed_port s) outs)
 placed_body s (Config kernel args ins outs sets) = body.Config (first_place s.kernels kernel) (placed_exprs s args) ins (map (placed_port s) outs) (map (first_place s.params) sets)
 placed_body s (Child graph args) = body.Child (first_place s.graphs graph) (placed_exprs s args)
+placed_body s (ConfigChild graph args sets) = body.ConfigChild (first_place s.graphs graph) (placed_exprs s args) (map (first_place s.params) sets)
 
 abbrev pub placed_actor : Scope → FileActor → Actor
 placed_actor s a = record { name = a.name; body = placed_body s a.body }
@@ -82,18 +83,19 @@ abbrev pub mark_of : FileDelay → List ℤ
 mark_of (Zeros n) = if n == 0 then [] else pos 0 ∷ []
 mark_of (Tokens tokens) = marked tokens
 
--- each delay stands for what `tokens` gives of it
-abbrev pub placed_fifo : (FileDelay → List ℤ) → Bool → Scope → FileFifo → Fifo
-placed_fifo tokens is_top s f = record { tail = placed_end s f.from; head = placed_end s f.to; delay = tokens f.delay; life = life_of is_top (tokens f.delay) }
+-- in a file of this version; each delay stands for what `tokens` gives of it
+abbrev pub placed_fifo : ℕ → (FileDelay → List ℤ) → Bool → Scope → FileFifo → Fifo
+placed_fifo version tokens is_top s f = record { tail = placed_end s f.from; head = placed_end s f.to; delay = tokens f.delay; life = life_of version is_top f.life (tokens f.delay) }
 
-abbrev pub placed_graph : (FileDelay → List ℤ) → Bool → Scope → FileGraph → Graph
-placed_graph tokens is_top s g = record {
+abbrev pub placed_graph : ℕ → (FileDelay → List ℤ) → Bool → Scope → FileGraph → Graph
+placed_graph version tokens is_top s g = record {
   name = g.name;
   params = map (placed_param s) g.params;
   inputs = map (placed_interface s) g.inputs;
   outputs = map (placed_interface s) g.outputs;
   actors = map (placed_actor s) g.actors;
-  fifos = map (placed_fifo tokens is_top s) g.fifos;
+  fifos = map (placed_fifo version tokens is_top s) g.fifos;
+  exports = map (first_place s.params) g.exports;
 }
 
 abbrev pub top_of : File → ℕ
@@ -104,5 +106,5 @@ abbrev pub placed : (FileDelay → List ℤ) → List (List ℕ) → File → Gr
 placed tokens kernels file = record {
   version = file.version;
   top = top_of file;
-  graphs = map (λ (p : ℕ × FileGraph). placed_graph tokens (p.0 == top_of file) (scope_of kernels file.graphs p.1) p.1) (enumerate_from 0 file.graphs);
+  graphs = map (λ (p : ℕ × FileGraph). placed_graph file.version tokens (p.0 == top_of file) (scope_of kernels file.graphs p.1) p.1) (enumerate_from 0 file.graphs);
 }

@@ -1,5 +1,5 @@
 -- What the bytes of a graph file are read as.
-use Rattle.std.specs.Prelude.{◌≡◌, ℕ, ◌==◌, ◌⊎◌, ℤ, pos, negsuc, List, [], ◌∷◌, if◌then◌else◌, Option, Some, None, Result, Ok, Err, IsUtf8}
+use Rattle.std.specs.Prelude.{◌≡◌, ℕ, ◌&&◌, nat_le, ◌⊎◌, ℤ, pos, negsuc, List, [], ◌∷◌, if◌then◌else◌, Option, Some, None, Result, Ok, Err, IsUtf8}
 use Rattle.serde_json.specs.Data.{Data}
 use Rattle.serde_json.specs.Read.{read}
 use Rattle.kernel_gate.specs.Signed.{SignatureView}
@@ -14,11 +14,17 @@ use Rattle.graph_format.specs.declared.graph_fault.GraphFault.TheVariants.{Memor
 abbrev pub IsJson : List ℕ → Data → Type 0
 IsJson bytes d = IsUtf8 bytes × (read bytes ≡ Some d)
 
--- a stated version that isn't this one
-abbrev pub other_version : ℕ → Option ℤ → Option ℤ
-other_version version None = None
-other_version version (Some (pos n)) = if n == version then None else Some (pos n)
-other_version version (Some (negsuc n)) = Some (negsuc n)
+-- a stated version that is none of the format's
+abbrev pub other_version : Option ℤ → Option ℤ
+other_version None = None
+other_version (Some (pos n)) = if nat_le 1 n && nat_le n 3 then None else Some (pos n)
+other_version (Some (negsuc n)) = Some (negsuc n)
+
+-- The version whose form a value is asked for: the stated one. Where none is stated the value has the form of no version, and they all name the same place.
+abbrev pub version_of : Option ℤ → ℕ
+version_of None = 1
+version_of (Some (pos n)) = n
+version_of (Some (negsuc n)) = 1
 
 abbrev pub unless_faulty : Graphs → List GraphFault → Result Graphs GraphFault
 unless_faulty graphs [] = Ok graphs
@@ -34,15 +40,15 @@ abbrev pub of_version : Option ℤ → Result Graphs GraphFault → Result Graph
 of_version (Some other) reading = Err (Version other)
 of_version None reading = reading
 
--- what a JSON value is read as, in a version of the format
-abbrev pub reading : ℕ → List SignatureView → Data → Result Graphs GraphFault
-reading version signatures d = of_version (other_version version (stated_version d)) (graphs_or_fault signatures (file_at version [] d))
+-- what a JSON value is read as
+abbrev pub reading : List SignatureView → Data → Result Graphs GraphFault
+reading signatures d = of_version (other_version (stated_version d)) (graphs_or_fault signatures (file_at (version_of (stated_version d)) [] d))
 
 -- the bytes are a JSON value that is read so
-abbrev pub AreReadAs : ℕ → List SignatureView → List ℕ → Result Graphs GraphFault → Type 0
-AreReadAs version signatures bytes answer = (d : Data) × IsJson bytes d × (reading version signatures d ≡ answer)
+abbrev pub AreReadAs : List SignatureView → List ℕ → Result Graphs GraphFault → Type 0
+AreReadAs signatures bytes answer = (d : Data) × IsJson bytes d × (reading signatures d ≡ answer)
 
 -- What reading bytes answers: the graphs of the value that they are, or its first fault, or that they are none, unless memory runs out.
-abbrev pub Reads : ℕ → List SignatureView → List ℕ → Result Graphs GraphFault → Type 0
-Reads version signatures bytes (Ok graphs) = AreReadAs version signatures bytes (Ok graphs)
-Reads version signatures bytes (Err fault) = (fault ≡ Memory) ⊎ (((fault ≡ NotJson) × ((d : Data) → IsJson bytes d → ⊥)) ⊎ AreReadAs version signatures bytes (Err fault))
+abbrev pub Reads : List SignatureView → List ℕ → Result Graphs GraphFault → Type 0
+Reads signatures bytes (Ok graphs) = AreReadAs signatures bytes (Ok graphs)
+Reads signatures bytes (Err fault) = (fault ≡ Memory) ⊎ (((fault ≡ NotJson) × ((d : Data) → IsJson bytes d → ⊥)) ⊎ AreReadAs signatures bytes (Err fault))

@@ -6,7 +6,7 @@ use Rattle.param_expr.specs.Bind.{place_of, names_of}
 use Rattle.pisdf_model.specs.Wires.{port_text}
 use Rattle.graph_format.specs.declared.actor.FileActor.{FileActor}
 use Rattle.graph_format.specs.declared.actor.FileBody.{FileBody}
-use Rattle.graph_format.specs.declared.actor.FileBody.TheVariants.{Kernel, Config, Child}
+use Rattle.graph_format.specs.declared.actor.FileBody.TheVariants.{Kernel, Config, Child, ConfigChild}
 use Rattle.graph_format.specs.declared.fifo.FileEnd.{FileEnd}
 use Rattle.graph_format.specs.declared.fifo.FileEnd.TheVariants as file_end
 use Rattle.graph_format.specs.declared.fifo.FileFifo.{FileFifo}
@@ -42,6 +42,7 @@ abbrev pub unknown_in_body : Scope → FileBody → List (List ℕ)
 unknown_in_body s (Kernel kernel args ins outs) = flat_map (unknown_in_expr s) args ++ flat_map (unknown_in_port s) ins ++ flat_map (unknown_in_port s) outs
 unknown_in_body s (Config kernel args ins outs sets) = flat_map (unknown_in_expr s) args ++ flat_map (unknown_in_port s) outs ++ flat_map (missing s.params) sets
 unknown_in_body s (Child graph args) = missing s.graphs graph ++ flat_map (unknown_in_expr s) args
+unknown_in_body s (ConfigChild graph args sets) = missing s.graphs graph ++ flat_map (unknown_in_expr s) args ++ flat_map (missing s.params) sets
 
 abbrev pub unknown_in_actor : Scope → FileActor → List (List ℕ)
 unknown_in_actor s a = unknown_in_body s a.body
@@ -56,7 +57,7 @@ unknown_in_fifo s f = unknown_in_end s f.from ++ unknown_in_end s f.to
 
 abbrev pub unknown_in_graph : Scope → FileGraph → List (List ℕ)
 unknown_in_graph s g =
-    flat_map (unknown_in_param s) g.params ++ flat_map (unknown_in_port s) g.inputs ++ flat_map (unknown_in_port s) g.outputs ++ flat_map (unknown_in_actor s) g.actors ++ flat_map (unknown_in_fifo s) g.fifos
+    flat_map (unknown_in_param s) g.params ++ flat_map (unknown_in_port s) g.inputs ++ flat_map (unknown_in_port s) g.outputs ++ flat_map (unknown_in_actor s) g.actors ++ flat_map (unknown_in_fifo s) g.fifos ++ flat_map (missing s.params) g.exports
 
 -- All of them, in the order of the file. Kernels are not looked for here, so any names of kernels serve.
 abbrev pub unknown_in_file : File → List (List ℕ)

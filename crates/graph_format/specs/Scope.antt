@@ -3,7 +3,7 @@ use Rattle.std.specs.Prelude.{ℕ, List, [], ◌++◌, map, slice_index_or, Opti
 use Rattle.param_expr.specs.Bind.{place_of}
 use Rattle.graph_format.specs.declared.actor.FileActor.{FileActor}
 use Rattle.graph_format.specs.declared.actor.FileBody.{FileBody}
-use Rattle.graph_format.specs.declared.actor.FileBody.TheVariants.{Kernel, Config, Child}
+use Rattle.graph_format.specs.declared.actor.FileBody.TheVariants.{Kernel, Config, Child, ConfigChild}
 use Rattle.graph_format.specs.declared.file.FileGraph.{FileGraph}
 use Rattle.graph_format.specs.declared.param.FileParam.{FileParam}
 use Rattle.graph_format.specs.declared.port.FilePort.{FilePort}
@@ -38,6 +38,7 @@ abbrev pub ports_of : List FileGraph → FileBody → List (List ℕ)
 ports_of graphs (Kernel kernel args ins outs) = names_of_ports ins ++ names_of_ports outs
 ports_of graphs (Config kernel args ins outs sets) = ins ++ names_of_ports outs
 ports_of graphs (Child graph args) = interfaces_named graphs graph
+ports_of graphs (ConfigChild graph args sets) = interfaces_named graphs graph
 
 -- The names that a part of a graph can refer to: those of the graphs of the file and of the kernels; of the graph's
 -- parameters, interfaces and actors; and, for each of its actors, of the actor's ports.

@@ -1,19 +1,20 @@
 -- Which file a JSON value states, by the table of the format's objects: an object has the members of its row and no others, and a member that is left out stands for its default.
-use Rattle.std.specs.Prelude.{◌≡◌, ℕ, pos, List, [], ◌∷◌, true, Some, codes}
+use Rattle.std.specs.Prelude.{◌≡◌, ℕ, ◌≤◌, pos, List, [], ◌∷◌, Bool, true, false, Some, codes}
 use Rattle.serde_json.specs.Data.{Data}
 use Rattle.serde_json.specs.Find.{get}
 use Rattle.param_expr.specs.Named.{NamedTree}
 use Rattle.graph_format.specs.Walk.{has_form, whole_of}
 use Rattle.graph_format.specs.Values.{HasMember, StatesOr, IsList, IsWhole, IsWithin, IsText, StatesName, StatesKernel, StatesExpression, StatesEnd}
-use Rattle.graph_format.specs.Objects.{derived_names, given_names, bound_names, port_names, kernel_names, config_names, child_names, fifo_names, fifo_options, graph_names, file_names}
-use Rattle.graph_format.specs.declared.param.TheConstants.{GREATEST_BOUND}
+use Rattle.graph_format.specs.Objects.{derived_names, given_names, bound_names, port_names, kernel_names, config_names, child_names, config_child_names, fifo_names, fifo_options, graph_names, file_names, has_exports}
+use Rattle.pisdf_model.specs.declared.fifo.Life.{Life}
+use Rattle.pisdf_model.specs.declared.fifo.Life.TheVariants.{Firing, Permanent}
 use Rattle.graph_format.specs.declared.param.FileParam.{FileParam}
 use Rattle.graph_format.specs.declared.param.FileParamKind.{FileParamKind}
 use Rattle.graph_format.specs.declared.param.FileParamKind.TheVariants.{Inherited, Derived, Chosen}
 use Rattle.graph_format.specs.declared.port.FilePort.{FilePort}
 use Rattle.graph_format.specs.declared.actor.FileActor.{FileActor}
 use Rattle.graph_format.specs.declared.actor.FileBody.{FileBody}
-use Rattle.graph_format.specs.declared.actor.FileBody.TheVariants.{Kernel, Config, Child}
+use Rattle.graph_format.specs.declared.actor.FileBody.TheVariants.{Kernel, Config, Child, ConfigChild}
 use Rattle.graph_format.specs.declared.fifo.FileDelay.{FileDelay}
 use Rattle.graph_format.specs.declared.fifo.FileDelay.TheVariants.{Zeros, Tokens}
 use Rattle.graph_format.specs.declared.fifo.FileFifo.{FileFifo}
@@ -43,8 +44,8 @@ pub record StatesParam (d : Data) (param : FileParam) : Type 0 where
   pub name : HasMember StatesName d (codes "name") param.name
   pub kind : HasMember IsText d (codes "kind") (kind_text param.kind)
   pub expr : StatesRule d param.kind
-  pub low : StatesOr (IsWithin (pos 0) GREATEST_BOUND) (pos 0) (get (codes "low") d) param.low
-  pub high : StatesOr (IsWithin param.low GREATEST_BOUND) GREATEST_BOUND (get (codes "high") d) param.high
+  pub low : StatesOr (IsWithin (pos 0) (pos 2147483647)) (pos 0) (get (codes "low") d) param.low
+  pub high : StatesOr (IsWithin param.low (pos 2147483647)) (pos 2147483647) (get (codes "high") d) param.high
 
 -- ---- interfaces and ports
 
@@ -64,11 +65,13 @@ abbrev pub body_text : FileBody → List ℕ
 body_text (Kernel kernel args ins outs) = codes "kernel"
 body_text (Config kernel args ins outs sets) = codes "config"
 body_text (Child graph args) = codes "graph"
+body_text (ConfigChild graph args sets) = codes "setgraph"
 
 abbrev pub body_names : FileBody → List (List ℕ)
 body_names (Kernel kernel args ins outs) = kernel_names
 body_names (Config kernel args ins outs sets) = config_names
 body_names (Child graph args) = child_names
+body_names (ConfigChild graph args sets) = config_child_names
 
 pub record StatesKernelBody (d : Data) (k : List ℕ) (exprs : List NamedTree) (inputs outputs : List FilePort) : Type 0 where
   pub kernel : HasMember StatesKernel d (codes "kernel") k
@@ -87,16 +90,23 @@ pub record StatesChildBody (d : Data) (child : List ℕ) (exprs : List NamedTree
   pub graph : HasMember StatesName d (codes "graph") child
   pub args : HasMember (IsList StatesExpression) d (codes "args") exprs
 
-abbrev pub StatesBody : Data → FileBody → Type 0
-StatesBody d (Kernel kernel args ins outs) = StatesKernelBody d kernel args ins outs
-StatesBody d (Config kernel args ins outs sets) = StatesConfigBody d kernel args ins outs sets
-StatesBody d (Child graph args) = StatesChildBody d graph args
+pub record StatesConfigChildBody (version : ℕ) (d : Data) (child : List ℕ) (exprs : List NamedTree) (params : List (List ℕ)) : Type 0 where
+  pub is_there : has_exports version ≡ true
+  pub graph : HasMember StatesName d (codes "graph") child
+  pub args : HasMember (IsList StatesExpression) d (codes "args") exprs
+  pub sets : HasMember (IsList StatesName) d (codes "sets") params
 
-pub record StatesActor (d : Data) (actor : FileActor) : Type 0 where
+abbrev pub StatesBody : ℕ → Data → FileBody → Type 0
+StatesBody version d (Kernel kernel args ins outs) = StatesKernelBody d kernel args ins outs
+StatesBody version d (Config kernel args ins outs sets) = StatesConfigBody d kernel args ins outs sets
+StatesBody version d (Child graph args) = StatesChildBody d graph args
+StatesBody version d (ConfigChild graph args sets) = StatesConfigChildBody version d graph args sets
+
+pub record StatesActor (version : ℕ) (d : Data) (actor : FileActor) : Type 0 where
   pub members : has_form (body_names actor.body) [] d ≡ true
   pub name : HasMember StatesName d (codes "name") actor.name
   pub kind : HasMember IsText d (codes "kind") (body_text actor.body)
-  pub body : StatesBody d actor.body
+  pub body : StatesBody version d actor.body
 
 -- ---- FIFOs
 
@@ -105,22 +115,36 @@ abbrev pub StatesDelay : Data → FileDelay → Type 0
 StatesDelay d (Zeros count) = IsWhole d (pos count)
 StatesDelay d (Tokens tokens) = IsList IsWhole d tokens
 
+abbrev pub life_text : Life → List ℕ
+life_text Firing = codes "firing"
+life_text Permanent = codes "permanent"
+
+abbrev pub StatesLife : Data → Life → Type 0
+StatesLife d life = IsText d (life_text life)
+
 pub record StatesFifo (version : ℕ) (d : Data) (fifo : FileFifo) : Type 0 where
   pub members : has_form fifo_names (fifo_options version) d ≡ true
   pub from : HasMember StatesEnd d (codes "from") fifo.from
   pub to : HasMember StatesEnd d (codes "to") fifo.to
   pub delay : StatesOr StatesDelay (Zeros 0) (get (codes "delay") d) fifo.delay
+  pub life : StatesOr StatesLife Firing (get (codes "life") d) fifo.life
 
 -- ---- graphs
 
+-- the exports of a graph, where the version has them
+abbrev pub StatesExports : Bool → Data → List (List ℕ) → Type 0
+StatesExports true d exports = HasMember (IsList StatesName) d (codes "exports") exports
+StatesExports false d exports = exports ≡ []
+
 pub record StatesGraph (version : ℕ) (d : Data) (graph : FileGraph) : Type 0 where
-  pub members : has_form graph_names [] d ≡ true
+  pub members : has_form (graph_names version) [] d ≡ true
   pub name : HasMember StatesName d (codes "name") graph.name
   pub params : HasMember (IsList StatesParam) d (codes "params") graph.params
   pub inputs : HasMember (IsList StatesPort) d (codes "inputs") graph.inputs
   pub outputs : HasMember (IsList StatesPort) d (codes "outputs") graph.outputs
-  pub actors : HasMember (IsList StatesActor) d (codes "actors") graph.actors
+  pub actors : HasMember (IsList (StatesActor version)) d (codes "actors") graph.actors
   pub fifos : HasMember (IsList (StatesFifo version)) d (codes "fifos") graph.fifos
+  pub exports : StatesExports (has_exports version) d graph.exports
 
 -- the whole number that is the version
 pub record StatesVersion (version : ℕ) (d : Data) (stated : ℕ) : Type 0 where
@@ -133,3 +157,9 @@ pub record States (version : ℕ) (d : Data) (file : File) : Type 0 where
   pub pisdf : HasMember (StatesVersion version) d (codes "pisdf") file.version
   pub top : HasMember StatesName d (codes "top") file.top
   pub graphs : HasMember (IsList (StatesGraph version)) d (codes "graphs") file.graphs
+
+-- the value states the file, in one of the versions of the format
+pub record StatesFile (d : Data) (file : File) : Type 0 where
+  pub first_version : 1 ≤ file.version
+  pub last_version : file.version ≤ 3
+  pub states : States file.version d file

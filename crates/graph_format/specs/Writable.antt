@@ -10,7 +10,7 @@ use Rattle.pisdf_model.specs.declared.param.ParamKind.TheVariants.{Inherited, De
 use Rattle.pisdf_model.specs.declared.actor.Port.{Port}
 use Rattle.pisdf_model.specs.declared.actor.Actor.{Actor}
 use Rattle.pisdf_model.specs.declared.actor.Body.{Body}
-use Rattle.pisdf_model.specs.declared.actor.Body.TheVariants.{Kernel, Config, Child}
+use Rattle.pisdf_model.specs.declared.actor.Body.TheVariants.{Kernel, Config, Child, ConfigChild}
 use Rattle.pisdf_model.specs.declared.graph.Interface.{Interface}
 use Rattle.pisdf_model.specs.declared.graph.Graph.{Graph}
 use Rattle.graph_format.specs.Named.{names_of_params}
@@ -39,6 +39,7 @@ abbrev pub IsWritableBody : List (List ℕ) → Body → Type 0
 IsWritableBody names (Kernel kernel args ins outs) = All (IsWritable names) args × All (IsWritablePort names) ins × All (IsWritablePort names) outs
 IsWritableBody names (Config kernel args ins outs sets) = All (IsWritable names) args × All (IsWritablePort names) outs
 IsWritableBody names (Child graph args) = All (IsWritable names) args
+IsWritableBody names (ConfigChild graph args sets) = All (IsWritable names) args
 
 abbrev pub IsWritableActor : List (List ℕ) → Actor → Type 0
 IsWritableActor names actor = IsWritableBody names actor.body

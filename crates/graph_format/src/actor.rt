@@ -2,7 +2,7 @@ use crate::port::FilePort;
 use param_expr::{Name, Parsed};
 use sdf_level::List;
 
-/// What an actor is: the kinds `"kernel"`, `"config"` and `"graph"`.
+/// What an actor is: the kinds `"kernel"`, `"config"`, `"graph"` and, in version 3, `"setgraph"`.
 #[derive(Drop)]
 pub enum FileBody {
     Kernel {
@@ -25,6 +25,13 @@ pub enum FileBody {
         /// The child graph's name.
         graph: Name,
         args: List<Parsed>,
+    },
+    ConfigChild {
+        /// The child graph's name.
+        graph: Name,
+        args: List<Parsed>,
+        /// The names of the parameters that it sets.
+        sets: List<Name>,
     },
 }
 

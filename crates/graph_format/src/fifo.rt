@@ -1,4 +1,5 @@
 use param_expr::Name;
+use pisdf_model::Life;
 use sdf_level::List;
 
 /// One end of a FIFO, by names.
@@ -25,4 +26,6 @@ pub struct FileFifo {
     pub from: FileEnd,
     pub to: FileEnd,
     pub delay: FileDelay,
+    /// The life that is stated, in versions 2 and 3. Where none is, it is a firing's.
+    pub life: Life,
 }

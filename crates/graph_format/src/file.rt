@@ -14,6 +14,8 @@ pub struct FileGraph {
     pub outputs: List<FilePort>,
     pub actors: List<FileActor>,
     pub fifos: List<FileFifo>,
+    /// The names of the parameters that the graph exports, in version 3. The others have none.
+    pub exports: List<Name>,
 }
 
 /// A graph file's content, before its names are resolved.

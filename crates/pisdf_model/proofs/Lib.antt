@@ -5,6 +5,7 @@ pub mod EachGraph
 pub mod Falling
 pub mod Firsts
 pub mod Holding
+pub mod Holds
 pub mod InOrder
 pub mod Late
 pub mod Lists

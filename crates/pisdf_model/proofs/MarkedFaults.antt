@@ -11,11 +11,11 @@ use Rattle.pisdf_model.specs.Marked.{marked, marked_fifo, marked_graph, marked_g
 use Rattle.pisdf_model.specs.Nesting.{children, depth_faults, graph_cycle_faults, holds, nested_over}
 use Rattle.pisdf_model.specs.ParamOrder.{is_late, order_faults, param_order_faults}
 use Rattle.pisdf_model.specs.Parts.{input_names, inputs_of, interface_names, output_names, outputs_of}
-use Rattle.pisdf_model.specs.Ports.{actor_ports, all_sets, body_fits, graph_ports, inherited_count, param_ports, ports_faults}
+use Rattle.pisdf_model.specs.Ports.{actor_ports, all_sets, body_fits, export_count, graph_ports, inherited_count, param_ports, ports_faults}
 use Rattle.pisdf_model.specs.Wires.{actor_wires, end_text, ends_of, fifo_wires, gives_tokens, graph_wires, interface_wires, is_input_port, is_output_port, names_of_interfaces, names_of_ports, port_text, port_wires, takes_tokens, text_at, text_or_none, times_of_interface, times_of_port, wire_faults}
 use Rattle.pisdf_model.specs.declared.actor.Actor.{Actor}
 use Rattle.pisdf_model.specs.declared.actor.Body.{Body}
-use Rattle.pisdf_model.specs.declared.actor.Body.TheVariants.{Kernel, Config, Child}
+use Rattle.pisdf_model.specs.declared.actor.Body.TheVariants.{Kernel, Config, Child, ConfigChild}
 use Rattle.pisdf_model.specs.declared.fifo.End.{End}
 use Rattle.pisdf_model.specs.declared.fifo.End.TheVariants.{Interface, Port}
 use Rattle.pisdf_model.specs.declared.fifo.Fifo.{Fifo}
@@ -50,15 +50,24 @@ module _ (graphs : List Graph) where
       same None = refl
       same (Some g) = refl
 
+  exports_alike : (place : ℕ) → export_count (slice_get all place) ≡ export_count (slice_get graphs place)
+  exports_alike place = ap export_count (slice_get-map marked_graph graphs place) ∙ same (slice_get graphs place)
+    where
+      same : (o : Option Graph) → export_count (option_map marked_graph o) ≡ export_count o
+      same None = refl
+      same (Some g) = refl
+
   input_names_alike : (body : Body) → input_names all body ≡ input_names graphs body
   input_names_alike (Kernel kernel args ins outs) = refl
   input_names_alike (Config kernel args ins outs sets) = refl
   input_names_alike (Child graph args) = ap interface_names (inputs_alike graph)
+  input_names_alike (ConfigChild graph args sets) = ap interface_names (inputs_alike graph)
 
   output_names_alike : (body : Body) → output_names all body ≡ output_names graphs body
   output_names_alike (Kernel kernel args ins outs) = refl
   output_names_alike (Config kernel args ins outs sets) = refl
   output_names_alike (Child graph args) = ap interface_names (outputs_alike graph)
+  output_names_alike (ConfigChild graph args sets) = ap interface_names (outputs_alike graph)
 
   port_names_alike : (actor : Actor) → names_of_ports all actor ≡ names_of_ports graphs actor
   port_names_alike actor = ap (λ names. names ++ output_names all actor.body) (input_names_alike actor.body) ∙ ap (λ names. input_names graphs actor.body ++ names) (output_names_alike actor.body)
@@ -69,6 +78,9 @@ module _ (graphs : List Graph) where
   fits_alike fits (Kernel kernel args ins outs) = refl
   fits_alike fits (Config kernel args ins outs sets) = refl
   fits_alike fits (Child graph args) = ap (λ n. length args == n) (inherited_alike graph)
+  fits_alike fits (ConfigChild graph args sets) =
+      ap (λ n. (length args == n) && (length sets == export_count (slice_get all graph))) (inherited_alike graph)
+      ∙ ap (λ n. (length args == inherited_count (slice_get graphs graph)) && (length sets == n)) (exports_alike graph)
 
   graph_ports_alike : (fits : Body → Bool) (is_top : Bool) (g : Graph) → graph_ports fits all is_top (marked_graph g) ≡ graph_ports fits graphs is_top g
   graph_ports_alike fits is_top g =

@@ -12,7 +12,7 @@ use Rattle.pisdf_model.specs.ParamOrder.{RefersToParams, config_places, early_pl
 use Rattle.pisdf_model.specs.Range.{InRange, IsActorInRange, IsBodyInRange, IsGraphInRange, IsInterfaceInRange, IsKindInRange, IsParamInRange, IsPortInRange}
 use Rattle.pisdf_model.specs.declared.actor.Actor.{Actor}
 use Rattle.pisdf_model.specs.declared.actor.Body.{Body}
-use Rattle.pisdf_model.specs.declared.actor.Body.TheVariants.{Kernel, Config, Child}
+use Rattle.pisdf_model.specs.declared.actor.Body.TheVariants.{Kernel, Config, Child, ConfigChild}
 use Rattle.pisdf_model.specs.declared.actor.Port.{Port}
 use Rattle.pisdf_model.specs.declared.param.Param.{Param}
 use Rattle.pisdf_model.specs.declared.param.ParamKind.{ParamKind}
@@ -48,18 +48,19 @@ port_below n port range = places_below n port.rate range
 interface_below : (n : ℕ) (interface : Interface) → IsInterfaceInRange n interface → AreBelow n (places_of interface.rate)
 interface_below n interface range = places_below n interface.rate range
 
-config_below : (graphs n : ℕ) (body : Body) → IsBodyInRange graphs n body → AreBelow n (config_places body)
-config_below graphs n (Kernel kernel args ins outs) range = All-nil (λ i. i < n)
-config_below graphs n (Config kernel args ins outs sets) range =
+config_below : (version graphs n : ℕ) (body : Body) → IsBodyInRange version graphs n body → AreBelow n (config_places body)
+config_below version graphs n (Kernel kernel args ins outs) range = All-nil (λ i. i < n)
+config_below version graphs n (Config kernel args ins outs sets) range =
     All-append (λ i. i < n) (flat_map places_of args) (flat_map (λ (port : Port). places_of port.rate) outs)
     (of_all n places_of (RefersBelow n) (places_below n) args range.0)
     (of_all n (λ (port : Port). places_of port.rate) (IsPortInRange n) (port_below n) outs range.1)
-config_below graphs n (Child graph args) range = All-nil (λ i. i < n)
+config_below version graphs n (Child graph args) range = All-nil (λ i. i < n)
+config_below version graphs n (ConfigChild graph args sets) range = of_all n places_of (RefersBelow n) (places_below n) args range.2
 
-actor_below : (graphs n : ℕ) (actor : Actor) → IsActorInRange graphs n actor → AreBelow n (config_places actor.body)
-actor_below graphs n actor range = config_below graphs n actor.body range
+actor_below : (version graphs n : ℕ) (actor : Actor) → IsActorInRange version graphs n actor → AreBelow n (config_places actor.body)
+actor_below version graphs n actor range = config_below version graphs n actor.body range
 
-module _ (graphs : List Graph) (is_top : Bool) (g : Graph) (range : IsGraphInRange graphs is_top g) where
+module _ (version : ℕ) (graphs : List Graph) (is_top : Bool) (g : Graph) (range : IsGraphInRange version graphs is_top g) where
   abbrev n : ℕ
   n = length g.params
 
@@ -76,24 +77,25 @@ module _ (graphs : List Graph) (is_top : Bool) (g : Graph) (range : IsGraphInRan
       (of_all n at_interface (IsInterfaceInRange n) (interface_below n) g.inputs range.inputs)
       (All-append (λ i. i < n) (flat_map at_interface g.outputs) (flat_map at_actor g.actors)
       (of_all n at_interface (IsInterfaceInRange n) (interface_below n) g.outputs range.outputs)
-      (of_all n at_actor (IsActorInRange (length graphs) n) (actor_below (length graphs) n) g.actors range.actors))
+      (of_all n at_actor (IsActorInRange version (length graphs) n) (actor_below version (length graphs) n) g.actors range.actors))
 
   refers_to_params : RefersToParams g
   refers_to_params = record { derived = references_inside; early = early_inside }
 
 pub each_refers_to_params : (graphs : Graphs) → InRange graphs → All (λ (g : Graph). RefersToParams g) graphs.graphs
-each_refers_to_params graphs range k d below = refers_to_params graphs.graphs (k == graphs.top) (slice_index_or graphs.graphs k d) (range.each_graph k d below)
+each_refers_to_params graphs range k d below = refers_to_params graphs.version graphs.graphs (k == graphs.top) (slice_index_or graphs.graphs k d) (range.each_graph k d below)
 
 -- ---- graphs
 
-child_below : (n params : ℕ) (body : Body) → IsBodyInRange n params body → AreBelow n (children_of body)
-child_below n params (Kernel kernel args ins outs) range = All-nil (λ i. i < n)
-child_below n params (Config kernel args ins outs sets) range = All-nil (λ i. i < n)
-child_below n params (Child graph args) range = All-cons (λ i. i < n) graph [] range.0 (All-nil (λ i. i < n))
+child_below : (version n params : ℕ) (body : Body) → IsBodyInRange version n params body → AreBelow n (children_of body)
+child_below version n params (Kernel kernel args ins outs) range = All-nil (λ i. i < n)
+child_below version n params (Config kernel args ins outs sets) range = All-nil (λ i. i < n)
+child_below version n params (Child graph args) range = All-cons (λ i. i < n) graph [] range.0 (All-nil (λ i. i < n))
+child_below version n params (ConfigChild graph args sets) range = All-cons (λ i. i < n) graph [] range.1 (All-nil (λ i. i < n))
 
-children_below : (graphs : List Graph) (is_top : Bool) (g : Graph) → IsGraphInRange graphs is_top g → AreBelow (length graphs) (children g)
-children_below graphs is_top g range =
-    of_all (length graphs) (λ (a : Actor). children_of a.body) (IsActorInRange (length graphs) (length g.params)) (λ a in_range. child_below (length graphs) (length g.params) a.body in_range) g.actors range.actors
+children_below : (version : ℕ) (graphs : List Graph) (is_top : Bool) (g : Graph) → IsGraphInRange version graphs is_top g → AreBelow (length graphs) (children g)
+children_below version graphs is_top g range =
+    of_all (length graphs) (λ (a : Actor). children_of a.body) (IsActorInRange version (length graphs) (length g.params)) (λ a in_range. child_below version (length graphs) (length g.params) a.body in_range) g.actors range.actors
 
 pub refers_to_graphs : (graphs : Graphs) → InRange graphs → RefersToGraphs graphs
-refers_to_graphs graphs range k d below = children_below graphs.graphs (k == graphs.top) (slice_index_or graphs.graphs k d) (range.each_graph k d below)
+refers_to_graphs graphs range k d below = children_below graphs.version graphs.graphs (k == graphs.top) (slice_index_or graphs.graphs k d) (range.each_graph k d below)

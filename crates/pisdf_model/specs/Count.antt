@@ -2,7 +2,7 @@
 use Rattle.std.specs.Prelude.{ℕ, nat_le, nat_lt, Bool, not, List, ◌++◌, length, codes}
 use Rattle.std.specs.List.{list_any}
 use Rattle.pisdf_model.specs.Details.{of_each, unless}
-use Rattle.pisdf_model.specs.declared.limits.TheConstants.{MAX_GRAPHS, MAX_PARAMS, MAX_INPUTS, MAX_OUTPUTS, MAX_ACTORS, MAX_FIFOS, MAX_DELAY_TOKENS}
+use Rattle.pisdf_model.specs.Hold.{has_large_hold}
 use Rattle.pisdf_model.specs.declared.counting.Counted.{Counted}
 use Rattle.pisdf_model.specs.declared.counting.Counted.TheVariants as counted
 use Rattle.pisdf_model.specs.declared.counting.PartCounts.{PartCounts}
@@ -17,37 +17,43 @@ word_of counted.Inputs = codes "inputs"
 word_of counted.Outputs = codes "outputs"
 word_of counted.Actors = codes "actors"
 word_of counted.Fifos = codes "fifos"
+word_of counted.Exports = codes "exports"
 word_of counted.Delay = codes "delay"
+word_of counted.Hold = codes "hold"
 
--- some delay has too many tokens
+-- some delay has over 65,536 tokens
 abbrev pub has_long_delay : List Fifo → Bool
-has_long_delay fifos = list_any (λ fifo. nat_lt MAX_DELAY_TOKENS (length fifo.delay)) fifos
+has_long_delay fifos = list_any (λ fifo. nat_lt 65536 (length fifo.delay)) fifos
 
 -- what there are too many of, where a graph has so many parts
 abbrev pub excess_of : PartCounts → List Counted
 excess_of counts =
-    unless (nat_le counts.params MAX_PARAMS) counted.Params
-    ++ (unless (nat_le counts.inputs MAX_INPUTS) counted.Inputs
-    ++ (unless (nat_le counts.outputs MAX_OUTPUTS) counted.Outputs
-    ++ (unless (nat_le counts.actors MAX_ACTORS) counted.Actors
-    ++ (unless (nat_le counts.fifos MAX_FIFOS) counted.Fifos
-    ++ unless (not counts.has_long_delay) counted.Delay))))
+    unless (nat_le counts.params 64) counted.Params
+    ++ (unless (nat_le counts.inputs 32) counted.Inputs
+    ++ (unless (nat_le counts.outputs 32) counted.Outputs
+    ++ (unless (nat_le counts.actors 64) counted.Actors
+    ++ (unless (nat_le counts.fifos 128) counted.Fifos
+    ++ (unless (nat_le counts.exports 64) counted.Exports
+    ++ (unless (not counts.has_long_delay) counted.Delay
+    ++ unless (not counts.has_large_hold) counted.Hold))))))
 
--- how many parts a graph has
-abbrev pub counts_of : Graph → PartCounts
-counts_of g = record {
+-- how many parts a graph has, where its hold is too large or not
+abbrev pub counts_of : Bool → Graph → PartCounts
+counts_of is_large g = record {
   params = length g.params;
   inputs = length g.inputs;
   outputs = length g.outputs;
   actors = length g.actors;
   fifos = length g.fifos;
+  exports = length g.exports;
   has_long_delay = has_long_delay g.fifos;
+  has_large_hold = is_large;
 }
 
--- what a graph has too many of
-abbrev pub graph_counts : Graph → List Counted
-graph_counts g = excess_of (counts_of g)
+-- what the graph at a place has too many of
+abbrev pub graph_counts : List Graph → ℕ → Graph → List Counted
+graph_counts graphs n g = excess_of (counts_of (has_large_hold graphs n) g)
 
 -- the graphs, then what each of them has too many of
 abbrev pub count_faults : Graphs → List Counted
-count_faults graphs = unless (nat_le (length graphs.graphs) MAX_GRAPHS) counted.Graphs ++ of_each (λ n g. graph_counts g) graphs.graphs
+count_faults graphs = unless (nat_le (length graphs.graphs) 32) counted.Graphs ++ of_each (graph_counts graphs.graphs) graphs.graphs

@@ -2,7 +2,7 @@
 use Rattle.std.specs.Prelude.{ℕ, ◌&&◌, ◌||◌, not, nat_lt, nat_le, Bool, true, false, List, length, Option, Some, None, slice_get}
 use Rattle.pisdf_model.specs.Details.{of_each, unless}
 use Rattle.pisdf_model.specs.declared.actor.Body.{Body}
-use Rattle.pisdf_model.specs.declared.actor.Body.TheVariants.{Kernel, Config, Child}
+use Rattle.pisdf_model.specs.declared.actor.Body.TheVariants.{Kernel, Config, Child, ConfigChild}
 use Rattle.pisdf_model.specs.declared.actor.Actor.{Actor}
 use Rattle.pisdf_model.specs.declared.fifo.End.{End}
 use Rattle.pisdf_model.specs.declared.fifo.End.TheVariants.{Interface, Port}
@@ -15,6 +15,7 @@ abbrev pub is_configuration : Body → Bool
 is_configuration (Kernel kernel args ins outs) = false
 is_configuration (Config kernel args ins outs sets) = true
 is_configuration (Child k args) = false
+is_configuration (ConfigChild k args sets) = true
 
 abbrev pub is_configuration_actor : Option Actor → Bool
 is_configuration_actor None = false

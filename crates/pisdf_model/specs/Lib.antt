@@ -3,6 +3,7 @@ pub mod Components
 pub mod Count
 pub mod Details
 pub mod EndTimes
+pub mod Hold
 pub mod InterfaceWires
 pub mod Marked
 pub mod Names

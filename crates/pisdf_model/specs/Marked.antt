@@ -12,7 +12,7 @@ abbrev pub marked_fifo : Fifo → Fifo
 marked_fifo f = record { tail = f.tail; head = f.head; delay = marked f.delay; life = f.life }
 
 abbrev pub marked_graph : Graph → Graph
-marked_graph g = record { name = g.name; params = g.params; inputs = g.inputs; outputs = g.outputs; actors = g.actors; fifos = map marked_fifo g.fifos }
+marked_graph g = record { name = g.name; params = g.params; inputs = g.inputs; outputs = g.outputs; actors = g.actors; fifos = map marked_fifo g.fifos; exports = g.exports }
 
 abbrev pub marked_graphs : Graphs → Graphs
 marked_graphs graphs = record { version = graphs.version; top = graphs.top; graphs = map marked_graph graphs.graphs }

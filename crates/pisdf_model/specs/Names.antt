@@ -8,7 +8,7 @@ use Rattle.pisdf_model.specs.declared.names.Scope.{Scope}
 use Rattle.pisdf_model.specs.declared.names.Scope.TheVariants as scope
 use Rattle.pisdf_model.specs.declared.names.ScopedName.{ScopedName}
 use Rattle.pisdf_model.specs.declared.actor.Body.{Body}
-use Rattle.pisdf_model.specs.declared.actor.Body.TheVariants.{Kernel, Config, Child}
+use Rattle.pisdf_model.specs.declared.actor.Body.TheVariants.{Kernel, Config, Child, ConfigChild}
 use Rattle.pisdf_model.specs.declared.actor.Actor.{Actor}
 use Rattle.pisdf_model.specs.declared.graph.Graph.{Graph}
 use Rattle.pisdf_model.specs.declared.graph.Graphs.{Graphs}
@@ -45,6 +45,7 @@ abbrev pub own_port_names : Body → List (List ℕ)
 own_port_names (Kernel kernel args ins outs) = port_names ins ++ port_names outs
 own_port_names (Config kernel args ins outs sets) = ins ++ port_names outs
 own_port_names (Child k args) = []
+own_port_names (ConfigChild k args sets) = []
 
 -- an actor's name, then those of its ports
 abbrev pub actor_walk : ℕ → ℕ → Actor → List ScopedName

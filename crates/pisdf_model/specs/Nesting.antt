@@ -2,10 +2,9 @@
 use Rattle.std.specs.Prelude.{ℕ, zero, suc, ◌+◌, ◌<◌, nat_lt, max, List, [], ◌∷◌, length, map, slice_index_or, All}
 use Rattle.std.specs.List.{filter, flat_map, range_with_len}
 use Rattle.pisdf_model.specs.Arrows.{to_of, on_cycles}
-use Rattle.pisdf_model.specs.declared.limits.TheConstants.{MAX_NESTING}
 use Rattle.pisdf_model.specs.declared.actor.Actor.{Actor}
 use Rattle.pisdf_model.specs.declared.actor.Body.{Body}
-use Rattle.pisdf_model.specs.declared.actor.Body.TheVariants.{Kernel, Config, Child}
+use Rattle.pisdf_model.specs.declared.actor.Body.TheVariants.{Kernel, Config, Child, ConfigChild}
 use Rattle.pisdf_model.specs.declared.graph.Graph.{Graph}
 use Rattle.pisdf_model.specs.declared.graph.Graphs.{Graphs}
 
@@ -14,6 +13,7 @@ abbrev pub children_of : Body → List ℕ
 children_of (Kernel kernel args ins outs) = []
 children_of (Config kernel args ins outs sets) = []
 children_of (Child graph args) = graph ∷ []
+children_of (ConfigChild graph args sets) = graph ∷ []
 
 -- the graphs that a graph's actors name, in their order
 abbrev pub children : Graph → List ℕ
@@ -47,6 +47,6 @@ nesting_to holds (suc n) place = 1 + greatest (map (nesting_to holds n) (to_of h
 abbrev pub nested_over : List (List ℕ) → ℕ → List ℕ
 nested_over holds n = filter (λ place. nat_lt n (nesting_to holds (n + 1) place)) (range_with_len 0 (length holds))
 
--- the names of the graphs whose nesting is over its limit
+-- the names of the graphs whose nesting is over 8
 abbrev pub depth_faults : Graphs → List (List ℕ)
-depth_faults graphs = map (graph_name graphs) (nested_over (holds graphs) MAX_NESTING)
+depth_faults graphs = map (graph_name graphs) (nested_over (holds graphs) 8)

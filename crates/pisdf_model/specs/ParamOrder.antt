@@ -6,7 +6,7 @@ use Rattle.pisdf_model.specs.Arrows.{LeadsInside, leads, on_cycles}
 use Rattle.pisdf_model.specs.declared.actor.Actor.{Actor}
 use Rattle.pisdf_model.specs.declared.actor.Port.{Port}
 use Rattle.pisdf_model.specs.declared.actor.Body.{Body}
-use Rattle.pisdf_model.specs.declared.actor.Body.TheVariants.{Kernel, Config, Child}
+use Rattle.pisdf_model.specs.declared.actor.Body.TheVariants.{Kernel, Config, Child, ConfigChild}
 use Rattle.pisdf_model.specs.declared.graph.Graph.{Graph}
 use Rattle.pisdf_model.specs.declared.graph.Graphs.{Graphs}
 use Rattle.pisdf_model.specs.declared.graph.Interface.{Interface}
@@ -50,6 +50,7 @@ abbrev pub config_places : Body → List ℕ
 config_places (Kernel kernel args ins outs) = []
 config_places (Config kernel args ins outs sets) = flat_map places_of args ++ flat_map (λ (port : Port). places_of port.rate) outs
 config_places (Child graph args) = []
+config_places (ConfigChild graph args sets) = flat_map places_of args
 
 -- the parameters that must be early, in the order in which the file names them: those of the interfaces' rates, and of the arguments and output rates of configuration actors
 abbrev pub early_places : Graph → List ℕ

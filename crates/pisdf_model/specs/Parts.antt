@@ -2,7 +2,7 @@
 use Rattle.std.specs.Prelude.{ℕ, ◌+◌, List, [], map, length, Option, Some, None, slice_get}
 use Rattle.pisdf_model.specs.declared.actor.Port.{Port}
 use Rattle.pisdf_model.specs.declared.actor.Body.{Body}
-use Rattle.pisdf_model.specs.declared.actor.Body.TheVariants.{Kernel, Config, Child}
+use Rattle.pisdf_model.specs.declared.actor.Body.TheVariants.{Kernel, Config, Child, ConfigChild}
 use Rattle.pisdf_model.specs.declared.graph.Interface.{Interface}
 use Rattle.pisdf_model.specs.declared.graph.Graph.{Graph}
 
@@ -25,11 +25,13 @@ abbrev pub input_names : List Graph → Body → List (List ℕ)
 input_names graphs (Kernel kernel args ins outs) = port_names ins
 input_names graphs (Config kernel args ins outs sets) = ins
 input_names graphs (Child k args) = interface_names (inputs_of (slice_get graphs k))
+input_names graphs (ConfigChild k args sets) = interface_names (inputs_of (slice_get graphs k))
 
 abbrev pub output_names : List Graph → Body → List (List ℕ)
 output_names graphs (Kernel kernel args ins outs) = port_names outs
 output_names graphs (Config kernel args ins outs sets) = port_names outs
 output_names graphs (Child k args) = interface_names (outputs_of (slice_get graphs k))
+output_names graphs (ConfigChild k args sets) = interface_names (outputs_of (slice_get graphs k))
 
 -- how many inputs an actor has
 abbrev pub input_count : List Graph → Body → ℕ

@@ -1,8 +1,8 @@
 -- Actors whose numbers of ports and arguments don't fit, and parameters that aren't set as their kind says.
-use Rattle.std.specs.Prelude.{ℕ, ◌==◌, Bool, true, false, List, [], ◌++◌, length, map, count_by, Option, Some, None, slice_get}
+use Rattle.std.specs.Prelude.{ℕ, ◌==◌, ◌&&◌, Bool, true, false, List, [], ◌++◌, length, map, count_by, Option, Some, None, slice_get}
 use Rattle.pisdf_model.specs.Details.{of_each, unless}
 use Rattle.pisdf_model.specs.declared.actor.Body.{Body}
-use Rattle.pisdf_model.specs.declared.actor.Body.TheVariants.{Kernel, Config, Child}
+use Rattle.pisdf_model.specs.declared.actor.Body.TheVariants.{Kernel, Config, Child, ConfigChild}
 use Rattle.pisdf_model.specs.declared.actor.Actor.{Actor}
 use Rattle.pisdf_model.specs.declared.param.Param.{Param}
 use Rattle.pisdf_model.specs.declared.param.ParamKind.{ParamKind}
@@ -24,17 +24,24 @@ inherited_count (Some g) = count_by (λ p. is_inherited p.kind) g.params
 abbrev pub inherited_counts : List Graph → List ℕ
 inherited_counts graphs = map (λ (g : Graph). count_by (λ p. is_inherited p.kind) g.params) graphs
 
--- a hierarchical actor has an argument for each inherited parameter of its child; of the others the kernel decides
+-- how many exports a graph has
+abbrev pub export_count : Option Graph → ℕ
+export_count None = 0
+export_count (Some g) = length g.exports
+
+-- a hierarchical actor has an argument for each inherited parameter of its child, and one that is a configuration actor sets a parameter for each export of its child; of the others the kernel decides
 abbrev pub body_fits : (Body → Bool) → List Graph → Body → Bool
 body_fits fits graphs (Kernel kernel args ins outs) = fits (Kernel kernel args ins outs)
 body_fits fits graphs (Config kernel args ins outs sets) = fits (Config kernel args ins outs sets)
 body_fits fits graphs (Child k args) = length args == inherited_count (slice_get graphs k)
+body_fits fits graphs (ConfigChild k args sets) = (length args == inherited_count (slice_get graphs k)) && (length sets == export_count (slice_get graphs k))
 
 -- the places of the parameters that an actor sets
 abbrev pub sets_of : Body → List ℕ
 sets_of (Kernel kernel args ins outs) = []
 sets_of (Config kernel args ins outs sets) = sets
 sets_of (Child k args) = []
+sets_of (ConfigChild k args sets) = sets
 
 abbrev pub all_sets : List Actor → List ℕ
 all_sets actors = of_each (λ a actor. sets_of actor.body) actors

@@ -19,7 +19,8 @@ pub enum Body {
         ins: List<Port>,
         outs: List<Port>,
     },
-    /// A configuration actor fires once, before the other actors of its graph, and sets parameters.
+    /// A kernel configuration actor fires a kernel once, before the actors of its graph that aren't configuration
+    /// actors, and sets parameters.
     Config {
         kernel: u32,
         args: List<Expr>,
@@ -34,6 +35,16 @@ pub enum Body {
         graph: u32,
         /// The values of the child's inherited parameters, in their order.
         args: List<Expr>,
+    },
+    /// A hierarchical configuration actor fires the child graph at this place of the file once, before the actors of its
+    /// graph that aren't configuration actors. Its ports are the child's interfaces, and it sets parameters to the
+    /// values of the child's exports.
+    ConfigChild {
+        graph: u32,
+        /// The values of the child's inherited parameters, in their order.
+        args: List<Expr>,
+        /// The places of the parameters that it sets, in the order of the child's exports.
+        sets: List<u32>,
     },
 }
 

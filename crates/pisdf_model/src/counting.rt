@@ -1,12 +1,16 @@
 ghost use Rattle.std.specs.Prelude.{◌≡◌};
-ghost use Rattle.pisdf_model.specs.Details.{first};
+ghost use Rattle.pisdf_model.specs.Details.{Answers, first};
 ghost use Rattle.pisdf_model.specs.Count.{count_faults, counts_of, excess_of, has_long_delay, word_of};
 
+use crate::detail_fault::DetailFault;
 use crate::fifo::Fifo;
 use crate::graph::{Graph, Graphs};
+use crate::state_tokens::{large_holds, own_holds};
 use crate::limits::{
-    MAX_ACTORS, MAX_DELAY_TOKENS, MAX_FIFOS, MAX_GRAPHS, MAX_INPUTS, MAX_OUTPUTS, MAX_PARAMS,
+    MAX_ACTORS, MAX_DELAY_TOKENS, MAX_EXPORTS, MAX_FIFOS, MAX_GRAPHS, MAX_INPUTS, MAX_OUTPUTS,
+    MAX_PARAMS,
 };
+use std::alloc::Global;
 
 /// What there may be too many of.
 #[derive(Clone, Copy, Debug, PartialEq, Eq)]
@@ -17,8 +21,11 @@ pub enum Counted {
     Outputs,
     Actors,
     Fifos,
+    Exports,
     /// The tokens of one delay.
     Delay,
+    /// The tokens that the state of a graph begins with.
+    Hold,
 }
 
 impl Counted {
@@ -33,7 +40,9 @@ impl Counted {
             Counted::Outputs => "outputs",
             Counted::Actors => "actors",
             Counted::Fifos => "fifos",
+            Counted::Exports => "exports",
             Counted::Delay => "delay",
+            Counted::Hold => "hold",
         }
     }
 }
@@ -54,8 +63,11 @@ pub struct PartCounts {
     pub outputs: usize,
     pub actors: usize,
     pub fifos: usize,
+    pub exports: usize,
     /// Whether some delay has more tokens than it may have.
     pub has_long_delay: bool,
+    /// Whether some actor names the graph, and its state begins with more tokens than it may.
+    pub has_large_hold: bool,
 }
 
 impl PartCounts {
@@ -73,16 +85,20 @@ impl PartCounts {
             Some(Counted::Actors)
         } else if self.fifos > MAX_FIFOS {
             Some(Counted::Fifos)
+        } else if self.exports > MAX_EXPORTS {
+            Some(Counted::Exports)
         } else if self.has_long_delay {
             Some(Counted::Delay)
+        } else if self.has_large_hold {
+            Some(Counted::Hold)
         } else {
             None
         }
     }
 }
 
-fn counts_of(graph: &Graph) -> PartCounts
-    ensures { result ≡ counts_of graph.now }
+fn counts_of(has_large_hold: bool, graph: &Graph) -> PartCounts
+    ensures { result ≡ counts_of has_large_hold graph.now }
 {
     PartCounts {
         params: graph.params.items().len(),
@@ -90,23 +106,32 @@ fn counts_of(graph: &Graph) -> PartCounts
         outputs: graph.outputs.items().len(),
         actors: graph.actors.items().len(),
         fifos: graph.fifos.items().len(),
+        exports: graph.exports.items().len(),
         has_long_delay: has_long_delay(graph.fifos.items()),
+        has_large_hold,
     }
 }
 
-/// The first of what there are too many of: graphs; then, graph by graph, parameters, inputs, outputs, actors, FIFOs,
-/// or tokens of a delay.
-pub fn count(graphs: &Graphs) -> Option<Counted>
-    ensures { result ≡ first (count_faults graphs.now) }
+/// Whether there are not too many parts: graphs; then, graph by graph, parameters, inputs, outputs, actors, FIFOs, exports,
+/// tokens of a delay, and tokens of the state of a graph that an actor names.
+///
+/// # Errors
+///
+/// - `Fault`: the first of what there are too many of.
+/// - `Memory`: want of memory.
+pub fn count(alloc: Global, graphs: &Graphs) -> Result<(), DetailFault<Counted>>
+    ensures { Answers (count_faults graphs.now) result }
 {
-    if graphs.graphs.items().len() > MAX_GRAPHS {
-        return Some(Counted::Graphs);
+    let all = graphs.graphs.items();
+    if all.len() > MAX_GRAPHS {
+        return Err(DetailFault::Fault(Counted::Graphs));
     }
-    for graph in graphs.graphs.items() {
-        let counted = counts_of(graph).excess();
-        if counted.is_some() {
-            return counted;
+    let own = own_holds(alloc, all)?;
+    let large = large_holds(alloc, all, &own)?;
+    for (number, graph) in all.iter().enumerate() {
+        if let Some(counted) = counts_of(large[number], graph).excess() {
+            return Err(DetailFault::Fault(counted));
         }
     }
-    None
+    Ok(())
 }

@@ -21,7 +21,7 @@ fn push_ports(names: &mut Vec<ScopedName>, scope: Scope, body: &Body) -> Result<
             push_names(names, scope, ins.items())?;
             push_names(names, scope, outs.items())
         }
-        Body::Child { .. } => Ok(()),
+        Body::Child { .. } | Body::ConfigChild { .. } => Ok(()),
     }
 }
 

@@ -20,6 +20,8 @@ pub struct Graph {
     pub outputs: List<Interface>,
     pub actors: List<Actor>,
     pub fifos: List<Fifo>,
+    /// The places of the parameters whose values a hierarchical configuration actor takes from the graph.
+    pub exports: List<u32>,
 }
 
 /// The graphs of a file, and the place of the top one among them.

@@ -22,7 +22,7 @@ fn is_configuration_actor(actor: Option<&Actor>) -> bool
     ensures { result ≡ is_configuration_actor (option_copied actor.entry) }
 {
     match actor {
-        Some(actor) => matches!(actor.body, Body::Config { .. }),
+        Some(actor) => matches!(actor.body, Body::Config { .. } | Body::ConfigChild { .. }),
         None => false,
     }
 }

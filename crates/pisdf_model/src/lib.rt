@@ -23,6 +23,7 @@ mod parts;
 mod port_counts;
 mod range;
 mod rules;
+mod state_tokens;
 mod tally;
 mod wires;
 
@@ -34,8 +35,8 @@ pub use fifo::{End, Fifo, Life};
 pub use graph::{Graph, Graphs, Interface};
 pub use interface_wires::{FifoPlace, interface_wire};
 pub use limits::{
-    MAX_ACTORS, MAX_DELAY_TOKENS, MAX_FIFOS, MAX_GRAPHS, MAX_INPUTS, MAX_NESTING, MAX_OUTPUTS,
-    MAX_PARAMS,
+    MAX_ACTORS, MAX_DELAY_TOKENS, MAX_EXPORTS, MAX_FIFOS, MAX_GRAPHS, MAX_HOLD, MAX_INPUTS,
+    MAX_NESTING, MAX_OUTPUTS, MAX_PARAMS,
 };
 pub use names::{Scope, ScopedName, push_name, repeat};
 pub use nesting::{depth, graph_cycle};
@@ -44,27 +45,5 @@ pub use param::{Param, ParamKind};
 pub use port_counts::{AnyCounts, Counts, ports};
 pub use range::{in_range, life_of};
 pub use rules::{ModelFault, well_formed};
+pub use state_tokens::{capped, capped_sum, large_holds};
 pub use wires::{port_text, wire};
-
-#[cfg(test)]
-mod built;
-#[cfg(test)]
-mod components_tests;
-#[cfg(test)]
-mod counting_tests;
-#[cfg(test)]
-mod inside;
-#[cfg(test)]
-mod names_tests;
-#[cfg(test)]
-mod nesting_tests;
-#[cfg(test)]
-mod ordering_tests;
-#[cfg(test)]
-mod ports_tests;
-#[cfg(test)]
-mod range_tests;
-#[cfg(test)]
-mod rules_tests;
-#[cfg(test)]
-mod wires_tests;

@@ -85,6 +85,7 @@ fn add_config(body: &Body, places: &mut Vec<u32>) -> Result<(), AllocError>
             add_args(args.items(), places)?;
             add_ports(outs.items(), places)
         }
+        Body::ConfigChild { args, .. } => add_args(args.items(), places),
         _ => Ok(()),
     }
 }
@@ -99,7 +100,7 @@ fn add_configs(actors: &[Actor], places: &mut Vec<u32>) -> Result<(), AllocError
 }
 
 /// The parameters that must be early, in the order in which the file names them: those of the interfaces' rates, and of
-/// the arguments and output rates of configuration actors.
+/// the arguments of configuration actors and the output rates of kernel configuration actors.
 pub(crate) fn early_places(alloc: Global, graph: &Graph) -> Result<Vec<u32>, AllocError>
     ensures { IfOk result (λ v. v.items ≡ early_places graph.now) }
 {

@@ -18,7 +18,7 @@ fn add_children(body: &Body, children: &mut Vec<u32>) -> Result<(), AllocError>
     ensures { OnOk result (children.new.items ≡ children.old.items ++ children_of body.now) }
 {
     match body {
-        Body::Child { graph, .. } => {
+        Body::Child { graph, .. } | Body::ConfigChild { graph, .. } => {
             children.push(*graph)?;
             Ok(())
         }

@@ -55,10 +55,12 @@ pub(crate) fn input_count(graphs: &[Graph], body: &Body) -> usize
     match body {
         Body::Kernel { ins, .. } => ins.items().len(),
         Body::Config { ins, .. } => ins.items().len(),
-        Body::Child { graph, .. } => match graphs.get(*graph as usize) {
-            Some(child) => child.inputs.items().len(),
-            None => 0,
-        },
+        Body::Child { graph, .. } | Body::ConfigChild { graph, .. } => {
+            match graphs.get(*graph as usize) {
+                Some(child) => child.inputs.items().len(),
+                None => 0,
+            }
+        }
     }
 }
 
@@ -68,9 +70,11 @@ pub(crate) fn output_count(graphs: &[Graph], body: &Body) -> usize
 {
     match body {
         Body::Kernel { outs, .. } | Body::Config { outs, .. } => outs.items().len(),
-        Body::Child { graph, .. } => match graphs.get(*graph as usize) {
-            Some(child) => child.outputs.items().len(),
-            None => 0,
-        },
+        Body::Child { graph, .. } | Body::ConfigChild { graph, .. } => {
+            match graphs.get(*graph as usize) {
+                Some(child) => child.outputs.items().len(),
+                None => 0,
+            }
+        }
     }
 }

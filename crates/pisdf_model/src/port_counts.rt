@@ -1,7 +1,7 @@
-ghost use Rattle.std.specs.Prelude.{◌≡◌, ◌==◌, ◌++◌, IfOk, OnOk, List as Seq, count_by};
-ghost use Rattle.pisdf_model.specs.Details.{Answers, of_each};
+ghost use Rattle.std.specs.Prelude.{◌≡◌, ◌==◌, ◌++◌, IfOk, OnOk, List as Seq, length, slice_get, count_by};
 ghost use Rattle.pisdf_model.specs.declared.graph.Graph.{Graph};
-ghost use Rattle.pisdf_model.specs.Ports.{actor_ports, all_sets, body_fits, graph_ports, inherited_counts, is_inherited, is_set_as_due, param_ports, ports_faults, sets_of};
+ghost use Rattle.pisdf_model.specs.Details.{Answers, of_each};
+ghost use Rattle.pisdf_model.specs.Ports.{actor_ports, all_sets, body_fits, export_count, graph_ports, inherited_count, inherited_counts, is_inherited, is_set_as_due, param_ports, ports_faults, sets_of};
 
 use crate::actor::{Actor, Body};
 use crate::detail_fault::DetailFault;
@@ -9,7 +9,7 @@ use crate::graph::{Graph, Graphs};
 use crate::names::fault_at;
 use crate::param::{Param, ParamKind};
 use crate::tally::times_of;
-use param_expr::Name;
+use param_expr::{Expr, Name};
 use std::alloc::{AllocError, Global};
 
 /// What tells whether an actor fits its kernel.
@@ -61,28 +61,50 @@ fn inherited_counts(alloc: Global, graphs: &[Graph]) -> Result<Vec<usize>, Alloc
     Ok(inherited)
 }
 
+/// How many exports the graph at this place has.
+fn export_count(graphs: &[Graph], place: u32) -> usize
+    ensures { result ≡ export_count (slice_get graphs.now place) }
+{
+    match graphs.get(place as usize) {
+        Some(graph) => graph.exports.items().len(),
+        None => 0,
+    }
+}
+
+/// Whether there are as many arguments as inherited parameters of the graph at this place.
+fn args_fit(inherited: &[usize], place: u32, args: &[Expr]) -> bool
+    ensures { (graphs : Seq Graph) → inherited.now ≡ inherited_counts graphs → result ≡ (length args.now == inherited_count (slice_get graphs place)) }
+{
+    match inherited.get(place as usize) {
+        Some(count) => args.len() == *count,
+        None => args.is_empty(),
+    }
+}
+
 /// Whether an actor fits, where so many parameters of each graph are inherited.
-fn body_fits<C: Counts>(counts: &C, inherited: &[usize], body: &Body) -> bool
-    ensures { (graphs : Seq Graph) → inherited.now ≡ inherited_counts graphs → result ≡ body_fits (C.fits counts.now) graphs body.now }
+fn body_fits<C: Counts>(counts: &C, graphs: &[Graph], inherited: &[usize], body: &Body) -> bool
+    ensures { inherited.now ≡ inherited_counts graphs.now → result ≡ body_fits (C.fits counts.now) graphs.now body.now }
 {
     match body {
         Body::Kernel { .. } | Body::Config { .. } => counts.fit(body),
-        Body::Child { graph, args } => match inherited.get(*graph as usize) {
-            Some(count) => args.items().len() == *count,
-            None => args.items().is_empty(),
-        },
+        Body::Child { graph, args } => args_fit(inherited, *graph, args.items()),
+        Body::ConfigChild { graph, args, sets } => {
+            args_fit(inherited, *graph, args.items())
+                && sets.items().len() == export_count(graphs, *graph)
+        }
     }
 }
 
 fn actors_fit<C: Counts>(
     counts: &C,
+    graphs: &[Graph],
     inherited: &[usize],
     actors: &[Actor],
 ) -> Result<(), DetailFault<Name>>
-    ensures { (graphs : Seq Graph) → inherited.now ≡ inherited_counts graphs → Answers (of_each (λ a actor. actor_ports (C.fits counts.now) graphs actor) actors.now) result }
+    ensures { inherited.now ≡ inherited_counts graphs.now → Answers (of_each (λ a actor. actor_ports (C.fits counts.now) graphs.now actor) actors.now) result }
 {
     for actor in actors {
-        if !body_fits(counts, inherited, &actor.body) {
+        if !body_fits(counts, graphs, inherited, &actor.body) {
             return Err(fault_at(&actor.name));
         }
     }
@@ -92,10 +114,13 @@ fn actors_fit<C: Counts>(
 fn push_sets(sets: &mut Vec<u32>, body: &Body) -> Result<(), AllocError>
     ensures { OnOk result (sets.new.items ≡ sets.old.items ++ sets_of body.now) }
 {
-    if let Body::Config { sets: own, .. } = body {
-        sets.extend_from_slice(own.items())?;
+    match body {
+        Body::Config { sets: own, .. } | Body::ConfigChild { sets: own, .. } => {
+            sets.extend_from_slice(own.items())?;
+            Ok(())
+        }
+        _ => Ok(()),
     }
-    Ok(())
 }
 
 /// The places of the parameters that the actors set, actor by actor.
@@ -139,13 +164,14 @@ fn params_set(
 fn graph_ports<C: Counts>(
     alloc: Global,
     counts: &C,
+    graphs: &[Graph],
     inherited: &[usize],
     is_top: bool,
     graph: &Graph,
 ) -> Result<(), DetailFault<Name>>
-    ensures { (graphs : Seq Graph) → inherited.now ≡ inherited_counts graphs → Answers (graph_ports (C.fits counts.now) graphs is_top graph.now) result }
+    ensures { inherited.now ≡ inherited_counts graphs.now → Answers (graph_ports (C.fits counts.now) graphs.now is_top graph.now) result }
 {
-    actors_fit(counts, inherited, graph.actors.items())?;
+    actors_fit(counts, graphs, inherited, graph.actors.items())?;
     let sets = all_sets(alloc, graph.actors.items())?;
     params_set(alloc, is_top, sets.as_slice(), graph.params.items())
 }
@@ -155,9 +181,9 @@ fn graph_ports<C: Counts>(
 /// # Errors
 ///
 /// - `Fault`: graph by graph, first the name of the first actor that doesn't fit its kernel, or, where it is
-///   hierarchical, whose arguments aren't as many as its child's inherited parameters; then that of the first parameter
-///   that is inherited though its graph is the top one, chosen though not set exactly once, or of another kind though
-///   set.
+///   hierarchical, whose arguments aren't as many as its child's inherited parameters, or which as a configuration actor
+///   doesn't set as many parameters as its child has exports; then that of the first parameter that is inherited though
+///   its graph is the top one, chosen though not set exactly once, or of another kind though set.
 /// - `Memory`: want of memory.
 pub fn ports<C: Counts>(alloc: Global, counts: &C, graphs: &Graphs) -> Result<(), DetailFault<Name>>
     ensures { Answers (ports_faults (C.fits counts.now) graphs.now) result }
@@ -168,6 +194,7 @@ pub fn ports<C: Counts>(alloc: Global, counts: &C, graphs: &Graphs) -> Result<()
         graph_ports(
             alloc,
             counts,
+            all,
             &inherited,
             number == graphs.top as usize,
             graph,

@@ -1,6 +1,6 @@
-ghost use Rattle.std.specs.Prelude.{◌≡◌, ℕ, List as Seq, map};
+ghost use Rattle.std.specs.Prelude.{◌≡◌, ℕ, [], ◌∷◌, List as Seq, map};
 ghost use Rattle.pisdf_model.specs.Count.{word_of};
-ghost use Rattle.pisdf_model.specs.Details.{Answers, first};
+ghost use Rattle.pisdf_model.specs.Details.{Answers, Refuses};
 ghost use Rattle.pisdf_model.specs.Range.{InRange};
 ghost use Rattle.pisdf_model.specs.WellFormed.{AnswersFaults, Stands, graphs_at, model_faults, with_number};
 ghost use Rattle.pisdf_model.specs.declared.interface_wires.FifoPlace.{FifoPlace};
@@ -50,15 +50,25 @@ fn at_graph(answer: Result<(), DetailFault<FifoPlace>>) -> Result<(), DetailFaul
     }
 }
 
-/// The answer at what there is too many of, if there is any.
-fn at_word(alloc: Global, counted: Option<Counted>) -> Result<(), DetailFault<Name>>
-    ensures { (all : Seq Counted) → counted ≡ first all → Answers (map word_of all) result }
+/// The fault at what there is too many of.
+fn word_fault(alloc: Global, counted: Counted) -> DetailFault<Name>
+    ensures { Refuses (word_of counted ∷ []) result }
 {
-    let Some(counted) = counted else {
-        return Ok(());
-    };
-    let word = String::from_str(alloc, counted.word())?;
-    Err(DetailFault::Fault(Name::new(word)))
+    match String::from_str(alloc, counted.word()) {
+        Ok(word) => DetailFault::Fault(Name::new(word)),
+        Err(_) => DetailFault::Memory,
+    }
+}
+
+/// The answer at what there is too many of, as one at its word.
+fn at_word(alloc: Global, answer: Result<(), DetailFault<Counted>>) -> Result<(), DetailFault<Name>>
+    ensures { (all : Seq Counted) → Answers all answer → Answers (map word_of all) result }
+{
+    match answer {
+        Ok(()) => Ok(()),
+        Err(DetailFault::Fault(counted)) => Err(word_fault(alloc, counted)),
+        Err(DetailFault::Memory) => Err(DetailFault::Memory),
+    }
 }
 
 /// Whether graphs break no rule: the faults 4 and 7 to 13 of a graph file, but for those of kernels.
@@ -78,5 +88,5 @@ pub fn well_formed(alloc: Global, graphs: &Graphs) -> Result<(), ModelFault>
     numbered(10, param_order(alloc, graphs))?;
     numbered(11, graph_cycle(alloc, graphs))?;
     numbered(12, depth(alloc, graphs))?;
-    numbered(13, at_word(alloc, count(graphs)))
+    numbered(13, at_word(alloc, count(alloc, graphs)))
 }

@@ -52,10 +52,12 @@ fn names_of_ports(alloc: Global, graphs: &[Graph], actor: &Actor) -> Result<Vec<
     match &actor.body {
         Body::Kernel { ins, outs, .. } => names_of(alloc, ins.items(), outs.items()),
         Body::Config { ins, outs, .. } => names_of(alloc, ins.items(), outs.items()),
-        Body::Child { graph, .. } => match graphs.get(*graph as usize) {
-            Some(child) => names_of_interfaces(alloc, child),
-            None => Ok(Vec::new(alloc)),
-        },
+        Body::Child { graph, .. } | Body::ConfigChild { graph, .. } => {
+            match graphs.get(*graph as usize) {
+                Some(child) => names_of_interfaces(alloc, child),
+                None => Ok(Vec::new(alloc)),
+            }
+        }
     }
 }
 

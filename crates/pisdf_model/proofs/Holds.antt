@@ -1,0 +1,176 @@
+-- How many tokens go on in a graph, counted over its own delays and the graphs that it holds.
+use Rattle.std.proofs.Common.{◌≡◌, ℕ, zero, suc, ◌+◌, ◌≤◌, ◌==◌, ◌&&◌, ◌||◌, ℤ, Bool, min, nat_lt, List, [], ◌∷◌, ◌++◌, length, map, Option, Some, None, option_map, refl, sym, ap, ◌∙◌, ⊎_elim, ◌<◌, add-one, arith, get_or, replicate}
+use Rattle.std.specs.Prelude.{slice_get, slice_index_or, sum_by}
+use Rattle.std.specs.List.{flat_map, list_any, range_with_len}
+use Rattle.std.proofs.lemmas.Bool.{cases_lt, lt-ltb, ltb-true}
+use Rattle.std.proofs.lemmas.List.{get_or_past}
+use Rattle.std.proofs.lemmas.List.Concat.{length-flat_map}
+use Rattle.std.proofs.lemmas.List.Folds.{flat_map-map}
+use Rattle.std.proofs.lemmas.List.FromFn.{get_or-map-range_with_len, length-map-range_with_len}
+use Rattle.std.proofs.lemmas.List.Sums.{sum_by-append, sum_by-cons}
+use Rattle.std.proofs.lemmas.Grind.{flat_map-append}
+use Rattle.pisdf_model.specs.Arrows.{to_of}
+use Rattle.pisdf_model.specs.Hold.{actor_state, capped, graph_state, has_large_hold, hold, hold_to, in_line, initial, initial_to, is_held, is_large, is_named, kept_in, own_hold}
+use Rattle.pisdf_model.specs.Nesting.{children, children_of}
+use Rattle.pisdf_model.specs.declared.actor.Actor.{Actor}
+use Rattle.pisdf_model.specs.declared.actor.Body.{Body}
+use Rattle.pisdf_model.specs.declared.actor.Body.TheVariants.{Kernel, Config, Child, ConfigChild}
+use Rattle.pisdf_model.specs.declared.fifo.Fifo.{Fifo}
+use Rattle.pisdf_model.specs.declared.graph.Graph.{Graph}
+use Rattle.pisdf_model.proofs.Cycles.{same_test}
+
+-- ---- sums
+
+sum_same : {X : Type 0} (f g : X → ℕ) → ((x : X) → f x ≡ g x) → (xs : List X) → sum_by f xs ≡ sum_by g xs
+sum_same f g same [] = refl
+sum_same f g same (x ∷ xs) = sum_by-cons f x xs ∙ ap (λ n. n + sum_by f xs) (same x) ∙ ap (λ n. g x + n) (sum_same f g same xs) ∙ sym (sum_by-cons g x xs)
+
+sum_mapped : {X Y : Type 0} (f : Y → ℕ) (m : X → Y) (xs : List X) → sum_by f (map m xs) ≡ sum_by (λ x. f (m x)) xs
+sum_mapped f m [] = refl
+sum_mapped f m (x ∷ xs) = sum_by-cons f (m x) (map m xs) ∙ ap (λ n. f (m x) + n) (sum_mapped f m xs) ∙ sym (sum_by-cons (λ x. f (m x)) x xs)
+
+sum_flat : {X : Type 0} (h : ℕ → ℕ) (f : X → List ℕ) (xs : List X) → sum_by (λ x. sum_by h (f x)) xs ≡ sum_by h (flat_map f xs)
+sum_flat h f [] = refl
+sum_flat h f (x ∷ xs) = sum_by-cons (λ x. sum_by h (f x)) x xs ∙ ap (λ n. sum_by h (f x) + n) (sum_flat h f xs) ∙ sym (sum_by-append h (f x) (flat_map f xs))
+
+line_length : (state : List (List ℤ)) → length (in_line state) ≡ sum_by (λ tokens. length tokens) state
+line_length state = length-flat_map (λ tokens. tokens) state
+
+-- ---- the tokens of a state
+
+actor_length : (states : ℕ → List (List ℤ)) (body : Body) → length (actor_state states body) ≡ sum_by (λ k. length (in_line (states k))) (children_of body)
+actor_length states (Kernel kernel args ins outs) = refl
+actor_length states (Config kernel args ins outs sets) = refl
+actor_length states (Child graph args) = omega arith
+actor_length states (ConfigChild graph args sets) = omega arith
+
+graph_length : (states : ℕ → List (List ℤ)) (g : Graph) → length (in_line (graph_state states (Some g))) ≡ own_hold g + sum_by (λ k. length (in_line (states k))) (children g)
+graph_length states g =
+    let fifos = map kept_in g.fifos in
+    let actors = map (λ (a : Actor). actor_state states a.body) g.actors in
+    let size : List ℤ → ℕ = λ tokens. length tokens in
+    let held : ℕ → ℕ = λ k. length (in_line (states k)) in
+    line_length (fifos ++ actors)
+    ∙ sum_by-append size fifos actors
+    ∙ ap (λ n. n + sum_by size actors) (sum_mapped size kept_in g.fifos)
+    ∙ ap (λ n. own_hold g + n) (sum_mapped size (λ (a : Actor). actor_state states a.body) g.actors
+        ∙ sum_same (λ (a : Actor). length (actor_state states a.body)) (λ (a : Actor). sum_by held (children_of a.body)) (λ a. actor_length states a.body) g.actors
+        ∙ sum_flat held (λ (a : Actor). children_of a.body) g.actors)
+
+hold_here : (states : ℕ → List (List ℤ)) (held : ℕ → ℕ) → ((k : ℕ) → length (in_line (states k)) ≡ held k) → (graphs : List Graph) (place : ℕ)
+    → length (in_line (graph_state states (slice_get graphs place))) ≡ slice_index_or (map own_hold graphs) place 0 + sum_by held (to_of (map children graphs) place)
+hold_here states held same [] place = refl
+hold_here states held same (g ∷ graphs) zero = graph_length states g ∙ ap (λ n. own_hold g + n) (sum_same (λ k. length (in_line (states k))) held same (children g))
+hold_here states held same (g ∷ graphs) (suc place) = hold_here states held same graphs place
+
+pub held_tokens : (graphs : List Graph) (n place : ℕ) → length (in_line (initial_to graphs n place)) ≡ hold_to (map own_hold graphs) (map children graphs) n place
+unfolding initial_to, hold_to
+held_tokens graphs zero place = refl
+held_tokens graphs (suc n) place = hold_here (initial_to graphs n) (hold_to (map own_hold graphs) (map children graphs) n) (held_tokens graphs n) graphs place
+
+-- ---- numbers counted to the limit
+
+capped_add : (a b : ℕ) → capped (capped a + capped b) ≡ capped (a + b)
+capped_add a b = omega arith
+
+capped_left : (a b : ℕ) → capped (capped a + b) ≡ capped (a + b)
+capped_left a b = omega arith
+
+capped_right : (a b : ℕ) → capped (a + capped b) ≡ capped (a + b)
+capped_right a b = omega arith
+
+-- two sums whose terms are the same to the limit
+capped_sums : (f g : ℕ → ℕ) → ((k : ℕ) → capped (f k) ≡ capped (g k)) → (xs : List ℕ) → capped (sum_by f xs) ≡ capped (sum_by g xs)
+capped_sums f g same [] = refl
+capped_sums f g same (x ∷ xs) =
+    ap capped (sum_by-cons f x xs)
+    ∙ sym (capped_add (f x) (sum_by f xs))
+    ∙ ap (λ n. capped (n + capped (sum_by f xs))) (same x)
+    ∙ ap (λ n. capped (capped (g x) + n)) (capped_sums f g same xs)
+    ∙ capped_add (g x) (sum_by g xs)
+    ∙ ap capped (sym (sum_by-cons g x xs))
+
+capped_both : (a b c d : ℕ) → capped a ≡ capped c → capped b ≡ capped d → capped (a + b) ≡ capped (c + d)
+capped_both a b c d first second = sym (capped_add a b) ∙ ap (λ n. capped (n + capped b)) first ∙ ap (λ n. capped (capped c + n)) second ∙ capped_add c d
+
+pub over_capped : (n : ℕ) → nat_lt 262144 (capped n) ≡ nat_lt 262144 n
+over_capped n = same_test (nat_lt 262144 (capped n)) (nat_lt 262144 n) (
+      λ over. lt-ltb 262144 n (let less = ltb-true 262144 (capped n) over in omega arith),
+      λ over. lt-ltb 262144 (capped n) (let less = ltb-true 262144 n over in omega arith),
+    )
+
+read_capped : (own : List ℕ) (place : ℕ) → capped (slice_index_or (map capped own) place 0) ≡ capped (slice_index_or own place 0)
+read_capped [] place = refl
+read_capped (x ∷ own) zero = omega arith
+read_capped (x ∷ own) (suc place) = read_capped own place
+
+held_capped : (own : List ℕ) (holds : List (List ℕ)) (n place : ℕ) → capped (hold_to (map capped own) holds n place) ≡ capped (hold_to own holds n place)
+unfolding hold_to
+held_capped own holds zero place = refl
+held_capped own holds (suc n) place =
+    capped_both (slice_index_or (map capped own) place 0) (sum_by (hold_to (map capped own) holds n) (to_of holds place)) (slice_index_or own place 0) (sum_by (hold_to own holds n) (to_of holds place))
+    (read_capped own place)
+    (capped_sums (hold_to (map capped own) holds n) (hold_to own holds n) (held_capped own holds n) (to_of holds place))
+
+-- a graph's own tokens may be counted to the limit
+pub large_capped : (own : List ℕ) (holds : List (List ℕ)) (place : ℕ) → is_large (map capped own) holds place ≡ is_large own holds place
+large_capped own holds place =
+    ap (λ over. is_held holds place && over)
+    (sym (over_capped (hold_to (map capped own) holds 8 place)) ∙ ap (nat_lt 262144) (held_capped own holds 8 place) ∙ over_capped (hold_to own holds 8 place))
+
+-- ---- graphs whose state begins with too many tokens
+
+named_held : (graphs : List Graph) (place : ℕ) → is_named graphs place ≡ is_held (map children graphs) place
+named_held [] place = refl
+named_held (g ∷ graphs) place = ap (λ rest. list_any (λ child. child == place) (children g) || rest) (named_held graphs place)
+
+pub large_hold : (graphs : List Graph) (place : ℕ) → has_large_hold graphs place ≡ is_large (map own_hold graphs) (map children graphs) place
+large_hold graphs place =
+    ap (λ named. named && nat_lt 262144 (hold graphs place)) (named_held graphs place)
+    ∙ ap (λ n. is_held (map children graphs) place && nat_lt 262144 n) (held_tokens graphs 8 place)
+
+-- ---- level by level
+
+map_same : {X : Type 0} (f g : ℕ → X) → ((x : ℕ) → f x ≡ g x) → (xs : List ℕ) → map f xs ≡ map g xs
+map_same f g same [] = refl
+map_same f g same (x ∷ xs) = ap (λ y. y ∷ map f xs) (same x) ∙ ap (λ ys. g x ∷ ys) (map_same f g same xs)
+
+module _ (own : List ℕ) (arrows : List (List ℕ)) (long : length own ≡ length arrows) where
+  outside : (n place : ℕ) → length arrows ≤ place → hold_to own arrows n place ≡ 0
+  unfolding hold_to
+  outside zero place past = refl
+  outside (suc n) place past = rw (get_or_past own place 0 (omega arith), get_or_past arrows place [] past) refl
+
+  -- what each graph holds over n levels
+  abbrev pub level : ℕ → List ℕ
+  level n = map (λ place. capped (hold_to own arrows n place)) (range_with_len 0 (length arrows))
+
+  read_level : (n place : ℕ) → get_or (level n) place 0 ≡ capped (hold_to own arrows n place)
+  read_level n place =
+      ⊎_elim
+      (λ (inside : place < length arrows). get_or-map-range_with_len (λ place. capped (hold_to own arrows n place)) 0 (length arrows) place place 0 inside (omega arith))
+      (λ (past : length arrows ≤ place). get_or_past (level n) place 0 (rw (length-map-range_with_len (λ place. capped (hold_to own arrows n place)) 0 (length arrows)) past) ∙ ap capped (sym (outside n place past)))
+      (cases_lt place (length arrows))
+
+  pub level_most : (n k : ℕ) → get_or (level n) k 0 ≤ 262145
+  level_most n k = rw (read_level n k) (omega arith)
+
+  one_place : (n place : ℕ) → capped (get_or own place 0 + sum_by (λ k. get_or (level n) k 0) (to_of arrows place)) ≡ capped (hold_to own arrows (suc n) place)
+  unfolding hold_to
+  one_place n place =
+      capped_both (get_or own place 0) (sum_by (λ k. get_or (level n) k 0) (to_of arrows place)) (get_or own place 0) (sum_by (hold_to own arrows n) (to_of arrows place)) refl
+      (capped_sums (λ k. get_or (level n) k 0) (hold_to own arrows n) (λ k. ap capped (read_level n k) ∙ (omega arith)) (to_of arrows place))
+
+  pub next_level : (n : ℕ) (holds : List ℕ) → holds ≡ level n → map (λ place. capped (get_or own place 0 + sum_by (λ k. get_or holds k 0) (to_of arrows place))) (range_with_len 0 (length arrows)) ≡ level (n + 1)
+  next_level n holds is =
+      ap (λ (hs : List ℕ). map (λ place. capped (get_or own place 0 + sum_by (λ k. get_or hs k 0) (to_of arrows place))) (range_with_len 0 (length arrows))) is
+      ∙ map_same (λ place. capped (get_or own place 0 + sum_by (λ k. get_or (level n) k 0) (to_of arrows place))) (λ place. capped (hold_to own arrows (n + 1) place))
+      (λ place. one_place n place ∙ ap (λ k. capped (hold_to own arrows k place)) (sym (add-one n))) (range_with_len 0 (length arrows))
+
+  pub first_level : replicate (length arrows) 0 ≡ level 0
+  unfolding hold_to
+  first_level = from 0 (length arrows)
+    where
+      from : (a n : ℕ) → replicate n 0 ≡ map (λ place. capped (hold_to own arrows 0 place)) (range_with_len a n)
+      from a zero = refl
+      from a (suc n) = ap (λ ys. 0 ∷ ys) (from (a + 1) n)
