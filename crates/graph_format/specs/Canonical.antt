@@ -5,7 +5,6 @@ use Rattle.serde_json.specs.Find.{of_integer}
 use Rattle.serde_json.specs.View.{items_of}
 use Rattle.param_expr.specs.Named.{NamedTree}
 use Rattle.param_expr.specs.Print.{printed}
-use Rattle.kernel_gate.specs.declared.signature.Signature.{Signature}
 use Rattle.pisdf_model.specs.declared.graph.Graphs.{Graphs}
 use Rattle.pisdf_model.specs.declared.fifo.Life.{Life}
 use Rattle.graph_format.specs.Values.{end_text}
@@ -189,6 +188,6 @@ root_members version top graphs =
 unfoldable pub file_value : File → Data
 file_value file = object (root_members file.version file.top (list_value (graph_value file.version) file.graphs))
 
--- the canonical value of graphs whose kernels are places of these signatures
-abbrev pub canonical : List Signature → Graphs → Data
-canonical signatures graphs = file_value (named_file signatures graphs)
+-- the canonical value of graphs whose kernels are places of these names
+abbrev pub canonical : List (List ℕ) → Graphs → Data
+canonical kernels graphs = file_value (named_file kernels graphs)

@@ -3,7 +3,6 @@ use Rattle.std.specs.Prelude.{ℕ, ◌==◌, ℤ, pos, List, [], ◌++◌, map, 
 use Rattle.std.specs.List.{list_all}
 use Rattle.std.specs.Ordering.{int_eq}
 use Rattle.param_expr.specs.Print.{with_names}
-use Rattle.kernel_gate.specs.declared.signature.Signature.{Signature}
 use Rattle.pisdf_model.specs.declared.param.Param.{Param}
 use Rattle.pisdf_model.specs.declared.param.ParamKind.{ParamKind}
 use Rattle.pisdf_model.specs.declared.param.ParamKind.TheVariants as model
@@ -53,9 +52,6 @@ names_of_interfaces graph = map (λ (i : Interface). i.name) graph.inputs ++ map
 abbrev pub names_of_graphs : Graphs → List (List ℕ)
 names_of_graphs graphs = map (λ (g : Graph). g.name) graphs.graphs
 
-abbrev pub names_of_kernels : List Signature → List (List ℕ)
-names_of_kernels signatures = map (λ (s : Signature). s.name.now) signatures
-
 -- An actor's inputs, then its outputs. Those of a hierarchical actor are its child's.
 abbrev pub names_of_ports : Graphs → Body → List (List ℕ)
 names_of_ports graphs (body.Kernel kernel args ins outs) = map (λ (p : Port). p.name) ins ++ map (λ (p : Port). p.name) outs
@@ -67,7 +63,7 @@ names_of_ports graphs (body.ConfigChild child args sets) = slice_index_or (map n
 abbrev pub names_of_ports_at : Graphs → Graph → ℕ → List (List ℕ)
 names_of_ports_at graphs graph place = slice_index_or (map (λ (a : Actor). names_of_ports graphs a.body) graph.actors) place []
 
--- ---- the parts of a graph, where its parameters have these names
+-- ---- the parts of a graph, where its parameters and the kernels have these names
 
 abbrev pub named_kind : List (List ℕ) → ParamKind → FileParamKind
 named_kind names model.Inherited = Inherited
@@ -83,14 +79,14 @@ named_interface names interface = record { name = interface.name; rate = with_na
 abbrev pub named_port : List (List ℕ) → Port → FilePort
 named_port names port = record { name = port.name; rate = with_names names port.rate }
 
-abbrev pub named_body : List Signature → Graphs → List (List ℕ) → Body → FileBody
-named_body signatures graphs names (body.Kernel kernel args ins outs) = Kernel (name_at_place (names_of_kernels signatures) kernel) (map (with_names names) args) (map (named_port names) ins) (map (named_port names) outs)
-named_body signatures graphs names (body.Config kernel args ins outs sets) = Config (name_at_place (names_of_kernels signatures) kernel) (map (with_names names) args) ins (map (named_port names) outs) (map (name_at_place names) sets)
-named_body signatures graphs names (body.Child child args) = Child (name_at_place (names_of_graphs graphs) child) (map (with_names names) args)
-named_body signatures graphs names (body.ConfigChild child args sets) = ConfigChild (name_at_place (names_of_graphs graphs) child) (map (with_names names) args) (map (name_at_place names) sets)
+abbrev pub named_body : List (List ℕ) → Graphs → List (List ℕ) → Body → FileBody
+named_body kernels graphs names (body.Kernel kernel args ins outs) = Kernel (name_at_place kernels kernel) (map (with_names names) args) (map (named_port names) ins) (map (named_port names) outs)
+named_body kernels graphs names (body.Config kernel args ins outs sets) = Config (name_at_place kernels kernel) (map (with_names names) args) ins (map (named_port names) outs) (map (name_at_place names) sets)
+named_body kernels graphs names (body.Child child args) = Child (name_at_place (names_of_graphs graphs) child) (map (with_names names) args)
+named_body kernels graphs names (body.ConfigChild child args sets) = ConfigChild (name_at_place (names_of_graphs graphs) child) (map (with_names names) args) (map (name_at_place names) sets)
 
-abbrev pub named_actor : List Signature → Graphs → List (List ℕ) → Actor → FileActor
-named_actor signatures graphs names actor = record { name = actor.name; body = named_body signatures graphs names actor.body }
+abbrev pub named_actor : List (List ℕ) → Graphs → List (List ℕ) → Actor → FileActor
+named_actor kernels graphs names actor = record { name = actor.name; body = named_body kernels graphs names actor.body }
 
 abbrev pub named_end : Graphs → Graph → End → FileEnd
 named_end graphs graph (end.Interface place) = stated.Interface (name_at_place (names_of_interfaces graph) place)
@@ -109,18 +105,18 @@ named_fifo graphs graph fifo = record { from = named_end graphs graph fifo.tail;
 
 -- ---- graphs
 
-unfoldable pub named_graph : List Signature → Graphs → Graph → FileGraph
-named_graph signatures graphs graph =
+unfoldable pub named_graph : List (List ℕ) → Graphs → Graph → FileGraph
+named_graph kernels graphs graph =
     let names = names_of_params graph in
     record {
       name = graph.name;
       params = map (named_param names) graph.params;
       inputs = map (named_interface names) graph.inputs;
       outputs = map (named_interface names) graph.outputs;
-      actors = map (named_actor signatures graphs names) graph.actors;
+      actors = map (named_actor kernels graphs names) graph.actors;
       fifos = map (named_fifo graphs graph) graph.fifos;
       exports = map (name_at_place names) graph.exports;
     }
 
-unfoldable pub named_file : List Signature → Graphs → File
-named_file signatures graphs = record { version = graphs.version; top = name_at_place (names_of_graphs graphs) graphs.top; graphs = map (named_graph signatures graphs) graphs.graphs }
+unfoldable pub named_file : List (List ℕ) → Graphs → File
+named_file kernels graphs = record { version = graphs.version; top = name_at_place (names_of_graphs graphs) graphs.top; graphs = map (named_graph kernels graphs) graphs.graphs }

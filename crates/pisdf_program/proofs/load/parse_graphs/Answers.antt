@@ -1,19 +1,15 @@
-use Rattle.std.proofs.Common.{◌≡◌, sym, subst, List, Result, Ok, Err, true, false}
+use Rattle.std.proofs.Common.{◌≡◌, subst, List, Ok, Err, true, false}
 use Rattle.graph_format.specs.declared.graph_fault.GraphFault.TheVariants.{Memory}
 use Rattle.kernel_gate.specs.Signed.{SignatureView}
-use Rattle.pisdf_model.specs.declared.graph.Graphs.{Graphs}
 use Rattle.graph_format.specs.Reads.{AreReadAs, Reads}
-use Rattle.pisdf_program.specs.Loaded.{GraphSettles}
-use Rattle.pisdf_program.specs.declared.status.Status.{Status}
 use Rattle.pisdf_program.proofs.Reading.{fault_read, graphs_read}
-use Rattle.pisdf_program.proofs.load.parse_graph.Goals as goal
+use Rattle.pisdf_program.proofs.load.parse_graphs.Goals as goal
 
 pub returns-in-Ok-clause-settles : goal.returns-in-Ok-clause-settles
 returns-in-Ok-clause-settles c =
     let bytes = c.args.bytes.now in
     let graphs = c.in-Ok.graphs in
-    subst (λ (r : Result Graphs Status). GraphSettles r c.prepare.result)
-    (sym (graphs_read bytes graphs (subst (λ (s : List SignatureView). AreReadAs 1 s bytes (Ok graphs)) c.requires c.in-Ok.ensures.exact))) c.prepare.ensures.settles
+    graphs_read bytes graphs (subst (λ (s : List SignatureView). AreReadAs 1 s bytes (Ok graphs)) c.requires c.in-Ok.ensures.exact)
 
 pub returns-else-is_memory-clause-settles : goal.returns-else-is_memory-clause-settles
 returns-else-is_memory-clause-settles c =
