@@ -7,7 +7,7 @@ use sdf_level::List;
 use std::alloc::{AllocError, Global};
 
 /// What can be copied where there is memory.
-pub(crate) trait Copied: Sized {
+pub(crate) trait Copied: Drop + Sized {
     fn copied(&self, alloc: Global) -> Result<Self, AllocError>
         ensures { IfOk result (λ copy. copy ≡ self.now) };
 }

@@ -45,10 +45,10 @@ no_json bytes none = json_none bytes (λ text. read_nothing bytes text (read byt
 
 -- ---- what is read
 
-pub graphs_read : (bytes : List ℕ) (graphs : Graphs) → AreReadAs 1 the_signatures bytes (Ok graphs) → graphs_in_json (json_of bytes) ≡ Ok graphs
+pub graphs_read : (bytes : List ℕ) (graphs : Graphs) → AreReadAs the_signatures bytes (Ok graphs) → graphs_in_json (json_of bytes) ≡ Ok graphs
 graphs_read bytes graphs h = ap graphs_in_json (json_some bytes h.0 h.1.0 h.1.1) ∙ ap graphs_in_reading h.2
 
-pub fault_read : (bytes : List ℕ) (fault : GraphFault) → Reads 1 the_signatures bytes (Err fault) → fault ≢ Memory → graphs_in_json (json_of bytes) ≡ Err (GraphRefused (graph.Fault fault))
+pub fault_read : (bytes : List ℕ) (fault : GraphFault) → Reads the_signatures bytes (Err fault) → fault ≢ Memory → graphs_in_json (json_of bytes) ≡ Err (GraphRefused (graph.Fault fault))
 fault_read bytes fault (inl memory) not_memory = absurd (not_memory memory)
 fault_read bytes fault (inr (inl not_json)) not_memory = ap graphs_in_json (no_json bytes not_json.1) ∙ ap (λ f. Err (GraphRefused (graph.Fault f))) (sym not_json.0)
 fault_read bytes fault (inr (inr h)) not_memory = ap graphs_in_json (json_some bytes h.0 h.1.0 h.1.1) ∙ ap graphs_in_reading h.2

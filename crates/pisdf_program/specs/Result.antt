@@ -52,7 +52,7 @@ graphs_in_reading (Err fault) = Err (GraphRefused (graph.Fault fault))
 
 abbrev pub graphs_in_json : Option Data → Result Graphs Status
 graphs_in_json None = Err (GraphRefused (graph.Fault NotJson))
-graphs_in_json (Some value) = graphs_in_reading (reading 1 the_signatures value)
+graphs_in_json (Some value) = graphs_in_reading (reading the_signatures value)
 
 -- the graphs in the bytes of a file, or the refusal
 unfoldable pub read_graphs : List ℕ → Result Graphs Status

@@ -9,11 +9,11 @@ pub returns-in-Ok-clause-settles : goal.returns-in-Ok-clause-settles
 returns-in-Ok-clause-settles c =
     let bytes = c.args.bytes.now in
     let graphs = c.in-Ok.graphs in
-    graphs_read bytes graphs (subst (λ (s : List SignatureView). AreReadAs 1 s bytes (Ok graphs)) c.requires c.in-Ok.ensures.exact)
+    graphs_read bytes graphs (subst (λ (s : List SignatureView). AreReadAs s bytes (Ok graphs)) c.requires c.in-Ok.ensures.exact)
 
 pub returns-else-is_memory-clause-settles : goal.returns-else-is_memory-clause-settles
 returns-else-is_memory-clause-settles c =
     let bytes = c.args.bytes.now in
     let fault = c.in-Err.fault in
-    λ answer. fault_read bytes fault (subst (λ (s : List SignatureView). Reads 1 s bytes (Err fault)) c.requires c.in-Err.ensures.exact)
+    λ answer. fault_read bytes fault (subst (λ (s : List SignatureView). Reads s bytes (Err fault)) c.requires c.in-Err.ensures.exact)
     (λ (e : fault ≡ Memory). let yes : c.is_memory.result ≡ true = c.is_memory.ensures.1 e in let no : c.is_memory.result ≡ false = c.if-is_memory.false in absurd cc)
