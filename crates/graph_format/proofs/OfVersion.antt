@@ -5,7 +5,7 @@ use Rattle.std.proofs.lemmas.Bool.Decides.{nat_tests}
 use Rattle.std.proofs.lemmas.List.Elements.{All-nil, All-cons}
 use Rattle.serde_json.specs.Data.{Data, Items, no_items, item}
 use Rattle.graph_format.specs.Objects.{has_exports}
-use Rattle.graph_format.specs.States.{StatesActor, StatesBody, StatesExports, StatesFile, StatesGraph}
+use Rattle.graph_format.specs.States.{StatesActor, StatesBody, StatesExports, States, StatesGraph}
 use Rattle.graph_format.specs.Values.{AreItems}
 use Rattle.graph_format.specs.Versions.{IsActorOf, IsBodyOf, IsGraphOf, IsOfVersion}
 use Rattle.graph_format.specs.declared.actor.FileActor.{FileActor}
@@ -42,7 +42,7 @@ module _ (version : ℕ) (last : version ≤ 3) where
     exporting = exporting_of (has_exports version) d g.exports refl h.exports;
   }
 
-pub stated_of_version : (d : Data) (file : File) → StatesFile d file → IsOfVersion file
+pub stated_of_version : (d : Data) (file : File) → States d file → IsOfVersion file
 stated_of_version d file f = record {
   first_version = f.first_version;
   last_version = f.last_version;

@@ -14,7 +14,7 @@ use Rattle.graph_format.specs.Means.{Means}
 use Rattle.graph_format.specs.Objects.{file_at, stated_version}
 use Rattle.graph_format.specs.Placed.{tokens_of}
 use Rattle.graph_format.specs.Reads.{AreReadAs, IsJson, Reads, graphs_or_fault, of_version, other_version, reading, unless_faulty, version_of}
-use Rattle.graph_format.specs.States.{States, StatesFile}
+use Rattle.graph_format.specs.States.{StatesIn, States}
 use Rattle.graph_format.specs.Walk.{whole_of}
 use Rattle.graph_format.specs.Writable.{IsWritableGraph}
 use Rattle.graph_format.specs.declared.file.File.{File}
@@ -43,16 +43,16 @@ faulty graphs (f ∷ faults) fault is = let same : f ≡ fault = cc in ap Err sa
 
 -- ---- a value that states a file
 
-version_stated : (version : ℕ) (d : Data) (file : File) → States version d file → stated_version d ≡ Some (pos file.version)
+version_stated : (version : ℕ) (d : Data) (file : File) → StatesIn version d file → stated_version d ≡ Some (pos file.version)
 version_stated version d file f = ap (option_and_then whole_of) f.pisdf.is_there ∙ f.pisdf.states.number
 
-states_reading : (signatures : List SignatureView) (d : Data) (file : File) → StatesFile d file → reading signatures d ≡ unless_faulty (graphs_of signatures file) (file_faults signatures file)
+states_reading : (signatures : List SignatureView) (d : Data) (file : File) → States d file → reading signatures d ≡ unless_faulty (graphs_of signatures file) (file_faults signatures file)
 states_reading signatures d file f =
     let low : nat_le 1 file.version ≡ true = grind (arith, nat_tests, f.first_version) in
     let high : nat_le file.version 3 ≡ true = grind (arith, nat_tests, f.last_version) in
     rw (version_stated file.version d file f.states, low, high, (file_reads file.version).again [] d file f.states) refl
 
-pub reads_file : (signatures : List SignatureView) (bytes : List ℕ) (file : File) (r : Result Graphs GraphFault) → (d : Data) × IsJson bytes d × StatesFile d file → Tells (file_faults signatures file) r → IfOk r (λ g. g ≡ graphs_of signatures file)
+pub reads_file : (signatures : List SignatureView) (bytes : List ℕ) (file : File) (r : Result Graphs GraphFault) → (d : Data) × IsJson bytes d × States d file → Tells (file_faults signatures file) r → IfOk r (λ g. g ≡ graphs_of signatures file)
     → Reads signatures bytes r
 reads_file signatures bytes file (Ok g) h none is =
     (h.0, h.1, states_reading signatures h.0 file h.2 ∙ ap (unless_faulty (graphs_of signatures file)) none ∙ ap Ok (sym is))
@@ -69,7 +69,7 @@ pub record IsFound (signatures : List SignatureView) (bytes : List ℕ) (graphs 
   pub value : Data
   pub json : IsJson bytes value
   pub file : File
-  pub states : StatesFile value file
+  pub states : States value file
   pub none : file_faults signatures file ≡ []
   pub is : graphs ≡ graphs_of signatures file
 
@@ -84,11 +84,11 @@ is_a_version : (n : ℕ) (one : Bool) → (nat_le 1 n && nat_le n 3) ≡ one →
 is_a_version n true is none = (grind (arith, nat_tests, is), grind (arith, nat_tests, is))
 is_a_version n false is none = absurd cc
 
-states_file : (version : ℕ) (d : Data) (file : File) → States version d file → other_version (stated_version d) ≡ None → StatesFile d file
+pub states_file : (version : ℕ) (d : Data) (file : File) → StatesIn version d file → other_version (stated_version d) ≡ None → States d file
 states_file version d file f none =
     let here : other_version (Some (pos file.version)) ≡ None = rw (version_stated version d file f) at none in
     let one = is_a_version file.version (nat_le 1 file.version && nat_le file.version 3) refl here in
-    record { first_version = one.0; last_version = one.1; states = subst (λ v. States v d file) (sym f.pisdf.states.is_version) f }
+    record { first_version = one.0; last_version = one.1; states = subst (λ v. StatesIn v d file) (sym f.pisdf.states.is_version) f }
 
 pub found : (signatures : List SignatureView) (bytes : List ℕ) (graphs : Graphs) → Reads signatures bytes (Ok graphs) → IsFound signatures bytes graphs
 found signatures bytes graphs h =
@@ -98,7 +98,7 @@ found signatures bytes graphs h =
     record { value = h.0; json = h.1; file = walk.1; states = states_file version h.0 walk.1 ((file_reads version).found [] h.0 walk.1 walk.2) walk.0; none = read.0; is = read.1 }
 
 module _ (signatures : List SignatureView) (bytes : List ℕ) where
-  pub reads_mean : (r : Result Graphs GraphFault) → Reads signatures bytes r → IfOk r (λ graphs. (d : Data) × IsJson bytes d × ((file : File) × StatesFile d file × Means signatures file graphs))
+  pub reads_mean : (r : Result Graphs GraphFault) → Reads signatures bytes r → IfOk r (λ graphs. (d : Data) × IsJson bytes d × ((file : File) × States d file × Means signatures file graphs))
   reads_mean (Ok graphs) h =
       let f = found signatures bytes graphs h in
       let has = no_file_faults signatures f.file f.none in
@@ -134,12 +134,12 @@ one_value : (bytes : List ℕ) (d e : Data) → IsJson bytes d → IsJson bytes 
 one_value bytes d e p q = let same : found_value d ≡ found_value e = sym p.1 ∙ q.1 in cc
 
 -- what the bytes are read as, where they state a file
-read_as : (signatures : List SignatureView) (bytes : List ℕ) (d : Data) (file : File) (answer : Result Graphs GraphFault) → AreReadAs signatures bytes answer → IsJson bytes d → StatesFile d file
+read_as : (signatures : List SignatureView) (bytes : List ℕ) (d : Data) (file : File) (answer : Result Graphs GraphFault) → AreReadAs signatures bytes answer → IsJson bytes d → States d file
     → unless_faulty (graphs_of signatures file) (file_faults signatures file) ≡ answer
 read_as signatures bytes d file answer h json f =
     sym (states_reading signatures d file f) ∙ ap (reading signatures) (one_value bytes d h.0 json h.1) ∙ h.2
 
-pub reads_stated : (signatures : List SignatureView) (bytes : List ℕ) (r : Result Graphs GraphFault) → Reads signatures bytes r → (d : Data) (file : File) → IsJson bytes d → StatesFile d file
+pub reads_stated : (signatures : List SignatureView) (bytes : List ℕ) (r : Result Graphs GraphFault) → Reads signatures bytes r → (d : Data) (file : File) → IsJson bytes d → States d file
     → Tells (file_faults signatures file) r × IfOk r (λ graphs. graphs ≡ graphs_of signatures file)
 reads_stated signatures bytes (Ok graphs) h d file json f = faultless (graphs_of signatures file) graphs (file_faults signatures file) (read_as signatures bytes d file (Ok graphs) h json f)
 reads_stated signatures bytes (Err fault) h d file json f =

@@ -8,7 +8,7 @@ use Rattle.param_expr.specs.Named.{NamedTree}
 use Rattle.graph_format.specs.Pointer.{pointer_text}
 use Rattle.graph_format.specs.Walk.{has_form, formed, member_at, member_or, is_text, says, whole_of}
 use Rattle.graph_format.specs.Texts.{name_at, expression_at}
-use Rattle.graph_format.specs.Objects.{within, bound_at, ranged_at, derived_members_at, given_kind, given_kind_at, given_members_at, derived_names, given_names, bound_names, param_at, port_members_at, port_names, port_at, input_members_at, input_at}
+use Rattle.graph_format.specs.Objects.{within, bound_at, ranged_at, derived_members_at, given_kind, given_kind_at, given_members_at, derived_keys, given_keys, optional_param_keys, param_at, port_members_at, port_keys, port_at, input_members_at, input_at}
 use Rattle.graph_format.specs.Values.{HasMember, StatesOr, IsWithin, IsText, StatesName, StatesExpression}
 use Rattle.graph_format.specs.States.{kind_text, StatesParam, StatesPort, StatesInput}
 use Rattle.graph_format.proofs.Walked.{Reads, goes, shaped_ok, and_then_some, tested, if_ok, and_both, name_reads, expression_reads, member_found, member_again, or_found, or_again}
@@ -83,7 +83,7 @@ ranged_again at d param f =
       or_again (bound_at param.low) (IsWithin param.low (pos 2147483647)) (bound_reads param.low) (pos 2147483647) at d (codes "high") param.high f.high,
     ) refl
 
-derived_found : (at : List ℕ) (d : Data) (param : FileParam) → has_form derived_names bound_names d ≡ true → HasMember IsText d (codes "kind") (codes "is") → derived_members_at at d ≡ Ok param → StatesParam d param
+derived_found : (at : List ℕ) (d : Data) (param : FileParam) → has_form derived_keys optional_param_keys d ≡ true → HasMember IsText d (codes "kind") (codes "is") → derived_members_at at d ≡ Ok param → StatesParam d param
 unfolding derived_members_at
 derived_found at d param members kind e =
     let name = goes (member_at name_at at (codes "name") d) _ param e in
@@ -136,14 +136,14 @@ kind_reads : Reads given_kind_at StatesGiven
 kind_reads = record { found = kind_found; again = kind_again }
 
 given_states : (d : Data) (kind : FileParamKind) (name : List ℕ) (low high : ℤ)
-    → has_form given_names bound_names d ≡ true → HasMember StatesGiven d (codes "kind") kind → HasMember StatesName d (codes "name") name
+    → has_form given_keys optional_param_keys d ≡ true → HasMember StatesGiven d (codes "kind") kind → HasMember StatesName d (codes "name") name
     → StatesOr (IsWithin (pos 0) (pos 2147483647)) (pos 0) (get (codes "low") d) low → StatesOr (IsWithin low (pos 2147483647)) (pos 2147483647) (get (codes "high") d) high
     → StatesParam d (record { name = name; kind = kind; low = low; high = high })
 given_states d Inherited name low high members k n l h = record { members = members; name = n; kind = record { value = k.value; is_there = k.is_there; states = k.states.text }; expr = tt; low = l; high = h }
 given_states d (Derived expr) name low high members k n l h = absurd k.states.given
 given_states d Chosen name low high members k n l h = record { members = members; name = n; kind = record { value = k.value; is_there = k.is_there; states = k.states.text }; expr = tt; low = l; high = h }
 
-given_found : (at : List ℕ) (d : Data) (param : FileParam) → has_form given_names bound_names d ≡ true → given_members_at at d ≡ Ok param → StatesParam d param
+given_found : (at : List ℕ) (d : Data) (param : FileParam) → has_form given_keys optional_param_keys d ≡ true → given_members_at at d ≡ Ok param → StatesParam d param
 unfolding given_members_at
 given_found at d param members e =
     let name = goes (member_at name_at at (codes "name") d) _ param e in
@@ -158,12 +158,12 @@ param_found : (at : List ℕ) (d : Data) (param : FileParam) → param_at at d �
 unfolding param_at
 param_found at d param e = go (says (codes "kind") (codes "is") d) refl e
   where
-    go : (t : Bool) → says (codes "kind") (codes "is") d ≡ t → cond t (formed derived_names bound_names derived_members_at at d) (formed given_names bound_names given_members_at at d) ≡ Ok param → StatesParam d param
+    go : (t : Bool) → says (codes "kind") (codes "is") d ≡ t → cond t (formed derived_keys optional_param_keys derived_members_at at d) (formed given_keys optional_param_keys given_members_at at d) ≡ Ok param → StatesParam d param
     go true s k =
-        let object = if_ok (has_form derived_names bound_names d) (derived_members_at at d) (pointer_text at) param k in
+        let object = if_ok (has_form derived_keys optional_param_keys d) (derived_members_at at d) (pointer_text at) param k in
         derived_found at d param object.0 (says_found (codes "kind") (codes "is") d s) object.1
     go false s k =
-        let object = if_ok (has_form given_names bound_names d) (given_members_at at d) (pointer_text at) param k in
+        let object = if_ok (has_form given_keys optional_param_keys d) (given_members_at at d) (pointer_text at) param k in
         given_found at d param object.0 object.1
 
 derived_again : (at : List ℕ) (d : Data) (expr : NamedTree) (name : List ℕ) (low high : ℤ) → StatesParam d (record { name = name; kind = Derived expr; low = low; high = high }) → param_at at d ≡ Ok (record { name = name; kind = Derived expr; low = low; high = high })
@@ -176,7 +176,7 @@ derived_again at d expr name low high f =
       member_again expression_at StatesExpression expression_reads at d (codes "expr") expr f.expr,
     ) (ranged_again at d (record { name = name; kind = Derived expr; low = low; high = high }) f)
 
-given_again : (at : List ℕ) (d : Data) (kind : FileParamKind) (name : List ℕ) (low high : ℤ) → IsGiven kind → says (codes "kind") (codes "is") d ≡ false → has_form given_names bound_names d ≡ true → StatesParam d (record { name = name; kind = kind; low = low; high = high }) → param_at at d ≡ Ok (record { name = name; kind = kind; low = low; high = high })
+given_again : (at : List ℕ) (d : Data) (kind : FileParamKind) (name : List ℕ) (low high : ℤ) → IsGiven kind → says (codes "kind") (codes "is") d ≡ false → has_form given_keys optional_param_keys d ≡ true → StatesParam d (record { name = name; kind = kind; low = low; high = high }) → param_at at d ≡ Ok (record { name = name; kind = kind; low = low; high = high })
 unfolding param_at given_members_at
 given_again at d kind name low high given other members f =
     rw (
@@ -205,7 +205,7 @@ port_done port = Ok port
 port_found : (at : List ℕ) (d : Data) (port : FilePort) → port_at at d ≡ Ok port → StatesPort d port
 unfolding port_at port_members_at
 port_found at d port e =
-    let object = if_ok (has_form port_names [] d) (port_members_at at d) (pointer_text at) port e in
+    let object = if_ok (has_form port_keys [] d) (port_members_at at d) (pointer_text at) port e in
     let name = goes (member_at name_at at (codes "name") d) _ port object.1 in
     let rate = goes (member_at expression_at at (codes "rate") d) (λ rate. Ok (record { name = name.read; rate = rate })) port name.after in
     let same : port_done (record { name = name.read; rate = rate.read }) ≡ Ok port = rate.after in

@@ -6,7 +6,7 @@ use Rattle.param_expr.specs.Named.{NamedTree}
 use Rattle.graph_format.specs.Pointer.{pointer_text}
 use Rattle.graph_format.specs.Walk.{has_form, formed, member_at, says, list_at}
 use Rattle.graph_format.specs.Texts.{name_at, kernel_at, expression_at}
-use Rattle.graph_format.specs.Objects.{port_at, input_at, kernel_members_at, kernel_names, config_ports_at, config_members_at, config_names, child_members_at, child_names, config_child_members_at, config_child_names, has_exports, actor_at}
+use Rattle.graph_format.specs.Objects.{port_at, input_at, kernel_members_at, kernel_keys, config_ports_at, config_members_at, config_keys, child_members_at, child_keys, config_child_members_at, config_child_keys, has_exports, actor_at}
 use Rattle.graph_format.specs.Values.{HasMember, IsList, IsText, StatesName, StatesKernel, StatesExpression}
 use Rattle.graph_format.specs.States.{StatesPort, StatesInput, StatesActor}
 use Rattle.graph_format.proofs.Walked.{Reads, goes, and_both, if_ok, name_reads, kernel_reads, expression_reads, list_reads, member_found, member_again}
@@ -33,7 +33,7 @@ actor_done actor = Ok actor
 
 -- ---- kernels
 
-kernel_found : (version : ℕ) (at : List ℕ) (d : Data) (actor : FileActor) → has_form kernel_names [] d ≡ true → HasMember IsText d (codes "kind") (codes "kernel") → kernel_members_at at d ≡ Ok actor → StatesActor version d actor
+kernel_found : (version : ℕ) (at : List ℕ) (d : Data) (actor : FileActor) → has_form kernel_keys [] d ≡ true → HasMember IsText d (codes "kind") (codes "kernel") → kernel_members_at at d ≡ Ok actor → StatesActor version d actor
 unfolding kernel_members_at
 kernel_found version at d actor members kind e =
     let name = goes (member_at name_at at (codes "name") d) _ actor e in
@@ -70,7 +70,7 @@ kernel_again version at d name kernel args ins outs f =
 
 -- ---- configuration kernels
 
-config_found : (version : ℕ) (at : List ℕ) (d : Data) (actor : FileActor) → has_form config_names [] d ≡ true → HasMember IsText d (codes "kind") (codes "config") → config_members_at at d ≡ Ok actor → StatesActor version d actor
+config_found : (version : ℕ) (at : List ℕ) (d : Data) (actor : FileActor) → has_form config_keys [] d ≡ true → HasMember IsText d (codes "kind") (codes "config") → config_members_at at d ≡ Ok actor → StatesActor version d actor
 unfolding config_members_at config_ports_at
 config_found version at d actor members kind e =
     let name = goes (member_at name_at at (codes "name") d) _ actor e in
@@ -111,7 +111,7 @@ config_again version at d name kernel args ins outs sets f =
 
 -- ---- hierarchical actors
 
-child_found : (version : ℕ) (at : List ℕ) (d : Data) (actor : FileActor) → has_form child_names [] d ≡ true → HasMember IsText d (codes "kind") (codes "graph") → child_members_at at d ≡ Ok actor → StatesActor version d actor
+child_found : (version : ℕ) (at : List ℕ) (d : Data) (actor : FileActor) → has_form child_keys [] d ≡ true → HasMember IsText d (codes "kind") (codes "graph") → child_members_at at d ≡ Ok actor → StatesActor version d actor
 unfolding child_members_at
 child_found version at d actor members kind e =
     let name = goes (member_at name_at at (codes "name") d) _ actor e in
@@ -144,7 +144,7 @@ child_again version at d name graph args f =
 
 -- ---- hierarchical configuration actors
 
-config_child_found : (version : ℕ) (at : List ℕ) (d : Data) (actor : FileActor) → has_exports version ≡ true → has_form config_child_names [] d ≡ true → HasMember IsText d (codes "kind") (codes "setgraph") → config_child_members_at at d ≡ Ok actor → StatesActor version d actor
+config_child_found : (version : ℕ) (at : List ℕ) (d : Data) (actor : FileActor) → has_exports version ≡ true → has_form config_child_keys [] d ≡ true → HasMember IsText d (codes "kind") (codes "setgraph") → config_child_members_at at d ≡ Ok actor → StatesActor version d actor
 unfolding config_child_members_at
 config_child_found version at d actor there members kind e =
     let name = goes (member_at name_at at (codes "name") d) _ actor e in
@@ -183,27 +183,27 @@ config_child_again version at d name graph args sets f =
 
 -- ---- actors
 
-abbrev of_kind : Bool → Bool → Bool → Bool → List ℕ → Data → Result FileActor (List ℕ)
+abbrev pub of_kind : Bool → Bool → Bool → Bool → List ℕ → Data → Result FileActor (List ℕ)
 of_kind kernel config child config_child at d =
-    cond kernel (formed kernel_names [] kernel_members_at at d)
-    (cond config (formed config_names [] config_members_at at d)
-    (cond child (formed child_names [] child_members_at at d)
-    (cond config_child (formed config_child_names [] config_child_members_at at d)
+    cond kernel (formed kernel_keys [] kernel_members_at at d)
+    (cond config (formed config_keys [] config_members_at at d)
+    (cond child (formed child_keys [] child_members_at at d)
+    (cond config_child (formed config_child_keys [] config_child_members_at at d)
     (Err (pointer_text at)))))
 
 kind_found : (version : ℕ) (at : List ℕ) (d : Data) (actor : FileActor) (kernel config child config_child : Bool) → says (codes "kind") (codes "kernel") d ≡ kernel → says (codes "kind") (codes "config") d ≡ config → says (codes "kind") (codes "graph") d ≡ child → (has_exports version && says (codes "kind") (codes "setgraph") d) ≡ config_child
     → of_kind kernel config child config_child at d ≡ Ok actor → StatesActor version d actor
 kind_found version at d actor true config child config_child k c g s e =
-    let object = if_ok (has_form kernel_names [] d) (kernel_members_at at d) (pointer_text at) actor e in
+    let object = if_ok (has_form kernel_keys [] d) (kernel_members_at at d) (pointer_text at) actor e in
     kernel_found version at d actor object.0 (says_found (codes "kind") (codes "kernel") d k) object.1
 kind_found version at d actor false true child config_child k c g s e =
-    let object = if_ok (has_form config_names [] d) (config_members_at at d) (pointer_text at) actor e in
+    let object = if_ok (has_form config_keys [] d) (config_members_at at d) (pointer_text at) actor e in
     config_found version at d actor object.0 (says_found (codes "kind") (codes "config") d c) object.1
 kind_found version at d actor false false true config_child k c g s e =
-    let object = if_ok (has_form child_names [] d) (child_members_at at d) (pointer_text at) actor e in
+    let object = if_ok (has_form child_keys [] d) (child_members_at at d) (pointer_text at) actor e in
     child_found version at d actor object.0 (says_found (codes "kind") (codes "graph") d g) object.1
 kind_found version at d actor false false false true k c g s e =
-    let object = if_ok (has_form config_child_names [] d) (config_child_members_at at d) (pointer_text at) actor e in
+    let object = if_ok (has_form config_child_keys [] d) (config_child_members_at at d) (pointer_text at) actor e in
     let both = and_both (has_exports version) (says (codes "kind") (codes "setgraph") d) s in
     config_child_found version at d actor both.0 object.0 (says_found (codes "kind") (codes "setgraph") d both.1) object.1
 kind_found version at d actor false false false false k c g s e = absurd cc

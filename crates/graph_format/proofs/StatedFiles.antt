@@ -8,9 +8,9 @@ use Rattle.serde_json.specs.Find.{as_array, as_str}
 use Rattle.graph_format.specs.Pointer.{pointer_text}
 use Rattle.graph_format.specs.Walk.{has_form, member_at, member_or, items_at, list_at, whole_of, whole_at}
 use Rattle.graph_format.specs.Texts.{name_at, end_at}
-use Rattle.graph_format.specs.Objects.{param_at, port_at, actor_at, zeros_from, tokens_or_zeros_at, delay_at, life_from, life_at, fifo_members_at, fifo_names, fifo_options, fifo_at, has_exports, exports_at, graph_parts_at, graph_members_at, graph_names, graph_at, version_from, version_at, file_members_at, file_names, file_at}
+use Rattle.graph_format.specs.Objects.{param_at, port_at, actor_at, zeros_from, tokens_or_zeros_at, delay_at, life_from, life_at, fifo_members_at, fifo_keys, optional_fifo_keys, fifo_at, has_exports, exports_at, graph_parts_at, graph_members_at, graph_keys, graph_at, version_from, version_at, file_members_at, file_keys, file_at}
 use Rattle.graph_format.specs.Values.{IsList, IsWhole, StatesName, StatesEnd}
-use Rattle.graph_format.specs.States.{StatesParam, StatesPort, StatesActor, StatesDelay, StatesLife, life_text, StatesFifo, StatesExports, StatesGraph, StatesVersion, States}
+use Rattle.graph_format.specs.States.{StatesParam, StatesPort, StatesActor, StatesDelay, StatesLife, life_text, StatesFifo, StatesExports, StatesGraph, StatesVersion, StatesIn}
 use Rattle.graph_format.proofs.Walked.{Reads, goes, shaped_ok, and_then_some, tested, if_ok, whole_reads, name_reads, end_reads, list_reads, values_found, values_again, member_found, member_again, or_found, or_again}
 use Rattle.graph_format.proofs.Stated.{param_reads}
 use Rattle.graph_format.proofs.StatedActors.{ports_reads, names_reads, actor_reads}
@@ -93,7 +93,7 @@ fifo_done fifo = Ok fifo
 fifo_found : (version : ℕ) (at : List ℕ) (d : Data) (fifo : FileFifo) → fifo_at version at d ≡ Ok fifo → StatesFifo version d fifo
 unfolding fifo_at fifo_members_at
 fifo_found version at d fifo e =
-    let object = if_ok (has_form fifo_names (fifo_options version) d) (fifo_members_at at d) (pointer_text at) fifo e in
+    let object = if_ok (has_form fifo_keys (optional_fifo_keys version) d) (fifo_members_at at d) (pointer_text at) fifo e in
     let from = goes (member_at end_at at (codes "from") d) _ fifo object.1 in
     let to = goes (member_at end_at at (codes "to") d) _ fifo from.after in
     let delay = goes (member_or (Zeros 0) delay_at at (codes "delay") d) _ fifo to.after in
@@ -148,7 +148,7 @@ graph_done graph = Ok graph
 graph_found : (version : ℕ) (at : List ℕ) (d : Data) (graph : FileGraph) → graph_at version at d ≡ Ok graph → StatesGraph version d graph
 unfolding graph_at graph_members_at graph_parts_at
 graph_found version at d graph e =
-    let object = if_ok (has_form (graph_names version) [] d) (graph_members_at version at d) (pointer_text at) graph e in
+    let object = if_ok (has_form (graph_keys version) [] d) (graph_members_at version at d) (pointer_text at) graph e in
     let name = goes (member_at name_at at (codes "name") d) _ graph object.1 in
     let params = goes (member_at (list_at param_at) at (codes "params") d) _ graph name.after in
     let inputs = goes (member_at (list_at port_at) at (codes "inputs") d) _ graph params.after in
@@ -217,23 +217,23 @@ version_reads version = record { found = version_found version; again = version_
 abbrev file_done : File → Result File (List ℕ)
 file_done file = Ok file
 
-file_found : (version : ℕ) (at : List ℕ) (d : Data) (file : File) → file_at version at d ≡ Ok file → States version d file
+file_found : (version : ℕ) (at : List ℕ) (d : Data) (file : File) → file_at version at d ≡ Ok file → StatesIn version d file
 unfolding file_at file_members_at
 file_found version at d file e =
-    let object = if_ok (has_form file_names [] d) (file_members_at version at d) (pointer_text at) file e in
+    let object = if_ok (has_form file_keys [] d) (file_members_at version at d) (pointer_text at) file e in
     let stated = goes (member_at (version_at version) at (codes "pisdf") d) _ file object.1 in
     let top = goes (member_at name_at at (codes "top") d) _ file stated.after in
     let graphs = goes (member_at (list_at (graph_at version)) at (codes "graphs") d) (λ graphs. Ok (record { version = stated.read; top = top.read; graphs = graphs })) file top.after in
     let done : file_done (record { version = stated.read; top = top.read; graphs = graphs.read }) ≡ Ok file = graphs.after in
     let same : record { version = stated.read; top = top.read; graphs = graphs.read } ≡ file = cc in
-    subst (States version d) same (record {
+    subst (StatesIn version d) same (record {
       members = object.0;
       pisdf = member_found (version_at version) (StatesVersion version) (version_reads version) at d (codes "pisdf") stated.read stated.first;
       top = member_found name_at StatesName name_reads at d (codes "top") top.read top.first;
       graphs = member_found (list_at (graph_at version)) (IsList (StatesGraph version)) (graphs_reads version) at d (codes "graphs") graphs.read graphs.first;
     })
 
-file_again : (version : ℕ) (at : List ℕ) (d : Data) (file : File) → States version d file → file_at version at d ≡ Ok file
+file_again : (version : ℕ) (at : List ℕ) (d : Data) (file : File) → StatesIn version d file → file_at version at d ≡ Ok file
 unfolding file_at file_members_at
 file_again version at d file f =
     rw (
@@ -244,5 +244,5 @@ file_again version at d file f =
     ) refl
 
 -- The walk from the root finds the file exactly where the value states it.
-pub file_reads : (version : ℕ) → Reads (file_at version) (States version)
+pub file_reads : (version : ℕ) → Reads (file_at version) (StatesIn version)
 file_reads version = record { found = file_found version; again = file_again version }

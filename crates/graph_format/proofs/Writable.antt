@@ -20,7 +20,7 @@ use Rattle.graph_format.specs.Faults.{graphs_of}
 use Rattle.graph_format.specs.Kernels.{kernel_names}
 use Rattle.graph_format.specs.Placed.{placed_actor, placed_body, placed_graph, placed_interface, placed_kind, placed_param, placed_port, tokens_of, top_of}
 use Rattle.graph_format.specs.Scope.{Scope, scope_of}
-use Rattle.graph_format.specs.States.{States, StatesActor, StatesBody, StatesGraph, StatesParam, StatesPort, StatesRule}
+use Rattle.graph_format.specs.States.{StatesIn, StatesActor, StatesBody, StatesGraph, StatesParam, StatesPort, StatesRule}
 use Rattle.graph_format.specs.Values.{AreItems, IsList, StatesExpression}
 use Rattle.graph_format.specs.declared.actor.FileActor.{FileActor}
 use Rattle.graph_format.specs.declared.actor.FileBody.{FileBody}
@@ -129,7 +129,7 @@ graph_writable version graphs is_top s d g h range =
       actors = actors_writable s params named version (length graphs) h.actors.value g.actors h.actors.states range.1.actors;
     }
 
-pub writable : (signatures : List SignatureView) (d : Data) (file : File) → States file.version d file → InRange (graphs_of signatures file) → All IsWritableGraph (graphs_of signatures file).graphs
+pub writable : (signatures : List SignatureView) (d : Data) (file : File) → StatesIn file.version d file → InRange (graphs_of signatures file) → All IsWritableGraph (graphs_of signatures file).graphs
 writable signatures d file h range =
     let graphs : Graphs = graphs_of signatures file in
     let here = λ (p : ℕ × FileGraph). scope_of (kernel_names signatures) file.graphs p.1 in

@@ -6,6 +6,7 @@ pub mod Means
 pub mod Named
 pub mod Objects
 pub mod Placed
+pub mod Places
 pub mod Pointer
 pub mod Reads
 pub mod References

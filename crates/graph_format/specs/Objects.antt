@@ -67,20 +67,20 @@ given_members_at at d = do
   ranged_at name kind at d
 
 -- An expression stands exactly where the kind is `is`.
-abbrev pub derived_names : List (List ℕ)
-derived_names = codes "name" ∷ codes "kind" ∷ codes "expr" ∷ []
+abbrev pub derived_keys : List (List ℕ)
+derived_keys = codes "name" ∷ codes "kind" ∷ codes "expr" ∷ []
 
-abbrev pub given_names : List (List ℕ)
-given_names = codes "name" ∷ codes "kind" ∷ []
+abbrev pub given_keys : List (List ℕ)
+given_keys = codes "name" ∷ codes "kind" ∷ []
 
-abbrev pub bound_names : List (List ℕ)
-bound_names = codes "low" ∷ codes "high" ∷ []
+abbrev pub optional_param_keys : List (List ℕ)
+optional_param_keys = codes "low" ∷ codes "high" ∷ []
 
 unfoldable pub param_at : List ℕ → Data → Result FileParam (List ℕ)
 param_at at d =
     if says (codes "kind") (codes "is") d
-    then formed derived_names bound_names derived_members_at at d
-    else formed given_names bound_names given_members_at at d
+    then formed derived_keys optional_param_keys derived_members_at at d
+    else formed given_keys optional_param_keys given_members_at at d
 
 -- ---- interfaces and ports
 
@@ -90,11 +90,11 @@ port_members_at at d = do
   rate ← member_at expression_at at (codes "rate") d
   Ok (record { name = name; rate = rate })
 
-abbrev pub port_names : List (List ℕ)
-port_names = codes "name" ∷ codes "rate" ∷ []
+abbrev pub port_keys : List (List ℕ)
+port_keys = codes "name" ∷ codes "rate" ∷ []
 
 unfoldable pub port_at : List ℕ → Data → Result FilePort (List ℕ)
-port_at at d = formed port_names [] port_members_at at d
+port_at at d = formed port_keys [] port_members_at at d
 
 -- an input of a configuration actor, which has a name alone
 abbrev pub input_members_at : List ℕ → Data → Result (List ℕ) (List ℕ)
@@ -114,8 +114,8 @@ kernel_members_at at d = do
   outs ← member_at (list_at port_at) at (codes "outs") d
   Ok (record { name = name; body = Kernel kernel args ins outs })
 
-abbrev pub kernel_names : List (List ℕ)
-kernel_names = codes "name" ∷ codes "kind" ∷ codes "kernel" ∷ codes "args" ∷ codes "ins" ∷ codes "outs" ∷ []
+abbrev pub kernel_keys : List (List ℕ)
+kernel_keys = codes "name" ∷ codes "kind" ∷ codes "kernel" ∷ codes "args" ∷ codes "ins" ∷ codes "outs" ∷ []
 
 -- the ports and the parameters that it sets, after the members before
 unfoldable pub config_ports_at : List ℕ → List ℕ → List NamedTree → List ℕ → Data → Result FileActor (List ℕ)
@@ -132,8 +132,8 @@ config_members_at at d = do
   args ← member_at (list_at expression_at) at (codes "args") d
   config_ports_at name kernel args at d
 
-abbrev pub config_names : List (List ℕ)
-config_names = codes "name" ∷ codes "kind" ∷ codes "kernel" ∷ codes "args" ∷ codes "ins" ∷ codes "outs" ∷ codes "sets" ∷ []
+abbrev pub config_keys : List (List ℕ)
+config_keys = codes "name" ∷ codes "kind" ∷ codes "kernel" ∷ codes "args" ∷ codes "ins" ∷ codes "outs" ∷ codes "sets" ∷ []
 
 unfoldable pub child_members_at : List ℕ → Data → Result FileActor (List ℕ)
 child_members_at at d = do
@@ -142,8 +142,8 @@ child_members_at at d = do
   args ← member_at (list_at expression_at) at (codes "args") d
   Ok (record { name = name; body = Child graph args })
 
-abbrev pub child_names : List (List ℕ)
-child_names = codes "name" ∷ codes "kind" ∷ codes "graph" ∷ codes "args" ∷ []
+abbrev pub child_keys : List (List ℕ)
+child_keys = codes "name" ∷ codes "kind" ∷ codes "graph" ∷ codes "args" ∷ []
 
 unfoldable pub config_child_members_at : List ℕ → Data → Result FileActor (List ℕ)
 config_child_members_at at d = do
@@ -153,16 +153,16 @@ config_child_members_at at d = do
   sets ← member_at (list_at name_at) at (codes "sets") d
   Ok (record { name = name; body = ConfigChild graph args sets })
 
-abbrev pub config_child_names : List (List ℕ)
-config_child_names = codes "name" ∷ codes "kind" ∷ codes "graph" ∷ codes "args" ∷ codes "sets" ∷ []
+abbrev pub config_child_keys : List (List ℕ)
+config_child_keys = codes "name" ∷ codes "kind" ∷ codes "graph" ∷ codes "args" ∷ codes "sets" ∷ []
 
 -- An actor of another kind has not the form itself, whatever its other members are. Version 3 alone has the kind `setgraph`.
 unfoldable pub actor_at : ℕ → List ℕ → Data → Result FileActor (List ℕ)
 actor_at version at d =
-    if says (codes "kind") (codes "kernel") d then formed kernel_names [] kernel_members_at at d else
-    if says (codes "kind") (codes "config") d then formed config_names [] config_members_at at d else
-    if says (codes "kind") (codes "graph") d then formed child_names [] child_members_at at d else
-    if has_exports version && says (codes "kind") (codes "setgraph") d then formed config_child_names [] config_child_members_at at d else
+    if says (codes "kind") (codes "kernel") d then formed kernel_keys [] kernel_members_at at d else
+    if says (codes "kind") (codes "config") d then formed config_keys [] config_members_at at d else
+    if says (codes "kind") (codes "graph") d then formed child_keys [] child_members_at at d else
+    if has_exports version && says (codes "kind") (codes "setgraph") d then formed config_child_keys [] config_child_members_at at d else
     Err (pointer_text at)
 
 -- ---- FIFOs
@@ -193,15 +193,15 @@ fifo_members_at at d = do
   life ← member_or Firing life_at at (codes "life") d
   Ok (record { from = from; to = to; delay = delay; life = life })
 
-abbrev pub fifo_names : List (List ℕ)
-fifo_names = codes "from" ∷ codes "to" ∷ []
+abbrev pub fifo_keys : List (List ℕ)
+fifo_keys = codes "from" ∷ codes "to" ∷ []
 
 -- what a FIFO may leave out in a version of the format
-abbrev pub fifo_options : ℕ → List (List ℕ)
-fifo_options version = if has_lives version then codes "delay" ∷ codes "life" ∷ [] else codes "delay" ∷ []
+abbrev pub optional_fifo_keys : ℕ → List (List ℕ)
+optional_fifo_keys version = if has_lives version then codes "delay" ∷ codes "life" ∷ [] else codes "delay" ∷ []
 
 unfoldable pub fifo_at : ℕ → List ℕ → Data → Result FileFifo (List ℕ)
-fifo_at version at d = formed fifo_names (fifo_options version) fifo_members_at at d
+fifo_at version at d = formed fifo_keys (optional_fifo_keys version) fifo_members_at at d
 
 -- ---- graphs
 
@@ -225,14 +225,14 @@ graph_members_at version at d = do
   params ← member_at (list_at param_at) at (codes "params") d
   graph_parts_at version name params at d
 
-abbrev pub graph_names : ℕ → List (List ℕ)
-graph_names version =
+abbrev pub graph_keys : ℕ → List (List ℕ)
+graph_keys version =
     if has_exports version
     then codes "name" ∷ codes "params" ∷ codes "inputs" ∷ codes "outputs" ∷ codes "actors" ∷ codes "fifos" ∷ codes "exports" ∷ []
     else codes "name" ∷ codes "params" ∷ codes "inputs" ∷ codes "outputs" ∷ codes "actors" ∷ codes "fifos" ∷ []
 
 unfoldable pub graph_at : ℕ → List ℕ → Data → Result FileGraph (List ℕ)
-graph_at version at d = formed (graph_names version) [] (graph_members_at version) at d
+graph_at version at d = formed (graph_keys version) [] (graph_members_at version) at d
 
 -- ---- the root
 
@@ -255,9 +255,9 @@ file_members_at version at d = do
   graphs ← member_at (list_at (graph_at version)) at (codes "graphs") d
   Ok (record { version = stated; top = top; graphs = graphs })
 
-abbrev pub file_names : List (List ℕ)
-file_names = codes "pisdf" ∷ codes "top" ∷ codes "graphs" ∷ []
+abbrev pub file_keys : List (List ℕ)
+file_keys = codes "pisdf" ∷ codes "top" ∷ codes "graphs" ∷ []
 
 -- the file of a version of the format
 unfoldable pub file_at : ℕ → List ℕ → Data → Result File (List ℕ)
-file_at version at d = formed file_names [] (file_members_at version) at d
+file_at version at d = formed file_keys [] (file_members_at version) at d

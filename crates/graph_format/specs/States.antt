@@ -5,7 +5,7 @@ use Rattle.serde_json.specs.Find.{get}
 use Rattle.param_expr.specs.Named.{NamedTree}
 use Rattle.graph_format.specs.Walk.{has_form, whole_of}
 use Rattle.graph_format.specs.Values.{HasMember, StatesOr, IsList, IsWhole, IsWithin, IsText, StatesName, StatesKernel, StatesExpression, StatesEnd}
-use Rattle.graph_format.specs.Objects.{derived_names, given_names, bound_names, port_names, kernel_names, config_names, child_names, config_child_names, fifo_names, fifo_options, graph_names, file_names, has_exports}
+use Rattle.graph_format.specs.Objects.{derived_keys, given_keys, optional_param_keys, port_keys, kernel_keys, config_keys, child_keys, config_child_keys, fifo_keys, optional_fifo_keys, graph_keys, file_keys, has_exports}
 use Rattle.pisdf_model.specs.declared.fifo.Life.{Life}
 use Rattle.pisdf_model.specs.declared.fifo.Life.TheVariants.{Firing, Permanent}
 use Rattle.graph_format.specs.declared.param.FileParam.{FileParam}
@@ -29,10 +29,10 @@ kind_text (Derived expr) = codes "is"
 kind_text Chosen = codes "set"
 
 -- an expression stands exactly where the kind is `is`
-abbrev pub param_names : FileParamKind → List (List ℕ)
-param_names Inherited = given_names
-param_names (Derived expr) = derived_names
-param_names Chosen = given_names
+abbrev pub param_keys : FileParamKind → List (List ℕ)
+param_keys Inherited = given_keys
+param_keys (Derived expr) = derived_keys
+param_keys Chosen = given_keys
 
 abbrev pub StatesRule : Data → FileParamKind → Type 0
 StatesRule d Inherited = Unit {0}
@@ -40,7 +40,7 @@ StatesRule d (Derived expr) = HasMember StatesExpression d (codes "expr") expr
 StatesRule d Chosen = Unit {0}
 
 pub record StatesParam (d : Data) (param : FileParam) : Type 0 where
-  pub members : has_form (param_names param.kind) bound_names d ≡ true
+  pub members : has_form (param_keys param.kind) optional_param_keys d ≡ true
   pub name : HasMember StatesName d (codes "name") param.name
   pub kind : HasMember IsText d (codes "kind") (kind_text param.kind)
   pub expr : StatesRule d param.kind
@@ -50,7 +50,7 @@ pub record StatesParam (d : Data) (param : FileParam) : Type 0 where
 -- ---- interfaces and ports
 
 pub record StatesPort (d : Data) (port : FilePort) : Type 0 where
-  pub members : has_form port_names [] d ≡ true
+  pub members : has_form port_keys [] d ≡ true
   pub name : HasMember StatesName d (codes "name") port.name
   pub rate : HasMember StatesExpression d (codes "rate") port.rate
 
@@ -67,11 +67,11 @@ body_text (Config kernel args ins outs sets) = codes "config"
 body_text (Child graph args) = codes "graph"
 body_text (ConfigChild graph args sets) = codes "setgraph"
 
-abbrev pub body_names : FileBody → List (List ℕ)
-body_names (Kernel kernel args ins outs) = kernel_names
-body_names (Config kernel args ins outs sets) = config_names
-body_names (Child graph args) = child_names
-body_names (ConfigChild graph args sets) = config_child_names
+abbrev pub body_keys : FileBody → List (List ℕ)
+body_keys (Kernel kernel args ins outs) = kernel_keys
+body_keys (Config kernel args ins outs sets) = config_keys
+body_keys (Child graph args) = child_keys
+body_keys (ConfigChild graph args sets) = config_child_keys
 
 pub record StatesKernelBody (d : Data) (k : List ℕ) (exprs : List NamedTree) (inputs outputs : List FilePort) : Type 0 where
   pub kernel : HasMember StatesKernel d (codes "kernel") k
@@ -103,7 +103,7 @@ StatesBody version d (Child graph args) = StatesChildBody d graph args
 StatesBody version d (ConfigChild graph args sets) = StatesConfigChildBody version d graph args sets
 
 pub record StatesActor (version : ℕ) (d : Data) (actor : FileActor) : Type 0 where
-  pub members : has_form (body_names actor.body) [] d ≡ true
+  pub members : has_form (body_keys actor.body) [] d ≡ true
   pub name : HasMember StatesName d (codes "name") actor.name
   pub kind : HasMember IsText d (codes "kind") (body_text actor.body)
   pub body : StatesBody version d actor.body
@@ -123,7 +123,7 @@ abbrev pub StatesLife : Data → Life → Type 0
 StatesLife d life = IsText d (life_text life)
 
 pub record StatesFifo (version : ℕ) (d : Data) (fifo : FileFifo) : Type 0 where
-  pub members : has_form fifo_names (fifo_options version) d ≡ true
+  pub members : has_form fifo_keys (optional_fifo_keys version) d ≡ true
   pub from : HasMember StatesEnd d (codes "from") fifo.from
   pub to : HasMember StatesEnd d (codes "to") fifo.to
   pub delay : StatesOr StatesDelay (Zeros 0) (get (codes "delay") d) fifo.delay
@@ -137,7 +137,7 @@ StatesExports true d exports = HasMember (IsList StatesName) d (codes "exports")
 StatesExports false d exports = exports ≡ []
 
 pub record StatesGraph (version : ℕ) (d : Data) (graph : FileGraph) : Type 0 where
-  pub members : has_form (graph_names version) [] d ≡ true
+  pub members : has_form (graph_keys version) [] d ≡ true
   pub name : HasMember StatesName d (codes "name") graph.name
   pub params : HasMember (IsList StatesParam) d (codes "params") graph.params
   pub inputs : HasMember (IsList StatesPort) d (codes "inputs") graph.inputs
@@ -152,14 +152,14 @@ pub record StatesVersion (version : ℕ) (d : Data) (stated : ℕ) : Type 0 wher
   pub is_version : stated ≡ version
 
 -- the value states the file in this version of the format
-pub record States (version : ℕ) (d : Data) (file : File) : Type 0 where
-  pub members : has_form file_names [] d ≡ true
+pub record StatesIn (version : ℕ) (d : Data) (file : File) : Type 0 where
+  pub members : has_form file_keys [] d ≡ true
   pub pisdf : HasMember (StatesVersion version) d (codes "pisdf") file.version
   pub top : HasMember StatesName d (codes "top") file.top
   pub graphs : HasMember (IsList (StatesGraph version)) d (codes "graphs") file.graphs
 
 -- the value states the file, in one of the versions of the format
-pub record StatesFile (d : Data) (file : File) : Type 0 where
+pub record States (d : Data) (file : File) : Type 0 where
   pub first_version : 1 ≤ file.version
   pub last_version : file.version ≤ 3
-  pub states : States file.version d file
+  pub states : StatesIn file.version d file

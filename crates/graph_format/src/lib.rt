@@ -5,6 +5,7 @@ mod actor;
 mod fifo;
 mod file;
 mod graph_fault;
+mod named;
 mod param;
 mod port;
 

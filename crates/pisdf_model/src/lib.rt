@@ -38,10 +38,11 @@ pub use limits::{
     MAX_ACTORS, MAX_DELAY_TOKENS, MAX_EXPORTS, MAX_FIFOS, MAX_GRAPHS, MAX_HOLD, MAX_INPUTS,
     MAX_NESTING, MAX_OUTPUTS, MAX_PARAMS,
 };
-pub use names::{Scope, ScopedName, push_name, repeat};
+pub use names::{Scope, ScopedName, push_name, push_names, repeat};
 pub use nesting::{depth, graph_cycle};
 pub use ordering::param_order;
 pub use param::{Param, ParamKind};
+pub use parts::Named;
 pub use port_counts::{AnyCounts, Counts, ports};
 pub use range::{in_range, life_of};
 pub use rules::{ModelFault, well_formed};

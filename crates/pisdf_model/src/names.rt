@@ -63,8 +63,8 @@ pub fn push_name(names: &mut Vec<ScopedName>, scope: Scope, name: &Name) -> Resu
     Ok(())
 }
 
-/// Puts the names of these parts, which are of one scope, behind others.
-pub(crate) fn push_names<T: Named>(
+/// Puts the names of these parts, which are of one scope, behind others. The error is want of memory.
+pub fn push_names<T: Named>(
     names: &mut Vec<ScopedName>,
     scope: Scope,
     parts: &[T],

@@ -6,12 +6,13 @@ use crate::graph::{Graph, Interface};
 use crate::param::Param;
 use param_expr::Name;
 
-/// A part of a graph that has a name.
-pub(crate) trait Named {
+/// What has a name.
+pub trait Named {
     ghost use Rattle.std.specs.Prelude.{List, ℕ};
 
     ghost named: { Self → List ℕ };
 
+    /// The name.
     fn name(&self) -> &Name
         ensures { result.now ≡ named self.now };
 }

@@ -1,5 +1,5 @@
 // How many tokens stand in graphs at first that go on over their firings.
-ghost use Rattle.std.specs.Prelude.{ℕ, ◌≡◌, ◌+◌, ◌==◌, ◌≤◌, length, map, sum_by, slice_index_or, IfOk};
+ghost use Rattle.std.specs.Prelude.{ℕ, ◌≡◌, ◌+◌, ◌==◌, ◌&&◌, ◌≤◌, nat_lt, length, map, sum_by, slice_index_or, IfOk};
 ghost use Rattle.std.specs.List.{list_any, range_with_len};
 ghost use Rattle.pisdf_model.specs.Arrows.{to_of};
 ghost use Rattle.pisdf_model.specs.Hold.{capped, hold_to, is_held, is_large, kept_in, own_hold as own_hold_of};
@@ -125,6 +125,13 @@ fn is_held(children: &[List<u32>], place: usize) -> bool
     children.iter().any(|to| names(to.items(), place))
 }
 
+/// Whether one of these lists has the place, and more tokens go on there than may.
+fn is_large(children: &[List<u32>], holds: &[usize], place: usize) -> bool
+    ensures { result ≡ (is_held children.now place && nat_lt 262144 (slice_index_or holds.now place 0)) }
+{
+    is_held(children, place) && hold_at(holds, place) > MAX_HOLD
+}
+
 /// For each graph, whether an actor names it and its state begins with more than `MAX_HOLD` tokens, where so many tokens
 /// of each graph's own delays go on. The time taken goes with the number of graphs times that of hierarchical actors.
 /// The error is want of memory.
@@ -136,7 +143,7 @@ pub fn large_holds(alloc: Global, graphs: &[Graph], own: &[usize]) -> Result<Vec
     let holds = holds_of(alloc, own, &children)?;
     let mut large = Vec::with_capacity(alloc, children.len())?;
     for place in 0..children.len() {
-        large.push(is_held(&children, place) && holds[place] > MAX_HOLD)?;
+        large.push(is_large(&children, &holds, place))?;
     }
     Ok(large)
 }
