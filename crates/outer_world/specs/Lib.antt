@@ -1,5 +1,6 @@
 pub mod Faults
 pub mod Counts
+pub mod Folder
 pub mod Shelf
 pub mod Sink
 pub mod MemoryShelf

@@ -1,63 +1,67 @@
-ghost use Rattle.std.specs.Prelude.{◌≡◌, ◌≢◌, ◌↔◌, ◌+◌, ◌<◌, ◌≤◌, ℕ, List, None, length, vec_len, IfOk, OnErr};
-ghost use Rattle.std.specs.Io.KnownBytes.{Consumes, IsAtEnd};
+ghost use Rattle.std.specs.Prelude.{◌≡◌, ◌≢◌, ◌↔◌, ◌+◌, ◌<◌, ◌≤◌, ℕ, List, Some, length, vec_len, IfOk, OnErr};
 ghost use Rattle.outer_world.specs.Counts.{count_of};
 ghost use Rattle.outer_world.specs.Faults.{one_more};
 ghost use Rattle.outer_world.specs.Shelf.{Loads};
 
 use crate::counts::{Counts, make_room, raise};
+use crate::folder::{Folder, SystemFiles};
 use crate::shelf::{LoadFault, Shelf};
 use std::alloc::Global;
 use std::collections::BTreeMap;
 use std::fs::Files;
+use std::io;
 use std::io::{ErrorKind, Read};
 use std::marker::Model;
-use std::{fs, io};
 
-/// The files of the system, by path. It tells nothing of their contents.
+/// The files of a folder as a shelf. It tells what the folder tells.
 #[derive(Drop)]
-pub struct FileShelf<'r, R> {
+pub struct FolderShelf<F> {
     alloc: Global,
-    files: &'r R,
+    folder: F,
     faults: Counts,
 }
 
-impl<'r, R> Model for FileShelf<'r, R> {
-    ghost use Rattle.std.specs.Prelude.{List, ℕ};
+/// The files of the system as a shelf, by path. It tells nothing of their contents.
+pub type FileShelf<'r, R> = FolderShelf<SystemFiles<'r, R>>;
+
+impl<F> Model for FolderShelf<F> {
     ghost use Rattle.outer_world.specs.Counts.{pairs_of};
+    ghost use Rattle.outer_world.specs.Folder.{ShelfOverFolder};
 
-    ghost Value = { List (List ℕ × ℕ) };
+    ghost Value = { ShelfOverFolder F };
 
-    ghost view = { λ s. pairs_of s.faults };
+    ghost view = { λ s. record { folder = s.folder; faults = pairs_of s.faults } };
 }
 
-impl<'r, R: Files> FileShelf<'r, R> {
+impl<'r, R: Files> FolderShelf<SystemFiles<'r, R>> {
     /// The files that this runtime reaches. Each Err of the system while a file is opened or read
     /// raises the count of that file's name, but for one that is want of memory.
     pub fn new(alloc: Global, files: &'r R) -> FileShelf<'r, R>
-        ensures { (name : List ℕ) → count_of result name ≡ 0 }
+        ensures { (name : List ℕ) → count_of result.faults name ≡ 0 }
     {
-        FileShelf {
+        FolderShelf {
             alloc,
-            files,
+            folder: SystemFiles { files },
             faults: BTreeMap::new(alloc),
         }
     }
 }
 
-impl<R: Files> Shelf for FileShelf<'_, R> {
-    ghost holds = { λ _ _. None };
+impl<F: Folder> Shelf for FolderShelf<F> {
+    ghost holds = { λ s name. F.holds s.folder name };
 
-    ghost faults = { count_of };
+    ghost faults = { λ s. count_of s.faults };
 
     fn load(&mut self, name: &str, most: usize) -> Result<Vec<u8>, LoadFault>
-        ensures loads { Loads (λ _. None) (λ _. None) (count_of self.old) (count_of self.new) name.now most result }
-        ensures counted { result ≡ Err LoadFault.Failed → count_of self.new name.now ≡ one_more (count_of self.old name.now) }
-        ensures uncounted { result ≢ Err LoadFault.Failed → count_of self.new name.now ≡ count_of self.old name.now }
+        ensures loads { Loads (F.holds self.old.folder) (F.holds self.new.folder) (count_of self.old.faults) (count_of self.new.faults) name.now most result }
+        ensures counted { result ≡ Err LoadFault.Failed → count_of self.new.faults name.now ≡ one_more (count_of self.old.faults name.now) }
+        ensures uncounted { result ≢ Err LoadFault.Failed → count_of self.new.faults name.now ≡ count_of self.old.faults name.now }
+        ensures folder { self.new.folder ≡ self.old.folder }
     {
         if make_room(self.alloc, &mut self.faults, name).is_err() {
             return Err(LoadFault::Memory);
         }
-        match read_file(self.alloc, self.files, name, most) {
+        match read_file(self.alloc, &self.folder, name, most) {
             Ok(bytes) => limited(bytes, most),
             Err(error) if error.kind() == ErrorKind::OutOfMemory => Err(LoadFault::Memory),
             Err(_) => {
@@ -80,21 +84,25 @@ fn limited(bytes: Vec<u8>, most: usize) -> Result<Vec<u8>, LoadFault>
     Ok(bytes)
 }
 
-fn read_file<R: Files>(alloc: Global, files: &R, name: &str, most: usize) -> io::Result<Vec<u8>> {
-    let mut file = fs::open(files, name)?;
+/// The bytes of the file of that name, of which it takes at most `most` and one more.
+fn read_file<F: Folder>(alloc: Global, folder: &F, name: &str, most: usize) -> io::Result<Vec<u8>>
+    ensures at_most { IfOk result (λ bytes. vec_len bytes ≤ most + 1) }
+    ensures as_told { (told : List ℕ) → F.holds folder.now name.now ≡ Some told → IfOk result (λ bytes. vec_len bytes ≤ most → bytes.items ≡ told) }
+    ensures too_long { (told : List ℕ) → F.holds folder.now name.now ≡ Some told → IfOk result (λ bytes. most < vec_len bytes → most < length told) }
+{
+    let mut file = folder.open(name)?;
     read_one_past(alloc, &mut file, most)
 }
 
 /// How many bytes are asked for at once.
 const CHUNK: usize = 16384;
 
-/// The bytes that a reader has left, of which it takes at most `most` and one more. Each turn takes at
-/// least one byte, or is the last.
+/// The bytes that a reader has left, to its end, of which it takes at most `most` and one more. Each
+/// turn takes at least one byte, or is the last.
 fn read_one_past<R: Read>(alloc: Global, reader: &mut R, most: usize) -> io::Result<Vec<u8>>
     ensures at_most { IfOk result (λ bytes. vec_len bytes ≤ most + 1) }
-    ensures taken { IfOk result (λ bytes. Consumes (R.remaining reader.old) (R.remaining reader.new) bytes.items) }
-    ensures cut { OnErr result ((bytes : List ℕ) × (length bytes ≤ most + 1) × Consumes (R.remaining reader.old) (R.remaining reader.new) bytes) }
-    ensures whole { IfOk result (λ bytes. vec_len bytes ≤ most → IsAtEnd (R.remaining reader.new)) }
+    ensures as_told { (told : List ℕ) → R.remaining reader.old ≡ Some told → IfOk result (λ bytes. vec_len bytes ≤ most → bytes.items ≡ told) }
+    ensures too_long { (told : List ℕ) → R.remaining reader.old ≡ Some told → IfOk result (λ bytes. most < vec_len bytes → most < length told) }
 {
     let mut bytes = Vec::new(alloc);
     let mut chunk = [0; CHUNK];

@@ -4,18 +4,17 @@
 
 mod counts;
 mod file_shelf;
+mod folder;
 mod memory_shelf;
 mod memory_sink;
 mod shelf;
 mod sink;
 mod stream_sink;
 
-pub use file_shelf::FileShelf;
+pub use file_shelf::{FileShelf, FolderShelf};
+pub use folder::{Folder, SystemFiles};
 pub use memory_shelf::MemoryShelf;
 pub use memory_sink::MemorySink;
 pub use shelf::{LoadFault, Shelf};
 pub use sink::{Sink, SinkFailed};
 pub use stream_sink::StreamSink;
-
-#[cfg(test)]
-mod tests;
