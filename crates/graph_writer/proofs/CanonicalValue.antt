@@ -13,7 +13,7 @@ use Rattle.graph_format.specs.Canonical.{list_value, whole_value, expression_val
 use Rattle.graph_format.specs.Objects.{has_exports, has_lives}
 use Rattle.graph_format.specs.Walk.{has_form}
 use Rattle.graph_format.specs.Values.{HasMember, StatesOr, AreItems, IsList, IsWhole, IsWithin, StatesName, StatesKernel, StatesExpression, StatesEnd, end_text}
-use Rattle.graph_format.specs.States.{StatesPort, StatesInput, StatesParam, StatesActor, StatesDelay, StatesExports, StatesFifo, StatesGraph, StatesVersion, StatesFile}
+use Rattle.graph_format.specs.States.{StatesPort, StatesInput, StatesParam, StatesActor, StatesDelay, StatesExports, StatesFifo, StatesGraph, StatesVersion, States}
 use Rattle.graph_format.specs.declared.actor.FileBody.{FileBody}
 use Rattle.graph_format.specs.declared.actor.FileBody.TheVariants.{Kernel, Config, Child, ConfigChild}
 use Rattle.graph_format.specs.declared.fifo.FileDelay.{FileDelay}
@@ -302,7 +302,7 @@ module _ (printed_answers : (text : List ℕ) (t : NamedTree) → Answers text (
       let below : nat_lt stated (2 ^ 63) ≡ true = grind (arith, nat_tests) in
       record { number = rw below refl; is_version = refl }
 
-  pub canonical_states_file : (d : Data) (file : File) → AllByRecursion (AreShown file.version) file.graphs → StatesFile d file → StatesFile (file_value file) file
+  pub canonical_states_file : (d : Data) (file : File) → AllByRecursion (AreShown file.version) file.graphs → States d file → States (file_value file) file
   unfolding file_value has_form
   canonical_states_file d file shown h =
       let version = file.version in

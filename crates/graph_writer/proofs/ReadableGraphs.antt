@@ -21,7 +21,7 @@ use Rattle.graph_format.specs.Kernels.{is_of_config, is_of_kernel, kernel_names,
 use Rattle.graph_format.specs.Named.{named_file}
 use Rattle.graph_format.specs.Placed.{first_place, placed_actor, placed_body}
 use Rattle.graph_format.specs.Scope.{Scope}
-use Rattle.graph_format.specs.States.{StatesFile}
+use Rattle.graph_format.specs.States.{States}
 use Rattle.graph_format.specs.declared.actor.FileActor.{FileActor}
 use Rattle.graph_format.specs.declared.actor.FileBody.{FileBody}
 use Rattle.graph_format.specs.declared.actor.FileBody.TheVariants.{Kernel, Config, Child, ConfigChild}
@@ -92,19 +92,19 @@ module _ (signatures : List SignatureView) (graphs : Graphs) where
 
 -- ---- files
 
-pub can_be_read_again : (signatures : List SignatureView) (d : Data) (file : File) → Differ (kernel_names signatures) → StatesFile d file → file_faults signatures file ≡ []
+pub can_be_read_again : (signatures : List SignatureView) (d : Data) (file : File) → Differ (kernel_names signatures) → States d file → file_faults signatures file ≡ []
     → InRange (graphs_of signatures file) → All HasI64Tokens (graphs_of signatures file).graphs → CanBeReadAgain signatures (graphs_of signatures file)
 can_be_read_again signatures d file differ states none range tokens =
     let graphs = graphs_of signatures file in
     let has = no_file_faults signatures file none in
     let same : named_file (kernel_names signatures) graphs ≡ restated file = placed_then_named signatures file has.unknown has.unfit in
     let fifos = subst (λ (f : File). AllByRecursion (AreShown f.version) f.graphs) same (fifos_shown (kernel_names signatures) graphs tokens range has.counts) in
-    let valued : HasValue StatesFile (restated file) = file_valued d file fifos states in
+    let valued : HasValue States (restated file) = file_valued d file fifos states in
     let kinds = kinds_kept signatures file has.unfit in
     let counts = counts_fitted signatures graphs (no_rule_faults (fits_kernel signatures) graphs has.rules).ports in
     record {
       value = valued.value;
-      stated = subst (StatesFile valued.value) (sym same) valued.states;
+      stated = subst (States valued.value) (sym same) valued.states;
       in_range = range;
       well_formed = well_formed signatures file none;
       kernels = λ n e inside a f there. record { kind = kinds n e inside a f there; counts = counts n e inside a f there };

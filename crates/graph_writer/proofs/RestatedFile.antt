@@ -5,7 +5,7 @@ use Rattle.std.specs.List.{AllByRecursion}
 use Rattle.serde_json.specs.Data.{Data, array, object, member, no_members, Items, no_items, item}
 use Rattle.graph_format.specs.Canonical.{fifo_value, with_exports}
 use Rattle.graph_format.specs.Objects.{has_exports}
-use Rattle.graph_format.specs.States.{StatesExports, StatesFifo, StatesFile, StatesGraph}
+use Rattle.graph_format.specs.States.{StatesExports, StatesFifo, States, StatesGraph}
 use Rattle.graph_format.specs.Values.{AreItems}
 use Rattle.graph_format.specs.Walk.{has_form}
 use Rattle.graph_format.specs.declared.fifo.FileFifo.{FileFifo}
@@ -77,7 +77,7 @@ exporting_valued version d g false has shown h exports =
 graph_valued : (version : ℕ) (d : Data) (g : FileGraph) → AreShown version (restated_graph version g) → StatesGraph version d g → HasValue (StatesGraph version) (restated_graph version g)
 graph_valued version d g shown h = exporting_valued version d g (has_exports version) refl shown h h.exports
 
-pub file_valued : (d : Data) (file : File) → AllByRecursion (AreShown file.version) (restated file).graphs → StatesFile d file → HasValue StatesFile (restated file)
+pub file_valued : (d : Data) (file : File) → AllByRecursion (AreShown file.version) (restated file).graphs → States d file → HasValue States (restated file)
 unfolding has_form
 file_valued d file shown h =
     let version = file.version in

@@ -14,7 +14,7 @@ use Rattle.graph_format.specs.Kernels.{kernel_names}
 use Rattle.graph_format.specs.Named.{named_file}
 use Rattle.graph_format.specs.Placed.{placed, tokens_of}
 use Rattle.graph_format.specs.Reads.{Reads}
-use Rattle.graph_format.specs.States.{StatesFile}
+use Rattle.graph_format.specs.States.{States}
 use Rattle.graph_writer.specs.ReadAgain.{CanBeReadAgain, HasI64Tokens, WasRead}
 use Rattle.graph_writer.proofs.Distinct.{all_differ}
 use Rattle.graph_writer.proofs.CanonicalDelays.{fifos_shown}
@@ -35,7 +35,7 @@ faultless signatures graphs can =
     (placed_as_before signatures graphs can)
 
 -- the canonical value states the file
-states_again : (signatures : List SignatureView) (graphs : Graphs) → CanBeReadAgain signatures graphs → All HasI64Tokens graphs.graphs → StatesFile (canonical (kernel_names signatures) graphs) (named_file (kernel_names signatures) graphs)
+states_again : (signatures : List SignatureView) (graphs : Graphs) → CanBeReadAgain signatures graphs → All HasI64Tokens graphs.graphs → States (canonical (kernel_names signatures) graphs) (named_file (kernel_names signatures) graphs)
 states_again signatures graphs can tokens =
     canonical_states_file (λ text t answers. printed_answers t (record { text = text; answers = answers })) can.value (named_file (kernel_names signatures) graphs)
     (fifos_shown (kernel_names signatures) graphs tokens can.in_range (no_model_faults graphs can.well_formed).counts) can.stated

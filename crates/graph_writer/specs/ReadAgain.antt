@@ -17,7 +17,7 @@ use Rattle.graph_format.specs.Faults.{fits_kernel}
 use Rattle.graph_format.specs.Kernels.{is_of_config, is_of_kernel, kernel_names}
 use Rattle.graph_format.specs.Named.{named_file}
 use Rattle.graph_format.specs.Reads.{Reads}
-use Rattle.graph_format.specs.States.{StatesFile}
+use Rattle.graph_format.specs.States.{States}
 
 -- the signature at an actor's kernel is one of actors of its kind
 abbrev pub kind_fits : List SignatureView → Body → Bool
@@ -42,7 +42,7 @@ HasI64Tokens graph = All (λ (fifo : Fifo). AllPass in_i64 fifo.delay) graph.fif
 -- have one name.
 pub record CanBeReadAgain (signatures : List SignatureView) (graphs : Graphs) : Type 0 where
   pub value : Data
-  pub stated : StatesFile value (named_file (kernel_names signatures) graphs)
+  pub stated : States value (named_file (kernel_names signatures) graphs)
   pub in_range : InRange graphs
   pub well_formed : WellFormed graphs
   pub kernels : All (ActorsFit signatures) graphs.graphs
