@@ -1,4 +1,3 @@
-pub mod Listed
 pub mod Floats
 pub mod Depths
 pub mod Distinct
