@@ -26,7 +26,7 @@ use Rattle.graph_format.specs.declared.file.File.{File}
 
 -- ---- faults of walks
 
-fault_of : {A : Type 0} → Result A (List ℕ) → Option (List ℕ)
+unfoldable pub fault_of : {A : Type 0} → Result A (List ℕ) → Option (List ℕ)
 fault_of (Ok x) = None
 fault_of (Err at) = Some at
 

@@ -5,10 +5,12 @@ use Rattle.serde_json.specs.Read.{read}
 use Rattle.kernel_gate.specs.Signed.{SignatureView}
 use Rattle.pisdf_model.specs.declared.graph.Graphs.{Graphs}
 use Rattle.graph_format.specs.Faults.{file_faults, graphs_of}
+use Rattle.pisdf_model.specs.Details.{first}
 use Rattle.graph_format.specs.Objects.{file_at, stated_version}
+use Rattle.graph_format.specs.Places.{places, unformed}
 use Rattle.graph_format.specs.declared.file.File.{File}
 use Rattle.graph_format.specs.declared.graph_fault.GraphFault.{GraphFault}
-use Rattle.graph_format.specs.declared.graph_fault.GraphFault.TheVariants.{Memory, NotJson, Shape, Version}
+use Rattle.graph_format.specs.declared.graph_fault.GraphFault.TheVariants.{Count, Depth, Duplicate, GraphCycle, InterfaceWire, Kernel, Memory, NotJson, ParamOrder, Ports, Shape, Unknown, Version, Wire}
 
 -- the bytes are text that `serde_json` reads as this value
 abbrev pub IsJson : List ℕ → Data → Type 0
@@ -52,3 +54,28 @@ AreReadAs signatures bytes answer = (d : Data) × IsJson bytes d × (reading sig
 abbrev pub Reads : List SignatureView → List ℕ → Result Graphs GraphFault → Type 0
 Reads signatures bytes (Ok graphs) = AreReadAs signatures bytes (Ok graphs)
 Reads signatures bytes (Err fault) = (fault ≡ Memory) ⊎ (((fault ≡ NotJson) × ((d : Data) → IsJson bytes d → ⊥)) ⊎ AreReadAs signatures bytes (Err fault))
+
+-- ---- misshapen values
+
+-- the value at this pointer is the first one in the walk that has not its form
+pub record IsMisshapen (bytes pointer : List ℕ) : Type 0 where
+  pub value : Data
+  pub json : IsJson bytes value
+  pub first_one : first (unformed (places (version_of (stated_version value)) value)) ≡ Some pointer
+
+-- a fault of shape tells the pointer to such a value
+abbrev pub TellsShape : List ℕ → GraphFault → Type 0
+TellsShape bytes NotJson = Unit {0}
+TellsShape bytes (Shape pointer) = IsMisshapen bytes pointer
+TellsShape bytes (Version version) = Unit {0}
+TellsShape bytes (Duplicate name) = Unit {0}
+TellsShape bytes (Unknown name) = Unit {0}
+TellsShape bytes (Kernel name) = Unit {0}
+TellsShape bytes (Ports name) = Unit {0}
+TellsShape bytes (Wire name) = Unit {0}
+TellsShape bytes (InterfaceWire graph fifo) = Unit {0}
+TellsShape bytes (ParamOrder name) = Unit {0}
+TellsShape bytes (GraphCycle name) = Unit {0}
+TellsShape bytes (Depth name) = Unit {0}
+TellsShape bytes (Count word) = Unit {0}
+TellsShape bytes Memory = Unit {0}
