@@ -2,8 +2,9 @@
 use Rattle.std.proofs.Common.{◌≡◌, ◌≢◌, ℕ, ◌+◌, ◌*◌, ◌<◌, ◌≤◌, ⊎_elim, ◌==◌, List, [], length, set, get_or, slice_index, slice_index_or, take, refl, ap, sym, ◌∙◌, arith, Vec}
 use Rattle.std.proofs.lemmas.Bool.{cases_eq, eq-eqb, ne_eqb}
 use Rattle.std.proofs.lemmas.List.{get_or-set_same, get_or-set_other, get_or-map, length-map}
-use Rattle.sdf_level.specs.Groups.{occurrences, lists_of, AreGroups}
-use Rattle.sdf_level.specs.declared.TheConstants.{BASE_ENTRY_LIMIT}
+use Rattle.sdf_level.specs.Lists.{occurrences, lists_of}
+use Rattle.sdf_level.specs.Groups.{AreGroups}
+use Rattle.sdf_level.specs.Balance.{base_entry_limit}
 use Rattle.sdf_level.proofs.Regrouped.{one_if, occurrences-more, occurrences-take}
 use Rattle.balance_solver.specs.Scaled.{scaled_by, AreScaled, HasTooLarge, factor, IsTooLarge}
 
@@ -40,7 +41,7 @@ module _ (q now actors : List ℕ) (times i : ℕ) (inside : i < length actors) 
   then_scaled : occurrences this (take (i + 1) actors) ≡ 1
   then_scaled = let m = occurrences-more this actors i 0 inside in let n = not_yet in let one = one_more in omega arith
 
-  pub scaled_more : (v : ℕ) → v ≡ slice_index now this * times → v ≤ BASE_ENTRY_LIMIT → length now ≡ length q → AreScaled q (set now this v) (take (i + 1) actors) times
+  pub scaled_more : (v : ℕ) → v ≡ slice_index now this * times → v ≤ base_entry_limit → length now ≡ length q → AreScaled q (set now this v) (take (i + 1) actors) times
   scaled_more v is small long = record {
     entries = λ a h. ⊎_elim
         (λ (e : a ≡ this). rw e (same ∙ is ∙ ap (λ (w : ℕ). w * times) entry_before ∙ ap (λ (w : ℕ). slice_index q this * w) (sym (scaled_some (occurrences this (take (i + 1) actors)) times (let k = then_scaled in omega arith)))))
@@ -58,7 +59,7 @@ module _ (q now actors : List ℕ) (times i : ℕ) (inside : i < length actors) 
       unchanged : (a : ℕ) → a ≢ this → occurrences a (take i actors) ≡ occurrences a (take (i + 1) actors)
       unchanged a n = let m = occurrences-more a actors i 0 inside in let none : one_if (this == a) ≡ 0 = rw (ne_eqb this a (λ e. n (sym e))) refl in omega arith
 
-  pub too_large : BASE_ENTRY_LIMIT < slice_index now this * times → HasTooLarge q actors times
+  pub too_large : base_entry_limit < slice_index now this * times → HasTooLarge q actors times
   too_large over = (this, there, (let k = then_scaled in let t = occurrences-take this (i + 1) actors in omega arith), rw (← entry_before) over)
 
 pub scaled_start : (q actors : List ℕ) (times : ℕ) → AreScaled q q [] times
@@ -133,5 +134,5 @@ module _ (n : ℕ) (number : List ℕ) (lists : List (List ℕ)) (q : List ℕ) 
           (cases_eq (slice_index number a) from))
           (cases_eq (slice_index number a) into)
 
-      pub both_within : (a : ℕ) → a < length q → slice_index q a ≤ BASE_ENTRY_LIMIT → slice_index q2 a ≤ BASE_ENTRY_LIMIT
+      pub both_within : (a : ℕ) → a < length q → slice_index q a ≤ base_entry_limit → slice_index q2 a ≤ base_entry_limit
       both_within a inside w = second.within a (omega arith) (first.within a inside w)

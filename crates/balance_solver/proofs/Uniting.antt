@@ -9,7 +9,7 @@ use Rattle.sdf_level.specs.Groups.{united}
 use Rattle.sdf_level.proofs.Regrouped.{united-first, united-second, united-other, united-origin}
 use Rattle.balance_solver.specs.Scaled.{factor, IsScaled, IsTooLarge}
 use Rattle.balance_solver.specs.Joined.{IsJoined, SolvesLinks, AreJoined, IsMultipleOn, Adds, Refutes}
-use Rattle.std.proofs.Math.Nat.{mul_comm}
+use Rattle.std.proofs.Math.Nat.{mul_comm, mul-pos}
 use Rattle.balance_solver.proofs.Euclid.{equal_factor}
 use Rattle.sdf_level.proofs.InnerLinks.{EachInner-snoc, EachInner-front, EachInner-end, EachInner-map}
 
@@ -40,11 +40,6 @@ swap_factors m q p = grind arith
 pub at_most_multiple : (k v : ℕ) → 1 ≤ k * v → v ≤ k * v
 at_most_multiple zero v h = omega arith
 at_most_multiple (suc k) v h = omega arith
-
-some_product : (u v : ℕ) → 1 ≤ u → 1 ≤ v → 1 ≤ u * v
-some_product zero v a b = omega arith
-some_product (suc u) zero a b = omega arith
-some_product (suc u) (suc v) a b = omega arith
 
 turned : (m u v : ℕ) → m * u * v ≡ m * (v * u)
 turned m u v = grind arith
@@ -87,8 +82,8 @@ module _ (n : ℕ) (link : Link) (k : Inner) (group q : List ℕ) (only : (P : I
   refutes_zero one links j other s =
       let e = even links other s in
       ⊎_elim
-      (λ (z : (k.produced ≡ 0) × (0 < k.consumed)). let some = some_product (slice_index other k.head) k.consumed (s.at_least_one k.head head_there) z.1 in let none : slice_index other k.tail * k.produced ≡ 0 = rw z.0 (omega arith) in omega arith)
-      (λ (z : (0 < k.produced) × (k.consumed ≡ 0)). let some = some_product (slice_index other k.tail) k.produced (s.at_least_one k.tail tail_there) z.0 in let none : slice_index other k.head * k.consumed ≡ 0 = rw z.1 (omega arith) in omega arith)
+      (λ (z : (k.produced ≡ 0) × (0 < k.consumed)). let some = mul-pos {m = slice_index other k.head} {n = k.consumed} (s.at_least_one k.head head_there) z.1 in let none : slice_index other k.tail * k.produced ≡ 0 = rw z.0 (omega arith) in omega arith)
+      (λ (z : (0 < k.produced) × (k.consumed ≡ 0)). let some = mul-pos {m = slice_index other k.tail} {n = k.produced} (s.at_least_one k.tail tail_there) z.0 in let none : slice_index other k.head * k.consumed ≡ 0 = rw z.1 (omega arith) in omega arith)
       one
 
   module _ (into from x y : ℕ) (is_into : slice_index group k.tail ≡ into) (is_from : slice_index group k.head ≡ from) (apart : from ≢ into) (pair : IsLeastPair (slice_index q k.tail * k.produced) (slice_index q k.head * k.consumed) x y) where
@@ -177,7 +172,7 @@ module _ (n : ℕ) (link : Link) (k : Inner) (group q : List ℕ) (only : (P : I
 
       pub adds_united : Adds n link group q group' q'
       adds_united links j = record {
-        at_least_one = λ a h. rw (scaled.entries a (inside a h)) (some_product (slice_index q a) (factor into from x y (slice_index group a)) (j.at_least_one a h) (some_factor (slice_index group a)));
+        at_least_one = λ a h. rw (scaled.entries a (inside a h)) (mul-pos {m = slice_index q a} {n = factor into from x y (slice_index group a)} (j.at_least_one a h) (some_factor (slice_index group a)));
         within = λ a h. scaled.within a (inside a h) (j.within a h);
         joined = EachInner-snoc (IsJoined n group' q') links link (EachInner-map {P = IsJoined n group q} {Q = IsJoined n group' q'} keeps links j.joined) (back (IsJoined n group' q') here);
         multiple = λ other s g. ⊎_elim

@@ -2,7 +2,7 @@
 use Rattle.std.specs.Prelude.{◌≡◌, ℕ, ◌*◌, ◌≤◌, ◌<◌, ◌⊎◌, List, [], ◌∷◌, ◌++◌, slice_index}
 use Rattle.sdf_level.specs.Links.{Inner, EachInner}
 use Rattle.sdf_level.specs.Balance.{IsBalanced}
-use Rattle.sdf_level.specs.declared.TheConstants.{BASE_ENTRY_LIMIT}
+use Rattle.sdf_level.specs.Balance.{base_entry_limit}
 use Rattle.sdf_level.specs.declared.link.Link.{Link}
 
 -- the link carries no tokens, or joins actors of one group and is balanced
@@ -14,7 +14,7 @@ pub record IsJoined (n : ℕ) (group q : List ℕ) (link : Inner) : Type 0 where
 -- solves these links
 pub record SolvesLinks (n : ℕ) (links : List Link) (q : List ℕ) : Type 0 where
   pub at_least_one : (a : ℕ) → a < n → 1 ≤ slice_index q a
-  pub within : (a : ℕ) → a < n → slice_index q a ≤ BASE_ENTRY_LIMIT
+  pub within : (a : ℕ) → a < n → slice_index q a ≤ base_entry_limit
   pub balanced : EachInner (IsBalanced q) links
 
 -- on the group the one vector is a multiple of the other
@@ -23,7 +23,7 @@ IsMultipleOn n group q other g = (m : ℕ) × ((a : ℕ) → a < n → slice_ind
 
 pub record AreJoined (n : ℕ) (links : List Link) (group q : List ℕ) : Type 0 where
   pub at_least_one : (a : ℕ) → a < n → 1 ≤ slice_index q a
-  pub within : (a : ℕ) → a < n → slice_index q a ≤ BASE_ENTRY_LIMIT
+  pub within : (a : ℕ) → a < n → slice_index q a ≤ base_entry_limit
   pub joined : EachInner (IsJoined n group q) links
   pub multiple : (other : List ℕ) → SolvesLinks n links other → (g : ℕ) → IsMultipleOn n group q other g
 

@@ -2,7 +2,8 @@
 ghost use Rattle.std.specs.Prelude.{ℕ, ◌≡◌, ◌≢◌, ◌<◌, ◌≤◌, ◌^◌, length, slice_index, IfOk};
 ghost use Rattle.std.specs.Bool.{OnTrue, OnFalse};
 ghost use Rattle.std.specs.List.{All};
-ghost use Rattle.sdf_level.specs.Groups.{IsGrouping, occurrences};
+ghost use Rattle.sdf_level.specs.Groups.{IsGrouping};
+ghost use Rattle.sdf_level.specs.Lists.{occurrences};
 ghost use Rattle.sdf_level.specs.Numbered.{IsBetween, as_link};
 ghost use Rattle.balance_solver.specs.Scaled.{AreScaled, HasTooLarge, IsScaled, IsTooLarge};
 ghost use Rattle.balance_solver.specs.Joined.{Adds, Refutes};

@@ -9,8 +9,3 @@ mod unsolved;
 
 pub use solve::repetition;
 pub use unsolved::Unsolved;
-
-#[cfg(test)]
-mod plain_search;
-#[cfg(test)]
-mod tests;

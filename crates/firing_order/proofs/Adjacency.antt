@@ -3,7 +3,8 @@ use Rattle.std.proofs.Common.{◌≡◌, ℕ, ◌<◌, List, [], length, get_or,
 use Rattle.std.specs.List.{filter}
 use Rattle.std.proofs.lemmas.List.{length-map, get_or-map}
 use Rattle.sdf_level.specs.declared.inner_link.InnerLink.{InnerLink}
-use Rattle.firing_order.specs.Adjacent.{AreAt, is_at, lists_of}
+use Rattle.sdf_level.specs.Lists.{lists_of}
+use Rattle.firing_order.specs.Adjacent.{AreAt, is_at}
 
 -- the list that is read for an actor
 pub at_read : {A : Type 0} (n : ℕ) (links : List InnerLink) (vectors : List (Vec InnerLink A)) (a : ℕ) (x : Vec InnerLink A) → AreAt n links (lists_of vectors) → a < n → x ≡ get_or vectors a x → x.items ≡ filter (is_at a) links

@@ -1,10 +1,7 @@
 -- The links at each actor, as lists by actor.
-use Rattle.std.specs.Prelude.{◌≡◌, ℕ, ◌<◌, Bool, ◌==◌, ◌||◌, List, [], ◌∷◌, ◌++◌, length, map, set, slice_index_or, Vec}
+use Rattle.std.specs.Prelude.{◌≡◌, ℕ, ◌<◌, Bool, ◌==◌, ◌||◌, List, [], ◌∷◌, ◌++◌, length, set, slice_index_or}
 use Rattle.std.specs.List.{filter}
 use Rattle.sdf_level.specs.declared.inner_link.InnerLink.{InnerLink}
-
-abbrev pub lists_of : {A : Type 0} → List (Vec InnerLink A) → List (List InnerLink)
-lists_of vectors = map (λ v. v.items) vectors
 
 -- the actor is an end of the link
 abbrev pub is_at : ℕ → InnerLink → Bool

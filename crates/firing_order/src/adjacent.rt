@@ -1,8 +1,9 @@
 // The links at each actor.
 ghost use Rattle.std.specs.Prelude.{◌≡◌, ◌<◌, [], length, IfOk, OnOk};
 ghost use Rattle.std.specs.List.{All};
+ghost use Rattle.sdf_level.specs.Lists.{lists_of};
 ghost use Rattle.sdf_level.specs.Numbered.{IsBetween};
-ghost use Rattle.firing_order.specs.Adjacent.{Adds, AreAt, IsPushed, lists_of};
+ghost use Rattle.firing_order.specs.Adjacent.{Adds, AreAt, IsPushed};
 
 use sdf_level::InnerLink;
 use std::alloc::{AllocError, Global};

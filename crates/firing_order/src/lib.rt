@@ -10,8 +10,3 @@ mod stuck;
 pub use greedy::order;
 pub use law::same_tokens;
 pub use stuck::Stuck;
-
-#[cfg(test)]
-mod plain_search;
-#[cfg(test)]
-mod tests;

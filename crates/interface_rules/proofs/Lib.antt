@@ -2,4 +2,3 @@ pub mod Grouping
 pub mod Needs
 pub mod Serving
 pub mod Multiplied
-pub mod Bases

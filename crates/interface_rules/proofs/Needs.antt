@@ -1,9 +1,9 @@
 -- The least number of rounds that move so many tokens.
-use Rattle.std.proofs.Common.{◌≡◌, ℕ, zero, suc, ◌+◌, ◌*◌, ◌/◌, ◌%◌, ◌<◌, ◌≤◌, ⊎_elim, min, arith}
-use Rattle.std.proofs.Math.Nat.{mul-le-mul_right}
+use Rattle.std.proofs.Common.{◌≡◌, ℕ, suc, ◌+◌, ◌*◌, ◌/◌, ◌%◌, ◌<◌, ◌≤◌, ⊎_elim, min, arith}
+use Rattle.std.proofs.Math.Nat.{mul-le-mul_right, mul-pos}
 use Rattle.std.proofs.lemmas.Bool.{cases_lt}
 use Rattle.std.proofs.lemmas.Grind.{div_ceil_times}
-use Rattle.sdf_level.specs.declared.TheConstants.{RATE_LIMIT}
+use Rattle.sdf_level.specs.Kept.{rate_limit}
 use Rattle.interface_rules.specs.Served.{IsLeastNeed}
 
 pub need_none : (outside base rate : ℕ) → outside ≡ 0 → IsLeastNeed outside base rate 1
@@ -11,11 +11,6 @@ need_none outside base rate none = record { at_least_one = omega arith; within =
 
 together : (m base rate : ℕ) → m * base * rate ≡ m * (base * rate)
 together m base rate = grind arith
-
-pub some_product : (u v : ℕ) → 1 ≤ u → 1 ≤ v → 1 ≤ u * v
-some_product zero v a b = omega arith
-some_product (suc u) zero a b = omega arith
-some_product (suc u) (suc v) a b = omega arith
 
 module _ (outside once m : ℕ) (some : 0 < outside) (each : 1 ≤ once) (enough : outside ≤ m * once) (tight : m * once < outside + once) where
   some_rounds : 1 ≤ m
@@ -42,7 +37,7 @@ module _ (outside once m : ℕ) (some : 0 < outside) (each : 1 ≤ once) (enough
       (λ (more : m ≤ other). more)
       (cases_lt other m)
 
-need_of_total : (outside base rate m : ℕ) → 0 < outside → outside ≤ RATE_LIMIT → 1 ≤ base * rate → outside ≤ m * (base * rate) → m * (base * rate) < outside + base * rate → IsLeastNeed outside base rate m
+need_of_total : (outside base rate m : ℕ) → 0 < outside → outside ≤ rate_limit → 1 ≤ base * rate → outside ≤ m * (base * rate) → m * (base * rate) < outside + base * rate → IsLeastNeed outside base rate m
 need_of_total outside base rate m some small each enough tight = record {
   at_least_one = some_rounds outside (base * rate) m some each enough tight;
   within = let few = few_rounds outside (base * rate) m some each enough tight in omega arith;
@@ -50,8 +45,8 @@ need_of_total outside base rate m some small each enough tight = record {
   least = λ other positive has. least_rounds outside (base * rate) m some each enough tight other (rw (together other base rate) at has);
 }
 
-pub need_some : (outside base rate : ℕ) → 0 < outside → outside ≤ RATE_LIMIT → 1 ≤ base → 0 < rate → IsLeastNeed outside base rate (outside / (base * rate) + min 1 (outside % (base * rate)))
+pub need_some : (outside base rate : ℕ) → 0 < outside → outside ≤ rate_limit → 1 ≤ base → 0 < rate → IsLeastNeed outside base rate (outside / (base * rate) + min 1 (outside % (base * rate)))
 need_some outside base rate some small some_base some_rate =
-    let each : 1 ≤ base * rate = some_product base rate some_base some_rate in
+    let each : 1 ≤ base * rate = mul-pos {m = base} {n = rate} some_base some_rate in
     let t = div_ceil_times outside (base * rate) each in
     need_of_total outside base rate (outside / (base * rate) + min 1 (outside % (base * rate))) some small each t.0 t.1

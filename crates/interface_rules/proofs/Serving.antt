@@ -8,7 +8,7 @@ use Rattle.sdf_level.specs.View.{LevelView}
 use Rattle.sdf_level.specs.Kept.{TailIsThere, HeadIsThere, HasTailRateWithin, HasHeadRateWithin, IsLevel}
 use Rattle.sdf_level.specs.Links.{Outer, OfOuter, EachOuter}
 use Rattle.sdf_level.specs.Repetition.{AgreesOnZero, IsFirstMismatch}
-use Rattle.sdf_level.specs.declared.TheConstants.{RATE_LIMIT}
+use Rattle.sdf_level.specs.Kept.{rate_limit}
 use Rattle.sdf_level.specs.declared.link.Link.{Link}
 use Rattle.sdf_level.specs.declared.link.Tail.{Tail}
 use Rattle.sdf_level.specs.declared.link.Head.{Head}
@@ -113,8 +113,8 @@ pub sound_at : (level : LevelView) (i : ℕ) (d : Link) → IsLevel level → i 
 sound_at level i d known inside = record {
   tail_there = All-from_recursion (λ link. TailIsThere level link.tail) level.links known.tails_there i d inside;
   head_there = All-from_recursion (λ link. HeadIsThere level link.head) level.links known.heads_there i d inside;
-  tail_rate = All-from_recursion (λ link. HasTailRateWithin RATE_LIMIT link.tail) level.links known.tail_rates i d inside;
-  head_rate = All-from_recursion (λ link. HasHeadRateWithin RATE_LIMIT link.head) level.links known.head_rates i d inside;
+  tail_rate = All-from_recursion (λ link. HasTailRateWithin rate_limit link.tail) level.links known.tail_rates i d inside;
+  head_rate = All-from_recursion (λ link. HasHeadRateWithin rate_limit link.head) level.links known.head_rates i d inside;
 }
 
 pub first_mismatch : (level : LevelView) (i : ℕ) (d : Link) → i < length level.links → EachOuter AgreesOnZero level (take i level.links) → Disagrees level (get_or level.links i d) → IsFirstMismatch level i

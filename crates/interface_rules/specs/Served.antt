@@ -4,13 +4,14 @@ use Rattle.sdf_level.specs.View.{LevelView}
 use Rattle.sdf_level.specs.Kept.{TailIsThere, HeadIsThere, HasTailRateWithin, HasHeadRateWithin}
 use Rattle.sdf_level.specs.Links.{Outer, OfOuter, EachOuter}
 use Rattle.sdf_level.specs.Repetition.{AgreesOnZero, HasEnough}
-use Rattle.sdf_level.specs.declared.TheConstants.{RATE_LIMIT, BASE_ENTRY_LIMIT}
+use Rattle.sdf_level.specs.Kept.{rate_limit}
+use Rattle.sdf_level.specs.Balance.{base_entry_limit}
 use Rattle.sdf_level.specs.declared.link.Link.{Link}
 
 -- the least m of at least 1 with which m rounds of base firings at this rate move at least that many tokens
 pub record IsLeastNeed (outside base rate m : ℕ) : Type 0 where
   pub at_least_one : 1 ≤ m
-  pub within : m ≤ RATE_LIMIT
+  pub within : m ≤ rate_limit
   pub enough : outside ≤ m * base * rate
   pub least : (other : ℕ) → 1 ≤ other → outside ≤ other * base * rate → m ≤ other
 
@@ -21,7 +22,7 @@ IsServed base group g m link = slice_index group link.actor ≡ g → HasEnough 
 -- m is the least of at least 1 with which each actor of group g has enough at these links
 pub record IsLeastFor (level : LevelView) (links : List Link) (base group : List ℕ) (g m : ℕ) : Type 0 where
   pub at_least_one : 1 ≤ m
-  pub within : m ≤ RATE_LIMIT
+  pub within : m ≤ rate_limit
   pub enough : EachOuter (IsServed base group g m) level links
   pub least : (other : ℕ) → 1 ≤ other → EachOuter (IsServed base group g other) level links → m ≤ other
 
@@ -55,14 +56,14 @@ pub record IsServedOnce (base group factors factors' : List ℕ) (link : Outer) 
 pub record IsSound (level : LevelView) (link : Link) : Type 0 where
   pub tail_there : TailIsThere level link.tail
   pub head_there : HeadIsThere level link.head
-  pub tail_rate : HasTailRateWithin RATE_LIMIT link.tail
-  pub head_rate : HasHeadRateWithin RATE_LIMIT link.head
+  pub tail_rate : HasTailRateWithin rate_limit link.tail
+  pub head_rate : HasHeadRateWithin rate_limit link.head
 
 -- n entries from 1 to the limit
 pub record HasBase (n : ℕ) (base : List ℕ) : Type 0 where
   pub one_each : length base ≡ n
   pub at_least_one : (a : ℕ) → a < n → 1 ≤ slice_index base a
-  pub within : (a : ℕ) → a < n → slice_index base a ≤ BASE_ENTRY_LIMIT
+  pub within : (a : ℕ) → a < n → slice_index base a ≤ base_entry_limit
 
 -- n numbers of groups below n
 pub record HasGroups (n : ℕ) (group : List ℕ) : Type 0 where

@@ -12,6 +12,3 @@ mod repetition;
 pub use fault::InterfaceFault;
 pub use place::{kept_from, repeated_at};
 pub use repetition::factor;
-
-#[cfg(test)]
-mod tests;

@@ -2,6 +2,7 @@
 use Rattle.std.specs.Prelude.{ℤ, pos, negsuc, true, ◌-ℤ◌, ◌==◌, ◌&&◌, nat_le, List, [], ◌∷◌, codes, length, fold, slice_get, Option, Some, None, Result, Ok, Err}
 use Rattle.std.specs.Int.{int_min, int_max}
 use Rattle.kernel_gate.specs.Codes.{value}
+use Rattle.kernel_gate.specs.Limits.{most_args, most_sets}
 use Rattle.kernel_gate.specs.Value.{Answer, Gives, Faults, Kernel, port}
 use Rattle.kernel_gate.specs.Signed.{SignatureView}
 use Rattle.kernel_gate.specs.Tokens.{bounded, token}
@@ -12,7 +13,7 @@ use Rattle.kernel_gate.specs.declared.fault.KernelFault.{KernelFault}
 abbrev pub read_param_signature : SignatureView
 read_param_signature = record {
   name = codes "read_param";
-  counts = record { config = true; args_min = 0; args_max = 0; ins = 1; outs = 0; sets_min = 1; sets_max = 4 };
+  counts = record { config = true; args_min = 0; args_max = 0; ins = 1; outs = 0; sets_min = 1; sets_max = most_sets };
 }
 
 unfoldable pub read_param_answer : Kernel
@@ -32,7 +33,7 @@ found_set None = Faults value
 abbrev pub pick_signature : SignatureView
 pick_signature = record {
   name = codes "pick";
-  counts = record { config = true; args_min = 1; args_max = 16; ins = 1; outs = 0; sets_min = 1; sets_max = 1 };
+  counts = record { config = true; args_min = 1; args_max = most_args; ins = 1; outs = 0; sets_min = 1; sets_max = 1 };
 }
 
 unfoldable pub pick_answer : Kernel

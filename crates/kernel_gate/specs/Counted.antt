@@ -5,7 +5,7 @@ use Rattle.kernel_gate.specs.Value.{Answer, Gives, Faults, Kernel, port}
 use Rattle.kernel_gate.specs.Signed.{SignatureView}
 use Rattle.kernel_gate.specs.Tokens.{places, token}
 use Rattle.kernel_gate.specs.Kernels.{if_shape, if_value, shaped, size, plain_counts}
-use Rattle.kernel_gate.specs.declared.limits.TheConstants.{MAX_MEDIAN_TOKENS}
+use Rattle.kernel_gate.specs.Limits.{most_median_tokens}
 
 -- how many tokens are smaller, and how many are larger
 abbrev pub smaller : List ℤ → ℤ → ℕ
@@ -30,7 +30,7 @@ median_signature = record { name = codes "median"; counts = plain_counts 0 1 1 }
 unfoldable pub median_answer : Kernel
 median_answer args inputs lens sets =
     let r = length (port inputs 0) in
-    if_shape ((size lens 0 == 1) && (r % 2 == 1) && nat_le r MAX_MEDIAN_TOKENS)
+    if_shape ((size lens 0 == 1) && (r % 2 == 1) && nat_le r most_median_tokens)
     (found_token (find (in_the_middle (port inputs 0)) (port inputs 0)))
 
 -- a token lies in bin b of the bins from low on that are so wide

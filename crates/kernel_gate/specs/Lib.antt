@@ -1,4 +1,5 @@
 pub mod Codes
+pub mod Limits
 pub mod Value
 pub mod Signed
 pub mod Tokens

@@ -4,7 +4,7 @@ use Rattle.kernel_gate.specs.Value.{Kernel, port}
 use Rattle.kernel_gate.specs.Signed.{SignatureView}
 use Rattle.kernel_gate.specs.Tokens.{each, places, token, total, mean_of, dot_product, window, last}
 use Rattle.kernel_gate.specs.Kernels.{if_shape, if_value, shaped, one_output, one_token, size, plain_counts}
-use Rattle.kernel_gate.specs.declared.limits.TheConstants.{MAX_MOVING_WIDTH}
+use Rattle.kernel_gate.specs.Limits.{most_args, most_moving_width}
 
 -- sum: the sum from the front
 abbrev pub sum_signature : SignatureView
@@ -35,7 +35,7 @@ dot_answer args inputs lens sets =
 abbrev pub fir_signature : SignatureView
 fir_signature = record {
   name = codes "fir";
-  counts = record { config = false; args_min = 1; args_max = 16; ins = 1; outs = 1; sets_min = 0; sets_max = 0 };
+  counts = record { config = false; args_min = 1; args_max = most_args; ins = 1; outs = 1; sets_min = 0; sets_max = 0 };
 }
 
 unfoldable pub fir_answer : Kernel
@@ -50,5 +50,5 @@ moving_signature = record { name = codes "moving"; counts = plain_counts 1 1 1 }
 unfoldable pub moving_answer : Kernel
 moving_answer args inputs lens sets =
     shaped (length (port inputs 0)) (size lens 0)
-    (if_value (int_le (pos 1) (token args 0) && int_le (token args 0) MAX_MOVING_WIDTH)
+    (if_value (int_le (pos 1) (token args 0) && int_le (token args 0) (pos most_moving_width))
     (one_output (each (λ n. mean_of (last (unsigned_abs (token args 0)) (take (n + 1) (port inputs 0)))) (places (size lens 0)))))

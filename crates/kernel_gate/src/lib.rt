@@ -12,6 +12,3 @@ pub use frame::Frame;
 pub use gate::Gate;
 pub use limits::{MAX_MEDIAN_TOKENS, MAX_MOVING_WIDTH};
 pub use signature::Signature;
-
-#[cfg(test)]
-mod tests;

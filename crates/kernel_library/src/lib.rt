@@ -2,8 +2,6 @@
 #![tactic(auto)]
 
 mod signatures;
-#[cfg(test)]
-mod tests;
 
 use crate::signatures::SIGNATURES;
 use kernel_gate::{Frame, Gate, KernelFault, Signature};

@@ -2,6 +2,7 @@
 ghost use Rattle.std.specs.Prelude.{◌≡◌, ◌==◌, ◌≤◌, ◌≤ℤ◌, ◌%◌, ℕ, ℤ, [], ◌∷◌, true, false, pos, length, map, find, count_by, IfNone, IfOk, IfSome, IsOk, Some};
 ghost use Rattle.kernel_gate.specs.Value.{SameFrame, answer_of, port, told_by};
 ghost use Rattle.kernel_gate.specs.Signed.{Fits};
+ghost use Rattle.kernel_gate.specs.Limits.{most_median_tokens};
 ghost use Rattle.kernel_gate.specs.Tokens.{places};
 ghost use Rattle.kernel_gate.specs.Counted.{larger, in_the_middle, in_bin, median_signature, median_answer, histogram_signature, histogram_answer, count_above_signature, count_above_answer};
 
@@ -24,7 +25,7 @@ fn above(limit: i64, x: &[i64]) -> usize
 #[tactic(auto, using(crate::proofs::Middles::middle_found))]
 fn middle(x: &[i64]) -> i64
     requires odd { length x.now % 2 ≡ 1 }
-    requires few { length x.now ≤ MAX_MEDIAN_TOKENS }
+    requires few { length x.now ≤ most_median_tokens }
     ensures { find (in_the_middle x.now) x.now ≡ Some result }
 {
     let mut room = [0i64; MAX_MEDIAN_TOKENS];
@@ -84,7 +85,7 @@ pub fn median(frame: &mut Frame) -> Result<(), KernelFault>
     requires { Fits median_signature.counts frame.old }
     ensures same { SameFrame frame.old frame.new }
     ensures value { told_by frame.new result ≡ answer_of median_answer frame.old }
-    ensures exists { length (port frame.old.outputs 0) ≡ 1 → length (port frame.old.inputs 0) % 2 ≡ 1 → length (port frame.old.inputs 0) ≤ MAX_MEDIAN_TOKENS → IsOk result }
+    ensures exists { length (port frame.old.outputs 0) ≡ 1 → length (port frame.old.inputs 0) % 2 ≡ 1 → length (port frame.old.inputs 0) ≤ most_median_tokens → IsOk result }
     ensures only { IfOk result (λ _. (u : ℤ) → in_the_middle (port frame.old.inputs 0) u ≡ true → frame.new.outputs ≡ (u ∷ []) ∷ []) }
 {
     let (_, x, o) = frame.ports(0, 0);

@@ -7,8 +7,6 @@ mod elements;
 mod maps;
 mod rearranged;
 mod sums;
-#[cfg(test)]
-mod tests;
 mod tokens;
 
 pub use configured::{pick, read_param, spread};

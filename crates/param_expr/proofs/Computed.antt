@@ -5,7 +5,7 @@ use Rattle.std.proofs.lemmas.Bool.Decides.{nat_tests}
 use Rattle.param_expr.specs.Named.{NamedTree}
 use Rattle.param_expr.specs.Parse.{Answers, UnlessMemory, SameUnlessMemory}
 use Rattle.param_expr.specs.Machine.{outcome, tally_of, first_reader, judged_of, judged_reading, answer_of}
-use Rattle.param_expr.specs.declared.limits.TheConstants.{MAX_EXPRESSION_BYTES, MAX_OPEN_PARENTHESES}
+use Rattle.param_expr.specs.Limits.{most_expression_bytes, most_open_parentheses}
 use Rattle.param_expr.specs.declared.fault.ExprFault.{ExprFault}
 use Rattle.param_expr.specs.declared.fault.ExprFault.TheVariants.{Syntax, TooLarge, TooDeep, TooLong, Memory}
 use Rattle.param_expr.specs.declared.symbol.Tally.{Tally}
@@ -35,7 +35,7 @@ told_holds P r deep h = h
 
 judged_told : (expr : NamedTree) (l : Option ℕ) (opened deepest : ℕ) → Told (judged_of (record { parsed = expr; tally = record { large = l; opened = opened; deepest = deepest } }))
 judged_told expr (Some at) opened deepest = large at
-judged_told expr None opened deepest = told_if (nat_lt MAX_OPEN_PARENTHESES deepest)
+judged_told expr None opened deepest = told_if (nat_lt most_open_parentheses deepest)
   where
     told_if : (b : Bool) → Told (cond b (Err TooDeep) (Ok expr))
     told_if true = deep
@@ -51,19 +51,19 @@ if_told false r h = h
 
 answer_told : (text : List ℕ) → Told (answer_of text)
 unfolding answer_of
-answer_told text = if_told (nat_lt MAX_EXPRESSION_BYTES (length text)) (judged_reading (tally_of text first_reader) (outcome text first_reader)) (reading_told (tally_of text first_reader) (outcome text first_reader))
+answer_told text = if_told (nat_lt most_expression_bytes (length text)) (judged_reading (tally_of text first_reader) (outcome text first_reader)) (reading_told (tally_of text first_reader) (outcome text first_reader))
 
-reading_answers : (text : List ℕ) (r : Result NamedTree ℕ) → length text ≤ MAX_EXPRESSION_BYTES → outcome text first_reader ≡ r → UnlessMemory (Answers text) (judged_reading (tally_of text first_reader) r)
+reading_answers : (text : List ℕ) (r : Result NamedTree ℕ) → length text ≤ most_expression_bytes → outcome text first_reader ≡ r → UnlessMemory (Answers text) (judged_reading (tally_of text first_reader) r)
 reading_answers text (Err at) short h = stop_answers text (Syntax at) short h
 reading_answers text (Ok expr) short h = read_answers text (record { parsed = expr; tally = tally_of text first_reader }) short (h, refl)
 
-if_answers : (text : List ℕ) (b : Bool) → nat_lt MAX_EXPRESSION_BYTES (length text) ≡ b → UnlessMemory (Answers text) (cond b (Err TooLong) (judged_reading (tally_of text first_reader) (outcome text first_reader)))
+if_answers : (text : List ℕ) (b : Bool) → nat_lt most_expression_bytes (length text) ≡ b → UnlessMemory (Answers text) (cond b (Err TooLong) (judged_reading (tally_of text first_reader) (outcome text first_reader)))
 if_answers text true h = over _ _ h
 if_answers text false h = reading_answers text (outcome text first_reader) (within _ _ h) refl
 
 pub answers : (text : List ℕ) → Answers text (answer_of text)
 unfolding answer_of
-answers text = told_holds (Answers text) (answer_of text) (answer_told text) (if_answers text (nat_lt MAX_EXPRESSION_BYTES (length text)) refl)
+answers text = told_holds (Answers text) (answer_of text) (answer_told text) (if_answers text (nat_lt most_expression_bytes (length text)) refl)
 
 same_told : (r a : Result NamedTree ExprFault) → Told r → SameUnlessMemory r a → a ≡ r
 same_told r a (found expr) h = h

@@ -1,6 +1,7 @@
 pub mod Answered
 pub mod Bound
 pub mod Computed
+pub mod Constants
 pub mod Derived
 pub mod Fewest
 pub mod Flattest

@@ -10,7 +10,7 @@ use Rattle.param_expr.specs.Tokens.{Placed, Token, Lexeme, front, front_at, toke
 use Rattle.param_expr.specs.declared.fault.ExprFault.{ExprFault}
 use Rattle.param_expr.specs.declared.fault.ExprFault.TheVariants.{Syntax, TooLarge, TooDeep, TooLong, Memory}
 use Rattle.param_expr.specs.Named.{NamedTree}
-use Rattle.param_expr.specs.Machine.{Turns, TurnGives, Gives, Reads, first_reader, ended, end_of, tokens_after, outcome, tally_of, run, step, tallied, tally_after, opened_after, symbol_of}
+use Rattle.param_expr.specs.Machine.{Turns, TurnGives, Gives, ReadingGives, first_reader, ended, end_of, tokens_after, outcome, tally_of, run, step, tallied, tally_after, opened_after, symbol_of}
 use Rattle.param_expr.specs.declared.state.State.{State}
 use Rattle.param_expr.specs.declared.symbol.Symbol.{Symbol}
 use Rattle.param_expr.specs.declared.symbol.Symbol.TheVariants.{Open, Close}
@@ -161,11 +161,11 @@ end_tally : (text : List ℕ) (reader : Reader) → length text ≤ reader.at �
 unfolding tallied
 end_tally text reader h = ap (tallied reader.tally) (nothing_left text reader.at h)
 
-pub read_whole : (text : List ℕ) (reader : Reader) (parsed : NamedTree) → length text ≤ reader.at → outcome text reader ≡ outcome text first_reader → tally_of text reader ≡ tally_of text first_reader → end_of reader.state ≡ Some parsed → Reads text (Ok (record { parsed = parsed; tally = reader.tally }))
+pub read_whole : (text : List ℕ) (reader : Reader) (parsed : NamedTree) → length text ≤ reader.at → outcome text reader ≡ outcome text first_reader → tally_of text reader ≡ tally_of text first_reader → end_of reader.state ≡ Some parsed → ReadingGives text (Ok (record { parsed = parsed; tally = reader.tally }))
 read_whole text reader parsed h same tallies is =
     (sym same ∙ end_outcome text reader h ∙ ap (ended (length text)) is, sym (end_tally text reader h) ∙ tallies)
 
-pub read_short : (text : List ℕ) (reader : Reader) (fault : ExprFault) (n : ℕ) → length text ≤ reader.at → n ≡ length text → outcome text reader ≡ outcome text first_reader → Gives {A = NamedTree} n (Err fault) (end_of reader.state) → Reads text (Err fault)
+pub read_short : (text : List ℕ) (reader : Reader) (fault : ExprFault) (n : ℕ) → length text ≤ reader.at → n ≡ length text → outcome text reader ≡ outcome text first_reader → Gives {A = NamedTree} n (Err fault) (end_of reader.state) → ReadingGives text (Err fault)
 read_short text reader Memory n h n_is same stops = tt
 read_short text reader (Syntax place) n h n_is same stops = sym same ∙ end_outcome text reader h ∙ ap (ended (length text)) stops.0 ∙ ap (λ k. Err k) (sym n_is ∙ sym stops.1)
 read_short text reader (TooLarge place) n h n_is same stops = absurd stops

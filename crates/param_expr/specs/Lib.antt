@@ -1,6 +1,7 @@
 pub mod Bind
 pub mod Eval
 pub mod Grammar
+pub mod Limits
 pub mod Machine
 pub mod Named
 pub mod Parse

@@ -3,7 +3,7 @@ use Rattle.std.specs.Prelude.{◌≡◌, ℕ, ◌+◌, ◌-◌, ◌^◌, ◌<◌
 use Rattle.param_expr.specs.Named.{NamedTree, number, name, binary}
 use Rattle.param_expr.specs.Tokens as token
 use Rattle.param_expr.specs.Tokens.{Token, Placed, tokens_from}
-use Rattle.param_expr.specs.declared.limits.TheConstants.{MAX_EXPRESSION_BYTES, MAX_OPEN_PARENTHESES}
+use Rattle.param_expr.specs.Limits.{most_expression_bytes, most_open_parentheses}
 use Rattle.param_expr.specs.declared.op.Op.{Op}
 use Rattle.param_expr.specs.declared.symbol.Symbol.{Symbol}
 use Rattle.param_expr.specs.declared.symbol.Symbol.TheVariants.{Number, Word, Additive, Multiplicative, Function, Open, Close, Comma, Other}
@@ -176,13 +176,13 @@ abbrev pub first_reader : Reader
 first_reader = record { state = start; tally = no_tally; at = 0 }
 
 -- what reading a text gives, unless memory ran out
-abbrev pub Reads : List ℕ → Result Reading ExprFault → Type 0
-Reads text (Ok reading) = (outcome text first_reader ≡ Ok reading.parsed) × (reading.tally ≡ tally_of text first_reader)
-Reads text (Err (Syntax at)) = outcome text first_reader ≡ Err at
-Reads text (Err Memory) = Unit {0}
-Reads text (Err (TooLarge at)) = ⊥
-Reads text (Err TooDeep) = ⊥
-Reads text (Err TooLong) = ⊥
+abbrev pub ReadingGives : List ℕ → Result Reading ExprFault → Type 0
+ReadingGives text (Ok reading) = (outcome text first_reader ≡ Ok reading.parsed) × (reading.tally ≡ tally_of text first_reader)
+ReadingGives text (Err (Syntax at)) = outcome text first_reader ≡ Err at
+ReadingGives text (Err Memory) = Unit {0}
+ReadingGives text (Err (TooLarge at)) = ⊥
+ReadingGives text (Err TooDeep) = ⊥
+ReadingGives text (Err TooLong) = ⊥
 
 -- what is answered once a text was read
 abbrev pub unless_large : Option ℕ → Result NamedTree ExprFault → Result NamedTree ExprFault
@@ -190,7 +190,7 @@ unless_large (Some at) answer = Err (TooLarge at)
 unless_large None answer = answer
 
 abbrev pub judged_of : Reading → Result NamedTree ExprFault
-judged_of reading = unless_large reading.tally.large (if nat_lt MAX_OPEN_PARENTHESES reading.tally.deepest then Err TooDeep else Ok reading.parsed)
+judged_of reading = unless_large reading.tally.large (if nat_lt most_open_parentheses reading.tally.deepest then Err TooDeep else Ok reading.parsed)
 
 abbrev pub judged_reading : Tally → Result NamedTree ℕ → Result NamedTree ExprFault
 judged_reading tally (Err at) = Err (Syntax at)
@@ -198,4 +198,4 @@ judged_reading tally (Ok expr) = judged_of (record { parsed = expr; tally = tall
 
 -- the one answer that a text has
 unfoldable pub answer_of : List ℕ → Result NamedTree ExprFault
-answer_of text = if nat_lt MAX_EXPRESSION_BYTES (length text) then Err TooLong else judged_reading (tally_of text first_reader) (outcome text first_reader)
+answer_of text = if nat_lt most_expression_bytes (length text) then Err TooLong else judged_reading (tally_of text first_reader) (outcome text first_reader)

@@ -5,7 +5,7 @@ use Rattle.param_expr.specs.Named.{NamedTree}
 use Rattle.param_expr.specs.Words.{IsName}
 use Rattle.param_expr.specs.Tokens.{Token, number, left_paren, right_paren, Placed, tokens_of, plain_tokens}
 use Rattle.param_expr.specs.Grammar.{Sum, sum_tokens, Spells}
-use Rattle.param_expr.specs.declared.limits.TheConstants.{MAX_EXPRESSION_BYTES, MAX_OPEN_PARENTHESES}
+use Rattle.param_expr.specs.Limits.{most_expression_bytes, most_open_parentheses}
 use Rattle.param_expr.specs.declared.fault.ExprFault.{ExprFault}
 use Rattle.param_expr.specs.declared.fault.ExprFault.TheVariants.{Syntax, TooLarge, TooDeep, TooLong, Memory}
 
@@ -58,17 +58,17 @@ most_open open_now (p ∷ rest) = max open_now (most_open (open_after open_now p
 
 -- a text that is short enough and spells some tree
 pub record IsSpelled (text : List ℕ) : Type 0 where
-  pub short : length text ≤ MAX_EXPRESSION_BYTES
+  pub short : length text ≤ most_expression_bytes
   pub expr : NamedTree
   pub spelled : Spells text expr
 
 -- The tree that a text spells, or the first of the faults that it shows.
 abbrev pub Answers : List ℕ → Result NamedTree ExprFault → Type 0
-Answers text (Err TooLong) = MAX_EXPRESSION_BYTES < length text
-Answers text (Err (Syntax at)) = (length text ≤ MAX_EXPRESSION_BYTES) × StopsAt text at
+Answers text (Err TooLong) = most_expression_bytes < length text
+Answers text (Err (Syntax at)) = (length text ≤ most_expression_bytes) × StopsAt text at
 Answers text (Err (TooLarge at)) = IsSpelled text × (first_large (tokens_of text) ≡ Some at)
-Answers text (Err TooDeep) = IsSpelled text × (first_large (tokens_of text) ≡ None) × (MAX_OPEN_PARENTHESES < most_open 0 (tokens_of text))
-Answers text (Ok expr) = (length text ≤ MAX_EXPRESSION_BYTES) × Spells text expr × (first_large (tokens_of text) ≡ None) × (most_open 0 (tokens_of text) ≤ MAX_OPEN_PARENTHESES)
+Answers text (Err TooDeep) = IsSpelled text × (first_large (tokens_of text) ≡ None) × (most_open_parentheses < most_open 0 (tokens_of text))
+Answers text (Ok expr) = (length text ≤ most_expression_bytes) × Spells text expr × (first_large (tokens_of text) ≡ None) × (most_open 0 (tokens_of text) ≤ most_open_parentheses)
 Answers text (Err Memory) = ⊥
 
 -- the result is such an answer, unless memory ran out

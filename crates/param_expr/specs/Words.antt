@@ -2,7 +2,7 @@
 use Rattle.std.specs.Prelude.{ℕ, Bool, false, ◌&&◌, ◌||◌, ◌==◌, nat_le, List, [], ◌∷◌, length, IsTrue, codes, not}
 use Rattle.std.specs.List.{list_all}
 use Rattle.std.specs.Str.{bytes_eq}
-use Rattle.param_expr.specs.declared.limits.TheConstants.{MAX_NAME_BYTES}
+use Rattle.param_expr.specs.Limits.{most_name_bytes}
 
 abbrev pub is_digit : ℕ → Bool
 is_digit b = nat_le 48 b && nat_le b 57
@@ -25,7 +25,7 @@ is_reserved bytes = bytes_eq bytes (codes "min") || bytes_eq bytes (codes "max")
 
 -- A letter or `_`, then letters, digits and `_`, 1 to 64 bytes, and not `min` and not `max`.
 abbrev pub is_name : List ℕ → Bool
-is_name bytes = starts_with_letter bytes && list_all is_word_byte bytes && nat_le (length bytes) MAX_NAME_BYTES && not (is_reserved bytes)
+is_name bytes = starts_with_letter bytes && list_all is_word_byte bytes && nat_le (length bytes) most_name_bytes && not (is_reserved bytes)
 
 abbrev pub IsName : List ℕ → Type 0
 IsName bytes = IsTrue (is_name bytes)

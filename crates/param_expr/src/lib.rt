@@ -26,6 +26,3 @@ pub use op::Op;
 pub use parsed::Parsed;
 pub use parsing::parse;
 pub use printing::print;
-
-#[cfg(test)]
-mod tests;

@@ -1,6 +1,7 @@
 ghost use Rattle.std.specs.Prelude.{◌≡◌, ◌≤◌, length, IfOk, Result, Err};
 ghost use Rattle.param_expr.specs.Named.{NamedTree};
 ghost use Rattle.param_expr.specs.Grammar.{Spells};
+ghost use Rattle.param_expr.specs.Limits.{most_expression_bytes};
 ghost use Rattle.param_expr.specs.Machine.{answer_of, judged_of};
 ghost use Rattle.param_expr.specs.Parse.{Answers, IsStated, SameUnlessMemory, UnlessMemory};
 ghost use Rattle.param_expr.specs.declared.fault.ExprFault.{ExprFault};
@@ -25,7 +26,7 @@ fn judged(reading: Reading) -> Result<Parsed, ExprFault>
 
 fn first_answer(alloc: Global, text: &str) -> Result<Parsed, ExprFault>
     ensures answer { UnlessMemory (Answers text.now) result }
-    ensures memory { result ≡ Err ExprFault.Memory → length text.now ≤ MAX_EXPRESSION_BYTES }
+    ensures memory { result ≡ Err ExprFault.Memory → length text.now ≤ most_expression_bytes }
 {
     if text.len() > MAX_EXPRESSION_BYTES {
         return Err(ExprFault::TooLong);
@@ -60,7 +61,7 @@ pub fn parse(alloc: Global, text: &str) -> Result<Parsed, ExprFault>
     ensures answer { UnlessMemory (Answers text.now) result }
     // Such an answer is given, unless memory runs out.
     ensures only { (answer : Result NamedTree ExprFault) → Answers text.now answer → SameUnlessMemory result answer }
-    ensures memory { result ≡ Err ExprFault.Memory → length text.now ≤ MAX_EXPRESSION_BYTES }
+    ensures memory { result ≡ Err ExprFault.Memory → length text.now ≤ most_expression_bytes }
     // The one answer, as a function of the text.
     ensures computed { UnlessMemory (λ found. found ≡ answer_of text.now) result }
     // Its numbers are at least 0, and its names are names.

@@ -1,5 +1,5 @@
 ghost use Rattle.std.specs.Prelude.{◌≡◌, ◌<◌, ◌≤◌, ◌^◌, length};
-ghost use Rattle.param_expr.specs.Machine.{Reads, TurnGives, first_reader, no_tally};
+ghost use Rattle.param_expr.specs.Machine.{ReadingGives, TurnGives, first_reader, no_tally};
 
 use crate::fault::ExprFault;
 use crate::parsed::Parsed;
@@ -63,7 +63,7 @@ impl Reader {
 /// The expression that a text spells.
 pub(crate) fn read(alloc: Global, text: &str) -> Result<Reading, ExprFault>
     requires { length text.now < 2 ^ 31 }
-    ensures { Reads text.now result }
+    ensures { ReadingGives text.now result }
 {
     let bytes = text.as_bytes();
     let mut reader = Reader::start(alloc);

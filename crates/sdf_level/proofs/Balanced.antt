@@ -1,6 +1,7 @@
 -- A repetition vector balances every link between two actors, as its base vector does.
 use Rattle.std.proofs.Common.{◌≡◌, ℕ, zero, suc, ◌*◌, ◌<◌, ◌≤◌, ⊎_elim, inl, List, [], ◌∷◌, slice_index, refl, sym, arith}
 use Rattle.std.proofs.lemmas.Bool.{cases_lt}
+use Rattle.std.proofs.Math.Nat.{mul-pos}
 use Rattle.std.specs.List.{AllByRecursion}
 use Rattle.sdf_level.specs.View.{LevelView}
 use Rattle.sdf_level.specs.declared.link.Link.{Link}
@@ -93,7 +94,4 @@ module _ (level : LevelView) (q : List ℕ) (is_level : IsLevel level) (is : IsR
       let one = is.is_base.solves.at_least_one a h in
       let m = f.least.factor.at_least_one in
       let e = f.product in
-      rw e (at_least f.factor (slice_index is.base a) m one)
-    where
-      at_least : (m n : ℕ) → 1 ≤ m → 1 ≤ n → 1 ≤ m * n
-      at_least m n h k = grind arith
+      rw e (mul-pos m one)

@@ -3,7 +3,7 @@ use Rattle.std.proofs.Common.{◌≡◌, ◌≢◌, ℕ, ◌+◌, ◌<◌, ◌�
 use Rattle.std.proofs.lemmas.Bool.{cases_eq, cases_lt}
 use Rattle.sdf_level.specs.View.{LevelView}
 use Rattle.sdf_level.specs.Firings.{firings, CanFire, EachFiring, EachCanFire}
-use Rattle.sdf_level.specs.Orders.{IsStuck, IsAdmissible, IsDeadlocked}
+use Rattle.sdf_level.specs.Orders.{IsStuck, IsAdmissible}
 use Rattle.sdf_level.proofs.FiringLists.{firings-moved, firings-own, firings-snoc_own, firings-snoc_other, CanFireAfter-more}
 
 module _ (level : LevelView) (q stuck : List ℕ) (is_stuck : IsStuck level q stuck) where
@@ -48,6 +48,3 @@ pub stuck_is_done : (level : LevelView) (q stuck list : List ℕ) → IsStuck le
 stuck_is_done level q stuck list s l a =
     let h = stuck_dominates level q stuck s list (λ c. let e = l.counts c in omega arith) l.each a in
     let e = l.counts a in let w = s.within a in omega arith
-
-pub deadlocked_from_stuck : (level : LevelView) (q stuck : List ℕ) (a : ℕ) → IsStuck level q stuck → firings a stuck < slice_index q a → IsDeadlocked level q
-deadlocked_from_stuck level q stuck a s h list l = let e = stuck_is_done level q stuck list s l a in omega arith

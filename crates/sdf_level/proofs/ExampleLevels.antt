@@ -42,9 +42,14 @@ uneven = record { actors = 2; sources = 1 ∷ []; sinks = 1 ∷ []; links = from
 abbrev pub ramp : ℕ → LevelView
 ramp n = record { actors = 2; sources = []; sinks = 1 ∷ []; links = between 0 0 n 1 0 1 0 ∷ into_sink 1 0 1 0 ∷ [] }
 
--- the same over four links
-abbrev pub four_links : ℕ → LevelView
-four_links n = record { actors = 2; sources = []; sinks = []; links = between 0 0 n 1 0 1 0 ∷ between 0 1 n 1 1 1 0 ∷ between 0 2 n 1 2 1 0 ∷ between 0 3 n 1 3 1 0 ∷ [] }
+-- the same over eight links
+abbrev pub eight_links : ℕ → LevelView
+eight_links n = record {
+  actors = 2;
+  sources = [];
+  sinks = [];
+  links = between 0 0 n 1 0 1 0 ∷ between 0 1 n 1 1 1 0 ∷ between 0 2 n 1 2 1 0 ∷ between 0 3 n 1 3 1 0 ∷ between 0 4 n 1 4 1 0 ∷ between 0 5 n 1 5 1 0 ∷ between 0 6 n 1 6 1 0 ∷ between 0 7 n 1 7 1 0 ∷ [];
+}
 
 -- an actor that takes back, at the greatest rate, what it gives, and this delay
 abbrev pub own_link : ℕ → LevelView

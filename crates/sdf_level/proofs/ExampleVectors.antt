@@ -4,7 +4,7 @@ use Rattle.sdf_level.specs.Balance.{Solves, IsBase, HasNoVector}
 use Rattle.sdf_level.specs.Components.{AreConnected}
 use Rattle.sdf_level.specs.Repetition.{IsLeastFactor, IsMultiplied, IsRepetition, IsFirstMismatch}
 use Rattle.sdf_level.specs.Limits.{IsWithinLimits, HasTooManyFirings, HasTooManyLinks, HasTooManyTokens, firing_count, link_count, token_count}
-use Rattle.sdf_level.proofs.ExampleLevels.{pairs, doubled, keep_last, uneven, ramp, four_links, own_link, filters, growing, silent, mute, starved}
+use Rattle.sdf_level.proofs.ExampleLevels.{pairs, doubled, keep_last, uneven, ramp, eight_links, own_link, filters, growing, silent, mute, starved}
 
 doubled_solved : Solves doubled (3 ∷ 2 ∷ [])
 doubled_solved = record { one_each = refl; at_least_one = some; within = small; balanced = (tt, (refl, (tt, tt))) }
@@ -101,26 +101,27 @@ keep_last_factor = record {
 filters_tokens : token_count filters (8 ∷ 8 ∷ []) ≡ 304128
 filters_tokens = refl
 
-ramp_links : link_count (ramp 1023) (1 ∷ 1023 ∷ []) ≡ 2052
+-- firings up to their limit, and past it
+most_firings : firing_count (1 ∷ 1023 ∷ 1024 ∷ []) ≡ 2048
+most_firings = refl
+
+ramp_links : link_count (ramp 1024) (1 ∷ 1024 ∷ []) ≡ 2054
 ramp_links = refl
 
-ramp_within : IsWithinLimits (ramp 1023) (1 ∷ 1023 ∷ [])
-ramp_within = record { firings = omega arith; links = omega arith; tokens = omega arith }
+most_firings_within : IsWithinLimits (ramp 2047) (1 ∷ 2047 ∷ [])
+most_firings_within = record { firings = omega arith; links = omega arith; tokens = omega arith }
 
-ramp_firings : firing_count (1 ∷ 1024 ∷ []) ≡ 1025
-ramp_firings = refl
-
-ramp_too_long : HasTooManyFirings (1 ∷ 1024 ∷ [])
-ramp_too_long = omega arith
+too_many_firings : HasTooManyFirings (1 ∷ 1024 ∷ 1024 ∷ [])
+too_many_firings = omega arith
 
 -- links up to their limit, and past it
-most_links : link_count (four_links 1021) (1 ∷ 1021 ∷ []) ≡ 4096
+most_links : link_count (eight_links 1021) (1 ∷ 1021 ∷ []) ≡ 8192
 most_links = refl
 
-most_links_within : IsWithinLimits (four_links 1021) (1 ∷ 1021 ∷ [])
+most_links_within : IsWithinLimits (eight_links 1021) (1 ∷ 1021 ∷ [])
 most_links_within = record { firings = omega arith; links = omega arith; tokens = omega arith }
 
-too_many_links : HasTooManyLinks (four_links 1022) (1 ∷ 1022 ∷ [])
+too_many_links : HasTooManyLinks (eight_links 1022) (1 ∷ 1022 ∷ [])
 too_many_links = record { firings = omega arith; over = omega arith }
 
 -- tokens up to their limit, and past it

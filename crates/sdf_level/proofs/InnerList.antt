@@ -4,11 +4,10 @@ use Rattle.std.specs.List.{All, AllByRecursion}
 use Rattle.std.proofs.lemmas.List.{append-nil, length-append, length-map, map-append, take_more}
 use Rattle.std.proofs.lemmas.List.Elements.{All-from_recursion}
 use Rattle.sdf_level.specs.View.{LevelView}
-use Rattle.sdf_level.specs.Kept.{TailIsThere, HeadIsThere, HasTailRateWithin, HasHeadRateWithin, IsLevel}
+use Rattle.sdf_level.specs.Kept.{TailIsThere, HeadIsThere, HasTailRateWithin, HasHeadRateWithin, IsLevel, rate_limit}
 use Rattle.sdf_level.specs.Links.{Inner, OfInner, EachInner, IsInnerWith, SomeInner}
 use Rattle.sdf_level.specs.Components.{Joins, IsPath, AreConnected}
 use Rattle.sdf_level.specs.Numbered.{IsBetween, as_link, inner_of, inner_at, inner_links}
-use Rattle.sdf_level.specs.declared.TheConstants.{RATE_LIMIT}
 use Rattle.sdf_level.specs.declared.inner_link.InnerLink.{InnerLink}
 use Rattle.sdf_level.specs.declared.link.Link.{Link}
 use Rattle.sdf_level.specs.declared.link.Tail.{Tail}
@@ -109,11 +108,11 @@ abbrev IsBetweenTwo : ℕ → Inner → Type 0
 IsBetweenTwo n link = IsBetween n record { tail = link.tail; produced = link.produced; head = link.head; consumed = link.consumed; delay = link.delay }
 
 each_within : (level : LevelView) (links : List Link) → AllByRecursion (λ link. TailIsThere level link.tail) links → AllByRecursion (λ link. HeadIsThere level link.head) links →
-    AllByRecursion (λ link. HasTailRateWithin RATE_LIMIT link.tail) links → AllByRecursion (λ link. HasHeadRateWithin RATE_LIMIT link.head) links → EachInner (IsBetweenTwo level.actors) links
+    AllByRecursion (λ link. HasTailRateWithin rate_limit link.tail) links → AllByRecursion (λ link. HasHeadRateWithin rate_limit link.head) links → EachInner (IsBetweenTwo level.actors) links
 each_within level [] tails heads puts takes = tt
 each_within level (link ∷ links) tails heads puts takes = (one link.tail link.head link.delay tails.0 heads.0 puts.0 takes.0, each_within level links tails.1 heads.1 puts.1 takes.1)
   where
-    one : (t : Tail) (h : Head) (d : ℕ) → TailIsThere level t → HeadIsThere level h → HasTailRateWithin RATE_LIMIT t → HasHeadRateWithin RATE_LIMIT h → OfInner (IsBetweenTwo level.actors) t h d
+    one : (t : Tail) (h : Head) (d : ℕ) → TailIsThere level t → HeadIsThere level h → HasTailRateWithin rate_limit t → HasHeadRateWithin rate_limit h → OfInner (IsBetweenTwo level.actors) t h d
     one (tail.Source s) h d there here put taken = tt
     one (tail.Port a p r) (head.Sink s) d there here put taken = tt
     one (tail.Port a p r) (head.Port b j c) d there here put taken = record { tail_there = there; head_there = here; produced = put; consumed = taken }

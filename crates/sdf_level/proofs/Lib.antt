@@ -14,6 +14,6 @@ pub mod ExampleLevels
 pub mod ExampleVectors
 pub mod ExampleOrders
 pub mod ExampleRuns
-pub mod NumberedPorts
+pub mod Stated
 pub mod Branches
 pub mod Regrouped

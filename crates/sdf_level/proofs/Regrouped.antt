@@ -3,7 +3,8 @@ use Rattle.std.proofs.Common.{◌≡◌, ◌≢◌, ℕ, zero, suc, ◌+◌, ◌
 use Rattle.std.proofs.lemmas.Bool.{cases_eq, eq-eqb, ne_eqb}
 use Rattle.std.proofs.lemmas.List.{get_or-set_same, get_or-set_other, length-set, take_more}
 use Rattle.std.proofs.lemmas.List.Elements.{All-append, All-nil}
-use Rattle.sdf_level.specs.Groups.{occurrences, AreGroups, AreRenumbered, AreUnited, united}
+use Rattle.sdf_level.specs.Lists.{occurrences}
+use Rattle.sdf_level.specs.Groups.{AreGroups, AreRenumbered, AreUnited, united}
 
 module _ (g h kept : ℕ) where
   pub united-first : united g h kept g ≡ kept

@@ -1,13 +1,13 @@
 -- Lists of firings (Lee and Messerschmitt 1987): a list names the actor of each firing in turn.
-use Rattle.std.specs.Prelude.{◌≡◌, ℕ, ◌+◌, ◌*◌, ◌≤◌, ◌==◌, List, [], ◌∷◌, ◌++◌, map, if◌then◌else◌}
+use Rattle.std.specs.Prelude.{◌≡◌, ℕ, ◌+◌, ◌*◌, ◌≤◌, List, [], ◌∷◌, ◌++◌, map}
 use Rattle.sdf_level.specs.View.{LevelView}
+use Rattle.sdf_level.specs.Lists.{occurrences}
 use Rattle.sdf_level.specs.Links.{Inner, EachInner}
 use Rattle.sdf_level.specs.declared.turn.Turn.{Turn}
 
 -- how often an actor fires in a list
 abbrev pub firings : ℕ → List ℕ → ℕ
-firings a [] = 0
-firings a (b ∷ rest) = (if b == a then 1 else 0) + firings a rest
+firings a list = occurrences a list
 
 -- after so many firings of each actor, the link has the tokens for one more of its head
 abbrev pub HasTokens : (ℕ → ℕ) → Inner → Type 0

@@ -1,15 +1,8 @@
 -- Disjoint groups of actors: for each actor the number of its group, and for each number a list of that group's actors.
-use Rattle.std.specs.Prelude.{◌≡◌, ℕ, ◌+◌, ◌<◌, ◌⊎◌, ◌==◌, List, [], ◌∷◌, length, map, slice_index, slice_index_or, if◌then◌else◌, Vec}
+use Rattle.std.specs.Prelude.{◌≡◌, ℕ, ◌<◌, ◌⊎◌, ◌==◌, List, [], length, slice_index, slice_index_or, if◌then◌else◌}
 use Rattle.std.specs.List.{All}
+use Rattle.sdf_level.specs.Lists.{occurrences, lists_of}
 use Rattle.sdf_level.specs.declared.groups.Groups.{Groups}
-
-abbrev pub lists_of : {A : Type 0} → List (Vec ℕ A) → List (List ℕ)
-lists_of vectors = map (λ v. v.items) vectors
-
--- how often an actor stands in a list
-abbrev pub occurrences : ℕ → List ℕ → ℕ
-occurrences a [] = 0
-occurrences a (b ∷ rest) = (if b == a then 1 else 0) + occurrences a rest
 
 -- of n actors each stands once in the list of its group, and in no other
 pub record AreGroups (n : ℕ) (number : List ℕ) (lists : List (List ℕ)) : Type 0 where

@@ -2,12 +2,15 @@
 use Rattle.std.specs.Prelude.{◌≡◌, ℕ, ◌<◌, ◌≤◌, ◌^◌, ◌+◌, Bool, false, ◌==◌, ◌&&◌, List, [], ◌∷◌, length, if◌then◌else◌}
 use Rattle.std.specs.List.{AllByRecursion}
 use Rattle.sdf_level.specs.View.{LevelView}
-use Rattle.sdf_level.specs.declared.TheConstants.{RATE_LIMIT}
 use Rattle.sdf_level.specs.declared.link.Link.{Link}
 use Rattle.sdf_level.specs.declared.link.Tail.{Tail}
 use Rattle.sdf_level.specs.declared.link.Head.{Head}
 use Rattle.sdf_level.specs.declared.link.Tail.TheVariants as tail
 use Rattle.sdf_level.specs.declared.link.Head.TheVariants as head
+
+-- the greatest rate, in tokens a firing
+abbrev pub rate_limit : ℕ
+rate_limit = 262144
 
 abbrev pub TailIsThere : LevelView → Tail → Type 0
 TailIsThere level (tail.Source s) = s < length level.sources
@@ -73,10 +76,10 @@ pub record IsLevel (level : LevelView) : Type 0 where
   pub outputs_without_gap : (a p : ℕ) → 0 < how_many (is_from_port a (p + 1)) level.links → 0 < how_many (is_from_port a p) level.links
   pub inputs_without_gap : (a p : ℕ) → 0 < how_many (is_into_port a (p + 1)) level.links → 0 < how_many (is_into_port a p) level.links
   -- every rate is within its limit
-  pub source_rates : AllByRecursion (λ r. r ≤ RATE_LIMIT) level.sources
-  pub sink_rates : AllByRecursion (λ r. r ≤ RATE_LIMIT) level.sinks
-  pub tail_rates : AllByRecursion (λ link. HasTailRateWithin RATE_LIMIT link.tail) level.links
-  pub head_rates : AllByRecursion (λ link. HasHeadRateWithin RATE_LIMIT link.head) level.links
+  pub source_rates : AllByRecursion (λ r. r ≤ rate_limit) level.sources
+  pub sink_rates : AllByRecursion (λ r. r ≤ rate_limit) level.sinks
+  pub tail_rates : AllByRecursion (λ link. HasTailRateWithin rate_limit link.tail) level.links
+  pub head_rates : AllByRecursion (λ link. HasHeadRateWithin rate_limit link.head) level.links
   -- and a number of 32 bits tells them apart
   pub few_sources : length level.sources < 2 ^ 32
   pub few_sinks : length level.sinks < 2 ^ 32

@@ -23,12 +23,12 @@ written t (link ∷ links) [] = []
 written t (link ∷ links) (line ∷ lines) = if is_into_sink t link then line else written t links lines
 
 -- what these sinks keep, the first of them having this number
-abbrev pub kept_from : {T : Type 0} → ℕ → List ℕ → List Link → List (List T) → List (List T)
-kept_from t [] links lines = []
-kept_from t (r ∷ sinks) links lines = last r (written t links lines) ∷ kept_from (t + 1) sinks links lines
+abbrev pub kept_at : {T : Type 0} → ℕ → List ℕ → List Link → List (List T) → List (List T)
+kept_at t [] links lines = []
+kept_at t (r ∷ sinks) links lines = last r (written t links lines) ∷ kept_at (t + 1) sinks links lines
 
 abbrev pub kept : {T : Type 0} → LevelView → List (List T) → List (List T)
-kept level lines = kept_from 0 level.sinks level.links lines
+kept level lines = kept_at 0 level.sinks level.links lines
 
 -- what is left on a link after all firings: between two actors its queue
 abbrev pub left_on : {T : Type 0} → List ℕ → Tail → Head → List T → List T

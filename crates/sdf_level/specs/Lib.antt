@@ -1,4 +1,5 @@
 pub mod View
+pub mod Lists
 pub mod Kept
 pub mod Links
 pub mod Balance

@@ -1,7 +1,6 @@
 -- What a level's counts of firings may come to: firings, then links, then tokens.
 use Rattle.std.specs.Prelude.{ℕ, ◌+◌, ◌*◌, ◌≤◌, ◌<◌, List, [], ◌∷◌, slice_index, sum}
 use Rattle.sdf_level.specs.View.{LevelView}
-use Rattle.sdf_level.specs.declared.TheConstants.{FIRINGS_LIMIT, LINKS_LIMIT, TOKENS_LIMIT}
 use Rattle.sdf_level.specs.declared.link.Link.{Link}
 use Rattle.sdf_level.specs.declared.link.Tail.{Tail}
 use Rattle.sdf_level.specs.declared.link.Head.{Head}
@@ -40,23 +39,35 @@ link_count level q = links_of q level.links
 abbrev pub token_count : LevelView → List ℕ → ℕ
 token_count level q = tokens_of q level.links
 
+-- the most firings
+abbrev pub firings_limit : ℕ
+firings_limit = 2048
+
+-- the greatest count of links
+abbrev pub links_limit : ℕ
+links_limit = 8192
+
+-- the most tokens
+abbrev pub tokens_limit : ℕ
+tokens_limit = 1048576
+
 -- all three are within their limits
 pub record IsWithinLimits (level : LevelView) (q : List ℕ) : Type 0 where
-  pub firings : firing_count q ≤ FIRINGS_LIMIT
-  pub links : link_count level q ≤ LINKS_LIMIT
-  pub tokens : token_count level q ≤ TOKENS_LIMIT
+  pub firings : firing_count q ≤ firings_limit
+  pub links : link_count level q ≤ links_limit
+  pub tokens : token_count level q ≤ tokens_limit
 
 -- the firings are the first over their limit
 abbrev pub HasTooManyFirings : List ℕ → Type 0
-HasTooManyFirings q = FIRINGS_LIMIT < firing_count q
+HasTooManyFirings q = firings_limit < firing_count q
 
 -- the links are
 pub record HasTooManyLinks (level : LevelView) (q : List ℕ) : Type 0 where
-  pub firings : firing_count q ≤ FIRINGS_LIMIT
-  pub over : LINKS_LIMIT < link_count level q
+  pub firings : firing_count q ≤ firings_limit
+  pub over : links_limit < link_count level q
 
 -- the tokens are
 pub record HasTooManyTokens (level : LevelView) (q : List ℕ) : Type 0 where
-  pub firings : firing_count q ≤ FIRINGS_LIMIT
-  pub links : link_count level q ≤ LINKS_LIMIT
-  pub over : TOKENS_LIMIT < token_count level q
+  pub firings : firing_count q ≤ firings_limit
+  pub links : link_count level q ≤ links_limit
+  pub over : tokens_limit < token_count level q

@@ -1,7 +1,7 @@
 -- Links between actors, without the numbers of their ports.
 use Rattle.std.specs.Prelude.{ℕ, ◌≤◌, ◌<◌, List, [], ◌∷◌, ◌++◌}
 use Rattle.sdf_level.specs.Links.{Inner}
-use Rattle.sdf_level.specs.declared.TheConstants.{RATE_LIMIT}
+use Rattle.sdf_level.specs.Kept.{rate_limit}
 use Rattle.sdf_level.specs.declared.inner_link.InnerLink.{InnerLink}
 use Rattle.sdf_level.specs.declared.link.Link.{Link}
 use Rattle.sdf_level.specs.declared.link.Tail.{Tail}
@@ -13,8 +13,8 @@ use Rattle.sdf_level.specs.declared.link.Head.TheVariants as head
 pub record IsBetween (n : ℕ) (link : InnerLink) : Type 0 where
   pub tail_there : link.tail < n
   pub head_there : link.head < n
-  pub produced : link.produced ≤ RATE_LIMIT
-  pub consumed : link.consumed ≤ RATE_LIMIT
+  pub produced : link.produced ≤ rate_limit
+  pub consumed : link.consumed ≤ rate_limit
 
 abbrev pub inner_of : InnerLink → Inner
 inner_of link = record { tail = link.tail; produced = link.produced; head = link.head; consumed = link.consumed; delay = link.delay }

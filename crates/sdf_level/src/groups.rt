@@ -1,7 +1,8 @@
 // Disjoint groups of actors.
 ghost use Rattle.std.specs.Prelude.{ℕ, ◌≡◌, ◌≢◌, ◌<◌, ◌++◌, [], length, set, slice_index, slice_index_or, IfOk, OnOk};
 ghost use Rattle.std.specs.List.{All};
-ghost use Rattle.sdf_level.specs.Groups.{AreRenumbered, AreUnited, IsGrouping, lists_of};
+ghost use Rattle.sdf_level.specs.Groups.{AreRenumbered, AreUnited, IsGrouping};
+ghost use Rattle.sdf_level.specs.Lists.{lists_of};
 
 use std::alloc::{AllocError, Global};
 use std::mem;

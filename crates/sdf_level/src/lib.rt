@@ -8,7 +8,6 @@ mod level;
 mod link;
 mod list;
 mod node;
-mod numbering;
 mod single_rate;
 mod token_name;
 mod turn;
@@ -30,13 +29,10 @@ pub const RATE_LIMIT: u32 = 262_144;
 pub const BASE_ENTRY_LIMIT: u32 = 1_024;
 
 /// The most firings of a job: the sum of its repetition vector.
-pub const FIRINGS_LIMIT: u64 = 1_024;
+pub const FIRINGS_LIMIT: u64 = 2_048;
 
 /// The greatest count of links of a job: over its links, the firings of the tail and of the head, and 2.
-pub const LINKS_LIMIT: u64 = 4_096;
+pub const LINKS_LIMIT: u64 = 8_192;
 
 /// The most tokens of a job: over its links, the tokens that its firings put or take, and the delay.
 pub const TOKENS_LIMIT: u64 = 1_048_576;
-
-#[cfg(test)]
-mod tests;

@@ -1,7 +1,8 @@
 -- A token as the token file writes it: an optional minus and one or more decimal digits, with a value in i64.
-use Rattle.std.specs.Prelude.{ℕ, ◌==◌, ◌&&◌, ◌^◌, if◌then◌else◌, not, nat_lt, ℤ, pos, negsuc, neg_ℤ, Bool, false, List, [], ◌∷◌, length, Option, Some, None}
+use Rattle.std.specs.Prelude.{ℕ, ◌==◌, ◌&&◌, if◌then◌else◌, not, ℤ, pos, neg_ℤ, Bool, false, List, [], ◌∷◌, length, Option, Some, None}
 use Rattle.std.specs.Str.{all_ascii_digits}
 use Rattle.std.specs.Str.Parse.{digits_value}
+use Rattle.param_expr.specs.Eval.{in_i64}
 
 abbrev pub has_minus : List ℕ → Bool
 has_minus [] = false
@@ -20,10 +21,6 @@ abbrev pub number_of : List ℕ → ℤ
 number_of field =
     if has_minus field then neg_ℤ (pos (digits_value 10 (after_minus field))) else pos (digits_value 10 (after_minus field))
 
-abbrev pub is_in_i64 : ℤ → Bool
-is_in_i64 (pos n) = nat_lt n (2 ^ 63)
-is_in_i64 (negsuc n) = nat_lt n (2 ^ 63)
-
 -- the token that a field is, where it is one
 unfoldable pub token_of : List ℕ → Option ℤ
-token_of field = if are_digits (after_minus field) && is_in_i64 (number_of field) then Some (number_of field) else None
+token_of field = if are_digits (after_minus field) && in_i64 (number_of field) then Some (number_of field) else None

@@ -10,6 +10,3 @@ mod token;
 pub use fault::TokenFault;
 pub use reading::read_tokens;
 pub use rows::{param_row, push_param_row, push_tokens_row, tokens_row};
-
-#[cfg(test)]
-mod tests;

@@ -1,5 +1,5 @@
 use Rattle.std.proofs.Common.{◌≡◌, ℕ, List, [], length, slice_index_or, refl, ◌∙◌, arith}
-use Rattle.sdf_level.specs.Groups.{lists_of}
+use Rattle.sdf_level.specs.Lists.{lists_of}
 use Rattle.balance_solver.specs.Scaled.{AreScaled, HasTooLarge}
 use Rattle.balance_solver.proofs.Scaling.{list_read, once_in, second_large, both_scaled, both_within}
 use Rattle.balance_solver.proofs.join.unite.Goals as goal

@@ -1,5 +1,6 @@
 use Rattle.std.proofs.Common.{[]}
-use Rattle.firing_order.specs.Adjacent.{AreAt, lists_of}
+use Rattle.sdf_level.specs.Lists.{lists_of}
+use Rattle.firing_order.specs.Adjacent.{AreAt}
 use Rattle.firing_order.proofs.adjacent.empty_lists.Given as goal
 
 -- as many empty lists as actors so far

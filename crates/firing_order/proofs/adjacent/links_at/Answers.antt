@@ -2,7 +2,8 @@ use Rattle.std.proofs.Common.{◌≡◌, ℕ, List, ◌++◌, length, get_or, ta
 use Rattle.std.proofs.lemmas.Grind.{common_steps}
 use Rattle.std.proofs.lemmas.List.{length-map, take_more}
 use Rattle.sdf_level.specs.declared.inner_link.InnerLink.{InnerLink}
-use Rattle.firing_order.specs.Adjacent.{Adds, lists_of}
+use Rattle.sdf_level.specs.Lists.{lists_of}
+use Rattle.firing_order.specs.Adjacent.{Adds}
 use Rattle.firing_order.proofs.adjacent.links_at.Goals as goal
 
 abbrev none : InnerLink

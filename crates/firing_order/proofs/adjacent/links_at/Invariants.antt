@@ -1,5 +1,6 @@
 use Rattle.std.proofs.Common.{take}
-use Rattle.firing_order.specs.Adjacent.{AreAt, lists_of}
+use Rattle.sdf_level.specs.Lists.{lists_of}
+use Rattle.firing_order.specs.Adjacent.{AreAt}
 use Rattle.firing_order.proofs.adjacent.links_at.Given as goal
 
 -- the lists of the links so far

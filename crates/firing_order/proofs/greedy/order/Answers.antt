@@ -2,7 +2,8 @@ use Rattle.std.proofs.Common.{◌≡◌, ◌<◌, ◌+◌, ℕ, true, false, ◌
 use Rattle.std.proofs.lemmas.Grind.{common_steps}
 use Rattle.std.specs.List.{filter}
 use Rattle.sdf_level.specs.View.{LevelView}
-use Rattle.firing_order.specs.Adjacent.{AreAt, is_at, lists_of}
+use Rattle.sdf_level.specs.Lists.{lists_of}
+use Rattle.firing_order.specs.Adjacent.{AreAt, is_at}
 use Rattle.firing_order.specs.Lacking.{IsFree}
 use Rattle.firing_order.proofs.Adjacency.{at_read}
 use Rattle.firing_order.proofs.Counting.{at_between, at_counted, at_few, lacking_after}

@@ -1,7 +1,8 @@
 use Rattle.std.proofs.Common.{◌≡◌, ℕ, ◌*◌, ◌≤◌, ◌<◌, length, slice_index, ap, arith, rules, subst, Fits, w32}
 use Rattle.std.proofs.Math.Nat.{mul-le-mul_left, mul-le-mul_right}
 use Rattle.std.proofs.lemmas.List.{get_or_read}
-use Rattle.sdf_level.specs.declared.TheConstants.{RATE_LIMIT, BASE_ENTRY_LIMIT}
+use Rattle.sdf_level.specs.Kept.{rate_limit}
+use Rattle.sdf_level.specs.Balance.{base_entry_limit}
 use Rattle.sdf_level.specs.View.{LevelView}
 use Rattle.sdf_level.specs.Kept.{IsLevel}
 use Rattle.sdf_level.proofs.OnlyOne.{repetition_only}
@@ -36,10 +37,10 @@ returns-in_err-factors-clause-mismatch c = search rules
 pub returns-in_err-factors-clause-none : goal.returns-in_err-factors-clause-none
 returns-in_err-factors-clause-none c link e q is = no_mismatch c.args.level.now q link is (returns-in_err-factors-clause-mismatch c link e)
 
-product_fits : (m b : ℕ) → m ≤ RATE_LIMIT → b ≤ BASE_ENTRY_LIMIT → Fits w32 (m * b)
+product_fits : (m b : ℕ) → m ≤ rate_limit → b ≤ base_entry_limit → Fits w32 (m * b)
 product_fits m b h k =
-    let x : m * b ≤ RATE_LIMIT * b = mul-le-mul_right b h in
-    let y : RATE_LIMIT * b ≤ RATE_LIMIT * BASE_ENTRY_LIMIT = mul-le-mul_left RATE_LIMIT k in
+    let x : m * b ≤ rate_limit * b = mul-le-mul_right b h in
+    let y : rate_limit * b ≤ rate_limit * base_entry_limit = mul-le-mul_left rate_limit k in
     omega arith
 
 pub overflow_mul-index : goal.overflow_mul-index

@@ -1,7 +1,7 @@
 use Rattle.std.proofs.Common.{◌≡◌, ℕ, ◌+◌, List, length, take, get_or, refl, ap, sym, ◌∙◌, true, rules, arith, FitsSigned, w64}
 use Rattle.std.specs.Prelude.{ℤ, pos, int_le, unsigned_abs}
 use Rattle.std.proofs.lemmas.Int.{to_z-of_z, ints}
-use Rattle.kernel_gate.specs.declared.limits.TheConstants.{MAX_MOVING_WIDTH}
+use Rattle.kernel_gate.specs.Limits.{most_moving_width}
 use Rattle.kernel_gate.specs.Value.{lengths}
 use Rattle.kernel_gate.specs.Tokens.{each, places, mean_of, last}
 use Rattle.kernel_gate.specs.Kernels.{size}
@@ -21,7 +21,7 @@ returns-clause-value c =
     c.write_means.ensures
     in
     let least : int_le (pos 1) (get_or c.ports-o.result.0.now 0 (pos 0)) ≡ true = grind (arith, ints) in
-    let most : int_le (get_or c.ports-o.result.0.now 0 (pos 0)) MAX_MOVING_WIDTH ≡ true = grind (arith, ints) in
+    let most : int_le (get_or c.ports-o.result.0.now 0 (pos 0)) (pos most_moving_width) ≡ true = grind (arith, ints) in
     let in_bounds = rw c.ports-o.ensures.args at (both _ _ least most) in
     let same_length = sym (ap (λ (l : List ℤ). length l) c.ports-o.ensures.input) ∙ (c.if-x-o.false ∙ room) in
     tells_one f c.write_means.new.o c.write_means.result _ _ c.requires.outs c.requires.sets.1 (omega (arith, ap (λ (l : List ℤ). length l) c.ports-o.ensures.output))

@@ -1,5 +1,5 @@
 use Rattle.std.proofs.Common.{◌≡◌, ℕ, ◌<◌, [], ◌∷◌, length, slice_index, slice_index_or}
-use Rattle.sdf_level.specs.Groups.{lists_of}
+use Rattle.sdf_level.specs.Lists.{lists_of}
 use Rattle.sdf_level.proofs.groups.Groups.apart.Given as goal
 
 -- each actor so far is alone

@@ -1,6 +1,7 @@
 use Rattle.std.proofs.Common.{◌≡◌, ℕ, List, [], ◌++◌, length, set, slice_index_or, take, drop, arith}
 use Rattle.std.proofs.lemmas.Grind.{common_steps}
-use Rattle.sdf_level.specs.Groups.{AreGroups, AreRenumbered, AreUnited, lists_of}
+use Rattle.sdf_level.specs.Groups.{AreGroups, AreRenumbered, AreUnited}
+use Rattle.sdf_level.specs.Lists.{lists_of}
 use Rattle.sdf_level.proofs.Regrouped.{merged_groups, merged_united}
 use Rattle.sdf_level.proofs.groups.Groups.merge.Goals as goal
 

@@ -1,5 +1,0 @@
-use Rattle.interface_rules.proofs.Bases.{kept_base}
-use Rattle.interface_rules.proofs.tests.kept.Goals as goal
-
-pub returns : goal.returns
-returns c = rw (c.new-3.ensures, c.in_ok-links.ensures.items, c.from_source.ensures, c.between.ensures, c.into_sink.ensures) (kept_base c.new.result c.new-2.result)
