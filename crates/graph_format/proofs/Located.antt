@@ -50,18 +50,18 @@ first_here (y ∷ xs) ys x some = some
 
 -- one walk after another
 and_then : {A B : Type 0} (m : Result A (List ℕ)) (f : A → Result B (List ℕ)) (ps qs : List Place) → Finds m ps → ((x : A) → m ≡ Ok x → Finds (f x) qs) → Finds (m >>= f) (ps ++ qs)
-unfolding fault_of, first_un
+unfolding fault_of first_un
 and_then (Ok x) f ps qs here after = record { at = (after x refl).at ∙ sym (ap first (unformed_append ps qs) ∙ first_after (unformed ps) (unformed qs) here.at) }
 and_then (Err p) f ps qs here after = record { at = first_here (unformed ps) (unformed qs) p here.at ∙ sym (ap first (unformed_append ps qs)) }
 
 -- and what is made of it can't fail
 made : {A B : Type 0} (m : Result A (List ℕ)) (f : A → B) (ps : List Place) → Finds m ps → Finds (m >>= λ x. Ok (f x)) ps
-unfolding fault_of, first_un
+unfolding fault_of first_un
 made (Ok x) f ps here = record { at = here.at }
 made (Err p) f ps here = record { at = here.at }
 
 nothing : {A : Type 0} (x : A) → Finds (Ok x) []
-unfolding fault_of, first_un
+unfolding fault_of first_un
 nothing x = record { at = refl }
 
 same_places : {A : Type 0} (m : Result A (List ℕ)) (ps qs : List Place) → ps ≡ qs → Finds m ps → Finds m qs
@@ -69,13 +69,13 @@ same_places m ps qs same here = subst (Finds m) same here
 
 -- a value without parts
 alone : {A : Type 0} (at : List ℕ) (o : Option A) → Finds (shaped at o) (record { pointer = pointer_text at; formed = is_some o } ∷ cond (is_some o) [] [])
-unfolding fault_of, first_un
+unfolding fault_of first_un
 alone at None = record { at = refl }
 alone at (Some x) = record { at = refl }
 
 -- a value with its form, and then its parts
 whole : {A : Type 0} (at : List ℕ) (own : Bool) (walked : Result A (List ℕ)) (below : List Place) → (own ≡ true → Finds walked below) → Finds (cond own walked (Err (pointer_text at))) (record { pointer = pointer_text at; formed = own } ∷ cond own below [])
-unfolding fault_of, first_un
+unfolding fault_of first_un
 whole at true walked below h = record { at = (h refl).at }
 whole at false walked below h = record { at = refl }
 
@@ -124,7 +124,7 @@ module _ (version n : ℕ) where
   -- ---- lists
 
   items_find : {A : Type 0} (read : List ℕ → Data → Result A (List ℕ)) (form : Form) → Locates read form → (at : List ℕ) (i : ℕ) (ds : Items) → Finds (items_at read at i ds) (below at (items_from form i ds))
-  unfolding items_at, below
+  unfolding items_at below
   items_find read form h at i no_items = nothing []
   items_find read form h at i (item d ds) =
       and_then (read (under at (decimal i)) d) (λ x. items_at read at (i + 1) ds >>= λ xs. Ok (x ∷ xs)) (places_to version n form (under at (decimal i)) d) (below at (items_from form (i + 1) ds))
@@ -178,13 +178,13 @@ module _ (version n : ℕ) where
 
 -- a value, and then its parts
 opened : (version n : ℕ) (form : Form) (at : List ℕ) (d : Data) → places_to version (suc n) form at d ≡ record { pointer = pointer_text at; formed = has_own_form version form d } ∷ cond (has_own_form version form d) (below version n at (parts version form d)) []
-unfolding places_to, below
+unfolding places_to below
 opened version n form at d = refl
 
 module _ (version n : ℕ) where
   values_find : {A : Type 0} (read : List ℕ → Data → Result A (List ℕ)) (form : Form) → Locates version n read form → (at : List ℕ) (o : Option Items)
       → Finds (shaped at o >>= items_at read at 0) (record { pointer = pointer_text at; formed = is_some o } ∷ cond (is_some o) (below version n at (the_items form o)) [])
-  unfolding fault_of, first_un
+  unfolding fault_of first_un
   values_find read form h at None = record { at = refl }
   values_find read form h at (Some values) = record { at = (items_find version n read form h at 0 values).at }
 
@@ -396,7 +396,7 @@ module _ (version n : ℕ) where
 
 module _ (version n : ℕ) where
   delay_finds : (at : List ℕ) (d : Data) (o : Option Items) → Finds (tokens_or_zeros_at at d o) (record { pointer = pointer_text at; formed = is_delay o d } ∷ cond (is_delay o d) (below version (suc n) at (the_items a_token o)) [])
-  unfolding fault_of, first_un, below
+  unfolding fault_of first_un below
   delay_finds at d None = alone at (option_and_then zeros_from (whole_of d))
   delay_finds at d (Some values) = record { at = (made (items_at whole_at at 0 values) Tokens (below version (suc n) at (items_from a_token 0 values)) (items_find version (suc n) whole_at a_token (token_located version n) at 0 values)).at }
 

@@ -1,12 +1,12 @@
 -- How many tokens go on in a graph, counted over its own delays and the graphs that it holds.
-use Rattle.std.proofs.Common.{◌≡◌, ℕ, zero, suc, ◌+◌, ◌≤◌, ◌==◌, ◌&&◌, ◌||◌, ℤ, Bool, min, nat_lt, List, [], ◌∷◌, ◌++◌, length, map, Option, Some, None, option_map, refl, sym, ap, ◌∙◌, ⊎_elim, ◌<◌, add-one, arith, get_or, replicate}
+use Rattle.std.proofs.Common.{◌≡◌, ℕ, zero, suc, ◌+◌, ◌≤◌, ◌==◌, ◌&&◌, ◌||◌, ℤ, Bool, false, min, nat_lt, List, [], ◌∷◌, ◌++◌, length, map, Option, Some, None, option_map, refl, sym, ap, ◌∙◌, ⊎_elim, ◌<◌, add-one, arith, get_or, replicate}
 use Rattle.std.specs.Prelude.{slice_get, slice_index_or, sum_by}
 use Rattle.std.specs.List.{flat_map, list_any, range_with_len}
 use Rattle.std.proofs.lemmas.Bool.{cases_lt, lt-ltb, ltb-true}
-use Rattle.std.proofs.lemmas.List.{get_or_past}
+use Rattle.std.proofs.lemmas.List.{get_or_past, get_or_read}
 use Rattle.std.proofs.lemmas.List.Concat.{length-flat_map}
 use Rattle.std.proofs.lemmas.List.Folds.{flat_map-map}
-use Rattle.std.proofs.lemmas.List.FromFn.{get_or-map-range_with_len, length-map-range_with_len}
+use Rattle.std.proofs.lemmas.List.FromFn.{get_or-map-range_with_len, length-map-range_with_len, map-range_with_len_more}
 use Rattle.std.proofs.lemmas.List.Sums.{sum_by-append, sum_by-cons}
 use Rattle.std.proofs.lemmas.Grind.{flat_map-append}
 use Rattle.pisdf_model.specs.Arrows.{to_of}
@@ -17,6 +17,10 @@ use Rattle.pisdf_model.specs.declared.actor.Body.{Body}
 use Rattle.pisdf_model.specs.declared.actor.Body.TheVariants.{Kernel, Config, Child, ConfigChild}
 use Rattle.pisdf_model.specs.declared.fifo.Fifo.{Fifo}
 use Rattle.pisdf_model.specs.declared.graph.Graph.{Graph}
+use Rattle.pisdf_model.specs.Count.{counts_of, excess_of, graph_counts}
+use Rattle.pisdf_model.specs.Details.{first}
+use Rattle.pisdf_model.specs.declared.counting.Counted.{Counted}
+use Rattle.pisdf_model.proofs.Alike.{of_mapped}
 use Rattle.pisdf_model.proofs.Cycles.{same_test}
 
 -- ---- sums
@@ -54,8 +58,8 @@ graph_length states g =
     ∙ sum_by-append size fifos actors
     ∙ ap (λ n. n + sum_by size actors) (sum_mapped size kept_in g.fifos)
     ∙ ap (λ n. own_hold g + n) (sum_mapped size (λ (a : Actor). actor_state states a.body) g.actors
-        ∙ sum_same (λ (a : Actor). length (actor_state states a.body)) (λ (a : Actor). sum_by held (children_of a.body)) (λ a. actor_length states a.body) g.actors
-        ∙ sum_flat held (λ (a : Actor). children_of a.body) g.actors)
+    ∙ sum_same (λ (a : Actor). length (actor_state states a.body)) (λ (a : Actor). sum_by held (children_of a.body)) (λ a. actor_length states a.body) g.actors
+    ∙ sum_flat held (λ (a : Actor). children_of a.body) g.actors)
 
 hold_here : (states : ℕ → List (List ℤ)) (held : ℕ → ℕ) → ((k : ℕ) → length (in_line (states k)) ≡ held k) → (graphs : List Graph) (place : ℕ)
     → length (in_line (graph_state states (slice_get graphs place))) ≡ slice_index_or (map own_hold graphs) place 0 + sum_by held (to_of (map children graphs) place)
@@ -64,7 +68,7 @@ hold_here states held same (g ∷ graphs) zero = graph_length states g ∙ ap (�
 hold_here states held same (g ∷ graphs) (suc place) = hold_here states held same graphs place
 
 pub held_tokens : (graphs : List Graph) (n place : ℕ) → length (in_line (initial_to graphs n place)) ≡ hold_to (map own_hold graphs) (map children graphs) n place
-unfolding initial_to, hold_to
+unfolding initial_to hold_to
 held_tokens graphs zero place = refl
 held_tokens graphs (suc n) place = hold_here (initial_to graphs n) (hold_to (map own_hold graphs) (map children graphs) n) (held_tokens graphs n) graphs place
 
@@ -95,9 +99,9 @@ capped_both a b c d first second = sym (capped_add a b) ∙ ap (λ n. capped (n 
 
 pub over_capped : (n : ℕ) → nat_lt 262144 (capped n) ≡ nat_lt 262144 n
 over_capped n = same_test (nat_lt 262144 (capped n)) (nat_lt 262144 n) (
-      λ over. lt-ltb 262144 n (let less = ltb-true 262144 (capped n) over in omega arith),
-      λ over. lt-ltb 262144 (capped n) (let less = ltb-true 262144 n over in omega arith),
-    )
+  λ over. lt-ltb 262144 n (let less = ltb-true 262144 (capped n) over in omega arith),
+  λ over. lt-ltb 262144 (capped n) (let less = ltb-true 262144 n over in omega arith),
+)
 
 read_capped : (own : List ℕ) (place : ℕ) → capped (slice_index_or (map capped own) place 0) ≡ capped (slice_index_or own place 0)
 read_capped [] place = refl
@@ -174,3 +178,46 @@ module _ (own : List ℕ) (arrows : List (List ℕ)) (long : length own ≡ leng
       from : (a n : ℕ) → replicate n 0 ≡ map (λ place. capped (hold_to own arrows 0 place)) (range_with_len a n)
       from a zero = refl
       from a (suc n) = ap (λ ys. 0 ∷ ys) (from (a + 1) n)
+
+-- one place more
+pub one_more_place : (own holds : List ℕ) (arrows : List (List ℕ)) (place : ℕ) (read to : List ℕ) (here value : ℕ) (mapped : List ℕ) → place < length arrows → read ≡ get_or arrows place read → to ≡ read → here ≡ get_or own place 0
+    → value ≡ capped (here + sum_by (λ k. get_or holds k 0) to) → mapped ≡ map (λ place. capped (get_or own place 0 + sum_by (λ k. get_or holds k 0) (to_of arrows place))) (range_with_len 0 place)
+    → mapped ++ value ∷ [] ≡ map (λ place. capped (get_or own place 0 + sum_by (λ k. get_or holds k 0) (to_of arrows place))) (range_with_len 0 (place + 1))
+one_more_place own holds arrows place read to here value mapped inside is same at_own told so_far =
+    let f : ℕ → ℕ = λ place. capped (get_or own place 0 + sum_by (λ k. get_or holds k 0) (to_of arrows place)) in
+    let value_is : value ≡ f place = told ∙ ap (λ h. capped (h + sum_by (λ k. get_or holds k 0) to)) at_own ∙ ap (λ t. capped (get_or own place 0 + sum_by (λ k. get_or holds k 0) t)) (same ∙ get_or_read arrows place read inside is []) in
+    ap (λ (m : List ℕ). m ++ value ∷ []) so_far ∙ ap (λ v. map f (range_with_len 0 place) ++ v ∷ []) value_is ∙ sym (map-range_with_len_more f 0 place place (omega arith))
+
+-- one graph more whose hold is told
+pub one_more_large : (own : List ℕ) (arrows : List (List ℕ)) (long : length own ≡ length arrows) (place : ℕ) (holds : List ℕ) (value : Bool) (mapped : List Bool) → holds ≡ level own arrows long 8 → value ≡ (is_held arrows place && nat_lt 262144 (get_or holds place 0))
+    → mapped ≡ map (λ place. is_large own arrows place) (range_with_len 0 place) → mapped ++ value ∷ [] ≡ map (λ place. is_large own arrows place) (range_with_len 0 (place + 1))
+one_more_large own arrows long place holds value mapped is told so_far =
+    let value_is : value ≡ is_large own arrows place =
+    told
+    ∙ ap (λ (hs : List ℕ). is_held arrows place && nat_lt 262144 (get_or hs place 0)) is
+    ∙ ap (λ n. is_held arrows place && nat_lt 262144 n) (read_level own arrows long 8 place)
+    ∙ ap (λ over. is_held arrows place && over) (over_capped (hold_to own arrows 8 place)) in
+    ap (λ (m : List Bool). m ++ value ∷ []) so_far ∙ ap (λ v. map (λ place. is_large own arrows place) (range_with_len 0 place) ++ v ∷ []) value_is ∙ sym (map-range_with_len_more (λ place. is_large own arrows place) 0 place place (omega arith))
+
+-- all of them
+pub with_large : (graphs : List Graph) (own : List ℕ) (large : List Bool) → own ≡ map (λ g. capped (own_hold g)) graphs → large ≡ map (λ place. is_large own (map children graphs) place) (range_with_len 0 (length graphs)) → large ≡ map (λ place. has_large_hold graphs place) (range_with_len 0 (length graphs))
+with_large graphs own large own_is large_is =
+    large_is
+    ∙ map_same (λ place. is_large own (map children graphs) place) (λ place. has_large_hold graphs place)
+    (λ place. ap (λ (os : List ℕ). is_large os (map children graphs) place) (own_is ∙ sym (of_mapped own_hold capped (λ g. capped (own_hold g)) (λ g. refl) graphs)) ∙ large_capped (map own_hold graphs) (map children graphs) place ∙ sym (large_hold graphs place))
+    (range_with_len 0 (length graphs))
+
+none_first : {D : Type 0} (ds : List D) → None ≡ first ds → ds ≡ []
+none_first [] none = refl
+none_first (d ∷ ds) none = absurd cc
+
+-- what a graph has too many of, where it is known which graphs have too large a hold
+module _ (graphs : List Graph) (large : List Bool) (n : ℕ) (g : Graph) (marked : Bool) (counted : Option Counted) (told : large ≡ map (λ place. has_large_hold graphs place) (range_with_len 0 (length graphs))) (inside : n < length graphs)
+    (read : marked ≡ get_or large n false) (is : counted ≡ first (excess_of (counts_of marked g))) where
+  pub counted_here : counted ≡ first (graph_counts graphs n g)
+  counted_here =
+      let here : marked ≡ has_large_hold graphs n = read ∙ ap (λ (bs : List Bool). get_or bs n false) told ∙ get_or-map-range_with_len (λ place. has_large_hold graphs place) 0 (length graphs) n n false inside (omega arith) in
+      is ∙ ap (λ b. first (excess_of (counts_of b g))) here
+
+  pub none_here : counted ≡ None → graph_counts graphs n g ≡ []
+  none_here none = none_first (graph_counts graphs n g) (sym none ∙ counted_here)

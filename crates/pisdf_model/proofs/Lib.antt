@@ -1,5 +1,6 @@
 pub mod Alike
 pub mod Closure
+pub mod CountedFaults
 pub mod Cycles
 pub mod EachGraph
 pub mod Falling

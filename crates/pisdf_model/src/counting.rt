@@ -1,16 +1,19 @@
-ghost use Rattle.std.specs.Prelude.{◌≡◌};
+ghost use Rattle.std.specs.Prelude.{◌≡◌, ◌<◌, false, length, map, slice_index_or, List as Seq, IfOk};
+ghost use Rattle.std.specs.List.{range_with_len};
+ghost use Rattle.pisdf_model.specs.Hold.{has_large_hold};
+ghost use Rattle.pisdf_model.specs.declared.graph.Graph.{Graph};
 ghost use Rattle.pisdf_model.specs.Details.{Answers, first};
-ghost use Rattle.pisdf_model.specs.Count.{count_faults, counts_of, excess_of, has_long_delay, word_of};
+ghost use Rattle.pisdf_model.specs.Count.{count_faults, counts_of, excess_of, graph_counts, has_long_delay, word_of};
 
 use crate::detail_fault::DetailFault;
 use crate::fifo::Fifo;
 use crate::graph::{Graph, Graphs};
-use crate::state_tokens::{large_holds, own_holds};
 use crate::limits::{
     MAX_ACTORS, MAX_DELAY_TOKENS, MAX_EXPORTS, MAX_FIFOS, MAX_GRAPHS, MAX_INPUTS, MAX_OUTPUTS,
     MAX_PARAMS,
 };
-use std::alloc::Global;
+use crate::state_tokens::{large_holds, own_holds};
+use std::alloc::{AllocError, Global};
 
 /// What there may be too many of.
 #[derive(Clone, Copy, Debug, PartialEq, Eq)]
@@ -112,6 +115,34 @@ fn counts_of(has_large_hold: bool, graph: &Graph) -> PartCounts
     }
 }
 
+/// For each graph, whether some actor names it and its state begins with too many tokens.
+fn with_large_holds(alloc: Global, graphs: &[Graph]) -> Result<Vec<bool>, AllocError>
+    ensures { IfOk result (λ v. v.items ≡ map (λ place. has_large_hold graphs.now place) (range_with_len 0 (length graphs.now))) }
+{
+    let own = own_holds(alloc, graphs)?;
+    let large = large_holds(alloc, graphs, &own)?;
+    Ok(large)
+}
+
+fn is_marked(marks: &[bool], place: usize) -> bool
+    ensures { result ≡ slice_index_or marks.now place false }
+{
+    match marks.get(place) {
+        Some(is) => *is,
+        None => false,
+    }
+}
+
+/// Whether the graph at a place has not too many parts, where these graphs have too large a hold.
+fn graph_count(large: &[bool], number: usize, graph: &Graph) -> Result<(), DetailFault<Counted>>
+    ensures { (graphs : Seq Graph) → large.now ≡ map (λ place. has_large_hold graphs place) (range_with_len 0 (length graphs)) → number < length graphs → Answers (graph_counts graphs number graph.now) result }
+{
+    match counts_of(is_marked(large, number), graph).excess() {
+        None => Ok(()),
+        Some(counted) => Err(DetailFault::Fault(counted)),
+    }
+}
+
 /// Whether there are not too many parts: graphs; then, graph by graph, parameters, inputs, outputs, actors, FIFOs, exports,
 /// tokens of a delay, and tokens of the state of a graph that an actor names.
 ///
@@ -126,12 +157,9 @@ pub fn count(alloc: Global, graphs: &Graphs) -> Result<(), DetailFault<Counted>>
     if all.len() > MAX_GRAPHS {
         return Err(DetailFault::Fault(Counted::Graphs));
     }
-    let own = own_holds(alloc, all)?;
-    let large = large_holds(alloc, all, &own)?;
+    let large = with_large_holds(alloc, all)?;
     for (number, graph) in all.iter().enumerate() {
-        if let Some(counted) = counts_of(large[number], graph).excess() {
-            return Err(DetailFault::Fault(counted));
-        }
+        graph_count(&large, number, graph)?;
     }
     Ok(())
 }
