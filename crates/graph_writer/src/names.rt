@@ -1,14 +1,14 @@
 ghost use Rattle.std.specs.Prelude.{◌≡◌, ◌++◌, IfOk, map, string_bytes};
 ghost use Rattle.kernel_gate.specs.Signed.{signature_view};
 ghost use Rattle.graph_format.specs.Kernels.{kernel_names};
-ghost use Rattle.graph_format.specs.Named.{name_at_place, named_end, names_of_graphs, names_of_interfaces, names_of_ports};
+ghost use Rattle.graph_format.specs.Named.{name_at_place, named_end, names_of_actors, names_of_graphs, names_of_interfaces, names_of_ports, names_of_ports_at};
 ghost use Rattle.graph_format.specs.Values.{end_text};
 ghost use Rattle.pisdf_model.specs.Parts.{port_names};
-ghost use Rattle.graph_writer.specs.Places.{actor_port, child_port};
+ghost use Rattle.graph_writer.specs.Places.{child_port};
 
 use kernel_gate::Signature;
 use param_expr::Name;
-use pisdf_model::{Actor, Body, End, Graph, Graphs, Param, Port};
+use pisdf_model::{Body, End, Graph, Graphs, Param, Port};
 use std::alloc::{AllocError, Global};
 
 /// The names of parameters, in their order.
@@ -132,14 +132,15 @@ fn port_name<'a>(graphs: &'a Graphs, body: &'a Body, place: u32) -> &'a str
 /// The names of an actor and of its port.
 fn actor_and_port<'a>(
     graphs: &'a Graphs,
-    actors: &'a [Actor],
+    graph: &'a Graph,
     actor: u32,
     port: u32,
 ) -> (&'a str, &'a str)
-    ensures actor { result.0.now ≡ name_at_place (map (λ a. a.name) actors.now) actor }
-    ensures port { result.1.now ≡ actor_port graphs.now actors.now actor port }
+    ensures actor { result.0.now ≡ name_at_place (names_of_actors graph.now) actor }
+    ensures port { result.1.now ≡ name_at_place (names_of_ports_at graphs.now graph.now actor) port }
 {
     let actor = actor as usize;
+    let actors = graph.actors.items();
     if actor < actors.len() {
         let actor = &actors[actor];
         (actor.name.text(), port_name(graphs, &actor.body, port))
@@ -160,7 +161,7 @@ pub(crate) fn end_text(
     match end {
         End::Interface(place) => String::from_str(alloc, interface_name(graph, place)),
         End::Port { actor, port } => {
-            let (actor, port) = actor_and_port(graphs, graph.actors.items(), actor, port);
+            let (actor, port) = actor_and_port(graphs, graph, actor, port);
             let mut text = String::from_str(alloc, actor)?;
             text.push_str(".")?;
             text.push_str(port)?;
