@@ -4,16 +4,15 @@ use Rattle.std.specs.Prelude.{codes, is_some, option_and_then, unwrap_or}
 use Rattle.std.specs.List.{filter, flat_map, list_all}
 use Rattle.std.specs.Fmt.{decimal}
 use Rattle.std.proofs.lemmas.Grind.{flat_map-append}
-use Rattle.std.proofs.lemmas.List.{map-append}
+use Rattle.std.proofs.lemmas.List.{append-nil, map-append}
 use Rattle.std.proofs.lemmas.List.Elements.{filter-append}
-use Rattle.std.proofs.Math.Seq.{append_nil}
 use Rattle.serde_json.specs.Data.{Data, Items, no_items, item}
 use Rattle.serde_json.specs.Find.{get, as_str, as_array, as_object}
 use Rattle.pisdf_model.specs.Details.{first}
 use Rattle.graph_format.specs.Objects.{within, bound_at, ranged_at, derived_members_at, given_kind, given_kind_at, given_members_at, derived_keys, given_keys, optional_param_keys, param_at, port_members_at, port_keys, port_at, input_members_at, input_at, kernel_members_at, kernel_keys, config_ports_at, config_members_at, config_keys, child_members_at, child_keys, config_child_members_at, config_child_keys, has_exports, actor_at, zeros_from, tokens_or_zeros_at, delay_at, life_from, life_at, fifo_members_at, fifo_keys, optional_fifo_keys, fifo_at, exports_at, graph_parts_at, graph_members_at, graph_keys, graph_at, version_from, version_at, file_members_at, file_keys, file_at}
 use Rattle.graph_format.specs.Places.{Form, a_list, a_file, a_version, a_graph, a_param, a_kind, a_bound, a_port, an_input, an_actor, a_fifo, a_delay, a_token, a_life, a_name, a_kernel, an_expression, an_end, Part, part_there, the_member, items_from, the_items, low_there, is_derived, ActorKind, kernel_kind, config_kind, child_kind, config_child_kind, no_kind, kind_of_actor, is_actor, actor_parts, export_parts, parts, is_delay, has_own_form, Place, places_to, places, unformed}
 use Rattle.graph_format.specs.Pointer.{pointer_text, under}
-use Rattle.graph_format.specs.Texts.{name_at, kernel_at, expression_at, end_at}
+use Rattle.graph_format.specs.Texts.{name_from, name_at, kernel_from, kernel_at, expression_from, expression_at, end_from, end_at}
 use Rattle.graph_format.specs.Walk.{◌>>=◌, shaped, has_form, members_known, formed, member_at, if_there, member_or, says, items_at, list_at, whole_of, whole_at}
 use Rattle.graph_format.proofs.StatedActors.{of_kind}
 use Rattle.graph_format.proofs.Walked.{and_both, shaped_ok}
@@ -106,7 +105,7 @@ module _ (version n : ℕ) where
 
   one_part : (at : List ℕ) (p : Part) → places_to version n p.form (under at p.step) p.value ≡ below at (p ∷ [])
   unfolding below
-  one_part at p = sym (append_nil _)
+  one_part at p = sym (append-nil _)
 
   member_finds : {A : Type 0} (read : List ℕ → Data → Result A (List ℕ)) (form : Form) → Locates read form → (at name : List ℕ) (o : Option Data) → is_some o ≡ true → Finds (shaped at o >>= read (under at name)) (below at (part_there name form o))
   member_finds read form h at name None is = absurd cc

@@ -1,11 +1,10 @@
 -- A fault of shape tells the first value of the walk that has not its form.
-use Rattle.std.proofs.Common.{◌≡◌, ◌⊎◌, ⊎_elim, Bool, All, subst, ℕ, ℤ, List, [], ◌∷◌, ◌++◌, map, Option, Some, None, Result, Ok, Err, refl, sym, ap, ◌∙◌}
+use Rattle.std.proofs.Common.{◌≡◌, ◌⊎◌, ⊎_elim, Bool, All, subst, ℕ, ℤ, List, [], ◌∷◌, ◌++◌, map, Option, Some, None, Result, Ok, Err, refl, sym, ◌∙◌}
 use Rattle.std.specs.Prelude.{IfErr}
 use Rattle.std.proofs.lemmas.List.Elements.{All-nil, All-cons, All-head, All-append}
 use Rattle.serde_json.specs.Data.{Data}
 use Rattle.kernel_gate.specs.Signed.{SignatureView}
 use Rattle.pisdf_model.specs.Count.{count_faults}
-use Rattle.pisdf_model.specs.Details.{first}
 use Rattle.pisdf_model.specs.InterfaceWires.{interface_wire_faults}
 use Rattle.pisdf_model.specs.Names.{repeats}
 use Rattle.pisdf_model.specs.Nesting.{depth_faults, graph_cycle_faults}
@@ -18,7 +17,6 @@ use Rattle.graph_format.specs.Faults.{at_fifo, file_faults, fits_kernel, graphs_
 use Rattle.graph_format.specs.FileNames.{names_of_file}
 use Rattle.graph_format.specs.Kernels.{unfit_in_file}
 use Rattle.graph_format.specs.Objects.{file_at, stated_version}
-use Rattle.graph_format.specs.Places.{places, unformed}
 use Rattle.graph_format.specs.Reads.{AreReadAs, IsJson, IsMisshapen, Reads, TellsShape, graphs_or_fault, of_version, other_version, unless_faulty, version_of}
 use Rattle.graph_format.specs.References.{unknown_in_file}
 use Rattle.graph_format.specs.declared.file.File.{File}

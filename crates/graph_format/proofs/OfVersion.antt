@@ -1,6 +1,5 @@
 -- What is stated in a version of the format has nothing that the version doesn't have.
 use Rattle.std.proofs.Common.{◌≡◌, ◌⊎◌, inl, inr, ℕ, ◌≤◌, Bool, true, false, List, [], ◌∷◌, All, refl, arith}
-use Rattle.std.specs.Prelude.{nat_le}
 use Rattle.std.proofs.lemmas.Bool.Decides.{nat_tests}
 use Rattle.std.proofs.lemmas.List.Elements.{All-nil, All-cons}
 use Rattle.serde_json.specs.Data.{Data, Items, no_items, item}
@@ -8,7 +7,6 @@ use Rattle.graph_format.specs.Objects.{has_exports}
 use Rattle.graph_format.specs.States.{StatesActor, StatesBody, StatesExports, States, StatesGraph}
 use Rattle.graph_format.specs.Values.{AreItems}
 use Rattle.graph_format.specs.Versions.{IsActorOf, IsBodyOf, IsGraphOf, IsOfVersion}
-use Rattle.graph_format.specs.declared.actor.FileActor.{FileActor}
 use Rattle.graph_format.specs.declared.actor.FileBody.{FileBody}
 use Rattle.graph_format.specs.declared.actor.FileBody.TheVariants.{Kernel, Config, Child, ConfigChild}
 use Rattle.graph_format.specs.declared.file.File.{File}

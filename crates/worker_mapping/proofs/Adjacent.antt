@@ -5,7 +5,8 @@ use Rattle.std.proofs.lemmas.List.{length-set, length-append, length_push, lengt
 use Rattle.std.proofs.lemmas.Bool.{cases_eq, cases_lt, eq-eqb, ne_eqb}
 use Rattle.std.proofs.Common.{Vec}
 use Rattle.worker_mapping.specs.Graph.{nodes_after, nodes_before}
-use Rattle.worker_mapping.specs.Neighbours.{AreAfter, AreCounted, lists_of}
+use Rattle.sdf_level.specs.Lists.{lists_of}
+use Rattle.worker_mapping.specs.Neighbours.{AreAfter, AreCounted}
 use Rattle.worker_mapping.proofs.Edges.{nodes_after-append, nodes_before-append}
 
 nodes_after-own : (e : ℕ × ℕ) → nodes_after (e ∷ []) e.0 ≡ e.1 ∷ []

@@ -1,9 +1,6 @@
 -- The nodes at the edges of each node, as lists by node.
-use Rattle.std.specs.Prelude.{◌≡◌, ℕ, ◌<◌, List, [], length, map, slice_index, slice_index_or, Vec}
+use Rattle.std.specs.Prelude.{◌≡◌, ℕ, ◌<◌, List, [], length, slice_index, slice_index_or}
 use Rattle.worker_mapping.specs.Graph.{nodes_after, nodes_before}
-
-abbrev pub lists_of : {A : Type 0} → List (Vec ℕ A) → List (List ℕ)
-lists_of vectors = map (λ v. v.items) vectors
 
 -- a list for each node, the nodes at its outgoing edges
 pub record AreAfter (nodes : ℕ) (edges : List (ℕ × ℕ)) (lists : List (List ℕ)) : Type 0 where

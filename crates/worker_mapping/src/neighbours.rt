@@ -1,7 +1,8 @@
 // The nodes at the edges of each node.
 ghost use Rattle.std.specs.Prelude.{[], IfOk};
 ghost use Rattle.worker_mapping.specs.Graph.{AreThere};
-ghost use Rattle.worker_mapping.specs.Neighbours.{AreAfter, AreCounted, lists_of};
+ghost use Rattle.sdf_level.specs.Lists.{lists_of};
+ghost use Rattle.worker_mapping.specs.Neighbours.{AreAfter, AreCounted};
 
 use std::alloc::{AllocError, Global};
 

@@ -2,7 +2,8 @@
 ghost use Rattle.std.specs.Prelude.{◌≡◌, ◌^◌, ◌<◌, length, map, slice_index, All, IfOk};
 ghost use Rattle.worker_mapping.specs.Ranked.{IsByRank};
 ghost use Rattle.worker_mapping.specs.Graph.{AreThere, Rise, graph_of, greatest, IsPriority};
-ghost use Rattle.worker_mapping.specs.Neighbours.{AreAfter, lists_of};
+ghost use Rattle.sdf_level.specs.Lists.{lists_of};
+ghost use Rattle.worker_mapping.specs.Neighbours.{AreAfter};
 
 use std::alloc::{AllocError, Global};
 

@@ -1,7 +1,8 @@
 // The list schedule of a graph.
 ghost use Rattle.std.specs.Prelude.{◌≡◌, ℕ, ◌^◌, ◌<◌, ◌≤◌, ◌↔◌, List, length, slice_index, All, Contains, IfOk, OnOk};
 ghost use Rattle.worker_mapping.specs.Graph.{AreThere, Rise, graph_of};
-ghost use Rattle.worker_mapping.specs.Neighbours.{AreAfter, lists_of};
+ghost use Rattle.sdf_level.specs.Lists.{lists_of};
+ghost use Rattle.worker_mapping.specs.Neighbours.{AreAfter};
 ghost use Rattle.worker_mapping.specs.Release.{ArePlacesOfZero, Releases, times};
 ghost use Rattle.worker_mapping.specs.Schedule.{IsSchedule};
 

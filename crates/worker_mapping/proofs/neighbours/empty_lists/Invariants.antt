@@ -1,5 +1,6 @@
 use Rattle.std.proofs.Common.{[]}
-use Rattle.worker_mapping.specs.Neighbours.{AreAfter, lists_of}
+use Rattle.sdf_level.specs.Lists.{lists_of}
+use Rattle.worker_mapping.specs.Neighbours.{AreAfter}
 use Rattle.worker_mapping.proofs.neighbours.empty_lists.Given as goal
 
 -- as many empty lists as nodes so far

@@ -1,5 +1,6 @@
 use Rattle.std.proofs.Common.{take}
-use Rattle.worker_mapping.specs.Neighbours.{AreAfter, lists_of}
+use Rattle.sdf_level.specs.Lists.{lists_of}
+use Rattle.worker_mapping.specs.Neighbours.{AreAfter}
 use Rattle.worker_mapping.proofs.neighbours.nodes_after.Given as goal
 
 -- the lists of the edges so far
