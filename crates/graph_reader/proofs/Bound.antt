@@ -1,15 +1,14 @@
 -- Binding an expression is resolving its names.
-use Rattle.std.proofs.Common.{◌≡◌, ℕ, List, [], ◌∷◌, ◌++◌, Bool, true, false, cond, Option, Some, None, Ok, Err, refl, ◌∙◌, subst}
+use Rattle.std.proofs.Common.{◌≡◌, ℕ, List, [], ◌∷◌, ◌++◌, Bool, true, false, cond, Option, Some, None, Ok, Err, refl, ◌∙◌}
 use Rattle.std.specs.List.{flat_map}
 use Rattle.std.specs.Prelude.{find, is_none}
 use Rattle.param_expr.specs.Bind.{Binds, names_of, place_of, placed_in}
 use Rattle.param_expr.specs.Named.{NamedTree}
 use Rattle.param_expr.specs.Tree.{Tree}
-use Rattle.param_expr.specs.declared.binding.BindFault.{BindFault}
-use Rattle.param_expr.specs.declared.binding.BindFault.TheVariants as bind
+use Rattle.param_expr.specs.declared.binding.BindFault.TheVariants.{Unknown}
 use Rattle.pisdf_model.specs.Details.{first}
 use Rattle.graph_format.specs.References.{missing}
-use Rattle.graph_reader.specs.Resolves.{Fails, Resolves, unresolved_of}
+use Rattle.graph_reader.specs.Resolves.{Resolves}
 
 -- the name where the test says so, and then the others
 abbrev chosen : Bool → List ℕ → List (List ℕ) → List (List ℕ)
@@ -28,14 +27,8 @@ none_first : {A : Type 0} (xs : List A) → first xs ≡ None → xs ≡ []
 none_first [] h = refl
 none_first (x ∷ xs) h = absurd cc
 
-pub bound_resolves : (known names : List (List ℕ)) (expr : NamedTree) (bound : Tree) → names ≡ known → Binds names expr (Ok bound) → Resolves (flat_map (missing known) (names_of expr)) (placed_in known expr) (Ok bound)
-bound_resolves known names expr bound same h =
-    let there = subst (λ (ns : List (List ℕ)). Binds ns expr (Ok bound)) same h in
-    (none_first (flat_map (missing known) (names_of expr)) (first_of_missing known (names_of expr) ∙ there.0), there.1)
+pub bound_resolves : (known : List (List ℕ)) (expr : NamedTree) (bound : Tree) → Binds known expr (Ok bound) → Resolves (flat_map (missing known) (names_of expr)) (placed_in known expr) (Ok bound)
+bound_resolves known expr bound h = (none_first (flat_map (missing known) (names_of expr)) (first_of_missing known (names_of expr) ∙ h.0), h.1)
 
-fails_as : (known : List (List ℕ)) (expr : NamedTree) (fault : BindFault) → Binds known expr (Err fault) → Fails (flat_map (missing known) (names_of expr)) (unresolved_of fault)
-fails_as known expr bind.Memory h = tt
-fails_as known expr (bind.Unknown w) h = first_of_missing known (names_of expr) ∙ h
-
-pub unbound_fails : (known names : List (List ℕ)) (expr : NamedTree) (fault : BindFault) → names ≡ known → Binds names expr (Err fault) → Fails (flat_map (missing known) (names_of expr)) (unresolved_of fault)
-unbound_fails known names expr fault same h = fails_as known expr fault (subst (λ (ns : List (List ℕ)). Binds ns expr (Err fault)) same h)
+pub unbound_fails : (known : List (List ℕ)) (expr : NamedTree) (w : List ℕ) → Binds known expr (Err (Unknown w)) → first (flat_map (missing known) (names_of expr)) ≡ Some w
+unbound_fails known expr w h = first_of_missing known (names_of expr) ∙ h

@@ -4,9 +4,10 @@ use Rattle.std.specs.List.{flat_map}
 use Rattle.std.proofs.lemmas.List.{take_more, drop_more, take_all, take-append-drop, map_push}
 use Rattle.std.proofs.lemmas.List.Concat.{flat_map-append}
 use Rattle.pisdf_model.proofs.Walking.{first-append}
-use Rattle.graph_reader.specs.Resolves.{Fails, Resolves}
-use Rattle.graph_reader.specs.declared.unresolved.Unresolved.{Unresolved}
-use Rattle.graph_reader.specs.declared.unresolved.Unresolved.TheVariants.{Unknown, Memory}
+use Rattle.pisdf_model.specs.Details.{Refuses}
+use Rattle.graph_reader.specs.Resolves.{Resolves}
+use Rattle.pisdf_model.specs.declared.detail_fault.DetailFault.{DetailFault}
+use Rattle.pisdf_model.specs.declared.detail_fault.DetailFault.TheVariants.{Fault, Memory}
 
 -- no reference so far names nothing, and these are the parts so far
 pub record Stands {A B : Type 0} (unknown : A → List (List ℕ)) (placed : A → B) (xs : List A) (i : ℕ) (done : List B) : Type 0 where
@@ -14,12 +15,12 @@ pub record Stands {A B : Type 0} (unknown : A → List (List ℕ)) (placed : A �
   pub made : done ≡ map placed (take i xs)
 
 -- the first of all stands in the front, where the front has one
-pub front_fails : (front rest : List (List ℕ)) (e : Unresolved) → Fails front e → Fails (front ++ rest) e
+pub front_fails : (front rest : List (List ℕ)) (e : DetailFault (List ℕ)) → Refuses front e → Refuses (front ++ rest) e
 front_fails front rest Memory h = tt
-front_fails front rest (Unknown w) h = first-append front rest w h
+front_fails front rest (Fault w) h = first-append front rest w h
 
 -- and in what comes after the front, where the front has none
-pub rest_fails : (front rest : List (List ℕ)) (e : Unresolved) → front ≡ [] → Fails rest e → Fails (front ++ rest) e
+pub rest_fails : (front rest : List (List ℕ)) (e : DetailFault (List ℕ)) → front ≡ [] → Refuses rest e → Refuses (front ++ rest) e
 rest_fails front rest e none h = rw none h
 
 -- where neither has one, there is none
@@ -40,10 +41,10 @@ split_at : {A : Type 0} (xs : List A) (i : ℕ) (x : A) → i < length xs → x 
 split_at xs i x lt is = ap (λ y. take i xs ++ y ∷ drop (i + 1) xs) is ∙ ap (λ d. take i xs ++ d) (sym (drop_more xs i x lt)) ∙ take-append-drop i xs
 
 -- the first of all stands at a part, where no part before it has one
-pub first_at : {A : Type 0} (unknown : A → List (List ℕ)) (xs : List A) (i : ℕ) (x : A) (e : Unresolved) → i < length xs → x ≡ get_or xs i x → flat_map unknown (take i xs) ≡ [] → Fails (unknown x) e → Fails (flat_map unknown xs) e
+pub first_at : {A : Type 0} (unknown : A → List (List ℕ)) (xs : List A) (i : ℕ) (x : A) (e : DetailFault (List ℕ)) → i < length xs → x ≡ get_or xs i x → flat_map unknown (take i xs) ≡ [] → Refuses (unknown x) e → Refuses (flat_map unknown xs) e
 first_at unknown xs i x e lt is none h =
     let all : flat_map unknown xs ≡ flat_map unknown (take i xs) ++ (unknown x ++ flat_map unknown (drop (i + 1) xs)) = ap (flat_map unknown) (sym (split_at xs i x lt is)) ∙ flat_map-append unknown (take i xs) (x ∷ drop (i + 1) xs) in
-    subst (λ (u : List (List ℕ)). Fails u e) (sym all) (rest_fails (flat_map unknown (take i xs)) (unknown x ++ flat_map unknown (drop (i + 1) xs)) e none (front_fails (unknown x) (flat_map unknown (drop (i + 1) xs)) e h))
+    subst (λ (u : List (List ℕ)). Refuses u e) (sym all) (rest_fails (flat_map unknown (take i xs)) (unknown x ++ flat_map unknown (drop (i + 1) xs)) e none (front_fails (unknown x) (flat_map unknown (drop (i + 1) xs)) e h))
 
 pub is_done : {A B : Type 0} (unknown : A → List (List ℕ)) (placed : A → B) (xs : List A) (i : ℕ) (done : List B) → length xs ≤ i → Stands unknown placed xs i done → Resolves (flat_map unknown xs) (map placed xs) (Ok done)
 is_done unknown placed xs i done le stands =

@@ -7,8 +7,8 @@ use Rattle.std.specs.Fmt.{decimal}
 use Rattle.serde_json.specs.Data.{Data}
 use Rattle.serde_json.specs.View.{view, items_view}
 use Rattle.serde_json.specs.declared.value.Value.{Value}
-use Rattle.graph_reader.specs.declared.misfit.Misfit.{Misfit}
-use Rattle.graph_reader.specs.declared.misfit.Misfit.TheVariants.{Shape, Memory}
+use Rattle.pisdf_model.specs.declared.detail_fault.DetailFault.{DetailFault}
+use Rattle.pisdf_model.specs.declared.detail_fault.DetailFault.TheVariants.{Fault, Memory}
 use Rattle.graph_format.specs.Pointer.{under}
 use Rattle.graph_format.specs.Walk.{◌>>=◌, items_at}
 use Rattle.graph_reader.specs.Gives.{Fails, with_front}
@@ -39,11 +39,11 @@ goes_on read at front i vs v x total lt is h stands =
     let one : items_at read at i (items_view (drop i vs)) ≡ (items_at read at (i + 1) (items_view (drop (i + 1) vs)) >>= λ xs. Ok (x ∷ xs)) = step read at i vs v lt is ∙ rw h refl in
     record { so_far = sym (regroup front x _) ∙ sym (ap (with_front front) one) ∙ stands.so_far }
 
-front_fails : {A B : Type 0} (e : Misfit) (front : List A) (r : Result B (List ℕ)) (k : B → Result (List A) (List ℕ)) → Fails e r → Fails e (with_front front (r >>= k))
+front_fails : {A B : Type 0} (e : DetailFault (List ℕ)) (front : List A) (r : Result B (List ℕ)) (k : B → Result (List A) (List ℕ)) → Fails e r → Fails e (with_front front (r >>= k))
 front_fails Memory front r k h = tt
-front_fails (Shape text) front r k h = rw h refl
+front_fails (Fault text) front r k h = rw h refl
 
-pub ends : {A : Type 0} (e : Misfit) (read : List ℕ → Data → Result A (List ℕ)) (at : List ℕ) (front : List A) (i : ℕ) (vs : List Value) (v : Value) (total : Result (List A) (List ℕ)) → i < length vs → v ≡ get_or vs i v
+pub ends : {A : Type 0} (e : DetailFault (List ℕ)) (read : List ℕ → Data → Result A (List ℕ)) (at : List ℕ) (front : List A) (i : ℕ) (vs : List Value) (v : Value) (total : Result (List A) (List ℕ)) → i < length vs → v ≡ get_or vs i v
     → Fails e (read (under at (decimal i)) (view v)) → Stands read at front i vs total → Fails e total
 ends e read at front i vs v total lt is h stands =
     let failed = front_fails e front (read (under at (decimal i)) (view v)) (λ x. items_at read at (i + 1) (items_view (drop (i + 1) vs)) >>= λ xs. Ok (x ∷ xs)) h in

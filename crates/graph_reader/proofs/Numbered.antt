@@ -2,8 +2,9 @@
 use Rattle.std.proofs.Common.{◌≡◌, ℕ, ◌+◌, ◌<◌, ◌≤◌, List, [], ◌∷◌, ◌++◌, length, get_or, take, map, Ok, refl, sym, ap, ◌∙◌, subst, zero-add, arith}
 use Rattle.std.specs.List.{enumerate_from, flat_map}
 use Rattle.std.proofs.lemmas.List.FromFn.{get_or-enumerate_from, length-enumerate_from}
-use Rattle.graph_reader.specs.Resolves.{Fails, Resolves}
-use Rattle.graph_reader.specs.declared.unresolved.Unresolved.{Unresolved}
+use Rattle.pisdf_model.specs.Details.{Refuses}
+use Rattle.graph_reader.specs.Resolves.{Resolves}
+use Rattle.pisdf_model.specs.declared.detail_fault.DetailFault.{DetailFault}
 use Rattle.graph_reader.proofs.Each.{Stands, first_at, goes_on, is_done}
 
 -- what stands at a number
@@ -17,10 +18,10 @@ flat_map-numbered f n [] = refl
 flat_map-numbered f n (x ∷ xs) = ap (λ r. f x ++ r) (flat_map-numbered f (n + 1) xs)
 
 -- a graph of which the names are resolved, or which fails, among graphs with their numbers
-pub numbered_fails : {A : Type 0} (f : A → List (List ℕ)) (xs : List A) (i : ℕ) (x : A) (e : Unresolved) → i < length xs → x ≡ get_or xs i x → flat_map (λ (p : ℕ × A). f p.1) (take i (enumerate_from 0 xs)) ≡ [] → Fails (f x) e → Fails (flat_map f xs) e
+pub numbered_fails : {A : Type 0} (f : A → List (List ℕ)) (xs : List A) (i : ℕ) (x : A) (e : DetailFault (List ℕ)) → i < length xs → x ≡ get_or xs i x → flat_map (λ (p : ℕ × A). f p.1) (take i (enumerate_from 0 xs)) ≡ [] → Refuses (f x) e → Refuses (flat_map f xs) e
 numbered_fails {A} f xs i x e lt is none h =
     let fits : i < length (enumerate_from 0 xs) = omega (arith, length-enumerate_from 0 xs) in
-    subst (λ (u : List (List ℕ)). Fails u e) (flat_map-numbered f 0 xs) (first_at (λ (p : ℕ × A). f p.1) (enumerate_from 0 xs) i (i, x) e fits (at_number xs i x lt is) none h)
+    subst (λ (u : List (List ℕ)). Refuses u e) (flat_map-numbered f 0 xs) (first_at (λ (p : ℕ × A). f p.1) (enumerate_from 0 xs) i (i, x) e fits (at_number xs i x lt is) none h)
 
 pub numbered_goes_on : {A B : Type 0} (f : A → List (List ℕ)) (placed : ℕ × A → B) (xs : List A) (i : ℕ) (x : A) (y : B) (done : List B) → i < length xs → x ≡ get_or xs i x → Resolves (f x) (placed (i, x)) (Ok y)
     → Stands (λ (p : ℕ × A). f p.1) placed (enumerate_from 0 xs) i done → Stands (λ (p : ℕ × A). f p.1) placed (enumerate_from 0 xs) (i + 1) (done ++ y ∷ [])

@@ -11,8 +11,9 @@ use Rattle.graph_format.specs.References.{missing, unknown_in_file, unknown_in_g
 use Rattle.graph_format.specs.Scope.{interfaces_of, names_of_actors, names_of_graphs, names_of_params, ports_of, scope_of}
 use Rattle.graph_reader.specs.declared.file_names.FileNames.{FileNames}
 use Rattle.graph_reader.specs.declared.surroundings.Delays.{Delays}
-use Rattle.graph_reader.specs.declared.unresolved.Unresolved.{Unresolved}
-use Rattle.graph_reader.specs.Resolves.{Fails, Resolves}
+use Rattle.pisdf_model.specs.declared.detail_fault.DetailFault.{DetailFault}
+use Rattle.pisdf_model.specs.Details.{Refuses}
+use Rattle.graph_reader.specs.Resolves.{Resolves}
 use Rattle.graph_reader.specs.Setting.{AreOf, Setting, delays_by}
 use Rattle.graph_reader.proofs.Each.{rest_fails, none_in_both}
 
@@ -23,22 +24,22 @@ pub same_setting : (file_graphs kernels params interfaces actors : List (List �
     → actors ≡ names_of_actors g.actors → ports ≡ map (λ (a : FileActor). ports_of graphs a.body) g.actors → setting kernels file_graphs params interfaces actors ports is_top delays ≡ record { scope = scope_of kernels graphs g; is_top = is_top; delays = delays }
 same_setting file_graphs kernels params interfaces actors ports graphs g is_top delays e1 e2 e3 e4 e5 = cc
 
-pub resolves_in : (t u : Setting) (g : FileGraph) (r : Result Graph Unresolved) → t ≡ u → Resolves (unknown_in_graph t.scope g) (placed_graph (delays_by t.delays) t.is_top t.scope g) r → Resolves (unknown_in_graph u.scope g) (placed_graph (delays_by u.delays) u.is_top u.scope g) r
+pub resolves_in : (t u : Setting) (g : FileGraph) (r : Result Graph (DetailFault (List ℕ))) → t ≡ u → Resolves (unknown_in_graph t.scope g) (placed_graph (delays_by t.delays) t.is_top t.scope g) r → Resolves (unknown_in_graph u.scope g) (placed_graph (delays_by u.delays) u.is_top u.scope g) r
 resolves_in t u g r e h = subst (λ (v : Setting). Resolves (unknown_in_graph v.scope g) (placed_graph (delays_by v.delays) v.is_top v.scope g) r) e h
 
-pub fails_in : (t u : Setting) (g : FileGraph) (e : Unresolved) → t ≡ u → Fails (unknown_in_graph t.scope g) e → Fails (unknown_in_graph u.scope g) e
-fails_in t u g e same h = subst (λ (v : Setting). Fails (unknown_in_graph v.scope g) e) same h
+pub fails_in : (t u : Setting) (g : FileGraph) (e : DetailFault (List ℕ)) → t ≡ u → Refuses (unknown_in_graph t.scope g) e → Refuses (unknown_in_graph u.scope g) e
+fails_in t u g e same h = subst (λ (v : Setting). Refuses (unknown_in_graph v.scope g) e) same h
 
 -- the names of kernels play no part in what is unknown
 unknown_with : (kernels : List (List ℕ)) (graphs some : List FileGraph) → flat_map (λ (g : FileGraph). unknown_in_graph (scope_of kernels graphs g) g) some ≡ flat_map (λ (g : FileGraph). unknown_in_graph (scope_of [] graphs g) g) some
 unknown_with kernels graphs some = refl
 
-pub graphs_fail : (names : FileNames) (file : File) (graphs : List FileGraph) (top : ℕ) (e : Unresolved) → graphs ≡ file.graphs → AreOf graphs names → Resolves (missing names.graphs file.top) (first_place names.graphs file.top) (Ok top)
-    → Fails (flat_map (λ (g : FileGraph). unknown_in_graph (scope_of names.kernels graphs g) g) graphs) e → Fails (unknown_in_file file) e
+pub graphs_fail : (names : FileNames) (file : File) (graphs : List FileGraph) (top : ℕ) (e : DetailFault (List ℕ)) → graphs ≡ file.graphs → AreOf graphs names → Resolves (missing names.graphs file.top) (first_place names.graphs file.top) (Ok top)
+    → Refuses (flat_map (λ (g : FileGraph). unknown_in_graph (scope_of names.kernels graphs g) g) graphs) e → Refuses (unknown_in_file file) e
 graphs_fail names file graphs top e are of h fails =
     let names_are : names.graphs ≡ names_of_graphs file.graphs = of.graphs ∙ ap names_of_graphs are in
     rest_fails (missing (names_of_graphs file.graphs) file.top) (flat_map (λ (g : FileGraph). unknown_in_graph (scope_of [] file.graphs g) g) file.graphs) e (ap (λ (ns : List (List ℕ)). missing ns file.top) (sym names_are) ∙ h.0)
-    (subst (λ (u : List (List ℕ)). Fails u e) (ap (λ (gs : List FileGraph). flat_map (λ (g : FileGraph). unknown_in_graph (scope_of names.kernels gs g) g) gs) are ∙ unknown_with names.kernels file.graphs file.graphs) fails)
+    (subst (λ (u : List (List ℕ)). Refuses u e) (ap (λ (gs : List FileGraph). flat_map (λ (g : FileGraph). unknown_in_graph (scope_of names.kernels gs g) g) gs) are ∙ unknown_with names.kernels file.graphs file.graphs) fails)
 
 abbrev numbered_graphs : Delays → List (List ℕ) → List FileGraph → ℕ → List Graph
 numbered_graphs delays kernels graphs top = map (λ (n : ℕ × FileGraph). placed_graph (delays_by delays) (n.0 == top) (scope_of kernels graphs n.1) n.1) (enumerate_from 0 graphs)

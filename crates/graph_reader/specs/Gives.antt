@@ -3,17 +3,17 @@ use Rattle.std.specs.Prelude.{◌≡◌, ℕ, List, ◌++◌, Option, Result, Ok
 use Rattle.std.specs.declared.alloc.AllocError.{AllocError}
 use Rattle.graph_format.specs.declared.fifo.FileEnd.{FileEnd}
 use Rattle.graph_format.specs.Walk.{◌>>=◌}
-use Rattle.graph_reader.specs.declared.misfit.Misfit.{Misfit}
-use Rattle.graph_reader.specs.declared.misfit.Misfit.TheVariants.{Shape, Memory}
+use Rattle.pisdf_model.specs.declared.detail_fault.DetailFault.{DetailFault}
+use Rattle.pisdf_model.specs.declared.detail_fault.DetailFault.TheVariants.{Fault, Memory}
 
-abbrev pub Fails : {A : Type 0} → Misfit → Result A (List ℕ) → Type 0
+abbrev pub Fails : {A : Type 0} → DetailFault (List ℕ) → Result A (List ℕ) → Type 0
 Fails Memory walked = Unit {0}
-Fails (Shape text) walked = walked ≡ Err text
+Fails (Fault text) walked = walked ≡ Err text
 
 -- What was returned is what the walk gives, unless memory ran out.
-abbrev pub Gives : {A : Type 0} → Result A Misfit → Result A (List ℕ) → Type 0
+abbrev pub Gives : {A : Type 0} → Result A (DetailFault (List ℕ)) → Result A (List ℕ) → Type 0
 Gives (Ok x) walked = walked ≡ Ok x
-Gives (Err misfit) walked = Fails misfit walked
+Gives (Err fault) walked = Fails fault walked
 
 -- the items read before, and then these
 abbrev pub with_front : {A : Type 0} → List A → Result (List A) (List ℕ) → Result (List A) (List ℕ)

@@ -2,8 +2,8 @@
 use Rattle.std.specs.Prelude.{◌≡◌, ℕ, List, []}
 use Rattle.std.specs.Fmt.{decimal}
 use Rattle.graph_format.specs.Pointer.{under, pointer_text}
-use Rattle.graph_reader.specs.declared.misfit.Misfit.{Misfit}
-use Rattle.graph_reader.specs.declared.misfit.Misfit.TheVariants.{Shape, Memory}
+use Rattle.pisdf_model.specs.declared.detail_fault.DetailFault.{DetailFault}
+use Rattle.pisdf_model.specs.declared.detail_fault.DetailFault.TheVariants.{Fault, Memory}
 use Rattle.graph_reader.specs.declared.place.Place.{Place}
 use Rattle.graph_reader.specs.declared.place.Place.TheVariants.{Root, Member', Item'}
 
@@ -13,6 +13,6 @@ pointer_of (Member' p up name) = under (pointer_of up) name.now
 pointer_of (Item' p up number) = under (pointer_of up) (decimal number)
 
 -- the value at the pointer has not the form, unless memory ran out
-abbrev pub MisshapenAt : List ℕ → Misfit → Type 0
-MisshapenAt at (Shape text) = text ≡ pointer_text at
+abbrev pub MisshapenAt : List ℕ → DetailFault (List ℕ) → Type 0
+MisshapenAt at (Fault text) = text ≡ pointer_text at
 MisshapenAt at Memory = Unit {0}

@@ -5,19 +5,23 @@ ghost use Rattle.graph_format.specs.Objects.{actor_at, child_members_at, child_n
 ghost use Rattle.graph_reader.specs.Place.{pointer_of};
 ghost use Rattle.graph_reader.specs.Gives.{Gives};
 
-use crate::misfit::Misfit;
 use crate::place::Place;
 use crate::port::{Input, Port};
 use crate::shape::{Form, has_form, list_member, member, says};
 use crate::text::{Expression, KernelName, PlainName};
 use graph_format::{FileActor, FileBody};
 use param_expr::{Name, Parsed};
+use pisdf_model::DetailFault;
 use sdf_level::List;
 use serde_json::Value;
 use std::alloc::Global;
 
 #[tactic(auto, unfolding(graph_format::specs::Objects::kernel_members_at))]
-fn kernel_actor(alloc: Global, place: &Place<'_>, value: &Value) -> Result<FileActor, Misfit>
+fn kernel_actor(
+    alloc: Global,
+    place: &Place<'_>,
+    value: &Value,
+) -> Result<FileActor, DetailFault<Name>>
     ensures { Gives result (formed kernel_names [] kernel_members_at (pointer_of place.now) (view value.now)) }
 {
     if !has_form(
@@ -27,11 +31,11 @@ fn kernel_actor(alloc: Global, place: &Place<'_>, value: &Value) -> Result<FileA
     ) {
         return Err(place.misshapen(alloc));
     }
-    let name = member::<PlainName>(alloc, place, value, "name")?;
-    let kernel = member::<KernelName>(alloc, place, value, "kernel")?;
-    let args = list_member::<Expression>(alloc, place, value, "args")?;
-    let ins = list_member::<Port>(alloc, place, value, "ins")?;
-    let outs = list_member::<Port>(alloc, place, value, "outs")?;
+    let name = member(alloc, place, value, "name", &PlainName)?;
+    let kernel = member(alloc, place, value, "kernel", &KernelName)?;
+    let args = list_member(alloc, place, value, "args", &Expression)?;
+    let ins = list_member(alloc, place, value, "ins", &Port)?;
+    let outs = list_member(alloc, place, value, "outs", &Port)?;
     let body = FileBody::Kernel {
         kernel,
         args,
@@ -50,12 +54,12 @@ fn config_ports(
     name: Name,
     kernel: Name,
     args: List<Parsed>,
-) -> Result<FileActor, Misfit>
+) -> Result<FileActor, DetailFault<Name>>
     ensures { Gives result (config_ports_at name kernel args (pointer_of place.now) (view value.now)) }
 {
-    let ins = list_member::<Input>(alloc, place, value, "ins")?;
-    let outs = list_member::<Port>(alloc, place, value, "outs")?;
-    let sets = list_member::<PlainName>(alloc, place, value, "sets")?;
+    let ins = list_member(alloc, place, value, "ins", &Input)?;
+    let outs = list_member(alloc, place, value, "outs", &Port)?;
+    let sets = list_member(alloc, place, value, "sets", &PlainName)?;
     let body = FileBody::Config {
         kernel,
         args,
@@ -67,7 +71,11 @@ fn config_ports(
 }
 
 #[tactic(auto, unfolding(graph_format::specs::Objects::config_members_at))]
-fn config_actor(alloc: Global, place: &Place<'_>, value: &Value) -> Result<FileActor, Misfit>
+fn config_actor(
+    alloc: Global,
+    place: &Place<'_>,
+    value: &Value,
+) -> Result<FileActor, DetailFault<Name>>
     ensures { Gives result (formed config_names [] config_members_at (pointer_of place.now) (view value.now)) }
 {
     if !has_form(
@@ -77,22 +85,26 @@ fn config_actor(alloc: Global, place: &Place<'_>, value: &Value) -> Result<FileA
     ) {
         return Err(place.misshapen(alloc));
     }
-    let name = member::<PlainName>(alloc, place, value, "name")?;
-    let kernel = member::<KernelName>(alloc, place, value, "kernel")?;
-    let args = list_member::<Expression>(alloc, place, value, "args")?;
+    let name = member(alloc, place, value, "name", &PlainName)?;
+    let kernel = member(alloc, place, value, "kernel", &KernelName)?;
+    let args = list_member(alloc, place, value, "args", &Expression)?;
     config_ports(alloc, place, value, name, kernel, args)
 }
 
 #[tactic(auto, unfolding(graph_format::specs::Objects::child_members_at))]
-fn child_actor(alloc: Global, place: &Place<'_>, value: &Value) -> Result<FileActor, Misfit>
+fn child_actor(
+    alloc: Global,
+    place: &Place<'_>,
+    value: &Value,
+) -> Result<FileActor, DetailFault<Name>>
     ensures { Gives result (formed child_names [] child_members_at (pointer_of place.now) (view value.now)) }
 {
     if !has_form(value, &["name", "kind", "graph", "args"], &[]) {
         return Err(place.misshapen(alloc));
     }
-    let name = member::<PlainName>(alloc, place, value, "name")?;
-    let graph = member::<PlainName>(alloc, place, value, "graph")?;
-    let args = list_member::<Expression>(alloc, place, value, "args")?;
+    let name = member(alloc, place, value, "name", &PlainName)?;
+    let graph = member(alloc, place, value, "graph", &PlainName)?;
+    let args = list_member(alloc, place, value, "args", &Expression)?;
     let body = FileBody::Child { graph, args };
     Ok(FileActor { name, body })
 }
@@ -103,10 +115,15 @@ pub(crate) struct Actor;
 impl Form for Actor {
     type Stated = FileActor;
 
-    ghost reads = { actor_at };
+    ghost reads = { λ _. actor_at };
 
     #[tactic(auto, unfolding(graph_format::specs::Objects::actor_at))]
-    fn read_at(alloc: Global, place: &Place<'_>, value: &Value) -> Result<FileActor, Misfit> {
+    fn read_at(
+        &self,
+        alloc: Global,
+        place: &Place<'_>,
+        value: &Value,
+    ) -> Result<FileActor, DetailFault<Name>> {
         if says(value, "kind", "kernel") {
             kernel_actor(alloc, place, value)
         } else if says(value, "kind", "config") {

@@ -7,7 +7,7 @@ ghost use Rattle.pisdf_model.specs.declared.counting.Counted.{Counted};
 ghost use Rattle.pisdf_model.specs.declared.interface_wires.FifoPlace.{FifoPlace};
 ghost use Rattle.graph_format.specs.Faults.{Tells, at_fifo, fits_kernel, rule_faults, too_many};
 ghost use Rattle.graph_format.specs.declared.graph_fault.GraphFault.TheVariants.{Kernel};
-ghost use Rattle.graph_reader.specs.Told.{fault_of};
+ghost use Rattle.graph_reader.specs.Told.{fault_of, told_by};
 
 use crate::kernel_counts::Signatures;
 use graph_format::GraphFault;
@@ -19,10 +19,13 @@ use pisdf_model::{
 };
 use std::alloc::Global;
 
-/// The checks whose faults are told by a name alone.
+/// The checks whose faults are told by a text alone.
 #[derive(Clone, Copy)]
 pub(crate) enum Check {
+    /// Whose text is a pointer; those of the others are names.
+    Shape,
     Duplicate,
+    Unknown,
     Ports,
     Wire,
     ParamOrder,
@@ -31,16 +34,28 @@ pub(crate) enum Check {
 }
 
 impl Check {
-    fn fault(self, name: Name) -> GraphFault
+    fn with_text(self, name: Name) -> GraphFault
         ensures { result ≡ fault_of self name }
     {
         match self {
+            Check::Shape => GraphFault::Shape(name),
             Check::Duplicate => GraphFault::Duplicate(name),
+            Check::Unknown => GraphFault::Unknown(name),
             Check::Ports => GraphFault::Ports(name),
             Check::Wire => GraphFault::Wire(name),
             Check::ParamOrder => GraphFault::ParamOrder(name),
             Check::GraphCycle => GraphFault::GraphCycle(name),
             Check::Depth => GraphFault::Depth(name),
+        }
+    }
+
+    /// What the check refuses.
+    pub(crate) fn fault(self, fault: DetailFault<Name>) -> GraphFault
+        ensures { result ≡ told_by self fault }
+    {
+        match fault {
+            DetailFault::Fault(name) => self.with_text(name),
+            DetailFault::Memory => GraphFault::Memory,
         }
     }
 
@@ -50,8 +65,7 @@ impl Check {
     {
         match answer {
             Ok(()) => Ok(()),
-            Err(DetailFault::Fault(name)) => Err(self.fault(name)),
-            Err(DetailFault::Memory) => Err(GraphFault::Memory),
+            Err(fault) => Err(self.fault(fault)),
         }
     }
 }

@@ -1,11 +1,12 @@
 ghost use Rattle.std.specs.Prelude.{◌≡◌};
 ghost use Rattle.graph_format.specs.Objects.{delay_at, fifo_at, zeros_from};
 
-use crate::misfit::Misfit;
 use crate::place::Place;
 use crate::shape::{Form, Whole, has_form, items, member, member_or};
 use crate::text::End;
 use graph_format::{FileDelay, FileFifo};
+use param_expr::Name;
+use pisdf_model::DetailFault;
 use serde_json::Value;
 use std::alloc::Global;
 
@@ -26,12 +27,17 @@ struct Delay;
 impl Form for Delay {
     type Stated = FileDelay;
 
-    ghost reads = { delay_at };
+    ghost reads = { λ _. delay_at };
 
     #[tactic(auto, unfolding(graph_format::specs::Objects::delay_at))]
-    fn read_at(alloc: Global, place: &Place<'_>, value: &Value) -> Result<FileDelay, Misfit> {
+    fn read_at(
+        &self,
+        alloc: Global,
+        place: &Place<'_>,
+        value: &Value,
+    ) -> Result<FileDelay, DetailFault<Name>> {
         if let Some(values) = value.as_array() {
-            let tokens = items::<Whole>(alloc, place, values.as_slice())?;
+            let tokens = items(alloc, place, values.as_slice(), &Whole)?;
             return Ok(FileDelay::Tokens(tokens));
         }
         match value.as_i64().and_then(zeros) {
@@ -47,16 +53,21 @@ pub(crate) struct Fifo;
 impl Form for Fifo {
     type Stated = FileFifo;
 
-    ghost reads = { fifo_at 1 };
+    ghost reads = { λ _. fifo_at 1 };
 
     #[tactic(auto, unfolding(graph_format::specs::Objects::fifo_at, graph_format::specs::Objects::fifo_members_at))]
-    fn read_at(alloc: Global, place: &Place<'_>, value: &Value) -> Result<FileFifo, Misfit> {
+    fn read_at(
+        &self,
+        alloc: Global,
+        place: &Place<'_>,
+        value: &Value,
+    ) -> Result<FileFifo, DetailFault<Name>> {
         if !has_form(value, &["from", "to"], &["delay"]) {
             return Err(place.misshapen(alloc));
         }
-        let from = member::<End>(alloc, place, value, "from")?;
-        let to = member::<End>(alloc, place, value, "to")?;
-        let delay = member_or::<Delay>(alloc, place, value, "delay", FileDelay::Zeros(0))?;
+        let from = member(alloc, place, value, "from", &End)?;
+        let to = member(alloc, place, value, "to", &End)?;
+        let delay = member_or(alloc, place, value, "delay", &Delay, FileDelay::Zeros(0))?;
         Ok(FileFifo { from, to, delay })
     }
 }

@@ -6,7 +6,7 @@ ghost use Rattle.graph_format.specs.Kernels.{kernel_names};
 ghost use Rattle.graph_format.specs.Scope.{interfaces_of, names_at, ports_of};
 ghost use Rattle.graph_reader.specs.Setting.{AreOf, lent_names, ports_view};
 
-use crate::names::{Named, Names, names_of, names_of_both};
+use crate::names::{Names, names_of, names_of_both};
 use crate::surroundings::Ports;
 use graph_format::{FileBody, FileGraph};
 use kernel_gate::Signature;
@@ -21,14 +21,6 @@ pub(crate) struct FileNames<'a> {
     pub(crate) graphs: Names<'a>,
     /// For each graph, its inputs, then its outputs.
     pub(crate) interfaces: List<Names<'a>>,
-}
-
-impl Named for FileGraph {
-    ghost named = { λ graph. graph.name };
-
-    fn name(&self) -> &Name {
-        &self.name
-    }
 }
 
 /// The names of the kernels.

@@ -1,39 +1,24 @@
 // The names of a file, in its order.
-ghost use Rattle.std.specs.Prelude.{◌≡◌, ◌++◌, IfOk, OnOk, map};
+ghost use Rattle.std.specs.Prelude.{◌≡◌, ◌++◌, IfOk, OnOk};
 ghost use Rattle.pisdf_model.specs.Details.{of_each};
 ghost use Rattle.pisdf_model.specs.Names.{scoped};
 ghost use Rattle.graph_format.specs.FileNames.{actor_walk, graph_walk, names_of_file, own_port_names};
 
-use crate::names::Named;
 use graph_format::{File, FileActor, FileBody, FileGraph};
-use pisdf_model::{Scope, ScopedName, push_name};
+use pisdf_model::{Scope, ScopedName, push_name, push_names};
 use std::alloc::{AllocError, Global};
-
-/// Puts the names of these parts, which are of one scope, behind others.
-fn push_parts<T: Named>(
-    names: &mut Vec<ScopedName>,
-    scope: Scope,
-    parts: &[T],
-) -> Result<(), AllocError>
-    ensures { OnOk result (names.new.items ≡ names.old.items ++ scoped scope (map T.named parts.now)) }
-{
-    for part in parts {
-        push_name(names, scope, part.name())?;
-    }
-    Ok(())
-}
 
 fn push_ports(names: &mut Vec<ScopedName>, scope: Scope, body: &FileBody) -> Result<(), AllocError>
     ensures { OnOk result (names.new.items ≡ names.old.items ++ scoped scope (own_port_names body.now)) }
 {
     match body {
         FileBody::Kernel { ins, outs, .. } => {
-            push_parts(names, scope, ins.items())?;
-            push_parts(names, scope, outs.items())
+            push_names(names, scope, ins.items())?;
+            push_names(names, scope, outs.items())
         }
         FileBody::Config { ins, outs, .. } => {
-            push_parts(names, scope, ins.items())?;
-            push_parts(names, scope, outs.items())
+            push_names(names, scope, ins.items())?;
+            push_names(names, scope, outs.items())
         }
         FileBody::Child { .. } => Ok(()),
     }
@@ -77,9 +62,9 @@ fn push_graph(
 {
     push_name(names, Scope::Graphs, &graph.name)?;
     let scope = Scope::Parts { graph: number };
-    push_parts(names, scope, graph.params.items())?;
-    push_parts(names, scope, graph.inputs.items())?;
-    push_parts(names, scope, graph.outputs.items())?;
+    push_names(names, scope, graph.params.items())?;
+    push_names(names, scope, graph.inputs.items())?;
+    push_names(names, scope, graph.outputs.items())?;
     push_actors(names, number, graph.actors.items())
 }
 

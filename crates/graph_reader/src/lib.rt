@@ -9,15 +9,10 @@ mod file_names;
 mod file_walk;
 mod kernel_counts;
 mod kernels;
-mod misfit;
-#[cfg(test)]
-mod name_tests;
 mod names;
 mod param;
 mod place;
 mod port;
-#[cfg(test)]
-mod read_tests;
 mod reader;
 mod resolved;
 mod resolved_actors;
@@ -28,10 +23,7 @@ mod root;
 mod shape;
 mod stated_file;
 mod surroundings;
-#[cfg(test)]
-mod tests;
 mod text;
-mod unresolved;
 
 pub use graph_format::GraphFault;
 pub use reader::read;

@@ -4,6 +4,7 @@ ghost use Rattle.graph_format.specs.Placed.{first_place};
 ghost use Rattle.graph_reader.specs.Lent.{lent, place_in};
 
 use param_expr::{Name, Places};
+use pisdf_model::Named;
 use std::alloc::{AllocError, Global};
 use std::collections::BTreeMap;
 use std::marker::Model;
@@ -78,18 +79,8 @@ impl Places for Names<'_> {
     }
 }
 
-/// What has a name.
-pub(crate) trait Named {
-    ghost use Rattle.std.specs.Prelude.{List, ℕ};
-
-    ghost named: { Self → List ℕ };
-
-    fn name(&self) -> &Name
-        ensures { result.now ≡ named self.now };
-}
-
-/// Puts the names of some items behind others.
-fn push_names<'a, T: Named>(names: &mut Vec<&'a str>, items: &'a [T]) -> Result<(), AllocError>
+/// Lends the names of some items, behind others.
+fn lend_names<'a, T: Named>(names: &mut Vec<&'a str>, items: &'a [T]) -> Result<(), AllocError>
     ensures { OnOk result (lent names.new.items ≡ lent names.old.items ++ map T.named items.now) }
 {
     for item in items {
@@ -103,7 +94,7 @@ pub(crate) fn names_of<'a, T: Named>(alloc: Global, items: &'a [T]) -> Result<Na
     ensures { IfOk result (λ names. names ≡ map T.named items.now) }
 {
     let mut names = Vec::new(alloc);
-    push_names(&mut names, items)?;
+    lend_names(&mut names, items)?;
     Names::new(alloc, names)
 }
 
@@ -116,7 +107,7 @@ pub(crate) fn names_of_both<'a, A: Named, B: Named>(
     ensures { IfOk result (λ names. names ≡ map A.named front.now ++ map B.named back.now) }
 {
     let mut names = Vec::new(alloc);
-    push_names(&mut names, front)?;
-    push_names(&mut names, back)?;
+    lend_names(&mut names, front)?;
+    lend_names(&mut names, back)?;
     Names::new(alloc, names)
 }

@@ -1,8 +1,8 @@
 ghost use Rattle.std.specs.Prelude.{◌≡◌, string_bytes, IfOk};
 ghost use Rattle.graph_reader.specs.Place.{pointer_of, MisshapenAt};
 
-use crate::misfit::Misfit;
 use param_expr::Name;
+use pisdf_model::DetailFault;
 use std::alloc::{AllocError, Global};
 use std::fmt::Write;
 
@@ -36,15 +36,15 @@ impl Place<'_> {
     }
 
     /// The fault that the value here has not the form.
-    pub(crate) fn misshapen(&self, alloc: Global) -> Misfit
+    pub(crate) fn misshapen(&self, alloc: Global) -> DetailFault<Name>
         ensures { MisshapenAt (pointer_of self.now) result }
     {
         let Ok(mut text) = self.steps(alloc) else {
-            return Misfit::Memory;
+            return DetailFault::Memory;
         };
         if text.is_empty() && text.push_str("/").is_err() {
-            return Misfit::Memory;
+            return DetailFault::Memory;
         }
-        Misfit::Shape(Name::new(text))
+        DetailFault::Fault(Name::new(text))
     }
 }

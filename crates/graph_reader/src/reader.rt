@@ -48,7 +48,10 @@ fn resolved(
     ensures tells { Tells (map Unknown (unknown_in_file file.now)) result }
     ensures graphs { IfOk result (λ graphs. graphs ≡ placed (delays_by delays) (kernel_names (map signature_view signatures.now)) file.now) }
 {
-    Ok(graphs_of(alloc, file, signatures, delays)?)
+    match graphs_of(alloc, file, signatures, delays) {
+        Ok(graphs) => Ok(graphs),
+        Err(fault) => Err(Check::Unknown.fault(fault)),
+    }
 }
 
 /// Whether a file has none of the faults 4 to 13. Delays are marked for that, and not made: they may hold far more tokens

@@ -4,7 +4,8 @@ ghost use Rattle.graph_reader.specs.Resolves.{Resolves};
 ghost use Rattle.graph_reader.specs.Setting.{Setting, setting_of};
 
 use crate::surroundings::Surroundings;
-use crate::unresolved::Unresolved;
+use param_expr::Name;
+use pisdf_model::DetailFault;
 use sdf_level::List;
 use std::alloc::Global;
 
@@ -23,7 +24,7 @@ pub(crate) trait Resolved: Drop {
         alloc: Global,
         surroundings: &Surroundings<'_, '_>,
         source: &Self::Source,
-    ) -> Result<Self, Unresolved>
+    ) -> Result<Self, DetailFault<Name>>
         ensures { Resolves (unknown (setting_of surroundings.now) source.now) (placed (setting_of surroundings.now) source.now) result };
 }
 
@@ -32,7 +33,7 @@ pub(crate) fn resolve_each<T: Resolved>(
     alloc: Global,
     surroundings: &Surroundings<'_, '_>,
     sources: &[T::Source],
-) -> Result<List<T>, Unresolved>
+) -> Result<List<T>, DetailFault<Name>>
     ensures { Resolves (flat_map (T.unknown (setting_of surroundings.now)) sources.now) (map (T.placed (setting_of surroundings.now)) sources.now) result }
 {
     let mut resolved = Vec::new(alloc);

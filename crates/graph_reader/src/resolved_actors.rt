@@ -6,14 +6,12 @@ ghost use Rattle.graph_format.specs.References.{unknown_in_body};
 ghost use Rattle.graph_reader.specs.Resolves.{Resolves};
 ghost use Rattle.graph_reader.specs.Setting.{setting_of};
 
-use crate::names::Named;
 use crate::resolved::{Resolved, resolve_each};
 use crate::resolved_parts::reference;
 use crate::surroundings::Surroundings;
-use crate::unresolved::Unresolved;
 use graph_format::{FileActor, FileBody, FilePort};
 use param_expr::{Name, Parsed};
-use pisdf_model::{Actor, Body};
+use pisdf_model::{Actor, Body, DetailFault};
 use sdf_level::List;
 use std::alloc::{AllocError, Global};
 
@@ -24,7 +22,7 @@ fn kernel_actor(
     args: &List<Parsed>,
     ins: &List<FilePort>,
     outs: &List<FilePort>,
-) -> Result<Body, Unresolved>
+) -> Result<Body, DetailFault<Name>>
     ensures { let body = FileBody.Kernel kernel.now args.now ins.now outs.now in let s = (setting_of surroundings.now).scope in Resolves (unknown_in_body s body) (placed_body s body) result }
 {
     let args = resolve_each(alloc, &*surroundings, args.items())?;
@@ -58,7 +56,7 @@ fn configuration_actor(
     ins: &List<Name>,
     outs: &List<FilePort>,
     sets: &List<Name>,
-) -> Result<Body, Unresolved>
+) -> Result<Body, DetailFault<Name>>
     ensures { let body = FileBody.Config kernel.now args.now ins.now outs.now sets.now in let s = (setting_of surroundings.now).scope in Resolves (unknown_in_body s body) (placed_body s body) result }
 {
     let args = resolve_each(alloc, &*surroundings, args.items())?;
@@ -79,7 +77,7 @@ fn hierarchical_actor(
     surroundings: &Surroundings<'_, '_>,
     graph: &Name,
     args: &List<Parsed>,
-) -> Result<Body, Unresolved>
+) -> Result<Body, DetailFault<Name>>
     ensures { let body = FileBody.Child graph.now args.now in let s = (setting_of surroundings.now).scope in Resolves (unknown_in_body s body) (placed_body s body) result }
 {
     let graph = reference(surroundings.graphs, graph)?;
@@ -101,7 +99,7 @@ impl Resolved for Body {
         alloc: Global,
         surroundings: &Surroundings<'_, '_>,
         source: &FileBody,
-    ) -> Result<Body, Unresolved> {
+    ) -> Result<Body, DetailFault<Name>> {
         match source {
             FileBody::Kernel {
                 kernel,
@@ -135,17 +133,9 @@ impl Resolved for Actor {
         alloc: Global,
         surroundings: &Surroundings<'_, '_>,
         source: &FileActor,
-    ) -> Result<Actor, Unresolved> {
+    ) -> Result<Actor, DetailFault<Name>> {
         let body = Body::resolve(alloc, &*surroundings, &source.body)?;
         let name = source.name.clone()?;
         Ok(Actor { name, body })
-    }
-}
-
-impl Named for FileActor {
-    ghost named = { λ actor. actor.name };
-
-    fn name(&self) -> &Name {
-        &self.name
     }
 }

@@ -5,9 +5,9 @@ ghost use Rattle.graph_reader.specs.Setting.{delays_by};
 use crate::resolved::Resolved;
 use crate::resolved_parts::reference;
 use crate::surroundings::{Delays, Surroundings};
-use crate::unresolved::Unresolved;
 use graph_format::{FileDelay, FileEnd, FileFifo};
-use pisdf_model::{End, Fifo, life_of, port_text};
+use param_expr::Name;
+use pisdf_model::{DetailFault, End, Fifo, life_of, port_text};
 use sdf_level::List;
 use std::alloc::{AllocError, Global};
 
@@ -25,7 +25,7 @@ impl Resolved for End {
         alloc: Global,
         surroundings: &Surroundings<'_, '_>,
         source: &FileEnd,
-    ) -> Result<End, Unresolved> {
+    ) -> Result<End, DetailFault<Name>> {
         match source {
             FileEnd::Interface(name) => {
                 let place = reference(surroundings.interfaces, name)?;
@@ -33,7 +33,7 @@ impl Resolved for End {
             }
             FileEnd::Port { actor, port } => match surroundings.port_place(actor, port) {
                 Some((actor, port)) => Ok(End::Port { actor, port }),
-                None => Err(Unresolved::Unknown(port_text(alloc, actor, port)?)),
+                None => Err(DetailFault::Fault(port_text(alloc, actor, port)?)),
             },
         }
     }
@@ -79,7 +79,7 @@ impl Resolved for Fifo {
         alloc: Global,
         surroundings: &Surroundings<'_, '_>,
         source: &FileFifo,
-    ) -> Result<Fifo, Unresolved> {
+    ) -> Result<Fifo, DetailFault<Name>> {
         let tail = End::resolve(alloc, &*surroundings, &source.from)?;
         let head = End::resolve(alloc, &*surroundings, &source.to)?;
         let delay = match surroundings.delays {

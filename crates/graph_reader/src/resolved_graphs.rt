@@ -15,10 +15,10 @@ use crate::names::Names;
 use crate::resolved::{Resolved, resolve_each};
 use crate::resolved_parts::reference;
 use crate::surroundings::{Delays, Surroundings, surroundings_of};
-use crate::unresolved::Unresolved;
 use graph_format::{File, FileGraph};
 use kernel_gate::Signature;
-use pisdf_model::{Graph, Graphs};
+use param_expr::Name;
+use pisdf_model::{DetailFault, Graph, Graphs};
 use sdf_level::List;
 use std::alloc::Global;
 
@@ -37,7 +37,7 @@ impl Resolved for Graph {
         alloc: Global,
         surroundings: &Surroundings<'_, '_>,
         source: &FileGraph,
-    ) -> Result<Graph, Unresolved> {
+    ) -> Result<Graph, DetailFault<Name>> {
         let params = resolve_each(alloc, &*surroundings, source.params.items())?;
         let inputs = resolve_each(alloc, &*surroundings, source.inputs.items())?;
         let outputs = resolve_each(alloc, &*surroundings, source.outputs.items())?;
@@ -63,7 +63,7 @@ fn resolve_graph<'a>(
     graph: &'a FileGraph,
     is_top: bool,
     delays: Delays,
-) -> Result<Graph, Unresolved>
+) -> Result<Graph, DetailFault<Name>>
     requires { interfaces.now ≡ interfaces_of graph.now }
     ensures { (graphs : Seq FileGraph) → AreOf graphs names.now
         → Resolves (unknown_in_graph (scope_of names.now.kernels graphs graph.now) graph.now) (placed_graph (delays_by delays) is_top (scope_of names.now.kernels graphs graph.now) graph.now) result }
@@ -80,7 +80,7 @@ fn resolve_graphs<'a>(
     top: u32,
     delays: Delays,
     graphs: &'a [FileGraph],
-) -> Result<List<Graph>, Unresolved>
+) -> Result<List<Graph>, DetailFault<Name>>
     requires { AreOf graphs.now names.now }
     ensures { Resolves (flat_map (λ graph. unknown_in_graph (scope_of names.now.kernels graphs.now graph) graph) graphs.now)
         (map (λ numbered. placed_graph (delays_by delays) (numbered.0 == top) (scope_of names.now.kernels graphs.now numbered.1) numbered.1) (enumerate_from 0 graphs.now)) result }
@@ -106,7 +106,7 @@ pub(crate) fn graphs_of(
     file: &File,
     signatures: &[Signature],
     delays: Delays,
-) -> Result<Graphs, Unresolved>
+) -> Result<Graphs, DetailFault<Name>>
     ensures { Resolves (unknown_in_file file.now) (placed (delays_by delays) (kernel_names (map signature_view signatures.now)) file.now) result }
 {
     let parts = file.graphs.items();

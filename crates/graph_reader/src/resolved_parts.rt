@@ -4,22 +4,21 @@ ghost use Rattle.graph_format.specs.Placed.{first_place};
 ghost use Rattle.graph_format.specs.References.{missing};
 ghost use Rattle.graph_reader.specs.Resolves.{Resolves};
 
-use crate::names::{Named, Names};
+use crate::names::Names;
 use crate::resolved::Resolved;
 use crate::surroundings::Surroundings;
-use crate::unresolved::Unresolved;
 use graph_format::{FileParam, FileParamKind, FilePort};
-use param_expr::{Expr, Name, Parsed, bind_in};
-use pisdf_model::{Interface, Param, ParamKind, Port};
+use param_expr::{BindFault, Expr, Name, Parsed, bind_in};
+use pisdf_model::{DetailFault, Interface, Param, ParamKind, Port};
 use std::alloc::Global;
 
 /// The first place of a name, which has to be there.
-pub(crate) fn reference(names: &Names<'_>, name: &Name) -> Result<u32, Unresolved>
+pub(crate) fn reference(names: &Names<'_>, name: &Name) -> Result<u32, DetailFault<Name>>
     ensures { Resolves (missing names.now name.now) (first_place names.now name.now) result }
 {
     match names.place_of(name) {
         Some(place) => Ok(place),
-        None => Err(Unresolved::Unknown(name.clone()?)),
+        None => Err(DetailFault::Fault(name.clone()?)),
     }
 }
 
@@ -38,7 +37,7 @@ impl Resolved for u32 {
         _alloc: Global,
         surroundings: &Surroundings<'_, '_>,
         source: &Name,
-    ) -> Result<u32, Unresolved> {
+    ) -> Result<u32, DetailFault<Name>> {
         reference(&surroundings.params, source)
     }
 }
@@ -57,9 +56,12 @@ impl Resolved for Expr {
         alloc: Global,
         surroundings: &Surroundings<'_, '_>,
         source: &Parsed,
-    ) -> Result<Expr, Unresolved> {
-        let expr = bind_in(alloc, source, &surroundings.params)?;
-        Ok(expr)
+    ) -> Result<Expr, DetailFault<Name>> {
+        match bind_in(alloc, source, &surroundings.params) {
+            Ok(expr) => Ok(expr),
+            Err(BindFault::Unknown(name)) => Err(DetailFault::Fault(name)),
+            Err(BindFault::Memory) => Err(DetailFault::Memory),
+        }
     }
 }
 
@@ -77,7 +79,7 @@ impl Resolved for Port {
         alloc: Global,
         surroundings: &Surroundings<'_, '_>,
         source: &FilePort,
-    ) -> Result<Port, Unresolved> {
+    ) -> Result<Port, DetailFault<Name>> {
         let rate = Expr::resolve(alloc, &*surroundings, &source.rate)?;
         let name = source.name.clone()?;
         Ok(Port { name, rate })
@@ -98,7 +100,7 @@ impl Resolved for Interface {
         alloc: Global,
         surroundings: &Surroundings<'_, '_>,
         source: &FilePort,
-    ) -> Result<Interface, Unresolved> {
+    ) -> Result<Interface, DetailFault<Name>> {
         let rate = Expr::resolve(alloc, &*surroundings, &source.rate)?;
         let name = source.name.clone()?;
         Ok(Interface { name, rate })
@@ -119,7 +121,7 @@ impl Resolved for ParamKind {
         alloc: Global,
         surroundings: &Surroundings<'_, '_>,
         source: &FileParamKind,
-    ) -> Result<ParamKind, Unresolved> {
+    ) -> Result<ParamKind, DetailFault<Name>> {
         match source {
             FileParamKind::Inherited => Ok(ParamKind::Inherited),
             FileParamKind::Derived(expr) => {
@@ -145,7 +147,7 @@ impl Resolved for Param {
         alloc: Global,
         surroundings: &Surroundings<'_, '_>,
         source: &FileParam,
-    ) -> Result<Param, Unresolved> {
+    ) -> Result<Param, DetailFault<Name>> {
         let kind = ParamKind::resolve(alloc, &*surroundings, &source.kind)?;
         let name = source.name.clone()?;
         Ok(Param {
@@ -154,29 +156,5 @@ impl Resolved for Param {
             low: source.low,
             high: source.high,
         })
-    }
-}
-
-impl Named for Name {
-    ghost named = { λ name. name };
-
-    fn name(&self) -> &Name {
-        self
-    }
-}
-
-impl Named for FilePort {
-    ghost named = { λ port. port.name };
-
-    fn name(&self) -> &Name {
-        &self.name
-    }
-}
-
-impl Named for FileParam {
-    ghost named = { λ param. param.name };
-
-    fn name(&self) -> &Name {
-        &self.name
     }
 }

@@ -5,7 +5,6 @@ ghost use Rattle.graph_reader.specs.Gives.{Gives};
 
 use crate::actor::Actor;
 use crate::fifo::Fifo;
-use crate::misfit::Misfit;
 use crate::param::Param;
 use crate::place::Place;
 use crate::port::Port;
@@ -13,6 +12,7 @@ use crate::shape::{Form, has_form, list_member, member};
 use crate::text::PlainName;
 use graph_format::{File, FileGraph, FileParam};
 use param_expr::Name;
+use pisdf_model::DetailFault;
 use sdf_level::List;
 use serde_json::Value;
 use std::alloc::Global;
@@ -28,13 +28,13 @@ fn graph_parts(
     value: &Value,
     name: Name,
     params: List<FileParam>,
-) -> Result<FileGraph, Misfit>
+) -> Result<FileGraph, DetailFault<Name>>
     ensures { Gives result (graph_parts_at 1 name params (pointer_of place.now) (view value.now)) }
 {
-    let inputs = list_member::<Port>(alloc, place, value, "inputs")?;
-    let outputs = list_member::<Port>(alloc, place, value, "outputs")?;
-    let actors = list_member::<Actor>(alloc, place, value, "actors")?;
-    let fifos = list_member::<Fifo>(alloc, place, value, "fifos")?;
+    let inputs = list_member(alloc, place, value, "inputs", &Port)?;
+    let outputs = list_member(alloc, place, value, "outputs", &Port)?;
+    let actors = list_member(alloc, place, value, "actors", &Actor)?;
+    let fifos = list_member(alloc, place, value, "fifos", &Fifo)?;
     Ok(FileGraph {
         name,
         params,
@@ -51,10 +51,15 @@ struct Graph;
 impl Form for Graph {
     type Stated = FileGraph;
 
-    ghost reads = { graph_at 1 };
+    ghost reads = { λ _. graph_at 1 };
 
     #[tactic(auto, unfolding(graph_format::specs::Objects::graph_at, graph_format::specs::Objects::graph_members_at))]
-    fn read_at(alloc: Global, place: &Place<'_>, value: &Value) -> Result<FileGraph, Misfit> {
+    fn read_at(
+        &self,
+        alloc: Global,
+        place: &Place<'_>,
+        value: &Value,
+    ) -> Result<FileGraph, DetailFault<Name>> {
         if !has_form(
             value,
             &["name", "params", "inputs", "outputs", "actors", "fifos"],
@@ -62,8 +67,8 @@ impl Form for Graph {
         ) {
             return Err(place.misshapen(alloc));
         }
-        let name = member::<PlainName>(alloc, place, value, "name")?;
-        let params = list_member::<Param>(alloc, place, value, "params")?;
+        let name = member(alloc, place, value, "name", &PlainName)?;
+        let params = list_member(alloc, place, value, "params", &Param)?;
         graph_parts(alloc, place, value, name, params)
     }
 }
@@ -74,9 +79,14 @@ struct Version;
 impl Form for Version {
     type Stated = u32;
 
-    ghost reads = { version_at 1 };
+    ghost reads = { λ _. version_at 1 };
 
-    fn read_at(alloc: Global, place: &Place<'_>, value: &Value) -> Result<u32, Misfit> {
+    fn read_at(
+        &self,
+        alloc: Global,
+        place: &Place<'_>,
+        value: &Value,
+    ) -> Result<u32, DetailFault<Name>> {
         match value.as_i64() {
             Some(number) if number == i64::from(VERSION) => Ok(VERSION),
             _ => Err(place.misshapen(alloc)),
@@ -90,16 +100,21 @@ pub(crate) struct Root;
 impl Form for Root {
     type Stated = File;
 
-    ghost reads = { file_at 1 };
+    ghost reads = { λ _. file_at 1 };
 
     #[tactic(auto, unfolding(graph_format::specs::Objects::file_at, graph_format::specs::Objects::file_members_at))]
-    fn read_at(alloc: Global, place: &Place<'_>, value: &Value) -> Result<File, Misfit> {
+    fn read_at(
+        &self,
+        alloc: Global,
+        place: &Place<'_>,
+        value: &Value,
+    ) -> Result<File, DetailFault<Name>> {
         if !has_form(value, &["pisdf", "top", "graphs"], &[]) {
             return Err(place.misshapen(alloc));
         }
-        let version = member::<Version>(alloc, place, value, "pisdf")?;
-        let top = member::<PlainName>(alloc, place, value, "top")?;
-        let graphs = list_member::<Graph>(alloc, place, value, "graphs")?;
+        let version = member(alloc, place, value, "pisdf", &Version)?;
+        let top = member(alloc, place, value, "top", &PlainName)?;
+        let graphs = list_member(alloc, place, value, "graphs", &Graph)?;
         Ok(File {
             version,
             top,

@@ -8,8 +8,9 @@ ghost use Rattle.graph_format.specs.Walk.{all_known, has_form, items_at, list_at
 ghost use Rattle.graph_reader.specs.Place.{pointer_of};
 ghost use Rattle.graph_reader.specs.Gives.{Gives};
 
-use crate::misfit::Misfit;
 use crate::place::Place;
+use param_expr::Name;
+use pisdf_model::DetailFault;
 use sdf_level::List;
 use serde_json::{Map, Value};
 use std::alloc::Global;
@@ -20,10 +21,15 @@ pub(crate) trait Form {
     type Stated: Drop;
 
     /// What a value behind a pointer states, or the pointer to the first value in it that has not its form.
-    ghost reads: { Seq ℕ → Data → Result Self.Stated (Seq ℕ) };
+    ghost reads: { Self → Seq ℕ → Data → Result Self.Stated (Seq ℕ) };
 
-    fn read_at(alloc: Global, place: &Place<'_>, value: &Value) -> Result<Self::Stated, Misfit>
-        ensures { Gives result (reads (pointer_of place.now) (view value.now)) };
+    fn read_at(
+        &self,
+        alloc: Global,
+        place: &Place<'_>,
+        value: &Value,
+    ) -> Result<Self::Stated, DetailFault<Name>>
+        ensures { Gives result (reads self.now (pointer_of place.now) (view value.now)) };
 }
 
 fn is_among(names: &[&str], name: &str) -> bool
@@ -81,11 +87,12 @@ pub(crate) fn member<F: Form>(
     place: &Place<'_>,
     value: &Value,
     key: &'static str,
-) -> Result<F::Stated, Misfit>
-    ensures { Gives result (member_at F.reads (pointer_of place.now) key.now (view value.now)) }
+    form: &F,
+) -> Result<F::Stated, DetailFault<Name>>
+    ensures { Gives result (member_at (F.reads form.now) (pointer_of place.now) key.now (view value.now)) }
 {
     match value.get(key) {
-        Some(member) => F::read_at(alloc, &Place::Member(&*place, key), member),
+        Some(member) => form.read_at(alloc, &Place::Member(&*place, key), member),
         None => Err(place.misshapen(alloc)),
     }
 }
@@ -96,12 +103,13 @@ pub(crate) fn member_or<F: Form>(
     place: &Place<'_>,
     value: &Value,
     key: &'static str,
+    form: &F,
     default: F::Stated,
-) -> Result<F::Stated, Misfit>
-    ensures { Gives result (member_or default F.reads (pointer_of place.now) key.now (view value.now)) }
+) -> Result<F::Stated, DetailFault<Name>>
+    ensures { Gives result (member_or default (F.reads form.now) (pointer_of place.now) key.now (view value.now)) }
 {
     match value.get(key) {
-        Some(member) => F::read_at(alloc, &Place::Member(&*place, key), member),
+        Some(member) => form.read_at(alloc, &Place::Member(&*place, key), member),
         None => Ok(default),
     }
 }
@@ -111,12 +119,13 @@ pub(crate) fn items<F: Form>(
     alloc: Global,
     place: &Place<'_>,
     values: &[Value],
-) -> Result<List<F::Stated>, Misfit>
-    ensures { Gives result (items_at F.reads (pointer_of place.now) 0 (items_view values.now)) }
+    form: &F,
+) -> Result<List<F::Stated>, DetailFault<Name>>
+    ensures { Gives result (items_at (F.reads form.now) (pointer_of place.now) 0 (items_view values.now)) }
 {
     let mut items = Vec::new(alloc);
     for (i, value) in values.iter().enumerate() {
-        let item = F::read_at(alloc, &Place::Item(&*place, i), value)?;
+        let item = form.read_at(alloc, &Place::Item(&*place, i), value)?;
         items.push(item)?;
     }
     Ok(List::new(items))
@@ -127,11 +136,12 @@ pub(crate) fn list<F: Form>(
     alloc: Global,
     place: &Place<'_>,
     value: &Value,
-) -> Result<List<F::Stated>, Misfit>
-    ensures { Gives result (list_at F.reads (pointer_of place.now) (view value.now)) }
+    form: &F,
+) -> Result<List<F::Stated>, DetailFault<Name>>
+    ensures { Gives result (list_at (F.reads form.now) (pointer_of place.now) (view value.now)) }
 {
     match value.as_array() {
-        Some(values) => items::<F>(alloc, place, values.as_slice()),
+        Some(values) => items(alloc, place, values.as_slice(), &*form),
         None => Err(place.misshapen(alloc)),
     }
 }
@@ -142,11 +152,12 @@ pub(crate) fn list_member<F: Form>(
     place: &Place<'_>,
     value: &Value,
     key: &'static str,
-) -> Result<List<F::Stated>, Misfit>
-    ensures { Gives result (member_at (list_at F.reads) (pointer_of place.now) key.now (view value.now)) }
+    form: &F,
+) -> Result<List<F::Stated>, DetailFault<Name>>
+    ensures { Gives result (member_at (list_at (F.reads form.now)) (pointer_of place.now) key.now (view value.now)) }
 {
     match value.get(key) {
-        Some(member) => list::<F>(alloc, &Place::Member(&*place, key), member),
+        Some(member) => list(alloc, &Place::Member(&*place, key), member, &*form),
         None => Err(place.misshapen(alloc)),
     }
 }
@@ -157,9 +168,14 @@ pub(crate) struct Whole;
 impl Form for Whole {
     type Stated = i64;
 
-    ghost reads = { whole_at };
+    ghost reads = { λ _. whole_at };
 
-    fn read_at(alloc: Global, place: &Place<'_>, value: &Value) -> Result<i64, Misfit> {
+    fn read_at(
+        &self,
+        alloc: Global,
+        place: &Place<'_>,
+        value: &Value,
+    ) -> Result<i64, DetailFault<Name>> {
         match value.as_i64() {
             Some(number) => Ok(number),
             None => Err(place.misshapen(alloc)),

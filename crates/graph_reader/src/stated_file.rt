@@ -7,6 +7,7 @@ ghost use Rattle.graph_format.specs.Reads.{IsJson, Reads, other_version, reading
 ghost use Rattle.graph_format.specs.States.{States};
 ghost use Rattle.graph_format.specs.declared.graph_fault.GraphFault.TheVariants.{Memory};
 
+use crate::checks::Check;
 use crate::place::Place;
 use crate::root::{Root, VERSION};
 use crate::shape::Form;
@@ -32,7 +33,10 @@ fn file_of_value(alloc: Global, value: &Value) -> Result<File, GraphFault>
     if let Some(version) = other_version(value) {
         return Err(GraphFault::Version(version));
     }
-    Ok(Root::read_at(alloc, &Place::Root, value)?)
+    match Root.read_at(alloc, &Place::Root, value) {
+        Ok(file) => Ok(file),
+        Err(fault) => Err(Check::Shape.fault(fault)),
+    }
 }
 
 /// The file that bytes state, its names not yet resolved.

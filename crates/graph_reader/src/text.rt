@@ -3,11 +3,11 @@ ghost use Rattle.param_expr.specs.Words.{is_reserved};
 ghost use Rattle.graph_format.specs.Texts.{cut_at_point, end_from, expression_at, end_at, is_kernel_name, kernel_at, name_at};
 ghost use Rattle.graph_reader.specs.Gives.{EndGives};
 
-use crate::misfit::Misfit;
 use crate::place::Place;
 use crate::shape::Form;
 use graph_format::FileEnd;
 use param_expr::{ExprFault, Name, Parsed, is_name, parse};
+use pisdf_model::DetailFault;
 use serde_json::Value;
 use std::alloc::{AllocError, Global};
 
@@ -17,9 +17,14 @@ pub(crate) struct PlainName;
 impl Form for PlainName {
     type Stated = Name;
 
-    ghost reads = { name_at };
+    ghost reads = { λ _. name_at };
 
-    fn read_at(alloc: Global, place: &Place<'_>, value: &Value) -> Result<Name, Misfit> {
+    fn read_at(
+        &self,
+        alloc: Global,
+        place: &Place<'_>,
+        value: &Value,
+    ) -> Result<Name, DetailFault<Name>> {
         match value.as_str() {
             Some(text) if is_name(text) => Ok(Name::new(String::from_str(alloc, text)?)),
             _ => Err(place.misshapen(alloc)),
@@ -45,9 +50,14 @@ fn is_kernel_name(text: &str) -> bool
 impl Form for KernelName {
     type Stated = Name;
 
-    ghost reads = { kernel_at };
+    ghost reads = { λ _. kernel_at };
 
-    fn read_at(alloc: Global, place: &Place<'_>, value: &Value) -> Result<Name, Misfit> {
+    fn read_at(
+        &self,
+        alloc: Global,
+        place: &Place<'_>,
+        value: &Value,
+    ) -> Result<Name, DetailFault<Name>> {
         match value.as_str() {
             Some(text) if is_kernel_name(text) => Ok(Name::new(String::from_str(alloc, text)?)),
             _ => Err(place.misshapen(alloc)),
@@ -61,15 +71,20 @@ pub(crate) struct Expression;
 impl Form for Expression {
     type Stated = Parsed;
 
-    ghost reads = { expression_at };
+    ghost reads = { λ _. expression_at };
 
-    fn read_at(alloc: Global, place: &Place<'_>, value: &Value) -> Result<Parsed, Misfit> {
+    fn read_at(
+        &self,
+        alloc: Global,
+        place: &Place<'_>,
+        value: &Value,
+    ) -> Result<Parsed, DetailFault<Name>> {
         let Some(text) = value.as_str() else {
             return Err(place.misshapen(alloc));
         };
         match parse(alloc, text) {
             Ok(parsed) => Ok(parsed),
-            Err(ExprFault::Memory) => Err(Misfit::Memory),
+            Err(ExprFault::Memory) => Err(DetailFault::Memory),
             Err(_) => Err(place.misshapen(alloc)),
         }
     }
@@ -105,9 +120,14 @@ fn end_from(alloc: Global, text: &str) -> Result<Option<FileEnd>, AllocError>
 impl Form for End {
     type Stated = FileEnd;
 
-    ghost reads = { end_at };
+    ghost reads = { λ _. end_at };
 
-    fn read_at(alloc: Global, place: &Place<'_>, value: &Value) -> Result<FileEnd, Misfit> {
+    fn read_at(
+        &self,
+        alloc: Global,
+        place: &Place<'_>,
+        value: &Value,
+    ) -> Result<FileEnd, DetailFault<Name>> {
         let Some(text) = value.as_str() else {
             return Err(place.misshapen(alloc));
         };

@@ -244,7 +244,6 @@ module _ (printed_answers : (text : List ℕ) (t : NamedTree) → Answers text (
       args = member_again (IsList StatesExpression) (list_value expression_value) args_again (codes "args") d _ args refl h.body.args;
     };
   }
-
   body_again version d name (ConfigChild graph args sets) h = record {
     members = refl;
     name = member_again StatesName string name_again (codes "name") d _ name refl h.name;

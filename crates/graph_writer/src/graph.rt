@@ -94,8 +94,6 @@ impl Writer for GraphList<'_> {
             return graph_object(alloc, name, params, inputs, outputs, actors, fifos);
         }
         let exports = list(alloc, &Sets { names }, graph.exports.items())?;
-        exporting_object(
-            alloc, name, params, inputs, outputs, actors, fifos, exports,
-        )
+        exporting_object(alloc, name, params, inputs, outputs, actors, fifos, exports)
     }
 }

@@ -18,11 +18,11 @@ returns c =
     let inputs = scoped (Parts n) (names_of_ports g.inputs) in
     let outputs = scoped (Parts n) (names_of_ports g.outputs) in
     let walk = of_each (λ a actor. actor_walk n a actor) g.actors in
-    let pushed = subst (λ actors. OnOk c.push_actors.result (c.push_actors.new.names.items ≡ c.push_parts-3.new.names.items ++ of_each (λ a actor. actor_walk n a actor) actors)) c.items-4.ensures c.push_actors.ensures in
+    let pushed = subst (λ actors. OnOk c.push_actors.result (c.push_actors.new.names.items ≡ c.push_names-3.new.names.items ++ of_each (λ a actor. actor_walk n a actor) actors)) c.items-4.ensures c.push_actors.ensures in
     subst (λ (names : List ScopedName). OnOk c.push_actors.result (c.push_actors.new.names.items ≡ names))
-    (one_then_four c.args.names.now.items own params inputs outputs walk c.push_name.new.names.items c.push_parts.new.names.items c.push_parts-2.new.names.items c.push_parts-3.new.names.items
+    (one_then_four c.args.names.now.items own params inputs outputs walk c.push_name.new.names.items c.push_names.new.names.items c.push_names-2.new.names.items c.push_names-3.new.names.items
     c.in_ok-push_name.ensures
-    (c.in_ok-push_parts.ensures ∙ ap (λ ps. c.push_name.new.names.items ++ scoped (Parts n) (names_of_params ps)) c.items.ensures)
-    (c.in_ok-push_parts-2.ensures ∙ ap (λ ps. c.push_parts.new.names.items ++ scoped (Parts n) (names_of_ports ps)) c.items-2.ensures)
-    (c.in_ok-push_parts-3.ensures ∙ ap (λ ps. c.push_parts-2.new.names.items ++ scoped (Parts n) (names_of_ports ps)) c.items-3.ensures))
+    (c.in_ok-push_names.ensures ∙ ap (λ ps. c.push_name.new.names.items ++ scoped (Parts n) (names_of_params ps)) c.items.ensures)
+    (c.in_ok-push_names-2.ensures ∙ ap (λ ps. c.push_names.new.names.items ++ scoped (Parts n) (names_of_ports ps)) c.items-2.ensures)
+    (c.in_ok-push_names-3.ensures ∙ ap (λ ps. c.push_names-2.new.names.items ++ scoped (Parts n) (names_of_ports ps)) c.items-3.ensures))
     pushed

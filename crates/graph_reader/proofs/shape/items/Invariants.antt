@@ -5,4 +5,4 @@ use Rattle.graph_reader.proofs.Items.{Stands}
 use Rattle.graph_reader.proofs.shape.items.Given as goal
 
 abbrev pub invariant-loop-i : goal.invariant-loop-i
-invariant-loop-i g l = let read = g.F.Form.reads in Stands read (pointer_of l.place) l.items.items l.i l.values (items_at read (pointer_of l.place) 0 (items_view l.values))
+invariant-loop-i g l = let read = g.F.Form.reads l.form in Stands read (pointer_of l.place) l.items.items l.i l.values (items_at read (pointer_of l.place) 0 (items_view l.values))
