@@ -11,3 +11,5 @@ pub mod OfVersion
 pub mod Ranged
 pub mod Writable
 pub mod Reading
+pub mod Located
+pub mod Misshapen
