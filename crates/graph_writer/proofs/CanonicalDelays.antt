@@ -122,7 +122,7 @@ module _ (kernels : List (List ℕ)) (graphs : Graphs) (least : 1 ≤ graphs.ver
   each_shown g [] inside fit short = tt
   each_shown g (f ∷ fs) inside fit short =
       let parts = or_parts (nat_lt 65536 (length f.delay)) (has_long_delay fs) short in
-      let first = record {
+      let first : IsShown graphs.version (named_fifo graphs g f) = record {
         delay = delay_again f.delay (inside 0 f (omega arith)) parts.0;
         life = life_shown graphs.version f.life f.delay least (fit 0 f (omega arith));
       } in

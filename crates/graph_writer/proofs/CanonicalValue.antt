@@ -130,7 +130,7 @@ pub either_again : (version : ℕ) (d : Data) (fifo : FileFifo) (lives none : Bo
     → StatesFifo version (object (cond none (end_members (lives && not none) fifo.life (end_text fifo.from) (end_text fifo.to)) (member (codes "delay") (delay_value fifo.delay) (end_members (lives && not none) fifo.life (end_text fifo.from) (end_text fifo.to))))) fifo
 unfolding has_form
 either_again version d fifo true true has left_out shown from to = record {
-  members = rw has refl;
+  members = refl;
   from = member_again StatesEnd end_value end_again (codes "from") d _ fifo.from refl from;
   to = member_again StatesEnd end_value end_again (codes "to") d _ fifo.to refl to;
   delay = no_delay fifo.delay left_out;
@@ -144,7 +144,7 @@ either_again version d fifo true false has left_out shown from to = record {
   life = refl;
 }
 either_again version d fifo false true has left_out shown from to = record {
-  members = rw has refl;
+  members = refl;
   from = member_again StatesEnd end_value end_again (codes "from") d _ fifo.from refl from;
   to = member_again StatesEnd end_value end_again (codes "to") d _ fifo.to refl to;
   delay = no_delay fifo.delay left_out;

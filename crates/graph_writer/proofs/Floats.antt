@@ -1,6 +1,6 @@
 -- A canonical value has no float.
 use Rattle.std.proofs.Common.{◌≡◌, ◌&&◌, ℕ, ℤ, pos, negsuc, List, [], ◌∷◌, map, Bool, true, false, not, codes, if◌then◌else◌, refl}
-use Rattle.serde_json.specs.Data.{Data, Members, member, string}
+use Rattle.serde_json.specs.Data.{Data, Members, no_members, member, string}
 use Rattle.serde_json.specs.View.{items_of}
 use Rattle.serde_json.specs.Written.{has_float, items_have_float, members_have_float}
 use Rattle.graph_format.specs.Canonical.{whole_value, expression_value, with_rule, param_value, port_value, input_value, body_members, actor_value, delay_value, end_members, fifo_value, graph_value, file_value, is_no_delay, list_value}
@@ -77,11 +77,22 @@ optional : (b : Bool) (k : List ℕ) (d : Data) (ms : Members) → has_float d �
 optional true k d ms none more = rw none more
 optional false k d ms none more = more
 
+abbrev after_exports : ℕ → FileGraph → Members
+after_exports version g =
+    member (codes "fifos") (list_value (fifo_value version) g.fifos)
+    (member (codes "inputs") (list_value port_value g.inputs)
+    (member (codes "name") (string g.name)
+    (member (codes "outputs") (list_value port_value g.outputs)
+    (member (codes "params") (list_value param_value g.params)
+    no_members))))
+
+rest : (version : ℕ) (g : FileGraph) → members_have_float (after_exports version g) ≡ false
+rest version g = rw (each (fifo_value version) (fifo version) g.fifos, each port_value port g.inputs, each port_value port g.outputs, each param_value param g.params) refl
+
 graph : (version : ℕ) (g : FileGraph) → has_float (graph_value version g) ≡ false
 unfolding graph_value
 graph version g =
-    let rest = rw (each (fifo_value version) (fifo version) g.fifos, each port_value port g.inputs, each port_value port g.outputs, each param_value param g.params) refl in
-    rw (each actor_value actor g.actors) (optional (has_exports version) (codes "exports") (list_value string g.exports) _ (each string (λ s. refl) g.exports) rest)
+    rw (each actor_value actor g.actors) (optional (has_exports version) (codes "exports") (list_value string g.exports) (after_exports version g) (each string (λ s. refl) g.exports) (rest version g))
 
 pub no_float : (file : File) → has_float (file_value file) ≡ false
 unfolding file_value

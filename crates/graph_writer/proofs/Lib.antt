@@ -13,4 +13,5 @@ pub mod NamedFile
 pub mod RestatedFile
 pub mod ReadableGraphs
 pub mod Lives
+pub mod WrittenFifos
 pub mod WrittenFile

@@ -1,7 +1,7 @@
-ghost use Rattle.std.specs.Prelude.{◌≡◌, IfOk, false, map, true};
-ghost use Rattle.serde_json.specs.Data.{Data, object};
+ghost use Rattle.std.specs.Prelude.{◌≡◌, IfOk, [], false, map, true};
+ghost use Rattle.serde_json.specs.Data.{object, string};
 ghost use Rattle.serde_json.specs.View.{view};
-ghost use Rattle.graph_format.specs.Canonical.{graph_members, graph_value};
+ghost use Rattle.graph_format.specs.Canonical.{graph_members, graph_value, list_value};
 ghost use Rattle.kernel_gate.specs.Signed.{signature_view};
 ghost use Rattle.graph_format.specs.Kernels.{kernel_names};
 ghost use Rattle.graph_format.specs.Named.{named_graph};
@@ -30,7 +30,7 @@ fn graph_object(
     actors: Value,
     fifos: Value,
 ) -> Result<Value, AllocError>
-    ensures { IfOk result (λ v. (exports : Data) → view v ≡ object (graph_members false name.now (view params) (view inputs) (view outputs) (view actors) (view fifos) exports)) }
+    ensures { IfOk result (λ v. view v ≡ object (graph_members false name.now (view params) (view inputs) (view outputs) (view actors) (view fifos) (list_value string []))) }
 {
     json!(in alloc; {"name": name, "params": params, "inputs": inputs, "outputs": outputs, "actors": actors, "fifos": fifos})
 }
