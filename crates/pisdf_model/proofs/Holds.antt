@@ -1,21 +1,18 @@
 -- How many tokens go on in a graph, counted over its own delays and the graphs that it holds.
-use Rattle.std.proofs.Common.{◌≡◌, ℕ, zero, suc, ◌+◌, ◌≤◌, ◌==◌, ◌&&◌, ◌||◌, ℤ, Bool, false, min, nat_lt, List, [], ◌∷◌, ◌++◌, length, map, Option, Some, None, option_map, refl, sym, ap, ◌∙◌, ⊎_elim, ◌<◌, add-one, arith, get_or, replicate}
+use Rattle.std.proofs.Common.{◌≡◌, ℕ, zero, suc, ◌+◌, ◌≤◌, ◌==◌, ◌&&◌, ◌||◌, ℤ, Bool, false, nat_lt, List, [], ◌∷◌, ◌++◌, length, map, Option, Some, None, refl, sym, ap, ◌∙◌, ⊎_elim, ◌<◌, add-one, arith, get_or, replicate}
 use Rattle.std.specs.Prelude.{slice_get, slice_index_or, sum_by}
 use Rattle.std.specs.List.{flat_map, list_any, range_with_len}
 use Rattle.std.proofs.lemmas.Bool.{cases_lt, lt-ltb, ltb-true}
 use Rattle.std.proofs.lemmas.List.{get_or_past, get_or_read}
 use Rattle.std.proofs.lemmas.List.Concat.{length-flat_map}
-use Rattle.std.proofs.lemmas.List.Folds.{flat_map-map}
 use Rattle.std.proofs.lemmas.List.FromFn.{get_or-map-range_with_len, length-map-range_with_len, map-range_with_len_more}
 use Rattle.std.proofs.lemmas.List.Sums.{sum_by-append, sum_by-cons}
-use Rattle.std.proofs.lemmas.Grind.{flat_map-append}
 use Rattle.pisdf_model.specs.Arrows.{to_of}
-use Rattle.pisdf_model.specs.Hold.{actor_state, capped, graph_state, has_large_hold, hold, hold_to, in_line, initial, initial_to, is_held, is_large, is_named, kept_in, own_hold}
+use Rattle.pisdf_model.specs.Hold.{actor_state, capped, graph_state, has_large_hold, hold, hold_to, in_line, initial_to, is_held, is_large, is_named, kept_in, own_hold}
 use Rattle.pisdf_model.specs.Nesting.{children, children_of}
 use Rattle.pisdf_model.specs.declared.actor.Actor.{Actor}
 use Rattle.pisdf_model.specs.declared.actor.Body.{Body}
 use Rattle.pisdf_model.specs.declared.actor.Body.TheVariants.{Kernel, Config, Child, ConfigChild}
-use Rattle.pisdf_model.specs.declared.fifo.Fifo.{Fifo}
 use Rattle.pisdf_model.specs.declared.graph.Graph.{Graph}
 use Rattle.pisdf_model.specs.Count.{counts_of, excess_of, graph_counts}
 use Rattle.pisdf_model.specs.Details.{first}
