@@ -6,7 +6,7 @@ use Rattle.kernel_gate.specs.Signed.{Counts}
 use Rattle.kernel_gate.specs.Table.{the_value}
 use Rattle.pisdf_model.specs.declared.actor.Port.{Port}
 use Rattle.pisdf_model.specs.declared.actor.Body.{Body}
-use Rattle.pisdf_model.specs.declared.actor.Body.TheVariants.{Kernel, Config, Child}
+use Rattle.pisdf_model.specs.declared.actor.Body.TheVariants.{Kernel, Config, Child, ConfigChild}
 use Rattle.pisdf_model.specs.declared.actor.Actor.{Actor}
 use Rattle.pisdf_model.specs.declared.graph.Graph.{Graph}
 use Rattle.pisdf_model.specs.declared.graph.Graphs.{Graphs}
@@ -62,6 +62,7 @@ firing_of turn name (Kernel kernel args ins outs) = record {
 }
 firing_of turn name (Config kernel args ins outs sets) = no_firing
 firing_of turn name (Child graph args) = no_firing
+firing_of turn name (ConfigChild graph args sets) = no_firing
 
 abbrev pub no_actor : Actor
 no_actor = record { name = []; body = Child 0 [] }
@@ -73,7 +74,7 @@ abbrev pub firing_at : Graph → Turn → Firing
 firing_at g t = firing_of t.turn (actor_at g t.actor).name (actor_at g t.actor).body
 
 abbrev pub no_graph : Graph
-no_graph = record { name = []; params = []; inputs = []; outputs = []; actors = []; fifos = [] }
+no_graph = record { name = []; params = []; inputs = []; outputs = []; actors = []; fifos = []; exports = [] }
 
 abbrev pub top_of : Graphs → Graph
 top_of graphs = slice_index_or graphs.graphs graphs.top no_graph

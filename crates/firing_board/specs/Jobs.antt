@@ -2,7 +2,7 @@
 use Rattle.std.specs.Prelude.{ℕ, ◌<◌, ◌^◌, length, All}
 use Rattle.pisdf_model.specs.declared.actor.Port.{Port}
 use Rattle.pisdf_model.specs.declared.actor.Body.{Body}
-use Rattle.pisdf_model.specs.declared.actor.Body.TheVariants.{Kernel, Config, Child}
+use Rattle.pisdf_model.specs.declared.actor.Body.TheVariants.{Kernel, Config, Child, ConfigChild}
 use Rattle.pisdf_model.specs.declared.graph.Graph.{Graph}
 use Rattle.sdf_level.specs.declared.turn.Turn.{Turn}
 use Rattle.firing_board.specs.Job.{rate_of, actor_at}
@@ -12,6 +12,7 @@ abbrev pub AreSmall : Body → Type 0
 AreSmall (Kernel kernel args ins outs) = All (λ (p : Port). rate_of p.rate < 2 ^ 32) outs
 AreSmall (Config kernel args ins outs sets) = Unit {0}
 AreSmall (Child graph args) = Unit {0}
+AreSmall (ConfigChild graph args sets) = Unit {0}
 
 -- the actor is there, and its rates are small
 pub record InGraph (g : Graph) (t : Turn) : Type 0 where

@@ -13,6 +13,7 @@ use Rattle.pisdf_model.specs.declared.graph.Graphs.{Graphs}
 
 -- what such a graph is free to choose
 pub record OnePass : Type 0 where
+  pub version : ℕ
   pub name : List ℕ
   pub input : List ℕ
   pub output : List ℕ
@@ -50,10 +51,11 @@ graph_of p = record {
   outputs = interface_of p.output p.rate ∷ [];
   actors = actor_of p ∷ [];
   fifos = fifo_in ∷ fifo_out ∷ [];
+  exports = [];
 }
 
 abbrev pub graphs_of : OnePass → Graphs
-graphs_of p = record { version = 1; top = 0; graphs = graph_of p ∷ [] }
+graphs_of p = record { version = p.version; top = 0; graphs = graph_of p ∷ [] }
 
 -- the names of the parts of one scope differ, and the rate is from 1 to 1,024
 pub record IsSound (p : OnePass) : Type 0 where

@@ -47,7 +47,7 @@ fn firing_of(alloc: Global, turn: u32, actor: &Actor) -> Result<Firing, AllocErr
             reads: List::new(vec![in alloc; Feed::Input(0)]?),
             lens: rates_of(alloc, outs.items())?,
         }),
-        Body::Config { .. } | Body::Child { .. } => Ok(Firing {
+        Body::Config { .. } | Body::Child { .. } | Body::ConfigChild { .. } => Ok(Firing {
             actor: Name::new(String::new(alloc)),
             turn: 0,
             kind: 0,

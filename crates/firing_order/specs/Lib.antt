@@ -1,4 +1,3 @@
 pub mod Answers
-pub mod SameTokens
 pub mod Adjacent
 pub mod Lacking

@@ -4,9 +4,7 @@
 mod adjacent;
 mod greedy;
 mod lacking;
-mod law;
 mod stuck;
 
 pub use greedy::order;
-pub use law::same_tokens;
 pub use stuck::Stuck;

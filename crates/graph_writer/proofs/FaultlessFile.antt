@@ -1,8 +1,7 @@
 -- The file of graphs without a fault has none: its kernels are those of its actors, and its graphs break no rule.
 use Rattle.std.proofs.Common.{◌≡◌, ℕ, List, [], map, Bool, true, refl, sym, ap, ◌∙◌}
 use Rattle.std.specs.List.{All}
-use Rattle.kernel_gate.specs.Signed.{SignatureView, signature_view}
-use Rattle.kernel_gate.specs.declared.signature.Signature.{Signature}
+use Rattle.kernel_gate.specs.Signed.{SignatureView}
 use Rattle.param_expr.specs.Print.{Differ}
 use Rattle.pisdf_model.specs.Count.{count_faults}
 use Rattle.pisdf_model.specs.Details.{unless}
@@ -16,7 +15,7 @@ use Rattle.pisdf_model.specs.declared.graph.Graphs.{Graphs}
 use Rattle.graph_format.specs.Faults.{file_faults, fits_kernel, graphs_of, rule_faults}
 use Rattle.graph_format.specs.FileNames.{names_of_file}
 use Rattle.graph_format.specs.Kernels.{is_of_config, is_of_kernel, kernel_names, unfit_in_body, unfit_in_file, unfit_in_graph}
-use Rattle.graph_format.specs.Named.{named_actor, named_body, named_file, named_graph, names_of_kernels, names_of_params}
+use Rattle.graph_format.specs.Named.{named_actor, named_body, named_file, named_graph, names_of_params}
 use Rattle.graph_format.specs.Placed.{placed, tokens_of}
 use Rattle.graph_format.specs.References.{unknown_in_file}
 use Rattle.graph_format.specs.declared.actor.FileActor.{FileActor}
@@ -33,6 +32,7 @@ fit_where : (fits : Body → Bool) (graphs : List Graph) (b : Body) (name : List
 fit_where fits graphs (body.Kernel kernel args ins outs) name fit none = rw fit refl
 fit_where fits graphs (body.Config kernel args ins outs sets) name fit none = rw fit refl
 fit_where fits graphs (body.Child graph args) name fit none = none
+fit_where fits graphs (body.ConfigChild graph args sets) name fit none = none
 
 -- ---- the rules
 
@@ -45,36 +45,34 @@ rules_fit signatures graphs fit none =
 
 -- ---- kernels
 
-module _ (signatures : List Signature) (differ : Differ (names_of_kernels signatures)) where
-  body_fits_again : (graphs : Graphs) (names : List (List ℕ)) (b : Body) → kind_fits (map signature_view signatures) b ≡ true → unfit_in_body (map signature_view signatures) (named_body signatures graphs names b) ≡ []
+module _ (signatures : List SignatureView) (differ : Differ (kernel_names signatures)) where
+  body_fits_again : (graphs : Graphs) (names : List (List ℕ)) (b : Body) → kind_fits signatures b ≡ true → unfit_in_body signatures (named_body (kernel_names signatures) graphs names b) ≡ []
   body_fits_again graphs names (body.Kernel kernel args ins outs) fit = rw (passes_named is_of_kernel refl signatures kernel differ fit) refl
   body_fits_again graphs names (body.Config kernel args ins outs sets) fit = rw (passes_named is_of_config refl signatures kernel differ fit) refl
   body_fits_again graphs names (body.Child graph args) fit = refl
+  body_fits_again graphs names (body.ConfigChild graph args sets) fit = refl
 
-  graph_fits_again : (graphs : Graphs) (g : Graph) → ActorsFit (map signature_view signatures) g → unfit_in_graph (map signature_view signatures) (named_graph signatures graphs g) ≡ []
+  graph_fits_again : (graphs : Graphs) (g : Graph) → ActorsFit signatures g → unfit_in_graph signatures (named_graph (kernel_names signatures) graphs g) ≡ []
   unfolding named_graph
   graph_fits_again graphs g fit =
-      let views = map signature_view signatures in
       let names = names_of_params g in
-      none_of_each (named_actor signatures graphs names) (λ (a : FileActor). unfit_in_body views a.body) (FitsSignature views) (λ actor here. body_fits_again graphs names actor.body here.kind) g.actors fit
+      none_of_each (named_actor (kernel_names signatures) graphs names) (λ (a : FileActor). unfit_in_body signatures a.body) (FitsSignature signatures) (λ actor here. body_fits_again graphs names actor.body here.kind) g.actors fit
 
-pub kernels_fit : (signatures : List Signature) (graphs : Graphs) → Differ (names_of_kernels signatures) → All (ActorsFit (map signature_view signatures)) graphs.graphs → unfit_in_file (map signature_view signatures) (named_file signatures graphs) ≡ []
+pub kernels_fit : (signatures : List SignatureView) (graphs : Graphs) → Differ (kernel_names signatures) → All (ActorsFit signatures) graphs.graphs → unfit_in_file signatures (named_file (kernel_names signatures) graphs) ≡ []
 unfolding named_file
 kernels_fit signatures graphs differ fit =
-    let views = map signature_view signatures in
-    none_of_each (named_graph signatures graphs) (unfit_in_graph views) (ActorsFit views) (graph_fits_again signatures differ graphs) graphs.graphs fit
+    none_of_each (named_graph (kernel_names signatures) graphs) (unfit_in_graph signatures) (ActorsFit signatures) (graph_fits_again signatures differ graphs) graphs.graphs fit
 
 -- ---- files
 
 -- graphs that can be read again have a file without a fault, where it refers to what is there and means these graphs
-pub no_faults : (signatures : List Signature) (graphs : Graphs) → CanBeReadAgain signatures graphs → unknown_in_file (named_file signatures graphs) ≡ []
-    → placed tokens_of (kernel_names (map signature_view signatures)) (named_file signatures graphs) ≡ graphs → file_faults (map signature_view signatures) (named_file signatures graphs) ≡ []
+pub no_faults : (signatures : List SignatureView) (graphs : Graphs) → CanBeReadAgain signatures graphs → unknown_in_file (named_file (kernel_names signatures) graphs) ≡ []
+    → placed tokens_of (kernel_names signatures) (named_file (kernel_names signatures) graphs) ≡ graphs → file_faults signatures (named_file (kernel_names signatures) graphs) ≡ []
 no_faults signatures graphs can references means =
-    let views = map signature_view signatures in
-    let file = named_file signatures graphs in
+    let file = named_file (kernel_names signatures) graphs in
     let has = no_model_faults graphs can.well_formed in
-    let names : repeats (names_of_file file) ≡ [] = ap repeats (sym (names_kept tokens_of (kernel_names views) file) ∙ ap names_of means) ∙ has.duplicates in
-    let rules : rule_faults (fits_kernel views) (graphs_of views file) ≡ [] = ap (rule_faults (fits_kernel views)) means ∙ rules_fit views graphs can.kernels can.well_formed in
-    let counts : count_faults (graphs_of views file) ≡ [] = ap count_faults means ∙ has.counts in
-    let kernels : unfit_in_file views file ≡ [] = kernels_fit signatures graphs can.names_differ can.kernels in
+    let names : repeats (names_of_file file) ≡ [] = ap repeats (sym (names_kept tokens_of (kernel_names signatures) file) ∙ ap names_of means) ∙ has.duplicates in
+    let rules : rule_faults (fits_kernel signatures) (graphs_of signatures file) ≡ [] = ap (rule_faults (fits_kernel signatures)) means ∙ rules_fit signatures graphs can.kernels can.well_formed in
+    let counts : count_faults (graphs_of signatures file) ≡ [] = ap count_faults means ∙ has.counts in
+    let kernels : unfit_in_file signatures file ≡ [] = kernels_fit signatures graphs can.names_differ can.kernels in
     rw (names, references, kernels, rules, counts) refl

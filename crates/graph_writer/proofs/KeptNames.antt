@@ -22,7 +22,7 @@ use Rattle.graph_format.specs.Named as named
 use Rattle.graph_format.specs.Scope.{Scope, scope_of, interfaces_of, names_of_graphs, ports_of}
 use Rattle.graph_format.specs.declared.actor.FileActor.{FileActor}
 use Rattle.graph_format.specs.declared.actor.FileBody.{FileBody}
-use Rattle.graph_format.specs.declared.actor.FileBody.TheVariants.{Kernel, Config, Child}
+use Rattle.graph_format.specs.declared.actor.FileBody.TheVariants.{Kernel, Config, Child, ConfigChild}
 use Rattle.graph_format.specs.declared.file.File.{File}
 use Rattle.graph_format.specs.declared.file.FileGraph.{FileGraph}
 
@@ -86,15 +86,15 @@ pub record HasNames (s : Scope) (graphs : Graphs) (g : Graph) : Type 0 where
   pub actors : named.names_of_actors g ≡ s.actors
   pub ports : map (λ (a : Actor). named.names_of_ports graphs a.body) g.actors ≡ s.ports
 
-interfaces_kept : (is_top : Bool) (s : Scope) (g : FileGraph) → named.names_of_interfaces (placed_graph tokens_of is_top s g) ≡ interfaces_of g
-interfaces_kept is_top s g = rw (interface_names_kept s g.inputs, interface_names_kept s g.outputs) refl
+interfaces_kept : (version : ℕ) (is_top : Bool) (s : Scope) (g : FileGraph) → named.names_of_interfaces (placed_graph version tokens_of is_top s g) ≡ interfaces_of g
+interfaces_kept version is_top s g = rw (interface_names_kept s g.inputs, interface_names_kept s g.outputs) refl
 
 module _ (kernels : List (List ℕ)) (file : File) where
   abbrev pub here : FileGraph → Scope
   here g = scope_of kernels file.graphs g
 
   abbrev pub meant : ℕ × FileGraph → Graph
-  meant p = placed_graph tokens_of (p.0 == top_of file) (here p.1) p.1
+  meant p = placed_graph file.version tokens_of (p.0 == top_of file) (here p.1) p.1
 
   abbrev pub graphs : Graphs
   graphs = placed tokens_of kernels file
@@ -104,7 +104,7 @@ module _ (kernels : List (List ℕ)) (file : File) where
 
   all_interfaces : map named.names_of_interfaces graphs.graphs ≡ map interfaces_of file.graphs
   all_interfaces =
-      of_mapped meant named.names_of_interfaces (λ (p : ℕ × FileGraph). interfaces_of p.1) (λ p. interfaces_kept (p.0 == top_of file) (here p.1) p.1) (enumerate_from 0 file.graphs)
+      of_mapped meant named.names_of_interfaces (λ (p : ℕ × FileGraph). interfaces_of p.1) (λ p. interfaces_kept file.version (p.0 == top_of file) (here p.1) p.1) (enumerate_from 0 file.graphs)
       ∙ unnumbered interfaces_of 0 file.graphs
 
   ports_kept : (g : FileGraph) (b : FileBody) → unknown_in_body (here g) b ≡ [] → named.names_of_ports graphs (placed_body (here g) b) ≡ ports_of file.graphs b
@@ -113,12 +113,17 @@ module _ (kernels : List (List ℕ)) (file : File) where
   ports_kept g (Child graph args) none =
       let child = known (names_of_graphs file.graphs) graph (neither (missing (names_of_graphs file.graphs) graph) (flat_map (unknown_in_expr (here g)) args) none).0 in
       rw (all_interfaces, child.is) refl
+  ports_kept g (ConfigChild graph args sets) none =
+      let of_graph = missing (names_of_graphs file.graphs) graph in
+      let of_args = flat_map (unknown_in_expr (here g)) args in
+      let child = known (names_of_graphs file.graphs) graph (neither of_graph of_args (neither (of_graph ++ of_args) (flat_map (missing (here g).params) sets) none).0).0 in
+      rw (all_interfaces, child.is) refl
 
   -- of a graph whose actors refer to what is there
-  pub names_kept : (is_top : Bool) (g : FileGraph) → flat_map (unknown_in_actor (here g)) g.actors ≡ [] → HasNames (here g) graphs (placed_graph tokens_of is_top (here g) g)
+  pub names_kept : (is_top : Bool) (g : FileGraph) → flat_map (unknown_in_actor (here g)) g.actors ≡ [] → HasNames (here g) graphs (placed_graph file.version tokens_of is_top (here g) g)
   names_kept is_top g none = record {
     params = param_names_kept (here g) g.params;
-    interfaces = interfaces_kept is_top (here g) g;
+    interfaces = interfaces_kept file.version is_top (here g) g;
     actors = of_mapped (placed_actor (here g)) (λ (a : Actor). a.name) (λ (a : FileActor). a.name) (λ a. refl) g.actors;
     ports = each_alike (placed_actor (here g)) (λ (a : Actor). named.names_of_ports graphs a.body) (λ (a : FileActor). ports_of file.graphs a.body) (λ a. unknown_in_actor (here g) a ≡ []) (λ a. ports_kept g a.body) g.actors (each_none (unknown_in_actor (here g)) g.actors none);
   }

@@ -15,10 +15,11 @@ use Rattle.param_expr.specs.Print.{Differ}
 use Rattle.param_expr.proofs.Printed.{place_again}
 use Rattle.pisdf_model.proofs.Alike.{of_mapped}
 use Rattle.graph_format.specs.Kernels.{kernel_names, signature_named}
-use Rattle.graph_format.specs.Named.{name_at_place, names_of_kernels}
+use Rattle.graph_format.specs.Named.{name_at_place}
 use Rattle.graph_format.specs.Placed.{first_place}
 
-pub same_kernels : (signatures : List Signature) → kernel_names (map signature_view signatures) ≡ names_of_kernels signatures
+-- the names of signatures, as plain data or not
+pub same_kernels : (signatures : List Signature) → kernel_names (map signature_view signatures) ≡ map (λ (s : Signature). s.name.now) signatures
 same_kernels signatures = of_mapped signature_view (λ (s : SignatureView). s.name) (λ (s : Signature). s.name.now) (λ s. refl) signatures
 
 -- ---- names
@@ -61,16 +62,15 @@ module _ (test : Option SignatureView → Bool) (fails : test None ≡ false) wh
   passes_inside (s ∷ signatures) (suc k) passes = omega (arith, passes_inside signatures k passes)
 
   -- a place whose signature passes is that of a name
-  pub is_place_of_kernel : (signatures : List Signature) (k : ℕ) → test (slice_get (map signature_view signatures) k) ≡ true → k < length (names_of_kernels signatures)
+  pub is_place_of_kernel : (signatures : List SignatureView) (k : ℕ) → test (slice_get signatures k) ≡ true → k < length (kernel_names signatures)
   is_place_of_kernel signatures k passes =
-      omega (arith, passes_inside (map signature_view signatures) k passes, length-map signatures signature_view, length-map signatures (λ (s : Signature). s.name.now))
+      omega (arith, passes_inside signatures k passes, length-map signatures (λ (s : SignatureView). s.name))
 
   -- where names differ, what the signature at a place passes, the one of the name there passes
-  pub passes_named : (signatures : List Signature) (k : ℕ) → Differ (names_of_kernels signatures) → test (slice_get (map signature_view signatures) k) ≡ true
-      → test (signature_named (map signature_view signatures) (name_at_place (names_of_kernels signatures) k)) ≡ true
+  pub passes_named : (signatures : List SignatureView) (k : ℕ) → Differ (kernel_names signatures) → test (slice_get signatures k) ≡ true
+      → test (signature_named signatures (name_at_place (kernel_names signatures) k)) ≡ true
   passes_named signatures k differ passes =
-      let views = map signature_view signatures in
-      let names = names_of_kernels signatures in
+      let names = kernel_names signatures in
       let w = name_at_place names k in
-      let there : signature_named views w ≡ slice_get views k = named_there views w ∙ ap (λ names. option_and_then (slice_get views) (place_of names w)) (same_kernels signatures) ∙ ap (option_and_then (slice_get views)) (place_again names k differ (is_place_of_kernel signatures k passes)) in
+      let there : signature_named signatures w ≡ slice_get signatures k = named_there signatures w ∙ ap (option_and_then (slice_get signatures)) (place_again names k differ (is_place_of_kernel signatures k passes)) in
       ap test there ∙ passes

@@ -4,7 +4,6 @@ use Rattle.std.specs.Prelude.{Bool, Option, is_none, cond}
 use Rattle.std.specs.List.{flat_map}
 use Rattle.std.proofs.lemmas.List.{length-map}
 use Rattle.std.proofs.lemmas.List.Concat.{flat_map-append}
-use Rattle.kernel_gate.specs.declared.signature.Signature.{Signature}
 use Rattle.param_expr.specs.Bind.{names_of}
 use Rattle.param_expr.specs.Eval.{RefersBelow}
 use Rattle.param_expr.specs.Tree as tree
@@ -37,7 +36,7 @@ known_at names i differ inside = ap (λ (o : Option ℕ). cond (is_none o) (name
 
 -- ---- the parts of a graph
 
-module _ (signatures : List Signature) (graphs : Graphs) (all : AllDiffer graphs) (g : Graph) (parts : PartsDiffer g) where
+module _ (kernels : List (List ℕ)) (graphs : Graphs) (all : AllDiffer graphs) (g : Graph) (parts : PartsDiffer g) where
   abbrev count : ℕ
   count = length g.params
 
@@ -75,38 +74,41 @@ module _ (signatures : List Signature) (graphs : Graphs) (all : AllDiffer graphs
   sets_known : (sets : List ℕ) → All (λ i. i < count) sets → flat_map (missing names) (map (name_at_place names) sets) ≡ []
   sets_known sets inside = none_of_each (name_at_place names) (missing names) (λ i. i < count) (λ i below. known_at names i parts.params (omega (arith, counted))) sets inside
 
-  body_known : (b : Body) → IsBodyInRange (length graphs.graphs) count b → unknown_in_body here (named_body signatures graphs names b) ≡ []
+  body_known : (b : Body) → IsBodyInRange graphs.version (length graphs.graphs) count b → unknown_in_body here (named_body kernels graphs names b) ≡ []
   body_known (body.Kernel kernel args ins outs) range = rw (exprs_known args range.0, ports_known ins range.1, ports_known outs range.2) refl
   body_known (body.Config kernel args ins outs sets) range = rw (exprs_known args range.0, ports_known outs range.1, sets_known sets range.2) refl
   body_known (body.Child child args) range =
       let inside : child < length (named.names_of_graphs graphs) = omega (arith, range.0, length-map graphs.graphs (λ (g : Graph). g.name)) in
       rw (known_at (named.names_of_graphs graphs) child all.names inside, exprs_known args range.1) refl
+  body_known (body.ConfigChild child args sets) range =
+      let inside : child < length (named.names_of_graphs graphs) = omega (arith, range.1, length-map graphs.graphs (λ (g : Graph). g.name)) in
+      rw (known_at (named.names_of_graphs graphs) child all.names inside, exprs_known args range.2, sets_known sets range.3) refl
 
-  fifo_known : (is_top : Bool) → All (λ a. IsActorInRange (length graphs.graphs) count a) g.actors → (f : Fifo) → IsFifoInRange graphs.graphs is_top g f → unknown_in_fifo here (named_fifo graphs g f) ≡ []
+  fifo_known : (is_top : Bool) → All (λ a. IsActorInRange graphs.version (length graphs.graphs) count a) g.actors → (f : Fifo) → IsFifoInRange graphs.version graphs.graphs is_top g f → unknown_in_fifo here (named_fifo graphs g f) ≡ []
   fifo_known is_top range f h = rw ((end_found [] graphs g all parts count range f.tail h.tail).known, (end_found [] graphs g all parts count range f.head h.head).known) refl
 
-  pub graph_known : (is_top : Bool) → IsGraphInRange graphs.graphs is_top g → unknown_in_graph here (named_graph signatures graphs g) ≡ []
+  pub graph_known : (is_top : Bool) → IsGraphInRange graphs.version graphs.graphs is_top g → unknown_in_graph here (named_graph kernels graphs g) ≡ []
   unfolding named_graph
   graph_known is_top range =
       let params = none_of_each (named_param names) (unknown_in_param here) (λ p. IsParamInRange count p) (λ p. kind_known p.kind) g.params range.params in
-      let actors = none_of_each (named_actor signatures graphs names) (unknown_in_actor here) (λ a. IsActorInRange (length graphs.graphs) count a) (λ a. body_known a.body) g.actors range.actors in
-      let fifos = none_of_each (named_fifo graphs g) (unknown_in_fifo here) (λ f. IsFifoInRange graphs.graphs is_top g f) (fifo_known is_top range.actors) g.fifos range.fifos in
-      rw (params, interfaces_known g.inputs range.inputs, interfaces_known g.outputs range.outputs, actors, fifos) refl
+      let actors = none_of_each (named_actor kernels graphs names) (unknown_in_actor here) (λ a. IsActorInRange graphs.version (length graphs.graphs) count a) (λ a. body_known a.body) g.actors range.actors in
+      let fifos = none_of_each (named_fifo graphs g) (unknown_in_fifo here) (λ f. IsFifoInRange graphs.version graphs.graphs is_top g f) (fifo_known is_top range.actors) g.fifos range.fifos in
+      rw (params, interfaces_known g.inputs range.inputs, interfaces_known g.outputs range.outputs, actors, fifos, sets_known g.exports range.exports) refl
 
 -- ---- files
 
-pub file_known : (signatures : List Signature) (graphs : Graphs) → AllDiffer graphs → InRange graphs → unknown_in_file (named_file signatures graphs) ≡ []
+pub file_known : (kernels : List (List ℕ)) (graphs : Graphs) → AllDiffer graphs → InRange graphs → unknown_in_file (named_file kernels graphs) ≡ []
 unfolding named_file
-file_known signatures graphs all range =
+file_known kernels graphs all range =
     let inside : graphs.top < length (named.names_of_graphs graphs) = omega (arith, range.top, length-map graphs.graphs (λ (g : Graph). g.name)) in
-    let top = ap (λ names. missing names (name_at_place (named.names_of_graphs graphs) graphs.top)) (file_names signatures graphs) ∙ known_at (named.names_of_graphs graphs) graphs.top all.names inside in
-    let stated = named_graph signatures graphs in
-    let unknown = λ (g : FileGraph). unknown_in_graph (scope_of [] (files signatures graphs) g) g in
+    let top = ap (λ names. missing names (name_at_place (named.names_of_graphs graphs) graphs.top)) (file_names kernels graphs) ∙ known_at (named.names_of_graphs graphs) graphs.top all.names inside in
+    let stated = named_graph kernels graphs in
+    let unknown = λ (g : FileGraph). unknown_in_graph (scope_of [] (files kernels graphs) g) g in
     rw (top, none_of_each stated unknown (λ (g : Graph). unknown (stated g) ≡ []) (λ g none. none) graphs.graphs one) refl
   where
-    one : (i : ℕ) (d : Graph) → i < length graphs.graphs → unknown_in_graph (scope_of [] (files signatures graphs) (named_graph signatures graphs (get_or graphs.graphs i d))) (named_graph signatures graphs (get_or graphs.graphs i d)) ≡ []
+    one : (i : ℕ) (d : Graph) → i < length graphs.graphs → unknown_in_graph (scope_of [] (files kernels graphs) (named_graph kernels graphs (get_or graphs.graphs i d))) (named_graph kernels graphs (get_or graphs.graphs i d)) ≡ []
     one i d within =
         let g = get_or graphs.graphs i d in
         let in_range = range.each_graph i d within in
-        ap (λ s. unknown_in_graph s (named_graph signatures graphs g)) (scope_again signatures graphs [] (length g.params) g all.names in_range.actors)
-        ∙ graph_known signatures graphs all g (all.parts i d within) (i == graphs.top) in_range
+        ap (λ s. unknown_in_graph s (named_graph kernels graphs g)) (scope_again kernels graphs [] (length g.params) g all.names in_range.actors)
+        ∙ graph_known kernels graphs all g (all.parts i d within) (i == graphs.top) in_range

@@ -1,4 +1,3 @@
-pub mod Listed
 pub mod Floats
 pub mod Depths
 pub mod Distinct
@@ -13,4 +12,6 @@ pub mod KeptNames
 pub mod NamedFile
 pub mod RestatedFile
 pub mod ReadableGraphs
+pub mod Lives
+pub mod WrittenFifos
 pub mod WrittenFile

@@ -1,7 +1,9 @@
-ghost use Rattle.std.specs.Prelude.{◌≡◌, IfOk, All};
+ghost use Rattle.std.specs.Prelude.{◌≡◌, IfOk, All, map};
 ghost use Rattle.serde_json.specs.Data.{object};
 ghost use Rattle.serde_json.specs.View.{view};
-ghost use Rattle.graph_format.specs.Canonical.{actor_value, body_members, child_members, config_members, kernel_members};
+ghost use Rattle.graph_format.specs.Canonical.{actor_value, body_members, child_members, config_child_members, config_members, kernel_members};
+ghost use Rattle.kernel_gate.specs.Signed.{signature_view};
+ghost use Rattle.graph_format.specs.Kernels.{kernel_names};
 ghost use Rattle.graph_format.specs.Named.{named_actor, named_body};
 ghost use Rattle.graph_format.specs.Writable.{IsWritable, IsWritableActor, IsWritablePort};
 
@@ -52,6 +54,19 @@ fn child_actor(alloc: Global, name: &str, graph: &str, args: Value) -> Result<Va
     json!(in alloc; {"name": name, "kind": "graph", "graph": graph, "args": args})
 }
 
+/// A hierarchical configuration actor.
+fn config_child_actor(
+    alloc: Global,
+    name: &str,
+    graph: &str,
+    args: Value,
+    sets: Value,
+) -> Result<Value, AllocError>
+    ensures { IfOk result (λ v. view v ≡ object (config_child_members name.now graph.now (view args) (view sets))) }
+{
+    json!(in alloc; {"name": name, "kind": "setgraph", "graph": graph, "args": args, "sets": sets})
+}
+
 /// Writes actors of a graph whose parameters have these names.
 #[derive(Clone, Copy)]
 pub(crate) struct Actors<'a> {
@@ -76,7 +91,7 @@ impl Actors<'_> {
     ) -> Result<Value, AllocError>
         requires args { All (IsWritable self.now.names.now) args.now }
         requires outs { All (IsWritablePort self.now.names.now) outs.now }
-        ensures { IfOk result (λ v. view v ≡ object (body_members name.now (named_body self.now.signatures.now self.now.graphs.now self.now.names.now (Body.Config kernel args.now ins.now outs.now sets.now)))) }
+        ensures { IfOk result (λ v. view v ≡ object (body_members name.now (named_body (kernel_names (map signature_view self.now.signatures.now)) self.now.graphs.now self.now.names.now (Body.Config kernel args.now ins.now outs.now sets.now)))) }
     {
         let kernel = kernel_name(self.signatures, kernel);
         let args = list(alloc, &Expressions { names: self.names }, args)?;
@@ -94,9 +109,9 @@ impl Writer for Actors<'_> {
 
     ghost IsWritable = { λ w actor. IsWritableActor w.names.now actor };
 
-    ghost named = { λ w actor. named_actor w.signatures.now w.graphs.now w.names.now actor };
+    ghost named = { λ w actor. named_actor (kernel_names (map signature_view w.signatures.now)) w.graphs.now w.names.now actor };
 
-    ghost shown = { actor_value };
+    ghost shown = { λ w. actor_value };
 
     ghost IsKept = { λ part. Unit {0} };
 
@@ -138,6 +153,12 @@ impl Writer for Actors<'_> {
                 let graph = graph_name(self.graphs, *graph);
                 let args = list(alloc, &Expressions { names: self.names }, args.items())?;
                 child_actor(alloc, name, graph, args)
+            }
+            Body::ConfigChild { graph, args, sets } => {
+                let graph = graph_name(self.graphs, *graph);
+                let args = list(alloc, &Expressions { names: self.names }, args.items())?;
+                let sets = list(alloc, &Sets { names: self.names }, sets.items())?;
+                config_child_actor(alloc, name, graph, args, sets)
             }
         }
     }

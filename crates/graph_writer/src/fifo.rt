@@ -1,4 +1,4 @@
-ghost use Rattle.std.specs.Prelude.{◌≡◌, IfOk, OnOk, pos, true, codes, string_bytes};
+ghost use Rattle.std.specs.Prelude.{◌≡◌, IfOk, OnOk, pos, false, true, codes, string_bytes};
 ghost use Rattle.std.specs.List.{AllPass, list_all};
 ghost use Rattle.std.specs.Ordering.{int_eq};
 ghost use Rattle.serde_json.specs.Data.{member, object};
@@ -6,11 +6,12 @@ ghost use Rattle.serde_json.specs.View.{view};
 ghost use Rattle.param_expr.specs.Eval.{in_i64};
 ghost use Rattle.graph_format.specs.Canonical.{delay_value, end_members, fifo_value, whole_value};
 ghost use Rattle.graph_format.specs.Named.{named_fifo, stated_delay};
+ghost use Rattle.graph_format.specs.States.{life_text};
 
 use crate::list::{Writer, list};
 use crate::names::end_text;
 use graph_format::FileFifo;
-use pisdf_model::{Fifo, Graph, Graphs};
+use pisdf_model::{Fifo, Graph, Graphs, Life};
 use serde_json::{Value, json};
 use std::alloc::{AllocError, Global};
 
@@ -27,7 +28,7 @@ impl Writer for Tokens {
 
     ghost named = { λ w token. token };
 
-    ghost shown = { whole_value };
+    ghost shown = { λ w. whole_value };
 
     ghost IsKept = { λ token. in_i64 token ≡ true };
 
@@ -58,16 +59,39 @@ fn delay(alloc: Global, tokens: &[i64]) -> Result<Value, AllocError>
 
 /// A FIFO without a delay.
 fn undelayed(alloc: Global, from: String, to: String) -> Result<Value, AllocError>
-    ensures { IfOk result (λ v. view v ≡ object (end_members (string_bytes from) (string_bytes to))) }
+    ensures { IfOk result (λ v. view v ≡ object (end_members false Life.Firing (string_bytes from) (string_bytes to))) }
 {
     json!(in alloc; {"from": from, "to": to})
 }
 
-/// A FIFO with a delay.
+/// A FIFO with a delay, whose life isn't stated.
 fn delayed(alloc: Global, from: String, to: String, delay: Value) -> Result<Value, AllocError>
-    ensures { IfOk result (λ v. view v ≡ object (member (codes "delay") (view delay) (end_members (string_bytes from) (string_bytes to)))) }
+    ensures { IfOk result (λ v. view v ≡ object (member (codes "delay") (view delay) (end_members false Life.Firing (string_bytes from) (string_bytes to)))) }
 {
     json!(in alloc; {"from": from, "to": to, "delay": delay})
+}
+
+fn life_text(life: Life) -> &'static str
+    ensures { result.now ≡ life_text life }
+{
+    match life {
+        Life::Firing => "firing",
+        Life::Permanent => "permanent",
+    }
+}
+
+/// A FIFO with a delay and its life.
+fn living(
+    alloc: Global,
+    from: String,
+    to: String,
+    delay: Value,
+    life: Life,
+) -> Result<Value, AllocError>
+    ensures { IfOk result (λ v. view v ≡ object (member (codes "delay") (view delay) (end_members true life (string_bytes from) (string_bytes to)))) }
+{
+    let life = life_text(life);
+    json!(in alloc; {"from": from, "to": to, "delay": delay, "life": life})
 }
 
 /// Writes FIFOs of a graph.
@@ -86,11 +110,10 @@ impl Writer for Fifos<'_> {
 
     ghost named = { λ w fifo. named_fifo w.graphs.now w.graph.now fifo };
 
-    ghost shown = { fifo_value };
+    ghost shown = { λ w. fifo_value w.graphs.now.version };
 
     ghost IsKept = { λ fifo. AllPass in_i64 fifo.delay };
 
-    #[tactic(auto, using(crate::proofs::CanonicalDelays::only_empty), unfolding(graph_format::specs::Canonical::fifo_value))]
     fn value(&self, alloc: Global, fifo: &Fifo) -> Result<Value, AllocError> {
         let from = end_text(alloc, self.graphs, self.graph, fifo.tail)?;
         let to = end_text(alloc, self.graphs, self.graph, fifo.head)?;
@@ -99,6 +122,9 @@ impl Writer for Fifos<'_> {
             return undelayed(alloc, from, to);
         }
         let delay = delay(alloc, tokens)?;
-        delayed(alloc, from, to, delay)
+        if self.graphs.version < 2 {
+            return delayed(alloc, from, to, delay);
+        }
+        living(alloc, from, to, delay, fifo.life)
     }
 }

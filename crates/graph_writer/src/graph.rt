@@ -1,7 +1,9 @@
-ghost use Rattle.std.specs.Prelude.{◌≡◌, IfOk};
-ghost use Rattle.serde_json.specs.Data.{object};
+ghost use Rattle.std.specs.Prelude.{◌≡◌, IfOk, [], false, map, true};
+ghost use Rattle.serde_json.specs.Data.{object, string};
 ghost use Rattle.serde_json.specs.View.{view};
-ghost use Rattle.graph_format.specs.Canonical.{graph_members, graph_value};
+ghost use Rattle.graph_format.specs.Canonical.{graph_members, graph_value, list_value};
+ghost use Rattle.kernel_gate.specs.Signed.{signature_view};
+ghost use Rattle.graph_format.specs.Kernels.{kernel_names};
 ghost use Rattle.graph_format.specs.Named.{named_graph};
 ghost use Rattle.graph_writer.specs.ReadAgain.{HasI64Tokens};
 ghost use Rattle.graph_format.specs.Writable.{IsWritableGraph};
@@ -10,7 +12,7 @@ use crate::actor::Actors;
 use crate::fifo::Fifos;
 use crate::list::{Writer, list};
 use crate::names::param_names;
-use crate::param::Params;
+use crate::param::{Params, Sets};
 use crate::port::Interfaces;
 use graph_format::FileGraph;
 use kernel_gate::Signature;
@@ -18,7 +20,7 @@ use pisdf_model::{Graph, Graphs};
 use serde_json::{Value, json};
 use std::alloc::{AllocError, Global};
 
-/// A graph.
+/// A graph without exports.
 fn graph_object(
     alloc: Global,
     name: &str,
@@ -28,9 +30,25 @@ fn graph_object(
     actors: Value,
     fifos: Value,
 ) -> Result<Value, AllocError>
-    ensures { IfOk result (λ v. view v ≡ object (graph_members name.now (view params) (view inputs) (view outputs) (view actors) (view fifos))) }
+    ensures { IfOk result (λ v. view v ≡ object (graph_members false name.now (view params) (view inputs) (view outputs) (view actors) (view fifos) (list_value string []))) }
 {
     json!(in alloc; {"name": name, "params": params, "inputs": inputs, "outputs": outputs, "actors": actors, "fifos": fifos})
+}
+
+/// A graph with exports.
+fn exporting_object(
+    alloc: Global,
+    name: &str,
+    params: Value,
+    inputs: Value,
+    outputs: Value,
+    actors: Value,
+    fifos: Value,
+    exports: Value,
+) -> Result<Value, AllocError>
+    ensures { IfOk result (λ v. view v ≡ object (graph_members true name.now (view params) (view inputs) (view outputs) (view actors) (view fifos) (view exports))) }
+{
+    json!(in alloc; {"name": name, "params": params, "inputs": inputs, "outputs": outputs, "actors": actors, "fifos": fifos, "exports": exports})
 }
 
 /// Writes graphs.
@@ -47,9 +65,9 @@ impl Writer for GraphList<'_> {
 
     ghost IsWritable = { λ w graph. IsWritableGraph graph };
 
-    ghost named = { λ w graph. named_graph w.signatures.now w.graphs.now graph };
+    ghost named = { λ w graph. named_graph (kernel_names (map signature_view w.signatures.now)) w.graphs.now graph };
 
-    ghost shown = { graph_value };
+    ghost shown = { λ w. graph_value w.graphs.now.version };
 
     ghost IsKept = { HasI64Tokens };
 
@@ -72,6 +90,10 @@ impl Writer for GraphList<'_> {
         };
         let fifos = list(alloc, &fifos, graph.fifos.items())?;
         let name = graph.name.text();
-        graph_object(alloc, name, params, inputs, outputs, actors, fifos)
+        if self.graphs.version < 3 {
+            return graph_object(alloc, name, params, inputs, outputs, actors, fifos);
+        }
+        let exports = list(alloc, &Sets { names }, graph.exports.items())?;
+        exporting_object(alloc, name, params, inputs, outputs, actors, fifos, exports)
     }
 }

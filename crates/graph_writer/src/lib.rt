@@ -2,12 +2,15 @@
 #![tactic(auto)]
 
 mod actor;
+mod copy;
 mod fifo;
 mod graph;
+mod later_version;
 mod list;
 mod names;
 mod param;
 mod port;
 mod root;
 
+pub use later_version::upgrade;
 pub use root::write;

@@ -19,7 +19,7 @@ pub(crate) trait Writer {
 
     ghost named: { Self → Self.Part → Self.Stated };
 
-    ghost shown: { Self.Stated → Data };
+    ghost shown: { Self → Self.Stated → Data };
 
     /// What is known of a part that was written.
     ghost IsKept: { Self.Part → Type 0 };
@@ -27,7 +27,7 @@ pub(crate) trait Writer {
     /// The JSON value of a part.
     fn value(&self, alloc: Global, part: &Self::Part) -> Result<Value, AllocError>
         requires { IsWritable self.now part.now }
-        ensures shown { IfOk result (λ v. view v ≡ shown (named self.now part.now)) }
+        ensures shown { IfOk result (λ v. view v ≡ shown self.now (named self.now part.now)) }
         ensures kept { OnOk result (IsKept part.now) };
 }
 
@@ -38,7 +38,7 @@ pub(crate) fn list<W: Writer>(
     parts: &[W::Part],
 ) -> Result<Value, AllocError>
     requires { All (W.IsWritable writer.now) parts.now }
-    ensures shown { IfOk result (λ v. view v ≡ list_value W.shown (map (W.named writer.now) parts.now)) }
+    ensures shown { IfOk result (λ v. view v ≡ list_value (W.shown writer.now) (map (W.named writer.now) parts.now)) }
     ensures kept { OnOk result (All W.IsKept parts.now) }
 {
     let mut values = Vec::new(alloc);

@@ -1,17 +1,19 @@
-ghost use Rattle.std.specs.Prelude.{◌≡◌, ◌++◌, IfOk, string_bytes};
-ghost use Rattle.graph_format.specs.Named.{name_at_place, named_end, names_of_graphs, names_of_interfaces, names_of_kernels, names_of_ports};
+ghost use Rattle.std.specs.Prelude.{◌≡◌, ◌++◌, IfOk, map, string_bytes};
+ghost use Rattle.kernel_gate.specs.Signed.{signature_view};
+ghost use Rattle.graph_format.specs.Kernels.{kernel_names};
+ghost use Rattle.graph_format.specs.Named.{name_at_place, named_end, names_of_actors, names_of_graphs, names_of_interfaces, names_of_ports, names_of_ports_at};
 ghost use Rattle.graph_format.specs.Values.{end_text};
 ghost use Rattle.pisdf_model.specs.Parts.{port_names};
-ghost use Rattle.graph_writer.specs.Places.{actor_names, actor_port, child_port, param_names};
+ghost use Rattle.graph_writer.specs.Places.{child_port};
 
 use kernel_gate::Signature;
 use param_expr::Name;
-use pisdf_model::{Actor, Body, End, Graph, Graphs, Param, Port};
+use pisdf_model::{Body, End, Graph, Graphs, Param, Port};
 use std::alloc::{AllocError, Global};
 
 /// The names of parameters, in their order.
 pub(crate) fn param_names(alloc: Global, params: &[Param]) -> Result<Vec<Name>, AllocError>
-    ensures { IfOk result (λ names. names.items ≡ param_names params.now) }
+    ensures { IfOk result (λ names. names.items ≡ map (λ p. p.name) params.now) }
 {
     let mut names = Vec::new(alloc);
     for param in params {
@@ -35,7 +37,7 @@ pub(crate) fn name_at(names: &[Name], place: u32) -> &str
 
 /// The name of the kernel at a place.
 pub(crate) fn kernel_name(signatures: &[Signature], place: u32) -> &str
-    ensures { result.now ≡ name_at_place (names_of_kernels signatures.now) place }
+    ensures { result.now ≡ name_at_place (kernel_names (map signature_view signatures.now)) place }
 {
     let place = place as usize;
     if place < signatures.len() {
@@ -121,21 +123,24 @@ fn port_name<'a>(graphs: &'a Graphs, body: &'a Body, place: u32) -> &'a str
     match body {
         Body::Kernel { ins, outs, .. } => kernel_port_name(ins.items(), outs.items(), place),
         Body::Config { ins, outs, .. } => config_port_name(ins.items(), outs.items(), place),
-        Body::Child { graph, .. } => child_port_name(graphs.graphs.items(), *graph, place),
+        Body::Child { graph, .. } | Body::ConfigChild { graph, .. } => {
+            child_port_name(graphs.graphs.items(), *graph, place)
+        }
     }
 }
 
 /// The names of an actor and of its port.
 fn actor_and_port<'a>(
     graphs: &'a Graphs,
-    actors: &'a [Actor],
+    graph: &'a Graph,
     actor: u32,
     port: u32,
 ) -> (&'a str, &'a str)
-    ensures actor { result.0.now ≡ name_at_place (actor_names actors.now) actor }
-    ensures port { result.1.now ≡ actor_port graphs.now actors.now actor port }
+    ensures actor { result.0.now ≡ name_at_place (names_of_actors graph.now) actor }
+    ensures port { result.1.now ≡ name_at_place (names_of_ports_at graphs.now graph.now actor) port }
 {
     let actor = actor as usize;
+    let actors = graph.actors.items();
     if actor < actors.len() {
         let actor = &actors[actor];
         (actor.name.text(), port_name(graphs, &actor.body, port))
@@ -156,7 +161,7 @@ pub(crate) fn end_text(
     match end {
         End::Interface(place) => String::from_str(alloc, interface_name(graph, place)),
         End::Port { actor, port } => {
-            let (actor, port) = actor_and_port(graphs, graph.actors.items(), actor, port);
+            let (actor, port) = actor_and_port(graphs, graph, actor, port);
             let mut text = String::from_str(alloc, actor)?;
             text.push_str(".")?;
             text.push_str(port)?;

@@ -49,7 +49,7 @@ impl Writer for Params<'_> {
 
     ghost named = { λ w param. named_param w.names.now param };
 
-    ghost shown = { param_value };
+    ghost shown = { λ w. param_value };
 
     ghost IsKept = { λ part. Unit {0} };
 
@@ -67,7 +67,7 @@ impl Writer for Params<'_> {
     }
 }
 
-/// Writes the parameters that a configuration actor sets, in a graph whose parameters have these names.
+/// Writes the parameters that a configuration actor sets, or a graph exports, in a graph whose parameters have these names.
 #[derive(Clone, Copy)]
 pub(crate) struct Sets<'a> {
     pub(crate) names: &'a [Name],
@@ -82,7 +82,7 @@ impl Writer for Sets<'_> {
 
     ghost named = { λ w place. name_at_place w.names.now place };
 
-    ghost shown = { string };
+    ghost shown = { λ w. string };
 
     ghost IsKept = { λ part. Unit {0} };
 

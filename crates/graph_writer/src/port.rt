@@ -46,7 +46,7 @@ impl Writer for Expressions<'_> {
 
     ghost named = { λ w expr. with_names w.names.now expr };
 
-    ghost shown = { expression_value };
+    ghost shown = { λ w. expression_value };
 
     ghost IsKept = { λ part. Unit {0} };
 
@@ -70,7 +70,7 @@ impl Writer for Interfaces<'_> {
 
     ghost named = { λ w interface. named_interface w.names.now interface };
 
-    ghost shown = { port_value };
+    ghost shown = { λ w. port_value };
 
     ghost IsKept = { λ part. Unit {0} };
 
@@ -94,7 +94,7 @@ impl Writer for Ports<'_> {
 
     ghost named = { λ w port. named_port w.names.now port };
 
-    ghost shown = { port_value };
+    ghost shown = { λ w. port_value };
 
     ghost IsKept = { λ part. Unit {0} };
 
@@ -116,7 +116,7 @@ impl Writer for Inputs {
 
     ghost named = { λ w name. name };
 
-    ghost shown = { input_value };
+    ghost shown = { λ w. input_value };
 
     ghost IsKept = { λ part. Unit {0} };
 

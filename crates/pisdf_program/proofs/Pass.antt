@@ -13,7 +13,7 @@ use Rattle.pisdf_model.specs.WellFormed.{WellFormed, with_number}
 use Rattle.pisdf_model.specs.Wires.{is_interface, is_port}
 use Rattle.pisdf_model.specs.declared.actor.Actor.{Actor}
 use Rattle.pisdf_model.specs.declared.actor.Body.{Body}
-use Rattle.pisdf_model.specs.declared.actor.Body.TheVariants.{Kernel, Config, Child}
+use Rattle.pisdf_model.specs.declared.actor.Body.TheVariants.{Kernel, Config, Child, ConfigChild}
 use Rattle.pisdf_model.specs.declared.actor.Port.{Port}
 use Rattle.pisdf_model.specs.declared.fifo.End.{End}
 use Rattle.pisdf_model.specs.declared.fifo.End.TheVariants as end
@@ -101,6 +101,7 @@ body_is rate (Kernel kernel args ins outs) h =
     (i.0, (o.0, same_kernel kernel 0 args [] ins (port_of i.0 rate ∷ []) outs (port_of o.0 rate ∷ []) (same_number kernel 0 second.0) (empty_is args second.1) i.1 o.1))
 body_is rate (Config kernel args ins outs sets) h = absurd cc
 body_is rate (Child graph args) h = absurd cc
+body_is rate (ConfigChild graph args sets) h = absurd cc
 
 life_is : (life : Life) → is_of_firing life ≡ true → life ≡ Firing
 life_is Firing h = refl
@@ -149,17 +150,17 @@ wires_are (f ∷ k ∷ i ∷ fifos) h = absurd cc
 
 -- ---- the graph
 
-abbrev pass_with : Graph → List ℕ → List ℕ → List ℕ → List ℕ → List ℕ → ℕ → OnePass
-pass_with g input output actor in_port out_port rate = record { name = g.name; input = input; output = output; actor = actor; in_port = in_port; out_port = out_port; rate = rate }
+abbrev pass_with : ℕ → Graph → List ℕ → List ℕ → List ℕ → List ℕ → List ℕ → ℕ → OnePass
+pass_with version g input output actor in_port out_port rate = record { version = version; name = g.name; input = input; output = output; actor = actor; in_port = in_port; out_port = out_port; rate = rate }
 
-abbrev graph : List ℕ → List Param → List Interface → List Interface → List Actor → List Fifo → Graph
-graph name params inputs outputs actors fifos = record { name = name; params = params; inputs = inputs; outputs = outputs; actors = actors; fifos = fifos }
+abbrev graph : List ℕ → List Param → List Interface → List Interface → List Actor → List Fifo → List ℕ → Graph
+graph name params inputs outputs actors fifos exports = record { name = name; params = params; inputs = inputs; outputs = outputs; actors = actors; fifos = fifos; exports = exports }
 
-same_graph : (n : List ℕ) (p p' : List Param) (i i' o o' : List Interface) (a a' : List Actor) (f f' : List Fifo) → p ≡ p' → i ≡ i' → o ≡ o' → a ≡ a' → f ≡ f' → graph n p i o a f ≡ graph n p' i' o' a' f'
-same_graph n p p' i i' o o' a a' f f' e1 e2 e3 e4 e5 = rw (e1, e2, e3, e4, e5) refl
+same_graph : (n : List ℕ) (p p' : List Param) (i i' o o' : List Interface) (a a' : List Actor) (f f' : List Fifo) (x x' : List ℕ) → p ≡ p' → i ≡ i' → o ≡ o' → a ≡ a' → f ≡ f' → x ≡ x' → graph n p i o a f x ≡ graph n p' i' o' a' f' x'
+same_graph n p p' i i' o o' a a' f f' x x' e1 e2 e3 e4 e5 e6 = rw (e1, e2, e3, e4, e5, e6) refl
 
-graph_is : (g : Graph) (rate : ℕ) → rate_of_graph g ≡ Some rate → (p : OnePass) × (g ≡ graph_of p) × (p.rate ≡ rate) × (1 ≤ rate) × (rate ≤ 1024)
-graph_is g rate h =
+graph_is : (version : ℕ) (g : Graph) (rate : ℕ) → rate_of_graph g ≡ Some rate → (p : OnePass) × (g ≡ graph_of p) × (p.rate ≡ rate) × (1 ≤ rate) × (rate ≤ 1024) × (p.version ≡ version)
+graph_is version g rate h =
     let input = bound_some (the_only g.inputs) (rate_if_pass g) rate h in
     let read = bound_some (rate_in input.0.rate) (λ r. if is_pass_graph r g then Some r else None) rate input.2 in
     let passed = if_some (is_pass_graph read.0 g) read.0 rate read.2 in
@@ -167,17 +168,18 @@ graph_is g rate h =
     let rated = rate_read rate input.0.rate (subst (λ r. rate_in input.0.rate ≡ Some r) passed.1 read.1) in
     let output = if_there (λ (o : Interface). is_rate rate o.rate) (the_only g.outputs) in
     let actor = if_there (λ (a : Actor). is_pass rate a.body) (the_only g.actors) in
-    let last = both (is_empty g.params && output && actor) (are_wires g.fifos) pass in
+    let exports = both (is_empty g.params && output && actor && are_wires g.fifos) (is_empty g.exports) pass in
+    let last = both (is_empty g.params && output && actor) (are_wires g.fifos) exports.0 in
     let third = both (is_empty g.params && output) actor last.0 in
     let second = both (is_empty g.params) output third.0 in
     let o = one_there (λ (o : Interface). is_rate rate o.rate) g.outputs second.1 in
     let a = one_there (λ (a : Actor). is_pass rate a.body) g.actors third.1 in
     let b = body_is rate a.0.body a.2 in
-    let p = pass_with g input.0.name o.0.name a.0.name b.0 b.1.0 rate in
+    let p = pass_with version g input.0.name o.0.name a.0.name b.0 b.1.0 rate in
     let inputs : g.inputs ≡ interface_of p.input rate ∷ [] = only_is g.inputs input.0 input.1 ∙ ap (λ (e : Tree). record { name = input.0.name; rate = e } ∷ []) rated.0 in
     let outputs : g.outputs ≡ interface_of p.output rate ∷ [] = o.1 ∙ ap (λ (e : Tree). record { name = o.0.name; rate = e } ∷ []) (rate_is rate o.0.rate o.2) in
     let actors : g.actors ≡ actor_of p ∷ [] = a.1 ∙ ap (λ (x : Body). record { name = a.0.name; body = x } ∷ []) b.1.1 in
-    (p, same_graph g.name g.params [] g.inputs (interface_of p.input rate ∷ []) g.outputs (interface_of p.output rate ∷ []) g.actors (actor_of p ∷ []) g.fifos (fifo_in ∷ fifo_out ∷ []) (empty_is g.params second.0) inputs outputs actors (wires_are g.fifos last.1), refl, rated.1, rated.2)
+    (p, same_graph g.name g.params [] g.inputs (interface_of p.input rate ∷ []) g.outputs (interface_of p.output rate ∷ []) g.actors (actor_of p ∷ []) g.fifos (fifo_in ∷ fifo_out ∷ []) g.exports [] (empty_is g.params second.0) inputs outputs actors (wires_are g.fifos last.1) (empty_is g.exports exports.1), refl, rated.1, rated.2, refl)
 
 -- ---- names
 
@@ -228,28 +230,26 @@ pub pass_is : (graphs : Graphs) (rate : ℕ) → pass_rate graphs ≡ Some rate 
 unfolding pass_rate
 pass_is graphs rate h range well =
     let one = bound_some (the_only graphs.graphs) rate_of_graph rate h in
-    let g = graph_is one.0 rate one.2 in
+    let g = graph_is graphs.version one.0 rate one.2 in
     let p = g.0 in
     let only : graphs.graphs ≡ graph_of p ∷ [] = only_is graphs.graphs one.0 one.1 ∙ ap (λ (x : Graph). x ∷ []) g.1 in
-    let version : graphs.version ≡ 1 = range.version in
     let long : length graphs.graphs ≡ 1 = ap (length {A = Graph}) only in
     let below : graphs.top < length graphs.graphs = range.top in
     let top : graphs.top ≡ 0 = omega (arith, long, below) in
-    let is : graphs ≡ graphs_of p = same_graphs graphs.version 1 graphs.top 0 graphs.graphs (graph_of p ∷ []) version top only in
+    let is : graphs ≡ graphs_of p = same_graphs graphs.version p.version graphs.top 0 graphs.graphs (graph_of p ∷ []) (sym g.5) top only in
     (p, is, sound p (subst (λ (x : Graphs). duplicate_faults x ≡ []) is (no_duplicate graphs well)) (subst (λ n. 1 ≤ n) (sym g.2) g.3) (subst (λ n. n ≤ 1024) (sym g.2) g.4))
 
 pub needs_are : (graphs : Graphs) (rate : ℕ) → pass_rate graphs ≡ Some rate → InRange graphs → WellFormed graphs → rate ∷ [] ≡ needs_of graphs
 unfolding pass_rate
 needs_are graphs rate h range well =
     let one = bound_some (the_only graphs.graphs) rate_of_graph rate h in
-    let g = graph_is one.0 rate one.2 in
+    let g = graph_is graphs.version one.0 rate one.2 in
     let p = g.0 in
     let only : graphs.graphs ≡ graph_of p ∷ [] = only_is graphs.graphs one.0 one.1 ∙ ap (λ (x : Graph). x ∷ []) g.1 in
-    let version : graphs.version ≡ 1 = range.version in
     let long : length graphs.graphs ≡ 1 = ap (length {A = Graph}) only in
     let below : graphs.top < length graphs.graphs = range.top in
     let top : graphs.top ≡ 0 = omega (arith, long, below) in
-    let is : graphs ≡ graphs_of p = same_graphs graphs.version 1 graphs.top 0 graphs.graphs (graph_of p ∷ []) version top only in
+    let is : graphs ≡ graphs_of p = same_graphs graphs.version p.version graphs.top 0 graphs.graphs (graph_of p ∷ []) (sym g.5) top only in
     ap (λ n. n ∷ []) (sym g.2) ∙ sym (ap needs_of is)
 
 -- ---- the other way round

@@ -16,7 +16,7 @@ use Rattle.token_text.specs.Records.{records_of}
 use Rattle.token_text.specs.declared.fault.TokenFault.{TokenFault}
 use Rattle.pisdf_model.specs.declared.graph.Graphs.{Graphs}
 use Rattle.firing_board.specs.Run.{needs_of}
-use Rattle.pisdf_program.specs.Result.{graph_in_json, graph_in_reading, if_runs, input_names, json_of, read_graph, read_streams, streams_in}
+use Rattle.pisdf_program.specs.Result.{graphs_in_json, graphs_in_reading, input_names, json_of, read_graphs, read_streams, streams_in}
 use Rattle.pisdf_program.specs.declared.status.Status.TheVariants.{GraphRefused, TokensRefused}
 use Rattle.pisdf_program.specs.declared.status.GraphCause.TheVariants as graph
 use Rattle.pisdf_program.specs.declared.status.TokenCause.TheVariants as tokens
@@ -45,27 +45,27 @@ no_json bytes none = json_none bytes (λ text. read_nothing bytes text (read byt
 
 -- ---- what is read
 
-pub graphs_read : (bytes : List ℕ) (graphs : Graphs) → AreReadAs 1 the_signatures bytes (Ok graphs) → graph_in_json (json_of bytes) ≡ if_runs graphs
-graphs_read bytes graphs h = ap graph_in_json (json_some bytes h.0 h.1.0 h.1.1) ∙ ap graph_in_reading h.2
+pub graphs_read : (bytes : List ℕ) (graphs : Graphs) → AreReadAs the_signatures bytes (Ok graphs) → graphs_in_json (json_of bytes) ≡ Ok graphs
+graphs_read bytes graphs h = ap graphs_in_json (json_some bytes h.0 h.1.0 h.1.1) ∙ ap graphs_in_reading h.2
 
-pub fault_read : (bytes : List ℕ) (fault : GraphFault) → Reads 1 the_signatures bytes (Err fault) → fault ≢ Memory → graph_in_json (json_of bytes) ≡ Err (GraphRefused (graph.Fault fault))
+pub fault_read : (bytes : List ℕ) (fault : GraphFault) → Reads the_signatures bytes (Err fault) → fault ≢ Memory → graphs_in_json (json_of bytes) ≡ Err (GraphRefused (graph.Fault fault))
 fault_read bytes fault (inl memory) not_memory = absurd (not_memory memory)
-fault_read bytes fault (inr (inl not_json)) not_memory = ap graph_in_json (no_json bytes not_json.1) ∙ ap (λ f. Err (GraphRefused (graph.Fault f))) (sym not_json.0)
-fault_read bytes fault (inr (inr h)) not_memory = ap graph_in_json (json_some bytes h.0 h.1.0 h.1.1) ∙ ap graph_in_reading h.2
+fault_read bytes fault (inr (inl not_json)) not_memory = ap graphs_in_json (no_json bytes not_json.1) ∙ ap (λ f. Err (GraphRefused (graph.Fault f))) (sym not_json.0)
+fault_read bytes fault (inr (inr h)) not_memory = ap graphs_in_json (json_some bytes h.0 h.1.0 h.1.1) ∙ ap graphs_in_reading h.2
 
 -- ---- lengths
 
-pub read_graph_short : (bytes : List ℕ) → length bytes ≤ 4194304 → read_graph bytes ≡ graph_in_json (json_of bytes)
-unfolding read_graph
-read_graph_short bytes le =
+pub read_graphs_short : (bytes : List ℕ) → length bytes ≤ 4194304 → read_graphs bytes ≡ graphs_in_json (json_of bytes)
+unfolding read_graphs
+read_graphs_short bytes le =
     let no : nat_lt 4194304 (length bytes) ≡ false = grind (arith, nat_tests) in
-    ap (λ b. if b then Err (GraphRefused graph.TooLong) else graph_in_json (json_of bytes)) no
+    ap (λ b. if b then Err (GraphRefused graph.TooLong) else graphs_in_json (json_of bytes)) no
 
-pub read_graph_long : (bytes : List ℕ) → 4194304 < length bytes → read_graph bytes ≡ Err (GraphRefused graph.TooLong)
-unfolding read_graph
-read_graph_long bytes lt =
+pub read_graphs_long : (bytes : List ℕ) → 4194304 < length bytes → read_graphs bytes ≡ Err (GraphRefused graph.TooLong)
+unfolding read_graphs
+read_graphs_long bytes lt =
     let yes : nat_lt 4194304 (length bytes) ≡ true = grind (arith, nat_tests) in
-    ap (λ b. if b then Err (GraphRefused graph.TooLong) else graph_in_json (json_of bytes)) yes
+    ap (λ b. if b then Err (GraphRefused graph.TooLong) else graphs_in_json (json_of bytes)) yes
 
 pub read_streams_short : (g : Graphs) (bytes : List ℕ) → length bytes ≤ 67108864 → read_streams g bytes ≡ streams_in (read_of bytes (input_names g))
 unfolding read_streams

@@ -10,7 +10,7 @@ use Rattle.firing_board.specs.Job.{top_of}
 use Rattle.firing_board.specs.Run as run
 use Rattle.pisdf_program.specs.Calls.{GrowsPartly, GrowsByFirst, EndsRun}
 use Rattle.pisdf_program.specs.Loaded.{is_answer, FaultsOnly}
-use Rattle.pisdf_program.specs.Result.{Outcome, refused, read_graph, read_streams, run_graph, run_streams, outcome_of, status_of, line_of_end, result_of_command}
+use Rattle.pisdf_program.specs.Result.{Outcome, refused, read_graphs, read_streams, runnable, run_graph, run_streams, outcome_of, status_of, line_of_end, result_of_command}
 use Rattle.pisdf_program.specs.Texts.{joined, texts_from, line_of, memory_line, read_line}
 use Rattle.pisdf_program.specs.Words.{Command, Run}
 use Rattle.pisdf_program.specs.Worked.{Reports, Decided, Stopped, Works, PutsLine, Concludes, CountRose, RoseAt, file_in, Completes, MayTell, Ended}
@@ -30,7 +30,7 @@ and_then_some : {A B : Type 0} (o : Option A) (f : A → Option B) (y : B) → o
 and_then_some None f y h = absurd cc
 and_then_some (Some x) f y h = (x, refl, h)
 
-map_some : {A B : Type 0} (o : Option A) (f : A → B) (y : B) → option_map f o ≡ Some y → (x : A) × (o ≡ Some x) × (f x ≡ y)
+pub map_some : {A B : Type 0} (o : Option A) (f : A → B) (y : B) → option_map f o ≡ Some y → (x : A) × (o ≡ Some x) × (f x ≡ y)
 map_some None f y h = absurd cc
 map_some (Some x) f y h = (x, refl, same_some (f x) y h)
 
@@ -55,23 +55,23 @@ pub refused_by : (s : Status) (w : Option (List ℕ)) (o : Outcome) → Some (re
 refused_by s w o e = refused_as o s w (sym (same_some (refused s) o e))
 
 pub graph_stops : (graph tokens : List ℕ) (n : ℕ) (files : List ℕ → Option (List ℕ)) (w : Option (List ℕ)) (f : ℕ) (which : Which) (before now : ℕ) (s : Status) → FaultsOnly which before now s
-    → ((told : List ℕ) → files graph ≡ Some told → is_answer s ≡ true → read_graph told ≡ Err s)
+    → ((told : List ℕ) → files graph ≡ Some told → is_answer s ≡ true → runnable (read_graphs told) ≡ Err s)
     → Stopped (result_of_command (Some (Run graph tokens n 1)) files) w w f f s
 graph_stops graph tokens n files w f which before now s ok h =
     stops (result_of_command (Some (Run graph tokens n 1)) files) w f which before now s ok (λ o e a.
-    let t = and_then_some (files graph) (λ bytes. run_graph n (files tokens) (read_graph bytes)) o e in
+    let t = and_then_some (files graph) (λ bytes. run_graph n (files tokens) (runnable (read_graphs bytes))) o e in
     sym (same_some (refused s) o (sym (ap (run_graph n (files tokens)) (h t.0 t.1 a)) ∙ t.2)))
 
 -- what a graph file's graphs and the token file give
 with_graph : (graph tokens : List ℕ) (n : ℕ) (files : List ℕ → Option (List ℕ)) (g : Graphs) (o : Outcome)
-    → ((told : List ℕ) → files graph ≡ Some told → read_graph told ≡ Ok g) → result_of_command (Some (Run graph tokens n 1)) files ≡ Some o
+    → ((told : List ℕ) → files graph ≡ Some told → runnable (read_graphs told) ≡ Ok g) → result_of_command (Some (Run graph tokens n 1)) files ≡ Some o
     → (told : List ℕ) × (files tokens ≡ Some told) × (run_streams g n (read_streams g told) ≡ o)
 with_graph graph tokens n files g o h e =
-    let t = and_then_some (files graph) (λ bytes. run_graph n (files tokens) (read_graph bytes)) o e in
+    let t = and_then_some (files graph) (λ bytes. run_graph n (files tokens) (runnable (read_graphs bytes))) o e in
     map_some (files tokens) (λ bytes. run_streams g n (read_streams g bytes)) o (sym (ap (run_graph n (files tokens)) (h t.0 t.1)) ∙ t.2)
 
 pub streams_stop : (graph tokens : List ℕ) (n : ℕ) (files : List ℕ → Option (List ℕ)) (g : Graphs) (w : Option (List ℕ)) (f : ℕ) (which : Which) (before now : ℕ) (s : Status)
-    → FaultsOnly which before now s → ((told : List ℕ) → files graph ≡ Some told → read_graph told ≡ Ok g)
+    → FaultsOnly which before now s → ((told : List ℕ) → files graph ≡ Some told → runnable (read_graphs told) ≡ Ok g)
     → ((told : List ℕ) → files tokens ≡ Some told → is_answer s ≡ true → read_streams g told ≡ Err s)
     → Stopped (result_of_command (Some (Run graph tokens n 1)) files) w w f f s
 streams_stop graph tokens n files g w f which before now s ok hg h =
@@ -80,7 +80,7 @@ streams_stop graph tokens n files g w f which before now s ok hg h =
     sym t.2 ∙ ap (run_streams g n) (h t.0 t.1 a))
 
 pub run_decides : (graph tokens : List ℕ) (n : ℕ) (files : List ℕ → Option (List ℕ)) (g : Graphs) (streams : List (List ℤ)) (o : Outcome)
-    → ((told : List ℕ) → files graph ≡ Some told → read_graph told ≡ Ok g) → ((told : List ℕ) → files tokens ≡ Some told → read_streams g told ≡ Ok streams)
+    → ((told : List ℕ) → files graph ≡ Some told → runnable (read_graphs told) ≡ Ok g) → ((told : List ℕ) → files tokens ≡ Some told → read_streams g told ≡ Ok streams)
     → result_of_command (Some (Run graph tokens n 1)) files ≡ Some o → o ≡ outcome_of g (run.run_of g streams n)
 run_decides graph tokens n files g streams o hg hs e =
     let t = with_graph graph tokens n files g o hg e in
@@ -290,7 +290,7 @@ pub few_workers : (graph tokens : List ℕ) (n k : ℕ) (files : List ℕ → Op
     → result_of_command (Some (Run graph tokens n k)) files ≡ Some (refused (NotYet later.Workers))
 few_workers graph tokens n k files non =
     let t : (k == 1) ≡ false = grind (arith, nat_tests) in
-    ap (λ b. if b then option_and_then (λ bytes. run_graph n (files tokens) (read_graph bytes)) (files graph) else Some (refused (NotYet later.Workers))) t
+    ap (λ b. if b then option_and_then (λ bytes. run_graph n (files tokens) (runnable (read_graphs bytes))) (files graph) else Some (refused (NotYet later.Workers))) t
 
 pub rose_as : (a b : Option Command) (before now : List ℕ → ℕ) (r : Result (String Global) Status) → a ≡ b → IfErr r (CountRose a before now) → IfErr r (CountRose b before now)
 rose_as a b before now r e h = subst (λ (c : Option Command). IfErr r (CountRose c before now)) e h

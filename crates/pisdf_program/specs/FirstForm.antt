@@ -4,7 +4,7 @@ use Rattle.param_expr.specs.Tree.{Tree, number, param, binary}
 use Rattle.pisdf_model.specs.Wires.{is_interface, is_port}
 use Rattle.pisdf_model.specs.declared.actor.Actor.{Actor}
 use Rattle.pisdf_model.specs.declared.actor.Body.{Body}
-use Rattle.pisdf_model.specs.declared.actor.Body.TheVariants.{Kernel, Config, Child}
+use Rattle.pisdf_model.specs.declared.actor.Body.TheVariants.{Kernel, Config, Child, ConfigChild}
 use Rattle.pisdf_model.specs.declared.actor.Port.{Port}
 use Rattle.pisdf_model.specs.declared.fifo.Fifo.{Fifo}
 use Rattle.pisdf_model.specs.declared.fifo.Life.{Life}
@@ -54,6 +54,7 @@ is_pass rate (Kernel kernel args ins outs) =
     kernel == pass_place && is_empty args && if_there (λ (p : Port). is_rate rate p.rate) (the_only ins) && if_there (λ (p : Port). is_rate rate p.rate) (the_only outs)
 is_pass rate (Config kernel args ins outs sets) = false
 is_pass rate (Child graph args) = false
+is_pass rate (ConfigChild graph args sets) = false
 
 -- ---- FIFOs
 
@@ -82,13 +83,14 @@ are_wires (f ∷ h ∷ i ∷ fifos) = false
 
 -- ---- graphs
 
--- a graph of one such actor, whose input has this rate, and its output too
+-- a graph of one such actor and without exports, whose input has this rate, and its output too
 abbrev pub is_pass_graph : ℕ → Graph → Bool
 is_pass_graph rate g =
     is_empty g.params
     && if_there (λ (o : Interface). is_rate rate o.rate) (the_only g.outputs)
     && if_there (λ (a : Actor). is_pass rate a.body) (the_only g.actors)
     && are_wires g.fifos
+    && is_empty g.exports
 
 abbrev pub rate_if_pass : Graph → Interface → Option ℕ
 rate_if_pass g input = option_and_then (λ rate. if is_pass_graph rate g then Some rate else None) (rate_in input.rate)

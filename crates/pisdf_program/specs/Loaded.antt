@@ -1,8 +1,11 @@
 -- What loading a file gives.
-use Rattle.std.specs.Prelude.{◌≡◌, ℕ, Bool, true, false, Result, Ok, Err}
+use Rattle.std.specs.Prelude.{◌≡◌, ℕ, Bool, true, false, Result, Ok, Err, All}
 use Rattle.std.specs.Arc.{arc_value}
 use Rattle.outer_world.specs.Faults.{Rose}
+use Rattle.pisdf_model.specs.Range.{InRange}
+use Rattle.pisdf_model.specs.WellFormed.{WellFormed}
 use Rattle.pisdf_model.specs.declared.graph.Graphs.{Graphs}
+use Rattle.graph_format.specs.Writable.{IsWritableGraph}
 use Rattle.firing_board.specs.OnePass.{IsOnePass}
 use Rattle.firing_board.specs.Run.{needs_of}
 use Rattle.pisdf_program.specs.declared.load.Runnable.{Runnable}
@@ -54,6 +57,12 @@ NoFault (ReadFault w) = ⊥
 NoFault WriteFault = ⊥
 NoFault WantOfMemory = Unit {0}
 NoFault (NotYet later) = Unit {0}
+
+-- graphs that were read: in range, without a fault, and such that they can be written
+pub record AreGood (graphs : Graphs) : Type 0 where
+  pub in_range : InRange graphs
+  pub well_formed : WellFormed graphs
+  pub writable : All IsWritableGraph graphs.graphs
 
 -- graphs that can be run, and how many tokens an iteration takes from each input
 pub record CanRun (loaded : Runnable) : Type 0 where

@@ -1,19 +1,23 @@
 -- The result of a command: what it writes and how it ends, from the words and the files that they name.
-use Rattle.std.specs.Prelude.{ℕ, ◌==◌, nat_lt, ℤ, List, [], map, length, slice_index_or, Option, Some, None, is_some, option_map, option_and_then, Result, Ok, Err, if◌then◌else◌}
+use Rattle.std.specs.Prelude.{ℕ, ◌==◌, nat_lt, ℤ, List, [], ◌∷◌, map, length, slice_index_or, Option, Some, None, is_some, option_map, option_and_then, Result, Ok, Err, if◌then◌else◌}
 use Rattle.std.specs.Str.{is_utf8}
 use Rattle.serde_json.specs.Data.{Data}
 use Rattle.serde_json.specs.Read.{read}
+use Rattle.serde_json.specs.Written.{compact_text}
 use Rattle.kernel_gate.specs.Table.{the_signatures}
 use Rattle.token_text.specs.Streams.{read_of}
 use Rattle.token_text.specs.declared.fault.TokenFault.{TokenFault}
 use Rattle.pisdf_model.specs.declared.graph.Interface.{Interface}
 use Rattle.pisdf_model.specs.declared.graph.Graphs.{Graphs}
+use Rattle.graph_format.specs.Canonical.{canonical}
+use Rattle.graph_format.specs.Kernels.{kernel_names}
 use Rattle.graph_format.specs.Reads.{reading}
 use Rattle.graph_format.specs.declared.graph_fault.GraphFault.{GraphFault}
 use Rattle.graph_format.specs.declared.graph_fault.GraphFault.TheVariants.{NotJson}
+use Rattle.graph_writer.specs.Upgraded.{upgraded}
 use Rattle.firing_board.specs.Job.{top_of}
 use Rattle.firing_board.specs.Run as run
-use Rattle.pisdf_program.specs.Words.{Command, command_of, Run, Plain, Plan, Journal, Soak}
+use Rattle.pisdf_program.specs.Words.{Command, command_of, Run, Plain, Plan, Journal, Soak, Upgrade}
 use Rattle.pisdf_program.specs.FirstForm.{pass_rate}
 use Rattle.pisdf_program.specs.Texts.{texts_from, left_lines, line_of}
 use Rattle.pisdf_program.specs.declared.status.Status.{Status}
@@ -42,17 +46,22 @@ json_of bytes = if is_utf8 bytes then read bytes else None
 abbrev pub if_runs : Graphs → Result Graphs Status
 if_runs graphs = if is_some (pass_rate graphs) then Ok graphs else Err (NotYet later.Graph)
 
-abbrev pub graph_in_reading : Result Graphs GraphFault → Result Graphs Status
-graph_in_reading (Ok graphs) = if_runs graphs
-graph_in_reading (Err fault) = Err (GraphRefused (graph.Fault fault))
+abbrev pub graphs_in_reading : Result Graphs GraphFault → Result Graphs Status
+graphs_in_reading (Ok graphs) = Ok graphs
+graphs_in_reading (Err fault) = Err (GraphRefused (graph.Fault fault))
 
-abbrev pub graph_in_json : Option Data → Result Graphs Status
-graph_in_json None = Err (GraphRefused (graph.Fault NotJson))
-graph_in_json (Some value) = graph_in_reading (reading 1 the_signatures value)
+abbrev pub graphs_in_json : Option Data → Result Graphs Status
+graphs_in_json None = Err (GraphRefused (graph.Fault NotJson))
+graphs_in_json (Some value) = graphs_in_reading (reading the_signatures value)
 
 -- the graphs in the bytes of a file, or the refusal
-unfoldable pub read_graph : List ℕ → Result Graphs Status
-read_graph bytes = if nat_lt 4194304 (length bytes) then Err (GraphRefused graph.TooLong) else graph_in_json (json_of bytes)
+unfoldable pub read_graphs : List ℕ → Result Graphs Status
+read_graphs bytes = if nat_lt 4194304 (length bytes) then Err (GraphRefused graph.TooLong) else graphs_in_json (json_of bytes)
+
+-- the graphs that were read, where the program runs them
+abbrev pub runnable : Result Graphs Status → Result Graphs Status
+runnable (Ok graphs) = if_runs graphs
+runnable (Err status) = Err status
 
 -- ---- the token file
 
@@ -103,18 +112,33 @@ abbrev pub run_graph : ℕ → Option (List ℕ) → Result Graphs Status → Op
 run_graph iterations file (Ok graphs) = option_map (λ bytes. run_streams graphs iterations (read_streams graphs bytes)) file
 run_graph iterations file (Err status) = Some (refused status)
 
+-- ---- graph files written anew
+
+-- graphs as those of a file of version 2, where the version is 1
+abbrev pub latest : Graphs → Graphs
+latest graphs = if graphs.version == 1 then upgraded graphs else graphs
+
+-- the canonical file of graphs of the table's kernels
+abbrev pub file_of : Graphs → List ℕ
+file_of graphs = compact_text (canonical (kernel_names the_signatures) graphs)
+
+abbrev pub upgrade_graphs : Result Graphs Status → Outcome
+upgrade_graphs (Ok graphs) = record { texts = file_of (latest graphs) ∷ []; line = []; status = Done }
+upgrade_graphs (Err status) = refused status
+
 -- ---- the commands
 
 abbrev pub result_of_command : Option Command → (List ℕ → Option (List ℕ)) → Option Outcome
 result_of_command None files = Some (refused Usage)
 result_of_command (Some (Run graph tokens iterations workers)) files =
     if workers == 1
-    then option_and_then (λ bytes. run_graph iterations (files tokens) (read_graph bytes)) (files graph)
+    then option_and_then (λ bytes. run_graph iterations (files tokens) (runnable (read_graphs bytes))) (files graph)
     else Some (refused (NotYet later.Workers))
 result_of_command (Some (Plain graph tokens iterations)) files = Some (refused (NotYet later.Command))
 result_of_command (Some (Plan graph tokens workers)) files = Some (refused (NotYet later.Command))
 result_of_command (Some (Journal graph tokens iterations workers)) files = Some (refused (NotYet later.Command))
 result_of_command (Some (Soak number workers)) files = Some (refused (NotYet later.Command))
+result_of_command (Some (Upgrade graph)) files = option_map (λ bytes. upgrade_graphs (read_graphs bytes)) (files graph)
 
 -- the result of a command in these words, where a file by its name is told, as far as the command loads it
 abbrev pub result_of : List (List ℕ) → (List ℕ → Option (List ℕ)) → Option Outcome

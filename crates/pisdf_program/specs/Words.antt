@@ -1,5 +1,5 @@
 -- The words of a command.
-use Rattle.std.specs.Prelude.{ℕ, List, [], ◌∷◌, Option, None, option_and_then, option_map, codes, if◌then◌else◌}
+use Rattle.std.specs.Prelude.{ℕ, List, [], ◌∷◌, Option, Some, None, option_and_then, option_map, codes, if◌then◌else◌}
 use Rattle.std.specs.Str.{bytes_eq}
 use Rattle.pisdf_program.specs.Number.{number_within}
 
@@ -10,6 +10,7 @@ pub data Command : Type 0 where
   Plan : (graph tokens : List ℕ) (workers : ℕ) → Command
   Journal : (graph tokens : List ℕ) (iterations workers : ℕ) → Command
   Soak : (number workers : ℕ) → Command
+  Upgrade : (graph : List ℕ) → Command
 
 -- 0 to 65,536, in 1 to 5 digits
 abbrev pub iterations_of : List ℕ → Option ℕ
@@ -52,6 +53,11 @@ abbrev pub soak_row : List (List ℕ) → Option Command
 soak_row (number ∷ workers ∷ []) = option_and_then (λ n. option_map (λ w. Soak n w) (workers_of workers)) (generated_of number)
 soak_row _ = None
 
+-- GRAPH
+abbrev pub upgrade_row : List (List ℕ) → Option Command
+upgrade_row (graph ∷ []) = Some (Upgrade graph)
+upgrade_row _ = None
+
 -- ---- a command's name, and the words after it
 
 abbrev pub row_of : List ℕ → List (List ℕ) → Option Command
@@ -61,6 +67,7 @@ row_of name words =
     else if bytes_eq name (codes "plan") then plan_row words
     else if bytes_eq name (codes "journal") then journal_row words
     else if bytes_eq name (codes "soak") then soak_row words
+    else if bytes_eq name (codes "upgrade") then upgrade_row words
     else None
 
 -- the command that some row of the table reads in the words

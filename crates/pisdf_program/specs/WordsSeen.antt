@@ -10,6 +10,7 @@ seen (here.Plain graph tokens iterations) = words.Plain graph.now tokens.now ite
 seen (here.Plan graph tokens workers) = words.Plan graph.now tokens.now workers
 seen (here.Journal graph tokens iterations workers) = words.Journal graph.now tokens.now iterations workers
 seen (here.Soak number workers) = words.Soak number workers
+seen (here.Upgrade graph) = words.Upgrade graph.now
 
 -- a run has at most 65,536 iterations
 abbrev pub IsFew : Command → Type 0
@@ -18,3 +19,4 @@ IsFew (here.Plain graph tokens iterations) = Unit {0}
 IsFew (here.Plan graph tokens workers) = Unit {0}
 IsFew (here.Journal graph tokens iterations workers) = Unit {0}
 IsFew (here.Soak number workers) = Unit {0}
+IsFew (here.Upgrade graph) = Unit {0}

@@ -9,7 +9,7 @@ use Rattle.pisdf_program.specs.Calls.{GrowsPartly, GrowsByFirst}
 use Rattle.pisdf_program.specs.Loaded.{is_answer}
 use Rattle.pisdf_program.specs.Result.{Outcome, short_of}
 use Rattle.pisdf_program.specs.Texts.{joined, left_lines, line_of, memory_line, read_line}
-use Rattle.pisdf_program.specs.Words.{Command, Run}
+use Rattle.pisdf_program.specs.Words.{Command, Run, Upgrade}
 use Rattle.pisdf_program.specs.declared.run.RunEnd.{RunEnd}
 use Rattle.pisdf_program.specs.declared.run.RunEnd.TheVariants as end
 use Rattle.pisdf_program.specs.declared.status.Status.{Status}
@@ -119,6 +119,7 @@ pub record Ended (expected : Option Outcome) (out_had out_has err_had err_has : 
 abbrev pub file_in : Which → Command → Option (List ℕ)
 file_in Graph (Run graph tokens iterations workers) = if workers == 1 then Some graph else None
 file_in Tokens (Run graph tokens iterations workers) = if workers == 1 then Some tokens else None
+file_in Graph (Upgrade graph) = Some graph
 file_in which _ = None
 
 abbrev pub file_of : Which → Option Command → Option (List ℕ)

@@ -143,6 +143,7 @@ fn is_pass_graph(rate: u32, graph: &Graph) -> bool
         && is_output_of(rate, graph.outputs.items())
         && is_pass_actor(rate, graph.actors.items())
         && are_wires(graph.fifos.items())
+        && graph.exports.items().is_empty()
 }
 
 fn rate_if_pass(graph: &Graph, input: &Interface) -> Option<u32>

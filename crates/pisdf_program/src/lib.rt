@@ -1,4 +1,5 @@
-//! The commands of the program, over files by name and two sinks of bytes: `run GRAPH TOKENS ITERATIONS WORKERS`.
+//! The commands of the program, over files by name and two sinks of bytes: `run GRAPH TOKENS ITERATIONS WORKERS` and
+//! `upgrade GRAPH`.
 #![tactic(auto)]
 
 mod first_form;
@@ -13,9 +14,10 @@ mod run;
 mod status;
 mod streams;
 mod texts;
+mod upgrade;
 mod words;
 
 pub use iterate::{drive, opened};
-pub use load::{Runnable, load_graph};
+pub use load::{Runnable, load_runnable};
 pub use program::run_program;
 pub use status::{GraphCause, Later, Status, TokenCause, Which};

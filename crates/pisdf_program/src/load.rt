@@ -4,8 +4,8 @@ ghost use Rattle.std.specs.Arc.{arc_value};
 ghost use Rattle.firing_board.specs.OnePass.{IsOnePass};
 ghost use Rattle.firing_board.specs.Run.{needs_of};
 ghost use Rattle.token_text.specs.Streams.{read_of};
-ghost use Rattle.pisdf_program.specs.Loaded.{CanRun, FaultsOnly, GraphSettles, NoFault, Settles};
-ghost use Rattle.pisdf_program.specs.Result.{graph_in_json, if_runs, input_names, json_of, read_graph, read_streams, streams_in};
+ghost use Rattle.pisdf_program.specs.Loaded.{AreGood, CanRun, FaultsOnly, GraphSettles, NoFault, Settles};
+ghost use Rattle.pisdf_program.specs.Result.{graphs_in_json, if_runs, input_names, json_of, read_graphs, read_streams, runnable, streams_in};
 ghost use Rattle.kernel_gate.specs.Signed.{signature_view};
 ghost use Rattle.kernel_gate.specs.Table.{the_signatures};
 ghost use Rattle.pisdf_model.specs.Range.{InRange};
@@ -68,14 +68,14 @@ fn is_memory(fault: &GraphFault) -> bool
 }
 
 /// The graphs in the bytes of a file.
-fn parse_graph(alloc: Global, bytes: &[u8], signatures: &[Signature]) -> Result<Runnable, Status>
+fn parse_graphs(alloc: Global, bytes: &[u8], signatures: &[Signature]) -> Result<Graphs, Status>
     requires { map signature_view signatures.now ≡ the_signatures }
-    ensures settles { GraphSettles (graph_in_json (json_of bytes.now)) result }
-    ensures can_run { IfOk result CanRun }
+    ensures settles { Settles (graphs_in_json (json_of bytes.now)) result }
+    ensures good { IfOk result AreGood }
     ensures faults { IfErr result NoFault }
 {
     match read(alloc, bytes, signatures) {
-        Ok(graphs) => prepare(alloc, graphs),
+        Ok(graphs) => Ok(graphs),
         Err(fault) => {
             if is_memory(&fault) {
                 return Err(Status::WantOfMemory);
@@ -85,25 +85,45 @@ fn parse_graph(alloc: Global, bytes: &[u8], signatures: &[Signature]) -> Result<
     }
 }
 
-/// Loads the graph file, and reads it.
-pub fn load_graph<S: Shelf>(
+/// Loads a graph file, and reads the graphs in it.
+pub(crate) fn load_graphs<S: Shelf>(
+    alloc: Global,
+    shelf: &mut S,
+    name: &str,
+    signatures: &[Signature],
+) -> Result<Graphs, Status>
+    requires { map signature_view signatures.now ≡ the_signatures }
+    ensures settles { (told : Seq ℕ) → S.holds shelf.old name.now ≡ Some told → Settles (read_graphs told) result }
+    ensures good { IfOk result AreGood }
+    ensures faults { IfErr result (FaultsOnly Which.Graph (S.faults shelf.old name.now) (S.faults shelf.new name.now)) }
+    ensures contents { (other : Seq ℕ) → S.holds shelf.new other ≡ S.holds shelf.old other }
+    ensures never_falls { (other : Seq ℕ) → S.faults shelf.old other ≤ S.faults shelf.new other }
+{
+    match shelf.load(name, limits::GRAPH_BYTES) {
+        Ok(bytes) => parse_graphs(alloc, bytes.as_slice(), signatures),
+        Err(LoadFault::Failed) => Err(Status::ReadFault(Which::Graph)),
+        Err(LoadFault::TooLong) => Err(Status::GraphRefused(GraphCause::TooLong)),
+        Err(LoadFault::Memory) => Err(Status::WantOfMemory),
+    }
+}
+
+/// Loads a graph file whose graphs can be run.
+pub fn load_runnable<S: Shelf>(
     alloc: Global,
     shelf: &mut S,
     name: &str,
     signatures: &[Signature],
 ) -> Result<Runnable, Status>
     requires { map signature_view signatures.now ≡ the_signatures }
-    ensures settles { (told : Seq ℕ) → S.holds shelf.old name.now ≡ Some told → GraphSettles (read_graph told) result }
+    ensures settles { (told : Seq ℕ) → S.holds shelf.old name.now ≡ Some told → GraphSettles (runnable (read_graphs told)) result }
     ensures can_run { IfOk result CanRun }
     ensures faults { IfErr result (FaultsOnly Which.Graph (S.faults shelf.old name.now) (S.faults shelf.new name.now)) }
     ensures contents { (other : Seq ℕ) → S.holds shelf.new other ≡ S.holds shelf.old other }
     ensures never_falls { (other : Seq ℕ) → S.faults shelf.old other ≤ S.faults shelf.new other }
 {
-    match shelf.load(name, limits::GRAPH_BYTES) {
-        Ok(bytes) => parse_graph(alloc, bytes.as_slice(), signatures),
-        Err(LoadFault::Failed) => Err(Status::ReadFault(Which::Graph)),
-        Err(LoadFault::TooLong) => Err(Status::GraphRefused(GraphCause::TooLong)),
-        Err(LoadFault::Memory) => Err(Status::WantOfMemory),
+    match load_graphs(alloc, shelf, name, signatures) {
+        Ok(graphs) => prepare(alloc, graphs),
+        Err(status) => Err(status),
     }
 }
 

@@ -6,11 +6,12 @@ ghost use Rattle.pisdf_program.specs.Words as table;
 ghost use Rattle.pisdf_program.specs.Worked.{Completes, Concludes, CountRose, Ended, PutsLine, Reports, TellsUnlessCut, Works};
 
 use crate::line::{MEMORY, left_lines, line_of};
-use crate::load::{load_graph, load_streams};
+use crate::load::{load_runnable, load_streams};
 use crate::put::put_text;
 use crate::run::{RunEnd, run_all, top_of};
 use crate::status::{Later, Status, TokenCause};
 use crate::streams::Streams;
+use crate::upgrade::upgrade;
 use crate::words::{Command, read_words};
 use kernel_gate::Gate;
 use outer_world::{Shelf, Sink};
@@ -66,7 +67,7 @@ fn run<S: Shelf, O: Sink, K: Gate>(
     ensures read { IfErr result (CountRose (Some (table.Run graph.now tokens.now iterations 1)) (S.faults shelf.old) (S.faults shelf.new)) }
     ensures usage { result ≢ Err Status.Usage }
 {
-    let loaded = match load_graph(alloc, shelf, graph, gate.signatures()) {
+    let loaded = match load_runnable(alloc, shelf, graph, gate.signatures()) {
         Ok(loaded) => loaded,
         Err(status) => return Err(status),
     };
@@ -117,6 +118,7 @@ fn work<S: Shelf, O: Sink, K: Gate>(
         Command::Plan { .. } => Err(Status::NotYet(Later::Command)),
         Command::Journal { .. } => Err(Status::NotYet(Later::Command)),
         Command::Soak { .. } => Err(Status::NotYet(Later::Command)),
+        Command::Upgrade { graph } => upgrade(alloc, graph, shelf, out, gate),
     }
 }
 

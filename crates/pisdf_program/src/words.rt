@@ -1,5 +1,5 @@
 ghost use Rattle.std.specs.Prelude.{◌≡◌, ◌≤◌, IfSome, map, option_map, string_bytes};
-ghost use Rattle.pisdf_program.specs.Words.{command_of, run_row, plain_row, plan_row, journal_row, soak_row, iterations_of, workers_of, generated_of};
+ghost use Rattle.pisdf_program.specs.Words.{command_of, run_row, plain_row, plan_row, journal_row, soak_row, upgrade_row, iterations_of, workers_of, generated_of};
 ghost use Rattle.pisdf_program.specs.WordsSeen.{IsFew, seen};
 
 use crate::limits;
@@ -33,6 +33,9 @@ pub(crate) enum Command<'w> {
     Soak {
         number: u32,
         workers: u32,
+    },
+    Upgrade {
+        graph: &'w str,
     },
 }
 
@@ -126,6 +129,18 @@ fn soak_row(words: &[String]) -> Option<Command<'_>>
     }
 }
 
+fn upgrade_row(words: &[String]) -> Option<Command<'_>>
+    ensures row { option_map seen result ≡ upgrade_row (map string_bytes words.now) }
+    ensures few { IfSome result IsFew }
+{
+    match words {
+        [graph] => Some(Command::Upgrade {
+            graph: graph.as_str(),
+        }),
+        _ => None,
+    }
+}
+
 /// What the words ask for, where some row of the table of commands reads them.
 pub(crate) fn read_words(words: &[String]) -> Option<Command<'_>>
     ensures command { option_map seen result ≡ command_of (map string_bytes words.now) }
@@ -138,6 +153,7 @@ pub(crate) fn read_words(words: &[String]) -> Option<Command<'_>>
         "plan" => plan_row(rest),
         "journal" => journal_row(rest),
         "soak" => soak_row(rest),
+        "upgrade" => upgrade_row(rest),
         _ => None,
     }
 }

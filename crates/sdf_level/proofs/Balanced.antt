@@ -10,10 +10,11 @@ use Rattle.sdf_level.specs.declared.link.Head.{Head}
 use Rattle.sdf_level.specs.declared.link.Tail.TheVariants as tail
 use Rattle.sdf_level.specs.declared.link.Head.TheVariants as head
 use Rattle.sdf_level.specs.Kept.{TailIsThere, HeadIsThere, IsLevel}
-use Rattle.sdf_level.specs.Links.{Inner, OfInner, EachInner, SomeInner}
+use Rattle.sdf_level.specs.Links.{Inner, Outer, OfInner, OfOuter, EachInner, EachOuter, SomeInner}
 use Rattle.sdf_level.specs.Balance.{IsBalanced}
-use Rattle.sdf_level.specs.Components.{Joins}
-use Rattle.sdf_level.specs.Repetition.{IsRepetition}
+use Rattle.sdf_level.specs.Components.{Joins, AreConnected}
+use Rattle.sdf_level.specs.Repetition.{HasEnough, IsRepetition}
+use Rattle.sdf_level.specs.Laws.{Reaches, Suffices}
 use Rattle.sdf_level.proofs.InnerLinks.{SomeInner-map, EachInner-with}
 use Rattle.sdf_level.proofs.OnlyOne.{factor_only}
 use Rattle.sdf_level.proofs.Connected.{connected-refl, connected-step, least_factor-moved}
@@ -95,3 +96,23 @@ module _ (level : LevelView) (q : List ℕ) (is_level : IsLevel level) (is : IsR
       let m = f.least.factor.at_least_one in
       let e = f.product in
       rw e (mul-pos m one)
+
+  abbrev Enough : (a : ℕ) → a < level.actors → Outer → Type 0
+  Enough a h link = AreConnected level.links a link.actor → HasEnough is.base (is.multiplied.entries a h).factor link
+
+  reaches_one : (t : Tail) (h : Head) → TailIsThere level t → HeadIsThere level h → ((a : ℕ) (below : a < level.actors) → OfOuter (Enough a below) level t h) → OfOuter (Reaches q) level t h
+  reaches_one (tail.Source s) (head.Sink t) there here enough = tt
+  reaches_one (tail.Source s) (head.Port b j c) there here enough = rw ((is.multiplied.entries b here).product) (enough b here (connected-refl level.links b))
+  reaches_one (tail.Port a p r) (head.Sink t) there here enough = rw ((is.multiplied.entries a there).product) (enough a there (connected-refl level.links a))
+  reaches_one (tail.Port a p r) (head.Port b j c) there here enough = tt
+
+  reaches_all : (links : List Link) → AllByRecursion (λ link. TailIsThere level link.tail) links → AllByRecursion (λ link. HeadIsThere level link.head) links → ((a : ℕ) (below : a < level.actors) → EachOuter (Enough a below) level links) → EachOuter (Reaches q) level links
+  reaches_all [] tails heads enough = tt
+  reaches_all (link ∷ links) tails heads enough = (reaches_one link.tail link.head tails.0 heads.0 (λ a h. (enough a h).0), reaches_all links tails.1 heads.1 (λ a h. (enough a h).1))
+
+  -- in all its firings each actor moves at least the rate of a source or sink at its link
+  pub repetition_reaches : EachOuter (Reaches q) level level.links
+  repetition_reaches = reaches_all level.links is_level.tails_there is_level.heads_there (λ a h. (is.multiplied.entries a h).least.factor.enough)
+
+  pub repetition_suffices : Suffices level q
+  repetition_suffices = record { at_least_one = repetition_some; balanced = repetition_balanced; reaches = repetition_reaches }

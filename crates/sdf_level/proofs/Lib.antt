@@ -8,7 +8,10 @@ pub mod Balanced
 pub mod Lines
 pub mod Windows
 pub mod SameInputs
+pub mod FinalReads
 pub mod SameTokens
+pub mod KeptLengths
+pub mod MappedRuns
 pub mod Computed
 pub mod ExampleLevels
 pub mod ExampleVectors

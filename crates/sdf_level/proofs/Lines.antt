@@ -6,26 +6,9 @@ use Rattle.sdf_level.specs.declared.link.Link.{Link}
 use Rattle.sdf_level.specs.declared.link.Tail.{Tail}
 use Rattle.sdf_level.specs.declared.link.Tail.TheVariants as tail
 use Rattle.sdf_level.specs.Run.{added, put}
-
--- what each firing of each actor made
-abbrev pub Made : Type 0 → Type 0
-Made T = ℕ → ℕ → List (List T)
+use Rattle.sdf_level.specs.Told.{Made, sent, line_of, lines_of}
 
 module _ {T : Type 0} where
-  -- what the first n firings made sent through a port
-  abbrev pub sent : (ℕ → List (List T)) → ℕ → ℕ → List T
-  sent own p zero = []
-  sent own p (suc n) = sent own p n ++ slice_index_or (own n) p []
-
-  abbrev pub line_of : Made T → (ℕ → ℕ) → Tail → List T → List T
-  line_of made fired (tail.Source s) start = start
-  line_of made fired (tail.Port a p r) start = start ++ sent (made a) p (fired a)
-
-  abbrev pub lines_of : Made T → (ℕ → ℕ) → List Link → List (List T) → List (List T)
-  lines_of made fired [] starts = starts
-  lines_of made fired (link ∷ links) [] = []
-  lines_of made fired (link ∷ links) (start ∷ starts) = line_of made fired link.tail start ∷ lines_of made fired links starts
-
   pub sent_same : (f g : ℕ → List (List T)) (p n : ℕ) → ((j : ℕ) → j < n → f j ≡ g j) → sent f p n ≡ sent g p n
   sent_same f g p zero same = refl
   sent_same f g p (suc n) same = rw (sent_same f g p n (λ j h. same j (omega arith)), same n (omega arith)) refl

@@ -2,7 +2,7 @@
 use Rattle.std.proofs.Common.{◌≡◌, ℕ, zero, suc, ◌+◌, ◌-◌, ◌*◌, ◌<◌, ◌≤◌, ⊎_elim, List, [], ◌∷◌, ◌++◌, length, slice_index_or, take, drop, refl, ap, sym, ◌∙◌, append_assoc, arith}
 use Rattle.std.proofs.lemmas.Bool.{cases_lt}
 use Rattle.std.proofs.lemmas.List.{append-nil, length-append}
-use Rattle.sdf_level.proofs.Lines.{sent}
+use Rattle.sdf_level.specs.Told.{sent}
 
 module _ {T : Type 0} where
   pub window-append : (c m : ℕ) (xs ys : List T) → m + c ≤ length xs → take c (drop m (xs ++ ys)) ≡ take c (drop m xs)

@@ -11,5 +11,8 @@ pub mod Orders
 pub mod Interfaces
 pub mod Run
 pub mod LevelRun
+pub mod Told
+pub mod Images
+pub mod Laws
 pub mod Numbered
 pub mod Groups

@@ -4,6 +4,7 @@
 
 mod groups;
 mod inner_link;
+mod laws;
 mod level;
 mod link;
 mod list;
@@ -14,6 +15,9 @@ mod turn;
 
 pub use groups::Groups;
 pub use inner_link::InnerLink;
+pub use laws::{
+    lengths_kept, reads_final, repetition_suffices, runs_mapped, runs_told, same_tokens,
+};
 pub use level::Level;
 pub use link::{Head, Link, Tail};
 pub use list::List;

@@ -13,32 +13,32 @@ use Rattle.pisdf_program.proofs.program.run.Goals as goal
 pub returns-in-Err-clause-works : goal.returns-in-Err-clause-works
 returns-in-Err-clause-works g c =
     graph_stops c.args.graph.now c.args.tokens.now c.args.iterations (g.S.Shelf.holds c.args.shelf.now) (g.O.Sink.written c.args.out.now) (g.O.Sink.faults c.args.out.now)
-    Graph (g.S.Shelf.faults c.args.shelf.now c.args.graph.now) (g.S.Shelf.faults c.load_graph.new.shelf c.args.graph.now) c.in-Err.status c.in-Err.ensures.faults c.in-Err.ensures.settles
+    Graph (g.S.Shelf.faults c.args.shelf.now c.args.graph.now) (g.S.Shelf.faults c.load_runnable.new.shelf c.args.graph.now) c.in-Err.status c.in-Err.ensures.faults c.in-Err.ensures.settles
 
 pub returns-in-Err-clause-read : goal.returns-in-Err-clause-read
 returns-in-Err-clause-read g c =
-    rose_graph c.args.graph.now c.args.tokens.now c.args.iterations (g.S.Shelf.faults c.args.shelf.now) (g.S.Shelf.faults c.load_graph.new.shelf) c.in-Err.status c.in-Err.ensures.faults
+    rose_graph c.args.graph.now c.args.tokens.now c.args.iterations (g.S.Shelf.faults c.args.shelf.now) (g.S.Shelf.faults c.load_runnable.new.shelf) c.in-Err.status c.in-Err.ensures.faults
 
 pub returns-in-Err-clause-usage : goal.returns-in-Err-clause-usage
 returns-in-Err-clause-usage g c =
-    usage_load Graph (g.S.Shelf.faults c.args.shelf.now c.args.graph.now) (g.S.Shelf.faults c.load_graph.new.shelf c.args.graph.now) c.in-Err.status c.in-Err.ensures.faults
+    usage_load Graph (g.S.Shelf.faults c.args.shelf.now c.args.graph.now) (g.S.Shelf.faults c.load_runnable.new.shelf c.args.graph.now) c.in-Err.status c.in-Err.ensures.faults
 
 pub returns-in-Err-load_streams-clause-works : goal.returns-in-Err-load_streams-clause-works
 returns-in-Err-load_streams-clause-works g c =
     streams_stop c.args.graph.now c.args.tokens.now c.args.iterations (g.S.Shelf.holds c.args.shelf.now) (arc_value c.in-Ok.loaded.graphs)
     (g.O.Sink.written c.args.out.now) (g.O.Sink.faults c.args.out.now)
-    Tokens (g.S.Shelf.faults c.load_graph.new.shelf c.args.tokens.now) (g.S.Shelf.faults c.load_streams.new.shelf c.args.tokens.now) c.in-Err-load_streams.status c.in-Err-load_streams.ensures.faults
+    Tokens (g.S.Shelf.faults c.load_runnable.new.shelf c.args.tokens.now) (g.S.Shelf.faults c.load_streams.new.shelf c.args.tokens.now) c.in-Err-load_streams.status c.in-Err-load_streams.ensures.faults
     c.in-Ok.ensures.settles
     (λ told e a. ap (λ (x : Graphs). read_streams x told) (sym c.deref.ensures) ∙ c.in-Err-load_streams.ensures.settles told (c.in-Ok.ensures.contents c.args.tokens.now ∙ e) a)
 
 pub returns-in-Err-load_streams-clause-read : goal.returns-in-Err-load_streams-clause-read
 returns-in-Err-load_streams-clause-read g c =
-    rose_tokens c.args.graph.now c.args.tokens.now c.args.iterations (g.S.Shelf.faults c.args.shelf.now) (g.S.Shelf.faults c.load_graph.new.shelf) (g.S.Shelf.faults c.load_streams.new.shelf)
+    rose_tokens c.args.graph.now c.args.tokens.now c.args.iterations (g.S.Shelf.faults c.args.shelf.now) (g.S.Shelf.faults c.load_runnable.new.shelf) (g.S.Shelf.faults c.load_streams.new.shelf)
     c.in-Err-load_streams.status (c.in-Ok.ensures.never_falls c.args.tokens.now) c.in-Err-load_streams.ensures.faults
 
 pub returns-in-Err-load_streams-clause-usage : goal.returns-in-Err-load_streams-clause-usage
 returns-in-Err-load_streams-clause-usage g c =
-    usage_load Tokens (g.S.Shelf.faults c.load_graph.new.shelf c.args.tokens.now) (g.S.Shelf.faults c.load_streams.new.shelf c.args.tokens.now) c.in-Err-load_streams.status c.in-Err-load_streams.ensures.faults
+    usage_load Tokens (g.S.Shelf.faults c.load_runnable.new.shelf c.args.tokens.now) (g.S.Shelf.faults c.load_streams.new.shelf c.args.tokens.now) c.in-Err-load_streams.status c.in-Err-load_streams.ensures.faults
 
 pub returns-clause-works : goal.returns-clause-works
 returns-clause-works g c =

@@ -1,0 +1,19 @@
+use Rattle.std.proofs.Common.{◌≡◌, subst, List, Ok, Err, true, false}
+use Rattle.graph_format.specs.declared.graph_fault.GraphFault.TheVariants.{Memory}
+use Rattle.kernel_gate.specs.Signed.{SignatureView}
+use Rattle.graph_format.specs.Reads.{AreReadAs, Reads}
+use Rattle.pisdf_program.proofs.Reading.{fault_read, graphs_read}
+use Rattle.pisdf_program.proofs.load.parse_graphs.Goals as goal
+
+pub returns-in-Ok-clause-settles : goal.returns-in-Ok-clause-settles
+returns-in-Ok-clause-settles c =
+    let bytes = c.args.bytes.now in
+    let graphs = c.in-Ok.graphs in
+    graphs_read bytes graphs (subst (λ (s : List SignatureView). AreReadAs s bytes (Ok graphs)) c.requires c.in-Ok.ensures.exact)
+
+pub returns-else-is_memory-clause-settles : goal.returns-else-is_memory-clause-settles
+returns-else-is_memory-clause-settles c =
+    let bytes = c.args.bytes.now in
+    let fault = c.in-Err.fault in
+    λ answer. fault_read bytes fault (subst (λ (s : List SignatureView). Reads s bytes (Err fault)) c.requires c.in-Err.ensures.exact)
+    (λ (e : fault ≡ Memory). let yes : c.is_memory.result ≡ true = c.is_memory.ensures.1 e in let no : c.is_memory.result ≡ false = c.if-is_memory.false in absurd cc)

@@ -1,0 +1,66 @@
+// The command that writes a graph file anew.
+ghost use Rattle.std.specs.Prelude.{◌≡◌, ◌≢◌, Err, Some, map, IfErr, IfOk};
+ghost use Rattle.kernel_gate.specs.Signed.{signature_view};
+ghost use Rattle.kernel_gate.specs.Table.{the_signatures};
+ghost use Rattle.pisdf_model.specs.WellFormed.{WellFormed};
+ghost use Rattle.pisdf_program.specs.Loaded.{AreGood};
+ghost use Rattle.pisdf_program.specs.Result.{file_of, latest, result_of_command};
+ghost use Rattle.pisdf_program.specs.Words as table;
+ghost use Rattle.pisdf_program.specs.Worked.{CountRose, Works};
+
+use crate::load::load_graphs;
+use crate::put::put_text;
+use crate::status::Status;
+use graph_writer::write;
+use kernel_gate::{Gate, Signature};
+use outer_world::{Shelf, Sink};
+use pisdf_model::Graphs;
+use std::alloc::{AllocError, Global};
+
+/// The graphs as those of version 2, where their version is 1.
+fn latest(alloc: Global, graphs: Graphs) -> Result<Graphs, AllocError>
+    requires { WellFormed graphs }
+    ensures latest { IfOk result (λ new. new ≡ latest graphs) }
+    ensures kept { IfOk result (λ new. new.graphs ≡ graphs.graphs) }
+{
+    if graphs.version == 1 {
+        return graph_writer::upgrade(alloc, &graphs);
+    }
+    Ok(graphs)
+}
+
+/// The canonical file of graphs, as that of version 2 where their version is 1.
+fn file_of(alloc: Global, graphs: Graphs, signatures: &[Signature]) -> Result<Vec<u8>, AllocError>
+    requires kernels { map signature_view signatures.now ≡ the_signatures }
+    requires good { AreGood graphs }
+    ensures { IfOk result (λ text. text.items ≡ file_of (latest graphs)) }
+{
+    let latest = latest(alloc, graphs)?;
+    write(alloc, &latest, signatures)
+}
+
+/// Puts the canonical file of the graphs in a file, in one put. The answer is no text for standard error, or a status.
+pub(crate) fn upgrade<S: Shelf, O: Sink, K: Gate>(
+    alloc: Global,
+    graph: &str,
+    shelf: &mut S,
+    out: &mut O,
+    gate: &K,
+) -> Result<String, Status>
+    requires kernels { K.kernels gate.now ≡ the_signatures }
+    ensures works { Works (result_of_command (Some (table.Upgrade graph.now)) (S.holds shelf.old)) (O.written out.old) (O.written out.new) (O.faults out.old) (O.faults out.new) result }
+    ensures read { IfErr result (CountRose (Some (table.Upgrade graph.now)) (S.faults shelf.old) (S.faults shelf.new)) }
+    ensures usage { result ≢ Err Status.Usage }
+{
+    let graphs = match load_graphs(alloc, shelf, graph, gate.signatures()) {
+        Ok(graphs) => graphs,
+        Err(status) => return Err(status),
+    };
+    let Ok(text) = file_of(alloc, graphs, gate.signatures()) else {
+        return Err(Status::WantOfMemory);
+    };
+    match put_text(out, text.as_slice()) {
+        Ok(()) => Ok(String::new(alloc)),
+        Err(_) => Err(Status::WriteFault),
+    }
+}
