@@ -1,11 +1,9 @@
 -- Runs evaluated.
-use Rattle.std.proofs.Common.{◌≡◌, ℕ, zero, suc, ◌+◌, ◌*◌, List, [], ◌∷◌, Ok, Err, refl}
+use Rattle.std.proofs.Common.{◌≡◌, ℕ, zero, suc, ◌+◌, List, [], ◌∷◌, Ok, Err, refl}
 use Rattle.std.specs.Prelude.{slice_index_or, sum}
 use Rattle.sdf_level.specs.Interfaces.{repeated, last}
 use Rattle.sdf_level.specs.Run.{FireFunction, by_function}
 use Rattle.sdf_level.specs.LevelRun.{RunEnds, IsLevelRun}
-use Rattle.sdf_level.specs.Told.{Made, lines_after, reads_after, final_reads}
-use Rattle.sdf_level.specs.Images.{image}
 use Rattle.sdf_level.proofs.Computed.{ends-computed}
 use Rattle.sdf_level.proofs.ExampleOrders.{doubled_order}
 use Rattle.sdf_level.proofs.ExampleLevels.{pairs, doubled, thrice, cut, keep_last, cycle}
@@ -80,32 +78,3 @@ last_of_none = refl
 -- the run of one thread
 doubled_level_run : IsLevelRun doubled (3 ∷ 2 ∷ []) ((1 ∷ 2 ∷ 3 ∷ []) ∷ []) ([] ∷ [] ∷ [] ∷ []) (by_function double_and_sum) (Ok record { outs = (4 ∷ 8 ∷ []) ∷ []; left = [] ∷ [] ∷ [] ∷ [] })
 doubled_level_run = record { list = 0 ∷ 0 ∷ 0 ∷ 1 ∷ 1 ∷ []; order = doubled_order; ends = doubled_run }
-
--- what the firings of that run made, what they left on the links, and what the last of them read
-made_doubled : Made ℕ
-made_doubled zero zero = (1 ∷ 1 ∷ []) ∷ []
-made_doubled zero (suc zero) = (2 ∷ 2 ∷ []) ∷ []
-made_doubled zero (suc (suc k)) = (3 ∷ 3 ∷ []) ∷ []
-made_doubled (suc a) zero = (4 ∷ []) ∷ []
-made_doubled (suc a) (suc k) = (8 ∷ []) ∷ []
-
-doubled_lines : lines_after doubled ([] ∷ [] ∷ [] ∷ []) made_doubled (0 ∷ 0 ∷ 0 ∷ 1 ∷ 1 ∷ []) ≡ [] ∷ (1 ∷ 1 ∷ 2 ∷ 2 ∷ 3 ∷ 3 ∷ []) ∷ (4 ∷ 8 ∷ []) ∷ []
-unfolding made_doubled
-doubled_lines = refl
-
-doubled_reads : reads_after doubled ((1 ∷ 2 ∷ 3 ∷ []) ∷ []) ([] ∷ [] ∷ [] ∷ []) made_doubled (0 ∷ 0 ∷ 0 ∷ 1 ∷ []) 1 ≡ (2 ∷ 3 ∷ 3 ∷ []) ∷ []
-unfolding made_doubled
-doubled_reads = refl
-
--- after two firings of the first actor the other reads what it reads at the end
-doubled_early : reads_after doubled ((1 ∷ 2 ∷ 3 ∷ []) ∷ []) ([] ∷ [] ∷ [] ∷ []) made_doubled (0 ∷ 0 ∷ []) 1 ≡ final_reads doubled ((1 ∷ 2 ∷ 3 ∷ []) ∷ []) ([] ∷ [] ∷ [] ∷ []) made_doubled (0 ∷ 0 ∷ 0 ∷ 1 ∷ 1 ∷ []) (0 ∷ 0 ∷ []) 1
-unfolding made_doubled
-doubled_early = refl
-
--- the run on tokens twice as large: the sums are so too
-larger : ℕ → ℕ
-larger x = 2 * x
-
-doubled_image : image larger ((1 ∷ 2 ∷ 3 ∷ []) ∷ (4 ∷ 8 ∷ []) ∷ []) ≡ (2 ∷ 4 ∷ 6 ∷ []) ∷ (8 ∷ 16 ∷ []) ∷ []
-unfolding larger
-doubled_image = refl
