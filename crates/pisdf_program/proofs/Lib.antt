@@ -4,5 +4,4 @@ pub mod Pass
 pub mod Reading
 pub mod Rows
 pub mod Runs
-pub mod Upgrading
 pub mod Working

@@ -30,7 +30,7 @@ and_then_some : {A B : Type 0} (o : Option A) (f : A → Option B) (y : B) → o
 and_then_some None f y h = absurd cc
 and_then_some (Some x) f y h = (x, refl, h)
 
-pub map_some : {A B : Type 0} (o : Option A) (f : A → B) (y : B) → option_map f o ≡ Some y → (x : A) × (o ≡ Some x) × (f x ≡ y)
+map_some : {A B : Type 0} (o : Option A) (f : A → B) (y : B) → option_map f o ≡ Some y → (x : A) × (o ≡ Some x) × (f x ≡ y)
 map_some None f y h = absurd cc
 map_some (Some x) f y h = (x, refl, same_some (f x) y h)
 
