@@ -1,0 +1,48 @@
+// The calls, each with the driver that makes it.
+use crate::drivers::{expressions, kernels, placements, solving, tokens, world};
+use crate::trouble::Trouble;
+use serde_json::Value;
+use std::alloc::Global;
+
+/// A call that a table is about.
+#[derive(Clone, Copy)]
+pub enum Call {
+    IsName,
+    Print,
+    Eval,
+    Fire,
+    ReadTokens,
+    WriteRows,
+    Base,
+    Counts,
+    Order,
+    Level,
+    Place,
+    Reach,
+    Placement,
+    Map,
+    Load,
+    Put,
+}
+
+/// The answer of a call on the inputs of a row.
+pub fn answer(call: Call, alloc: Global, row: &Value) -> Result<Value, Trouble> {
+    match call {
+        Call::IsName => expressions::is_name_of(alloc, row),
+        Call::Print => expressions::printed(alloc, row),
+        Call::Eval => expressions::evaluated(alloc, row),
+        Call::Fire => kernels::fired(alloc, row),
+        Call::ReadTokens => tokens::tokens_read(alloc, row),
+        Call::WriteRows => tokens::rows_written(alloc, row),
+        Call::Base => solving::base(alloc, row),
+        Call::Counts => solving::counts(alloc, row),
+        Call::Order => solving::ordered(alloc, row),
+        Call::Level => solving::parts(alloc, row),
+        Call::Place => solving::place(alloc, row),
+        Call::Reach => placements::shared(alloc, row),
+        Call::Placement => placements::placement(alloc, row),
+        Call::Map => placements::mapped(alloc, row),
+        Call::Load => world::loads(alloc, row),
+        Call::Put => world::puts(alloc, row),
+    }
+}

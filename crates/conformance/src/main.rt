@@ -1,0 +1,92 @@
+//! Compares the calls of the libraries with tables of cases: each line of a table, a file of `data/`, is a JSON object
+//! with the inputs of a call and the answer that is wanted. It prints each case whose answer is another, and at the end
+//! the number of cases of each table.
+#![tactic(auto)]
+
+mod answers;
+mod bases;
+mod drivers;
+mod lists;
+mod notation;
+mod row;
+mod table;
+mod trouble;
+
+use crate::answers::Call;
+use crate::table::{Table, run_table};
+use std::io;
+
+/// The tables, in the order of their lines in the output.
+const TABLES: [Table; 16] = [
+    Table {
+        file: "names.jsonl",
+        call: Call::IsName,
+    },
+    Table {
+        file: "expressions.jsonl",
+        call: Call::Print,
+    },
+    Table {
+        file: "values.jsonl",
+        call: Call::Eval,
+    },
+    Table {
+        file: "kernels.jsonl",
+        call: Call::Fire,
+    },
+    Table {
+        file: "token_files.jsonl",
+        call: Call::ReadTokens,
+    },
+    Table {
+        file: "rows.jsonl",
+        call: Call::WriteRows,
+    },
+    Table {
+        file: "levels.jsonl",
+        call: Call::Level,
+    },
+    Table {
+        file: "bases.jsonl",
+        call: Call::Base,
+    },
+    Table {
+        file: "repetitions.jsonl",
+        call: Call::Counts,
+    },
+    Table {
+        file: "places.jsonl",
+        call: Call::Place,
+    },
+    Table {
+        file: "orders.jsonl",
+        call: Call::Order,
+    },
+    Table {
+        file: "reaches.jsonl",
+        call: Call::Reach,
+    },
+    Table {
+        file: "placements.jsonl",
+        call: Call::Placement,
+    },
+    Table {
+        file: "mappings.jsonl",
+        call: Call::Map,
+    },
+    Table {
+        file: "loads.jsonl",
+        call: Call::Load,
+    },
+    Table {
+        file: "puts.jsonl",
+        call: Call::Put,
+    },
+];
+
+fn main(rt: HostRuntime) -> io::Result<()> {
+    for table in TABLES {
+        run_table(&rt, table)?;
+    }
+    Ok(())
+}
