@@ -32,7 +32,6 @@ pub enum Call {
     Load,
     Put,
     Run,
-    Upgrade,
 }
 
 /// The answer of a call on the inputs of a row.
@@ -60,7 +59,6 @@ pub fn answer(call: Call, alloc: Global, row: &Value) -> Result<Value, Trouble> 
         Call::Rewrite => reading::rewritten(alloc, row),
         Call::Load => world::loads(alloc, row),
         Call::Put => world::puts(alloc, row),
-        Call::Upgrade => reading::upgraded(alloc, row),
         Call::Run => program::ran(alloc, row),
     }
 }

@@ -17,7 +17,7 @@ use crate::table::{Table, run_table};
 use std::io;
 
 /// The tables, in the order of their lines in the output.
-const TABLES: [Table; 26] = [
+const TABLES: [Table; 25] = [
     Table {
         file: "names.jsonl",
         call: Call::IsName,
@@ -105,10 +105,6 @@ const TABLES: [Table; 26] = [
     Table {
         file: "rewritten_of_versions.jsonl",
         call: Call::Rewrite,
-    },
-    Table {
-        file: "upgrades.jsonl",
-        call: Call::Upgrade,
     },
     Table {
         file: "loads.jsonl",

@@ -5,7 +5,7 @@ use crate::notation::{bytes, quoted};
 use crate::trouble::Trouble;
 use graph_format::GraphFault;
 use graph_reader::read;
-use graph_writer::{upgrade, write};
+use graph_writer::write;
 use serde_json::Value;
 use std::alloc::Global;
 
@@ -100,26 +100,6 @@ pub fn rewritten(alloc: Global, row: &Value) -> Result<Value, Trouble> {
     if written.as_slice() == file.as_slice() {
         return Ok(Value::try_from_str(alloc, "same")?);
     }
-    match String::from_utf8(written) {
-        Ok(text) => Ok(Value::from(text.replace(alloc, '"', "'")?)),
-        Err(_) => Ok(Value::try_from_str(alloc, "bytes that are no text")?),
-    }
-}
-
-/// What is written of the graphs of the row's file, upgraded where its version is 1, with `'` in the place of `"`.
-pub fn upgraded(alloc: Global, row: &Value) -> Result<Value, Trouble> {
-    let file = file_of(alloc, row)?;
-    let signatures = signatures_of(row)?;
-    let graphs = match read(alloc, file.as_slice(), signatures) {
-        Ok(graphs) => graphs,
-        Err(fault) => return Ok(Value::from(fault_text(alloc, &fault)?)),
-    };
-    let written = if graphs.version == 1 {
-        let upgraded = upgrade(alloc, &graphs)?;
-        write(alloc, &upgraded, signatures)?
-    } else {
-        write(alloc, &graphs, signatures)?
-    };
     match String::from_utf8(written) {
         Ok(text) => Ok(Value::from(text.replace(alloc, '"', "'")?)),
         Err(_) => Ok(Value::try_from_str(alloc, "bytes that are no text")?),
