@@ -1,5 +1,7 @@
 // The calls, each with the driver that makes it.
-use crate::drivers::{expressions, kernels, placements, solving, tokens, world};
+use crate::drivers::{
+    expressions, kernels, models, placements, program, reading, solving, tokens, world,
+};
 use crate::trouble::Trouble;
 use serde_json::Value;
 use std::alloc::Global;
@@ -21,8 +23,15 @@ pub enum Call {
     Reach,
     Placement,
     Map,
+    Check,
+    Repeat,
+    SmallCall,
+    Fault,
+    Meaning,
+    Rewrite,
     Load,
     Put,
+    Run,
 }
 
 /// The answer of a call on the inputs of a row.
@@ -42,7 +51,14 @@ pub fn answer(call: Call, alloc: Global, row: &Value) -> Result<Value, Trouble> 
         Call::Reach => placements::shared(alloc, row),
         Call::Placement => placements::placement(alloc, row),
         Call::Map => placements::mapped(alloc, row),
+        Call::Check => models::checked(alloc, row),
+        Call::Repeat => models::repeated(alloc, row),
+        Call::SmallCall => models::small_calls(alloc, row),
+        Call::Fault => reading::fault(alloc, row),
+        Call::Meaning => reading::meaning(alloc, row),
+        Call::Rewrite => reading::rewritten(alloc, row),
         Call::Load => world::loads(alloc, row),
         Call::Put => world::puts(alloc, row),
+        Call::Run => program::ran(alloc, row),
     }
 }

@@ -2,9 +2,15 @@
 
 mod edges;
 pub mod expressions;
+mod graphs;
 pub mod kernels;
 mod levels;
+pub mod models;
 pub mod placements;
+pub mod program;
+pub mod reading;
+mod shown;
+mod signatures;
 pub mod solving;
 pub mod tokens;
 pub mod world;

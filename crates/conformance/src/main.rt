@@ -17,7 +17,7 @@ use crate::table::{Table, run_table};
 use std::io;
 
 /// The tables, in the order of their lines in the output.
-const TABLES: [Table; 16] = [
+const TABLES: [Table; 25] = [
     Table {
         file: "names.jsonl",
         call: Call::IsName,
@@ -75,12 +75,48 @@ const TABLES: [Table; 16] = [
         call: Call::Map,
     },
     Table {
+        file: "checks.jsonl",
+        call: Call::Check,
+    },
+    Table {
+        file: "repeated_names.jsonl",
+        call: Call::Repeat,
+    },
+    Table {
+        file: "small_calls.jsonl",
+        call: Call::SmallCall,
+    },
+    Table {
+        file: "faults.jsonl",
+        call: Call::Fault,
+    },
+    Table {
+        file: "meanings.jsonl",
+        call: Call::Meaning,
+    },
+    Table {
+        file: "rewritten.jsonl",
+        call: Call::Rewrite,
+    },
+    Table {
+        file: "faults_of_versions.jsonl",
+        call: Call::Fault,
+    },
+    Table {
+        file: "rewritten_of_versions.jsonl",
+        call: Call::Rewrite,
+    },
+    Table {
         file: "loads.jsonl",
         call: Call::Load,
     },
     Table {
         file: "puts.jsonl",
         call: Call::Put,
+    },
+    Table {
+        file: "runs.jsonl",
+        call: Call::Run,
     },
 ];
 

@@ -1,0 +1,107 @@
+// Graph files: what reading them answers, and what is written of the graphs.
+use crate::drivers::shown::shown;
+use crate::drivers::signatures::signatures_of;
+use crate::notation::{bytes, quoted};
+use crate::trouble::Trouble;
+use graph_format::GraphFault;
+use graph_reader::read;
+use graph_writer::write;
+use serde_json::Value;
+use std::alloc::Global;
+
+/// The bytes of the row's file: its `bytes`, or its `file`, which is written with `'` in the place of `"`.
+fn file_of(alloc: Global, row: &Value) -> Result<Vec<u8>, Trouble> {
+    if row.get("bytes").is_some() {
+        return bytes(alloc, row, "bytes");
+    }
+    quoted(alloc, row, "file")
+}
+
+/// A fault by its number, as the program tells it.
+fn fault_text(alloc: Global, fault: &GraphFault) -> Result<String, Trouble> {
+    let text = match fault {
+        GraphFault::NotJson => format!(in alloc; "1 json")?,
+        GraphFault::Shape(pointer) => format!(in alloc; "2 shape {}", pointer.text())?,
+        GraphFault::Version(version) => format!(in alloc; "3 version {version}")?,
+        GraphFault::Duplicate(name) => format!(in alloc; "4 duplicate {}", name.text())?,
+        GraphFault::Unknown(name) => format!(in alloc; "5 unknown {}", name.text())?,
+        GraphFault::Kernel(name) => format!(in alloc; "6 kernel {}", name.text())?,
+        GraphFault::Ports(name) => format!(in alloc; "7 ports {}", name.text())?,
+        GraphFault::Wire(end) => format!(in alloc; "8 wire {}", end.text())?,
+        GraphFault::InterfaceWire { graph, fifo } => {
+            format!(in alloc; "9 interface {} {fifo}", graph.text())?
+        }
+        GraphFault::ParamOrder(name) => format!(in alloc; "10 order {}", name.text())?,
+        GraphFault::GraphCycle(name) => format!(in alloc; "11 cycle {}", name.text())?,
+        GraphFault::Depth(name) => format!(in alloc; "12 depth {}", name.text())?,
+        GraphFault::Count(word) => format!(in alloc; "13 count {}", word.text())?,
+        GraphFault::Memory => return Err(Trouble::Memory),
+    };
+    Ok(text)
+}
+
+/// What reading these bytes answers: `ok`, or the first fault.
+fn told(alloc: Global, bytes: &[u8], row: &Value) -> Result<String, Trouble> {
+    match read(alloc, bytes, signatures_of(row)?) {
+        Ok(_graphs) => Ok(String::from_str(alloc, "ok")?),
+        Err(fault) => fault_text(alloc, &fault),
+    }
+}
+
+/// The one answer for each beginning of a file, or the answer for the first that has another than the shorter ones.
+fn told_of_beginnings(alloc: Global, file: &[u8], row: &Value) -> Result<String, Trouble> {
+    let first = told(alloc, b"", row)?;
+    for length in 0..file.len() {
+        let answer = told(alloc, &file[..length], row)?;
+        if answer.as_str() != first.as_str() {
+            return Ok(format!(in alloc; "after {length} bytes {}", answer.as_str())?);
+        }
+    }
+    Ok(first)
+}
+
+/// What reading the row's file answers: `ok`, or its first fault; the same for each of its beginnings, where the row asks
+/// for `beginnings`.
+pub fn fault(alloc: Global, row: &Value) -> Result<Value, Trouble> {
+    let file = file_of(alloc, row)?;
+    if row.get("beginnings").is_some() {
+        return Ok(Value::from(told_of_beginnings(alloc, file.as_slice(), row)?));
+    }
+    Ok(Value::from(told(alloc, file.as_slice(), row)?))
+}
+
+/// The graphs of the row's file in a few words, or its first fault.
+pub fn meaning(alloc: Global, row: &Value) -> Result<Value, Trouble> {
+    let file = file_of(alloc, row)?;
+    match read(alloc, file.as_slice(), signatures_of(row)?) {
+        Ok(graphs) => Ok(Value::from(shown(alloc, &graphs)?)),
+        Err(fault) => Ok(Value::from(fault_text(alloc, &fault)?)),
+    }
+}
+
+/// What is written of the graphs of the row's file, where these are read from it again, with `'` in the place of `"`;
+/// `same` where it is the row's file.
+pub fn rewritten(alloc: Global, row: &Value) -> Result<Value, Trouble> {
+    let file = file_of(alloc, row)?;
+    let signatures = signatures_of(row)?;
+    let graphs = match read(alloc, file.as_slice(), signatures) {
+        Ok(graphs) => graphs,
+        Err(fault) => return Ok(Value::from(fault_text(alloc, &fault)?)),
+    };
+    let written = write(alloc, &graphs, signatures)?;
+    match read(alloc, written.as_slice(), signatures) {
+        Ok(again) => {
+            if shown(alloc, &again)?.as_str() != shown(alloc, &graphs)?.as_str() {
+                return Ok(Value::try_from_str(alloc, "other graphs")?);
+            }
+        }
+        Err(fault) => return Ok(Value::from(fault_text(alloc, &fault)?)),
+    }
+    if written.as_slice() == file.as_slice() {
+        return Ok(Value::try_from_str(alloc, "same")?);
+    }
+    match String::from_utf8(written) {
+        Ok(text) => Ok(Value::from(text.replace(alloc, '"', "'")?)),
+        Err(_) => Ok(Value::try_from_str(alloc, "bytes that are no text")?),
+    }
+}
