@@ -16,7 +16,7 @@ use Rattle.graph_format.specs.declared.fifo.FileEnd.TheVariants as file_end
 use Rattle.graph_format.specs.Placed.{first_place, placed_end}
 use Rattle.pisdf_model.specs.Wires.{port_text}
 use Rattle.graph_format.specs.References.{missing, unknown_in_end, unknown_in_expr}
-use Rattle.graph_format.specs.Scope.{Scope, names_at}
+use Rattle.graph_format.specs.KnownNames.{KnownNames, names_at}
 
 -- ---- lists of references
 
@@ -37,7 +37,7 @@ place_there known w h = (at_place (place_of known w) known w [] w refl h).1
 
 -- ---- expressions
 
-pub expr_there : (s : Scope) (e : NamedTree) → unknown_in_expr s e ≡ [] → RefersBelow (length s.params) (placed_in s.params e)
+pub expr_there : (s : KnownNames) (e : NamedTree) → unknown_in_expr s e ≡ [] → RefersBelow (length s.params) (placed_in s.params e)
 expr_there s (number z) h = tt
 expr_there s (name w) h = place_there s.params w (left_none (missing s.params w) [] h)
 expr_there s (binary op a b) h =
@@ -47,19 +47,19 @@ expr_there s (binary op a b) h =
 -- ---- ends
 
 -- an interface that is there, or a port of an actor that is there
-abbrev pub IsEndThere : Scope → End → Type 0
+abbrev pub IsEndThere : KnownNames → End → Type 0
 IsEndThere s (end.Interface i) = i < length s.interfaces
 IsEndThere s (end.Port a p) = (a < length s.actors) × (p < length (names_at s.ports (Some a)))
 
 no_name : (w : List ℕ) → place_of [] w ≡ None
 no_name w = refl
 
-port_there : (s : Scope) (actor port : List ℕ) (o : Option ℕ) → place_of s.actors actor ≡ o → cond (is_none (place_of (names_at s.ports o) port)) (port_text actor port ∷ []) [] ≡ []
+port_there : (s : KnownNames) (actor port : List ℕ) (o : Option ℕ) → place_of s.actors actor ≡ o → cond (is_none (place_of (names_at s.ports o) port)) (port_text actor port ∷ []) [] ≡ []
     → (unwrap_or o 0 < length s.actors) × (first_place (names_at s.ports o) port < length (names_at s.ports (Some (unwrap_or o 0))))
 port_there s actor port None e h = let no : port_text actor port ∷ [] ≡ [] = h in absurd cc
 port_there s actor port (Some i) e h =
     ((position-Some (bytes_eq actor) s.actors i [] e).0, (at_place (place_of (names_at s.ports (Some i)) port) (names_at s.ports (Some i)) port [] (port_text actor port) refl h).1)
 
-pub end_there : (s : Scope) (e : FileEnd) → unknown_in_end s e ≡ [] → IsEndThere s (placed_end s e)
+pub end_there : (s : KnownNames) (e : FileEnd) → unknown_in_end s e ≡ [] → IsEndThere s (placed_end s e)
 end_there s (file_end.Interface w) h = place_there s.interfaces w h
 end_there s (file_end.Port actor port) h = port_there s actor port (place_of s.actors actor) refl h

@@ -34,7 +34,7 @@ use Rattle.graph_format.proofs.NoFaults.{HasNoRuleFaults, no_file_faults, no_rul
 use Rattle.graph_format.proofs.PortFaults.{graphs_pass}
 use Rattle.graph_format.specs.FileNames.{actor_walk, graph_walk, names_of_file, own_port_names}
 use Rattle.graph_format.specs.Placed.{mark_of, placed, placed_actor, placed_body, placed_end, placed_fifo, placed_graph, placed_interface, placed_param, placed_port, tokens_of, top_of}
-use Rattle.graph_format.specs.Scope.{Scope, scope_of}
+use Rattle.graph_format.specs.KnownNames.{KnownNames, known_names}
 use Rattle.graph_format.specs.declared.actor.FileActor.{FileActor}
 use Rattle.graph_format.specs.declared.actor.FileBody.{FileBody}
 use Rattle.graph_format.specs.declared.actor.FileBody.TheVariants.{Kernel, Config, Child, ConfigChild}
@@ -48,7 +48,7 @@ use Rattle.graph_format.specs.declared.port.FilePort.{FilePort}
 
 -- ---- names
 
-module _ (s : Scope) where
+module _ (s : KnownNames) where
   pub port_names_kept : (ports : List FilePort) → map (λ (p : Port). p.name) (map (placed_port s) ports) ≡ map (λ (p : FilePort). p.name) ports
   port_names_kept ports = of_mapped (placed_port s) (λ (p : Port). p.name) (λ (p : FilePort). p.name) (λ p. refl) ports
 
@@ -86,8 +86,8 @@ module _ (s : Scope) where
 -- the names of graphs are those of their file
 pub names_kept : (tokens : FileDelay → List ℤ) (kernels : List (List ℕ)) (file : File) → model.names_of (placed tokens kernels file) ≡ names_of_file file
 names_kept tokens kernels file =
-    alike_numbered (λ (p : ℕ × FileGraph). placed_graph file.version tokens (p.0 == top_of file) (scope_of kernels file.graphs p.1) p.1) (λ n g. model.graph_walk n g) (λ n g. graph_walk n g)
-    (λ n g. graph_names_kept (scope_of kernels file.graphs g) file.version tokens (n == top_of file) n g) file.graphs
+    alike_numbered (λ (p : ℕ × FileGraph). placed_graph file.version tokens (p.0 == top_of file) (known_names kernels file.graphs p.1) p.1) (λ n g. model.graph_walk n g) (λ n g. graph_walk n g)
+    (λ n g. graph_names_kept (known_names kernels file.graphs g) file.version tokens (n == top_of file) n g) file.graphs
 
 -- ---- marks
 
@@ -101,7 +101,7 @@ marked_delay : (delay : FileDelay) → marked (tokens_of delay) ≡ mark_of dela
 marked_delay (Zeros n) = marked_zeros n
 marked_delay (Tokens tokens) = refl
 
-module _ (version : ℕ) (is_top : Bool) (s : Scope) where
+module _ (version : ℕ) (is_top : Bool) (s : KnownNames) where
   life_kept : (stated : Life) (tokens : List ℤ) → life_of version is_top stated tokens ≡ life_of version is_top stated (marked tokens)
   life_kept stated [] = refl
   life_kept stated (t ∷ ts) = refl
@@ -122,9 +122,9 @@ module _ (version : ℕ) (is_top : Bool) (s : Scope) where
 -- resolving with marks gives the graphs with marks
 pub placed_marked : (kernels : List (List ℕ)) (file : File) → marked_graphs (placed tokens_of kernels file) ≡ placed mark_of kernels file
 placed_marked kernels file =
-    let each : (FileDelay → List ℤ) → ℕ × FileGraph → Graph = λ tokens p. placed_graph file.version tokens (p.0 == top_of file) (scope_of kernels file.graphs p.1) p.1 in
+    let each : (FileDelay → List ℤ) → ℕ × FileGraph → Graph = λ tokens p. placed_graph file.version tokens (p.0 == top_of file) (known_names kernels file.graphs p.1) p.1 in
     ap (λ (graphs : List Graph). record { version = file.version; top = top_of file; graphs = graphs })
-    (of_mapped (each tokens_of) marked_graph (each mark_of) (λ p. graph_marked file.version (p.0 == top_of file) (scope_of kernels file.graphs p.1) p.1) (enumerate_from 0 file.graphs))
+    (of_mapped (each tokens_of) marked_graph (each mark_of) (λ p. graph_marked file.version (p.0 == top_of file) (known_names kernels file.graphs p.1) p.1) (enumerate_from 0 file.graphs))
 
 -- and those change no fault of graphs but that of too many tokens
 pub rules_marked : (fits : Body → Bool) (graphs : Graphs) → rule_faults fits (marked_graphs graphs) ≡ rule_faults fits graphs

@@ -10,7 +10,7 @@ use Rattle.serde_json.specs.Data.{Data, Items, no_items, item}
 use Rattle.serde_json.specs.Find.{get, as_str, as_array, as_object}
 use Rattle.pisdf_model.specs.Details.{first}
 use Rattle.graph_format.specs.Objects.{within, bound_at, ranged_at, derived_members_at, given_kind, given_kind_at, given_members_at, derived_keys, given_keys, optional_param_keys, param_at, port_members_at, port_keys, port_at, input_members_at, input_at, kernel_members_at, kernel_keys, config_ports_at, config_members_at, config_keys, child_members_at, child_keys, config_child_members_at, config_child_keys, has_exports, actor_at, zeros_from, tokens_or_zeros_at, delay_at, life_from, life_at, fifo_members_at, fifo_keys, optional_fifo_keys, fifo_at, exports_at, graph_parts_at, graph_members_at, graph_keys, graph_at, version_from, version_at, file_members_at, file_keys, file_at}
-use Rattle.graph_format.specs.Places.{Form, a_list, a_file, a_version, a_graph, a_param, a_kind, a_bound, a_port, an_input, an_actor, a_fifo, a_delay, a_token, a_life, a_name, a_kernel, an_expression, an_end, Part, part_there, the_member, items_from, the_items, low_there, is_derived, ActorKind, kernel_kind, config_kind, child_kind, config_child_kind, no_kind, kind_of_actor, is_actor, actor_parts, export_parts, parts, is_delay, has_own_form, Place, places_to, places, unformed}
+use Rattle.graph_format.specs.WalkedValues.{Form, a_list, a_file, a_version, a_graph, a_param, a_kind, a_bound, a_port, an_input, an_actor, a_fifo, a_delay, a_token, a_life, a_name, a_kernel, an_expression, an_end, Part, part_there, the_member, items_from, the_items, low_there, is_derived, ActorKind, kernel_kind, config_kind, child_kind, config_child_kind, no_kind, kind_of_actor, is_actor, actor_parts, export_parts, parts, is_delay, has_own_form, WalkedValue, walked_values_to, walked_values, unformed}
 use Rattle.graph_format.specs.Pointer.{pointer_text, under}
 use Rattle.graph_format.specs.Texts.{name_from, name_at, kernel_from, kernel_at, expression_from, expression_at, end_from, end_at}
 use Rattle.graph_format.specs.Walk.{◌>>=◌, shaped, has_form, members_known, formed, member_at, if_there, member_or, says, items_at, list_at, whole_of, whole_at}
@@ -29,15 +29,15 @@ unfoldable pub fault_of : {A : Type 0} → Result A (List ℕ) → Option (List 
 fault_of (Ok x) = None
 fault_of (Err at) = Some at
 
-first_un : List Place → Option (List ℕ)
-first_un places = first (unformed places)
+first_un : List WalkedValue → Option (List ℕ)
+first_un walked_values = first (unformed walked_values)
 
 -- the walk fails at the first of these places that has not its form
-record Finds {A : Type 0} (walked : Result A (List ℕ)) (over : List Place) : Type 0 where
+record Finds {A : Type 0} (walked : Result A (List ℕ)) (over : List WalkedValue) : Type 0 where
   pub at : fault_of walked ≡ first_un over
 
-unformed_append : (ps qs : List Place) → unformed (ps ++ qs) ≡ unformed ps ++ unformed qs
-unformed_append ps qs = ap (map (λ (p : Place). p.pointer)) (filter-append _ ps qs) ∙ map-append (λ (p : Place). p.pointer) (filter _ ps) (filter _ qs)
+unformed_append : (ps qs : List WalkedValue) → unformed (ps ++ qs) ≡ unformed ps ++ unformed qs
+unformed_append ps qs = ap (map (λ (p : WalkedValue). p.pointer)) (filter-append _ ps qs) ∙ map-append (λ (p : WalkedValue). p.pointer) (filter _ ps) (filter _ qs)
 
 first_after : (xs ys : List (List ℕ)) → None ≡ first xs → first (xs ++ ys) ≡ first ys
 first_after [] ys none = refl
@@ -48,13 +48,13 @@ first_here [] ys x some = absurd cc
 first_here (y ∷ xs) ys x some = some
 
 -- one walk after another
-and_then : {A B : Type 0} (m : Result A (List ℕ)) (f : A → Result B (List ℕ)) (ps qs : List Place) → Finds m ps → ((x : A) → m ≡ Ok x → Finds (f x) qs) → Finds (m >>= f) (ps ++ qs)
+and_then : {A B : Type 0} (m : Result A (List ℕ)) (f : A → Result B (List ℕ)) (ps qs : List WalkedValue) → Finds m ps → ((x : A) → m ≡ Ok x → Finds (f x) qs) → Finds (m >>= f) (ps ++ qs)
 unfolding fault_of first_un
 and_then (Ok x) f ps qs here after = record { at = (after x refl).at ∙ sym (ap first (unformed_append ps qs) ∙ first_after (unformed ps) (unformed qs) here.at) }
 and_then (Err p) f ps qs here after = record { at = first_here (unformed ps) (unformed qs) p here.at ∙ sym (ap first (unformed_append ps qs)) }
 
 -- and what is made of it can't fail
-made : {A B : Type 0} (m : Result A (List ℕ)) (f : A → B) (ps : List Place) → Finds m ps → Finds (m >>= λ x. Ok (f x)) ps
+made : {A B : Type 0} (m : Result A (List ℕ)) (f : A → B) (ps : List WalkedValue) → Finds m ps → Finds (m >>= λ x. Ok (f x)) ps
 unfolding fault_of first_un
 made (Ok x) f ps here = record { at = here.at }
 made (Err p) f ps here = record { at = here.at }
@@ -63,7 +63,7 @@ nothing : {A : Type 0} (x : A) → Finds (Ok x) []
 unfolding fault_of first_un
 nothing x = record { at = refl }
 
-same_places : {A : Type 0} (m : Result A (List ℕ)) (ps qs : List Place) → ps ≡ qs → Finds m ps → Finds m qs
+same_places : {A : Type 0} (m : Result A (List ℕ)) (ps qs : List WalkedValue) → ps ≡ qs → Finds m ps → Finds m qs
 same_places m ps qs same here = subst (Finds m) same here
 
 -- a value without parts
@@ -73,7 +73,7 @@ alone at None = record { at = refl }
 alone at (Some x) = record { at = refl }
 
 -- a value with its form, and then its parts
-whole : {A : Type 0} (at : List ℕ) (own : Bool) (walked : Result A (List ℕ)) (below : List Place) → (own ≡ true → Finds walked below) → Finds (cond own walked (Err (pointer_text at))) (record { pointer = pointer_text at; formed = own } ∷ cond own below [])
+whole : {A : Type 0} (at : List ℕ) (own : Bool) (walked : Result A (List ℕ)) (below : List WalkedValue) → (own ≡ true → Finds walked below) → Finds (cond own walked (Err (pointer_text at))) (record { pointer = pointer_text at; formed = own } ∷ cond own below [])
 unfolding fault_of first_un
 whole at true walked below h = record { at = (h refl).at }
 whole at false walked below h = record { at = refl }
@@ -92,8 +92,8 @@ there required optional d h = there_from required d (and_both (members_known req
 
 module _ (version n : ℕ) where
   -- the places of some parts
-  below : List ℕ → List Part → List Place
-  below at ps = flat_map (λ (p : Part). places_to version n p.form (under at p.step) p.value) ps
+  below : List ℕ → List Part → List WalkedValue
+  below at ps = flat_map (λ (p : Part). walked_values_to version n p.form (under at p.step) p.value) ps
 
   below_append : (at : List ℕ) (ps qs : List Part) → below at (ps ++ qs) ≡ below at ps ++ below at qs
   unfolding below
@@ -101,9 +101,9 @@ module _ (version n : ℕ) where
 
   -- this walk reads values of this form
   record Locates {A : Type 0} (read : List ℕ → Data → Result A (List ℕ)) (form : Form) : Type 0 where
-    pub finds : (at : List ℕ) (d : Data) → Finds (read at d) (places_to version n form at d)
+    pub finds : (at : List ℕ) (d : Data) → Finds (read at d) (walked_values_to version n form at d)
 
-  one_part : (at : List ℕ) (p : Part) → places_to version n p.form (under at p.step) p.value ≡ below at (p ∷ [])
+  one_part : (at : List ℕ) (p : Part) → walked_values_to version n p.form (under at p.step) p.value ≡ below at (p ∷ [])
   unfolding below
   one_part at p = sym (append-nil _)
 
@@ -126,23 +126,23 @@ module _ (version n : ℕ) where
   unfolding items_at below
   items_find read form h at i no_items = nothing []
   items_find read form h at i (item d ds) =
-      and_then (read (under at (decimal i)) d) (λ x. items_at read at (i + 1) ds >>= λ xs. Ok (x ∷ xs)) (places_to version n form (under at (decimal i)) d) (below at (items_from form (i + 1) ds))
+      and_then (read (under at (decimal i)) d) (λ x. items_at read at (i + 1) ds >>= λ xs. Ok (x ∷ xs)) (walked_values_to version n form (under at (decimal i)) d) (below at (items_from form (i + 1) ds))
       (h.finds (under at (decimal i)) d)
       (λ x is. made (items_at read at (i + 1) ds) (λ xs. x ∷ xs) (below at (items_from form (i + 1) ds)) (items_find read form h at (i + 1) ds))
 
 -- ---- values without parts
 
 leaf_places : (version n : ℕ) (form : Form) (at : List ℕ) (d : Data) → parts version form d ≡ []
-    → places_to version (suc n) form at d ≡ record { pointer = pointer_text at; formed = has_own_form version form d } ∷ cond (has_own_form version form d) [] []
-unfolding places_to
+    → walked_values_to version (suc n) form at d ≡ record { pointer = pointer_text at; formed = has_own_form version form d } ∷ cond (has_own_form version form d) [] []
+unfolding walked_values_to
 leaf_places version n form at d none =
-    ap (λ (ps : List Part). record { pointer = pointer_text at; formed = has_own_form version form d } ∷ cond (has_own_form version form d) (flat_map (λ (p : Part). places_to version n p.form (under at p.step) p.value) ps) []) none
+    ap (λ (ps : List Part). record { pointer = pointer_text at; formed = has_own_form version form d } ∷ cond (has_own_form version form d) (flat_map (λ (p : Part). walked_values_to version n p.form (under at p.step) p.value) ps) []) none
 
 leaf : {A : Type 0} (version n : ℕ) (form : Form) (read : List ℕ → Data → Result A (List ℕ)) (value : Data → Option A) → ((at : List ℕ) (d : Data) → read at d ≡ shaped at (value d)) → ((d : Data) → has_own_form version form d ≡ is_some (value d)) → ((d : Data) → parts version form d ≡ []) → Locates version (suc n) read form
 leaf version n form read value reads own none = record {
   finds = λ at d.
-      (let same : record { pointer = pointer_text at; formed = is_some (value d) } ∷ cond (is_some (value d)) [] [] ≡ places_to version (suc n) form at d = sym (leaf_places version n form at d (none d) ∙ ap (λ b. record { pointer = pointer_text at; formed = b } ∷ cond b [] []) (own d)) in
-      subst (λ r. Finds r (places_to version (suc n) form at d)) (sym (reads at d)) (same_places _ _ _ same (alone at (value d))));
+      (let same : record { pointer = pointer_text at; formed = is_some (value d) } ∷ cond (is_some (value d)) [] [] ≡ walked_values_to version (suc n) form at d = sym (leaf_places version n form at d (none d) ∙ ap (λ b. record { pointer = pointer_text at; formed = b } ∷ cond b [] []) (own d)) in
+      subst (λ r. Finds r (walked_values_to version (suc n) form at d)) (sym (reads at d)) (same_places _ _ _ same (alone at (value d))));
 }
 
 module _ (version n : ℕ) where
@@ -176,8 +176,8 @@ module _ (version n : ℕ) where
 -- ---- lists and objects
 
 -- a value, and then its parts
-opened : (version n : ℕ) (form : Form) (at : List ℕ) (d : Data) → places_to version (suc n) form at d ≡ record { pointer = pointer_text at; formed = has_own_form version form d } ∷ cond (has_own_form version form d) (below version n at (parts version form d)) []
-unfolding places_to below
+opened : (version n : ℕ) (form : Form) (at : List ℕ) (d : Data) → walked_values_to version (suc n) form at d ≡ record { pointer = pointer_text at; formed = has_own_form version form d } ∷ cond (has_own_form version form d) (below version n at (parts version form d)) []
+unfolding walked_values_to below
 opened version n form at d = refl
 
 module _ (version n : ℕ) where
@@ -195,7 +195,7 @@ module _ (version n : ℕ) where
   object_located read members form reads h = record {
     finds = λ at d.
         (let here = whole at (has_own_form version form d) (members at d) (below version n at (parts version form d)) (h at d) in
-        subst (λ r. Finds r (places_to version (suc n) form at d)) (sym (reads at d)) (same_places _ _ _ (sym (opened version n form at d)) here));
+        subst (λ r. Finds r (walked_values_to version (suc n) form at d)) (sym (reads at d)) (same_places _ _ _ (sym (opened version n form at d)) here));
   }
 
 -- a member that is required
@@ -503,6 +503,6 @@ module _ (version : ℕ) where
   file_located = object_located version 7 (file_at version) (file_members_at version) a_file file_opens file_finds
 
 -- a value has the form of no file at this pointer exactly where that is the first one in the walk whose value has not its form
-pub located : (version : ℕ) (d : Data) (file : Result File (List ℕ)) → file_at version [] d ≡ file → fault_of file ≡ first (unformed (places version d))
+pub located : (version : ℕ) (d : Data) (file : Result File (List ℕ)) → file_at version [] d ≡ file → fault_of file ≡ first (unformed (walked_values version d))
 unfolding first_un
 located version d file is = let found = (file_located version).finds [] d in sym (ap fault_of is) ∙ found.at

@@ -17,7 +17,7 @@ use Rattle.pisdf_model.specs.declared.graph.Interface.{Interface}
 use Rattle.pisdf_model.specs.declared.actor.Port.{Port}
 use Rattle.graph_format.specs.Placed.{first_place, placed, placed_actor, placed_body, placed_end, placed_exprs, placed_fifo, placed_graph, placed_interface, placed_kind, placed_param, placed_port, ports_named, top_of}
 use Rattle.graph_format.specs.References.{missing, unknown_in_actor, unknown_in_body, unknown_in_end, unknown_in_expr, unknown_in_fifo, unknown_in_file, unknown_in_graph, unknown_in_kind, unknown_in_param, unknown_in_port}
-use Rattle.graph_format.specs.Scope.{Scope, interfaces_of, interfaces_named, names_at, names_of_actors, names_of_graphs, names_of_ports, ports_of, scope_of}
+use Rattle.graph_format.specs.KnownNames.{KnownNames, interfaces_of, interfaces_named, names_at, names_of_actors, names_of_graphs, file_port_names, ports_of, known_names}
 use Rattle.graph_format.specs.Versions.{IsActorOf, IsBodyOf, IsGraphOf, IsOfVersion}
 use Rattle.graph_format.specs.declared.actor.FileActor.{FileActor}
 use Rattle.graph_format.specs.declared.actor.FileBody.{FileBody}
@@ -56,8 +56,8 @@ life_stays version is_top stated (token ∷ tokens) = by (version == 1)
 module _ (tokens : FileDelay → List ℤ) (kernels : List (List ℕ)) (file_graphs : List FileGraph) (graphs : List Graph) (long : length graphs ≡ length (names_of_graphs file_graphs))
     (version : ℕ) (child : (k : ℕ) → k < length (names_of_graphs file_graphs) → interface_count (slice_get graphs k) ≡ length (slice_index_or (map interfaces_of file_graphs) k []))
     (is_top : Bool) (g : FileGraph) where
-  abbrev s : Scope
-  s = scope_of kernels file_graphs g
+  abbrev s : KnownNames
+  s = known_names kernels file_graphs g
 
   abbrev made : Graph
   made = placed_graph version tokens is_top s g
@@ -123,7 +123,7 @@ module _ (tokens : FileDelay → List ℤ) (kernels : List (List ℕ)) (file_gra
 
   -- ---- ends
 
-  names_long : (ports : List FilePort) → length (map (λ (p : Port). p.name) (map (placed_port s) ports)) ≡ length (names_of_ports ports)
+  names_long : (ports : List FilePort) → length (map (λ (p : Port). p.name) (map (placed_port s) ports)) ≡ length (file_port_names ports)
   names_long ports = as_many (placed_port s) (λ (p : Port). p.name) (λ (p : FilePort). p.name) ports
 
   child_ports_long : (graph : List ℕ) → missing s.graphs graph ≡ [] → interface_count (slice_get graphs (first_place s.graphs graph)) ≡ length (interfaces_named file_graphs graph)
@@ -133,8 +133,8 @@ module _ (tokens : FileDelay → List ℤ) (kernels : List (List ℕ)) (file_gra
 
   ports_long : (b : FileBody) → unknown_in_body s b ≡ [] → port_count graphs (placed_body s b) ≡ length (ports_of file_graphs b)
   ports_long (Kernel kernel args ins outs) none =
-      ap (λ m. m + length (map (λ (p : Port). p.name) (map (placed_port s) outs))) (names_long ins) ∙ ap (λ m. length (names_of_ports ins) + m) (names_long outs) ∙ sym (length-append (names_of_ports ins) (names_of_ports outs))
-  ports_long (Config kernel args ins outs sets) none = ap (λ m. length ins + m) (names_long outs) ∙ sym (length-append ins (names_of_ports outs))
+      ap (λ m. m + length (map (λ (p : Port). p.name) (map (placed_port s) outs))) (names_long ins) ∙ ap (λ m. length (file_port_names ins) + m) (names_long outs) ∙ sym (length-append (file_port_names ins) (file_port_names outs))
+  ports_long (Config kernel args ins outs sets) none = ap (λ m. length ins + m) (names_long outs) ∙ sym (length-append ins (file_port_names outs))
   ports_long (Child graph args) none = child_ports_long graph (left_none (missing s.graphs graph) (flat_map (unknown_in_expr s) args) none)
   ports_long (ConfigChild graph args sets) none =
       let named = missing s.graphs graph in
@@ -149,8 +149,8 @@ module _ (tokens : FileDelay → List ℤ) (kernels : List (List ℕ)) (file_gra
 
   interfaces_long : length s.interfaces ≡ length made.inputs + length made.outputs
   interfaces_long =
-      length-append (names_of_ports g.inputs) (names_of_ports g.outputs)
-      ∙ ap (λ m. m + length (names_of_ports g.outputs)) (length-map g.inputs (λ (p : FilePort). p.name) ∙ sym (length-map g.inputs (placed_interface s)))
+      length-append (file_port_names g.inputs) (file_port_names g.outputs)
+      ∙ ap (λ m. m + length (file_port_names g.outputs)) (length-map g.inputs (λ (p : FilePort). p.name) ∙ sym (length-map g.inputs (placed_interface s)))
       ∙ ap (λ m. length made.inputs + m) (length-map g.outputs (λ (p : FilePort). p.name) ∙ sym (length-map g.outputs (placed_interface s)))
 
   module _ (actors_known : flat_map (unknown_in_actor s) g.actors ≡ []) where
@@ -219,7 +219,7 @@ child_long made each m (g ∷ gs) (suc k) inside = child_long made each (m + 1) 
 
 module _ (tokens : FileDelay → List ℤ) (kernels : List (List ℕ)) (file : File) where
   abbrev each_made : ℕ × FileGraph → Graph
-  each_made p = placed_graph file.version tokens (p.0 == top_of file) (scope_of kernels file.graphs p.1) p.1
+  each_made p = placed_graph file.version tokens (p.0 == top_of file) (known_names kernels file.graphs p.1) p.1
 
   abbrev all_made : List Graph
   all_made = map each_made (enumerate_from 0 file.graphs)
@@ -229,16 +229,16 @@ module _ (tokens : FileDelay → List ℤ) (kernels : List (List ℕ)) (file : F
 
   interfaces_made : (k : ℕ) (g : FileGraph) → interface_count (Some (each_made (k, g))) ≡ length (interfaces_of g)
   interfaces_made k g =
-      let s = scope_of kernels file.graphs g in
+      let s = known_names kernels file.graphs g in
       let name : Interface → List ℕ = λ i. i.name in
       let stated : FilePort → List ℕ = λ p. p.name in
       ap (λ m. m + length (map name (map (placed_interface s) g.outputs))) (as_many (placed_interface s) name stated g.inputs)
-      ∙ ap (λ m. length (names_of_ports g.inputs) + m) (as_many (placed_interface s) name stated g.outputs)
-      ∙ sym (length-append (names_of_ports g.inputs) (names_of_ports g.outputs))
+      ∙ ap (λ m. length (file_port_names g.inputs) + m) (as_many (placed_interface s) name stated g.outputs)
+      ∙ sym (length-append (file_port_names g.inputs) (file_port_names g.outputs))
 
   pub file_in_range : IsOfVersion file → unknown_in_file file ≡ [] → InRange (placed tokens kernels file)
   file_in_range of none =
-      let unknown : FileGraph → List (List ℕ) = λ g. unknown_in_graph (scope_of kernels file.graphs g) g in
+      let unknown : FileGraph → List (List ℕ) = λ g. unknown_in_graph (known_names kernels file.graphs g) g in
       let top_unknown = missing (names_of_graphs file.graphs) file.top in
       let known : flat_map unknown file.graphs ≡ [] = right_none top_unknown (flat_map unknown file.graphs) none in
       record {

@@ -11,7 +11,7 @@ use Rattle.graph_format.specs.Texts.{name_at, expression_at}
 use Rattle.graph_format.specs.Objects.{within, bound_at, ranged_at, derived_members_at, given_kind, given_kind_at, given_members_at, derived_keys, given_keys, optional_param_keys, param_at, port_members_at, port_keys, port_at, input_members_at, input_at}
 use Rattle.graph_format.specs.Values.{HasMember, StatesOr, IsWithin, IsText, StatesName, StatesExpression}
 use Rattle.graph_format.specs.States.{kind_text, StatesParam, StatesPort, StatesInput}
-use Rattle.graph_format.proofs.Walked.{Reads, goes, shaped_ok, and_then_some, tested, if_ok, and_both, name_reads, expression_reads, member_found, member_again, or_found, or_again}
+use Rattle.graph_format.proofs.Walked.{ReadsJust, goes, shaped_ok, and_then_some, tested, if_ok, and_both, name_reads, expression_reads, member_found, member_again, or_found, or_again}
 use Rattle.graph_format.specs.declared.param.FileParam.{FileParam}
 use Rattle.graph_format.specs.declared.param.FileParamKind.{FileParamKind}
 use Rattle.graph_format.specs.declared.param.FileParamKind.TheVariants.{Inherited, Derived, Chosen}
@@ -47,7 +47,7 @@ bound_found least at d z e =
 bound_again : (least : ℤ) (at : List ℕ) (d : Data) (z : ℤ) → IsWithin least (pos 2147483647) d z → bound_at least at d ≡ Ok z
 bound_again least at d z h = rw (h.number, h.low, h.high) refl
 
-bound_reads : (least : ℤ) → Reads (bound_at least) (IsWithin least (pos 2147483647))
+bound_reads : (least : ℤ) → ReadsJust (bound_at least) (IsWithin least (pos 2147483647))
 bound_reads least = record { found = bound_found least; again = bound_again least }
 
 -- a parameter with a range that is stated
@@ -132,7 +132,7 @@ kind_again at d Inherited h = rw h.text refl
 kind_again at d (Derived expr) h = absurd h.given
 kind_again at d Chosen h = rw h.text refl
 
-kind_reads : Reads given_kind_at StatesGiven
+kind_reads : ReadsJust given_kind_at StatesGiven
 kind_reads = record { found = kind_found; again = kind_again }
 
 given_states : (d : Data) (kind : FileParamKind) (name : List ℕ) (low high : ℤ)
@@ -191,7 +191,7 @@ param_again_of at d Inherited name low high f = given_again at d Inherited name 
 param_again_of at d (Derived expr) name low high f = derived_again at d expr name low high f
 param_again_of at d Chosen name low high f = given_again at d Chosen name low high tt (says_again (codes "kind") (codes "set") (codes "is") d false refl f.kind) f.members f
 
-pub param_reads : Reads param_at StatesParam
+pub param_reads : ReadsJust param_at StatesParam
 param_reads = record {
   found = param_found;
   again = λ at d param f. param_again_of at d param.kind param.name param.low param.high f;
@@ -225,7 +225,7 @@ port_again at d port f =
       member_again expression_at StatesExpression expression_reads at d (codes "rate") port.rate f.rate,
     ) refl
 
-pub port_reads : Reads port_at StatesPort
+pub port_reads : ReadsJust port_at StatesPort
 port_reads = record { found = port_found; again = port_again }
 
 input_found : (at : List ℕ) (d : Data) (input : List ℕ) → input_at at d ≡ Ok input → StatesInput d input
@@ -238,5 +238,5 @@ input_again : (at : List ℕ) (d : Data) (input : List ℕ) → StatesInput d in
 unfolding input_at
 input_again at d input f = rw f.members (member_again name_at StatesName name_reads at d (codes "name") input f.name)
 
-pub input_reads : Reads input_at StatesInput
+pub input_reads : ReadsJust input_at StatesInput
 input_reads = record { found = input_found; again = input_again }

@@ -9,23 +9,23 @@ use Rattle.graph_format.specs.Texts.{name_at, kernel_at, expression_at}
 use Rattle.graph_format.specs.Objects.{port_at, input_at, kernel_members_at, kernel_keys, config_ports_at, config_members_at, config_keys, child_members_at, child_keys, config_child_members_at, config_child_keys, has_exports, actor_at}
 use Rattle.graph_format.specs.Values.{HasMember, IsList, IsText, StatesName, StatesKernel, StatesExpression}
 use Rattle.graph_format.specs.States.{StatesPort, StatesInput, StatesActor}
-use Rattle.graph_format.proofs.Walked.{Reads, goes, and_both, if_ok, name_reads, kernel_reads, expression_reads, list_reads, member_found, member_again}
+use Rattle.graph_format.proofs.Walked.{ReadsJust, goes, and_both, if_ok, name_reads, kernel_reads, expression_reads, list_reads, member_found, member_again}
 use Rattle.graph_format.proofs.Stated.{says_found, says_again, port_reads, input_reads}
 use Rattle.graph_format.specs.declared.port.FilePort.{FilePort}
 use Rattle.graph_format.specs.declared.actor.FileActor.{FileActor}
 use Rattle.graph_format.specs.declared.actor.FileBody.{FileBody}
 use Rattle.graph_format.specs.declared.actor.FileBody.TheVariants.{Kernel, Config, Child, ConfigChild}
 
-exprs_reads : Reads (list_at expression_at) (IsList StatesExpression)
+exprs_reads : ReadsJust (list_at expression_at) (IsList StatesExpression)
 exprs_reads = list_reads expression_at StatesExpression expression_reads
 
-pub ports_reads : Reads (list_at port_at) (IsList StatesPort)
+pub ports_reads : ReadsJust (list_at port_at) (IsList StatesPort)
 ports_reads = list_reads port_at StatesPort port_reads
 
-inputs_reads : Reads (list_at input_at) (IsList StatesInput)
+inputs_reads : ReadsJust (list_at input_at) (IsList StatesInput)
 inputs_reads = list_reads input_at StatesInput input_reads
 
-pub names_reads : Reads (list_at name_at) (IsList StatesName)
+pub names_reads : ReadsJust (list_at name_at) (IsList StatesName)
 names_reads = list_reads name_at StatesName name_reads
 
 abbrev actor_done : FileActor → Result FileActor (List ℕ)
@@ -218,5 +218,5 @@ body_again version at d name (Config kernel args ins outs sets) f = config_again
 body_again version at d name (Child graph args) f = child_again version at d name graph args f
 body_again version at d name (ConfigChild graph args sets) f = config_child_again version at d name graph args sets f
 
-pub actor_reads : (version : ℕ) → Reads (actor_at version) (StatesActor version)
+pub actor_reads : (version : ℕ) → ReadsJust (actor_at version) (StatesActor version)
 actor_reads version = record { found = actor_found version; again = λ at d actor f. body_again version at d actor.name actor.body f }

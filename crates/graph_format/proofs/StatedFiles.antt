@@ -11,7 +11,7 @@ use Rattle.graph_format.specs.Texts.{name_at, end_at}
 use Rattle.graph_format.specs.Objects.{param_at, port_at, actor_at, zeros_from, tokens_or_zeros_at, delay_at, life_from, life_at, fifo_members_at, fifo_keys, optional_fifo_keys, fifo_at, has_exports, exports_at, graph_parts_at, graph_members_at, graph_keys, graph_at, version_from, version_at, file_members_at, file_keys, file_at}
 use Rattle.graph_format.specs.Values.{IsList, IsWhole, StatesName, StatesEnd}
 use Rattle.graph_format.specs.States.{StatesParam, StatesPort, StatesActor, StatesDelay, StatesLife, life_text, StatesFifo, StatesExports, StatesGraph, StatesVersion, StatesIn}
-use Rattle.graph_format.proofs.Walked.{Reads, goes, shaped_ok, and_then_some, tested, if_ok, whole_reads, name_reads, end_reads, list_reads, values_found, values_again, member_found, member_again, or_found, or_again}
+use Rattle.graph_format.proofs.Walked.{ReadsJust, goes, shaped_ok, and_then_some, tested, if_ok, whole_reads, name_reads, end_reads, list_reads, values_found, values_again, member_found, member_again, or_found, or_again}
 use Rattle.graph_format.proofs.Stated.{param_reads}
 use Rattle.graph_format.proofs.StatedActors.{ports_reads, names_reads, actor_reads}
 use Rattle.pisdf_model.specs.declared.fifo.Life.{Life}
@@ -59,7 +59,7 @@ unfolding delay_at
 delay_again at d (Zeros n) h = rw (whole_no_array d (pos n) h, h) refl
 delay_again at d (Tokens tokens) l = rw (l.is_array, values_again whole_at IsWhole whole_reads at d tokens l) refl
 
-delay_reads : Reads delay_at StatesDelay
+delay_reads : ReadsJust delay_at StatesDelay
 delay_reads = record { found = delay_found; again = delay_again }
 
 -- ---- lives
@@ -82,7 +82,7 @@ life_again : (at : List ℕ) (d : Data) (life : Life) → StatesLife d life → 
 life_again at d Firing h = rw h refl
 life_again at d Permanent h = rw h refl
 
-life_reads : Reads life_at StatesLife
+life_reads : ReadsJust life_at StatesLife
 life_reads = record { found = life_found; again = life_again }
 
 -- ---- FIFOs
@@ -119,18 +119,18 @@ fifo_again version at d fifo f =
       or_again life_at StatesLife life_reads Firing at d (codes "life") fifo.life f.life,
     ) refl
 
-fifo_reads : (version : ℕ) → Reads (fifo_at version) (StatesFifo version)
+fifo_reads : (version : ℕ) → ReadsJust (fifo_at version) (StatesFifo version)
 fifo_reads version = record { found = fifo_found version; again = fifo_again version }
 
 -- ---- graphs
 
-params_reads : Reads (list_at param_at) (IsList StatesParam)
+params_reads : ReadsJust (list_at param_at) (IsList StatesParam)
 params_reads = list_reads param_at StatesParam param_reads
 
-actors_reads : (version : ℕ) → Reads (list_at (actor_at version)) (IsList (StatesActor version))
+actors_reads : (version : ℕ) → ReadsJust (list_at (actor_at version)) (IsList (StatesActor version))
 actors_reads version = list_reads (actor_at version) (StatesActor version) (actor_reads version)
 
-fifos_reads : (version : ℕ) → Reads (list_at (fifo_at version)) (IsList (StatesFifo version))
+fifos_reads : (version : ℕ) → ReadsJust (list_at (fifo_at version)) (IsList (StatesFifo version))
 fifos_reads version = list_reads (fifo_at version) (StatesFifo version) (fifo_reads version)
 
 -- where the version has exports or not
@@ -183,10 +183,10 @@ graph_again version at d graph f =
       exports_again_by (has_exports version) at d graph.exports f.exports,
     ) refl
 
-graph_reads : (version : ℕ) → Reads (graph_at version) (StatesGraph version)
+graph_reads : (version : ℕ) → ReadsJust (graph_at version) (StatesGraph version)
 graph_reads version = record { found = graph_found version; again = graph_again version }
 
-graphs_reads : (version : ℕ) → Reads (list_at (graph_at version)) (IsList (StatesGraph version))
+graphs_reads : (version : ℕ) → ReadsJust (list_at (graph_at version)) (IsList (StatesGraph version))
 graphs_reads version = list_reads (graph_at version) (StatesGraph version) (graph_reads version)
 
 -- ---- the root
@@ -211,7 +211,7 @@ same_again m n e = grind (arith, nat_tests)
 version_again : (version : ℕ) (at : List ℕ) (d : Data) (stated : ℕ) → StatesVersion version d stated → version_at version at d ≡ Ok stated
 version_again version at d stated h = rw (h.number, same_again stated version h.is_version) (ap (λ n. Ok n) (sym h.is_version))
 
-version_reads : (version : ℕ) → Reads (version_at version) (StatesVersion version)
+version_reads : (version : ℕ) → ReadsJust (version_at version) (StatesVersion version)
 version_reads version = record { found = version_found version; again = version_again version }
 
 abbrev file_done : File → Result File (List ℕ)
@@ -244,5 +244,5 @@ file_again version at d file f =
     ) refl
 
 -- The walk from the root finds the file exactly where the value states it.
-pub file_reads : (version : ℕ) → Reads (file_at version) (StatesIn version)
+pub file_reads : (version : ℕ) → ReadsJust (file_at version) (StatesIn version)
 file_reads version = record { found = file_found version; again = file_again version }

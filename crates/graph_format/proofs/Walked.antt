@@ -50,13 +50,13 @@ and_both true false e = absurd cc
 and_both false t e = absurd cc
 
 -- a walk reads just what R says
-pub record Reads {A : Type 0} (read : List ℕ → Data → Result A (List ℕ)) (R : Data → A → Type 0) : Type 0 where
+pub record ReadsJust {A : Type 0} (read : List ℕ → Data → Result A (List ℕ)) (R : Data → A → Type 0) : Type 0 where
   pub found : (at : List ℕ) (d : Data) (x : A) → read at d ≡ Ok x → R d x
   pub again : (at : List ℕ) (d : Data) (x : A) → R d x → read at d ≡ Ok x
 
 -- ---- numbers and texts
 
-pub whole_reads : Reads whole_at IsWhole
+pub whole_reads : ReadsJust whole_at IsWhole
 whole_reads = record {
   found = λ at d x e. shaped_ok at (whole_of d) x e;
   again = λ at d x h. ap (shaped at) h;
@@ -71,7 +71,7 @@ name_found at d x e =
 name_again : (at : List ℕ) (d : Data) (x : List ℕ) → StatesName d x → name_at at d ≡ Ok x
 name_again at d x h = rw (h.text, h.valid) refl
 
-pub name_reads : Reads name_at StatesName
+pub name_reads : ReadsJust name_at StatesName
 name_reads = record { found = name_found; again = name_again }
 
 kernel_found : (at : List ℕ) (d : Data) (x : List ℕ) → kernel_at at d ≡ Ok x → StatesKernel d x
@@ -83,7 +83,7 @@ kernel_found at d x e =
 kernel_again : (at : List ℕ) (d : Data) (x : List ℕ) → StatesKernel d x → kernel_at at d ≡ Ok x
 kernel_again at d x h = rw (h.text, h.valid) refl
 
-pub kernel_reads : Reads kernel_at StatesKernel
+pub kernel_reads : ReadsJust kernel_at StatesKernel
 kernel_reads = record { found = kernel_found; again = kernel_again }
 
 parsed_some : (r : Result NamedTree ExprFault) (expr : NamedTree) → if_parsed r ≡ Some expr → r ≡ Ok expr
@@ -100,7 +100,7 @@ expression_again at d x h =
     let is : answer_of h.text ≡ Ok x = sym (answer_is h.text (Ok x) h.answer) in
     ap (λ o. shaped at (option_and_then expression_from o)) h.is_text ∙ ap (λ r. shaped at (if_parsed r)) is
 
-pub expression_reads : Reads expression_at StatesExpression
+pub expression_reads : ReadsJust expression_at StatesExpression
 expression_reads = record { found = expression_found; again = expression_again }
 
 -- ---- ends
@@ -131,7 +131,7 @@ end_found at d x e =
 end_again : (at : List ℕ) (d : Data) (x : FileEnd) → StatesEnd d x → end_at at d ≡ Ok x
 end_again at d x h = ap (λ o. shaped at (option_and_then end_from o)) h.text ∙ ap (shaped at) (parts_again x h.valid)
 
-pub end_reads : Reads end_at StatesEnd
+pub end_reads : ReadsJust end_at StatesEnd
 end_reads = record { found = end_found; again = end_again }
 
 -- ---- lists
@@ -139,7 +139,7 @@ end_reads = record { found = end_found; again = end_again }
 abbrev done : {A : Type 0} → A → Result A (List ℕ)
 done x = Ok x
 
-items_found : {A : Type 0} (read : List ℕ → Data → Result A (List ℕ)) (R : Data → A → Type 0) → Reads read R → (at : List ℕ) (i : ℕ) (ds : Items) (xs : List A) → items_at read at i ds ≡ Ok xs → AreItems R ds xs
+items_found : {A : Type 0} (read : List ℕ → Data → Result A (List ℕ)) (R : Data → A → Type 0) → ReadsJust read R → (at : List ℕ) (i : ℕ) (ds : Items) (xs : List A) → items_at read at i ds ≡ Ok xs → AreItems R ds xs
 unfolding items_at
 items_found read R h at i no_items [] e = tt
 items_found read R h at i no_items (x ∷ xs) e = absurd cc
@@ -156,7 +156,7 @@ items_found {A} read R h at i (item d ds) (x ∷ xs) e =
     let tail : rest.read ≡ xs = cc in
     (h.found _ d x (one.first ∙ ap done head), items_found read R h at (i + 1) ds xs (rest.first ∙ ap done tail))
 
-items_again : {A : Type 0} (read : List ℕ → Data → Result A (List ℕ)) (R : Data → A → Type 0) → Reads read R → (at : List ℕ) (i : ℕ) (ds : Items) (xs : List A) → AreItems R ds xs → items_at read at i ds ≡ Ok xs
+items_again : {A : Type 0} (read : List ℕ → Data → Result A (List ℕ)) (R : Data → A → Type 0) → ReadsJust read R → (at : List ℕ) (i : ℕ) (ds : Items) (xs : List A) → AreItems R ds xs → items_at read at i ds ≡ Ok xs
 unfolding items_at
 items_again read R h at i no_items [] a = refl
 items_again read R h at i no_items (x ∷ xs) a = absurd a
@@ -165,13 +165,13 @@ items_again read R h at i (item d ds) (x ∷ xs) a =
     rw (h.again (under at (decimal i)) d x a.0, items_again read R h at (i + 1) ds xs a.1) refl
 
 -- the values of a list that is one
-pub values_found : {A : Type 0} (read : List ℕ → Data → Result A (List ℕ)) (R : Data → A → Type 0) → Reads read R → (at : List ℕ) (d : Data) (values : Items) (xs : List A) → as_array d ≡ Some values → items_at read at 0 values ≡ Ok xs → IsList R d xs
+pub values_found : {A : Type 0} (read : List ℕ → Data → Result A (List ℕ)) (R : Data → A → Type 0) → ReadsJust read R → (at : List ℕ) (d : Data) (values : Items) (xs : List A) → as_array d ≡ Some values → items_at read at 0 values ≡ Ok xs → IsList R d xs
 values_found read R h at d values xs is e = record { values = values; is_array = is; items = items_found read R h at 0 values xs e }
 
-pub values_again : {A : Type 0} (read : List ℕ → Data → Result A (List ℕ)) (R : Data → A → Type 0) → Reads read R → (at : List ℕ) (d : Data) (xs : List A) (l : IsList R d xs) → items_at read at 0 l.values ≡ Ok xs
+pub values_again : {A : Type 0} (read : List ℕ → Data → Result A (List ℕ)) (R : Data → A → Type 0) → ReadsJust read R → (at : List ℕ) (d : Data) (xs : List A) (l : IsList R d xs) → items_at read at 0 l.values ≡ Ok xs
 values_again read R h at d xs l = items_again read R h at 0 l.values xs l.items
 
-pub list_reads : {A : Type 0} (read : List ℕ → Data → Result A (List ℕ)) (R : Data → A → Type 0) → Reads read R → Reads (list_at read) (IsList R)
+pub list_reads : {A : Type 0} (read : List ℕ → Data → Result A (List ℕ)) (R : Data → A → Type 0) → ReadsJust read R → ReadsJust (list_at read) (IsList R)
 list_reads read R h = record {
   found = λ at d xs e.
       (let o = goes (shaped at (as_array d)) (items_at read at 0) xs e in
@@ -182,12 +182,12 @@ list_reads read R h = record {
 
 -- ---- members
 
-pub member_found : {A : Type 0} (read : List ℕ → Data → Result A (List ℕ)) (R : Data → A → Type 0) → Reads read R → (at : List ℕ) (d : Data) (name : List ℕ) (x : A) → member_at read at name d ≡ Ok x → HasMember R d name x
+pub member_found : {A : Type 0} (read : List ℕ → Data → Result A (List ℕ)) (R : Data → A → Type 0) → ReadsJust read R → (at : List ℕ) (d : Data) (name : List ℕ) (x : A) → member_at read at name d ≡ Ok x → HasMember R d name x
 member_found read R h at d name x e =
     let v = goes (shaped at (get name d)) (read (under at name)) x e in
     record { value = v.read; is_there = shaped_ok at _ _ v.first; states = h.found _ v.read x v.after }
 
-pub member_again : {A : Type 0} (read : List ℕ → Data → Result A (List ℕ)) (R : Data → A → Type 0) → Reads read R → (at : List ℕ) (d : Data) (name : List ℕ) (x : A) → HasMember R d name x → member_at read at name d ≡ Ok x
+pub member_again : {A : Type 0} (read : List ℕ → Data → Result A (List ℕ)) (R : Data → A → Type 0) → ReadsJust read R → (at : List ℕ) (d : Data) (name : List ℕ) (x : A) → HasMember R d name x → member_at read at name d ≡ Ok x
 member_again read R h at d name x m = ap (λ o. shaped at o >>= read (under at name)) m.is_there ∙ h.again (under at name) m.value x m.states
 
 there_found : {A : Type 0} (read : Data → Result A (List ℕ)) (R : Data → A → Type 0) (default : A) → ((d : Data) (x : A) → read d ≡ Ok x → R d x) → (v : Option Data) (x : A) → if_there default read v ≡ Ok x → StatesOr R default v x
@@ -198,8 +198,8 @@ there_again : {A : Type 0} (read : Data → Result A (List ℕ)) (R : Data → A
 there_again read R default h None x s = ap done (sym s)
 there_again read R default h (Some d) x s = h d x s
 
-pub or_found : {A : Type 0} (read : List ℕ → Data → Result A (List ℕ)) (R : Data → A → Type 0) → Reads read R → (default : A) (at : List ℕ) (d : Data) (name : List ℕ) (x : A) → member_or default read at name d ≡ Ok x → StatesOr R default (get name d) x
+pub or_found : {A : Type 0} (read : List ℕ → Data → Result A (List ℕ)) (R : Data → A → Type 0) → ReadsJust read R → (default : A) (at : List ℕ) (d : Data) (name : List ℕ) (x : A) → member_or default read at name d ≡ Ok x → StatesOr R default (get name d) x
 or_found read R h default at d name x e = there_found (read (under at name)) R default (h.found (under at name)) (get name d) x e
 
-pub or_again : {A : Type 0} (read : List ℕ → Data → Result A (List ℕ)) (R : Data → A → Type 0) → Reads read R → (default : A) (at : List ℕ) (d : Data) (name : List ℕ) (x : A) → StatesOr R default (get name d) x → member_or default read at name d ≡ Ok x
+pub or_again : {A : Type 0} (read : List ℕ → Data → Result A (List ℕ)) (R : Data → A → Type 0) → ReadsJust read R → (default : A) (at : List ℕ) (d : Data) (name : List ℕ) (x : A) → StatesOr R default (get name d) x → member_or default read at name d ≡ Ok x
 or_again read R h default at d name x s = there_again (read (under at name)) R default (h.again (under at name)) (get name d) x s

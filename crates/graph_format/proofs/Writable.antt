@@ -19,7 +19,7 @@ use Rattle.pisdf_model.specs.declared.param.Param.{Param}
 use Rattle.graph_format.specs.Faults.{graphs_of}
 use Rattle.graph_format.specs.Kernels.{kernel_names}
 use Rattle.graph_format.specs.Placed.{placed_actor, placed_body, placed_graph, placed_interface, placed_kind, placed_param, placed_port, tokens_of, top_of}
-use Rattle.graph_format.specs.Scope.{Scope, scope_of}
+use Rattle.graph_format.specs.KnownNames.{KnownNames, known_names}
 use Rattle.graph_format.specs.States.{StatesIn, StatesActor, StatesBody, StatesGraph, StatesParam, StatesPort, StatesRule}
 use Rattle.graph_format.specs.Values.{AreItems, IsList, StatesExpression}
 use Rattle.graph_format.specs.declared.actor.FileActor.{FileActor}
@@ -60,7 +60,7 @@ not_negative names (binary op a b) h = (not_negative names a h.0, not_negative n
 
 -- ---- the parts of a graph with these parameters
 
-module _ (s : Scope) (params : List Param) (named : All IsName (map (λ (p : Param). p.name) params)) where
+module _ (s : KnownNames) (params : List Param) (named : All IsName (map (λ (p : Param). p.name) params)) where
   abbrev names : List (List ℕ)
   names = map (λ (p : Param). p.name) params
 
@@ -108,7 +108,7 @@ module _ (s : Scope) (params : List Param) (named : All IsName (map (λ (p : Par
 
 -- ---- graphs
 
-param_named : (s : Scope) (ds : Items) (ps : List FileParam) → AreItems StatesParam ds ps → All IsName (map (λ (p : Param). p.name) (map (placed_param s) ps))
+param_named : (s : KnownNames) (ds : Items) (ps : List FileParam) → AreItems StatesParam ds ps → All IsName (map (λ (p : Param). p.name) (map (placed_param s) ps))
 param_named s no_items [] items = All-nil IsName
 param_named s no_items (p ∷ ps) items = absurd items
 param_named s (item d ds) [] items = absurd items
@@ -118,7 +118,7 @@ param_named s (item d ds) (p ∷ ps) items = All-cons IsName p.name (map (λ (p 
 abbrev IsSomewhereInRange : ℕ → List Graph → Graph → Type 0
 IsSomewhereInRange version graphs g = (is_top : Bool) × IsGraphInRange version graphs is_top g
 
-graph_writable : (version : ℕ) (graphs : List Graph) (is_top : Bool) (s : Scope) (d : Data) (g : FileGraph) → StatesGraph version d g → IsSomewhereInRange version graphs (placed_graph version tokens_of is_top s g) → IsWritableGraph (placed_graph version tokens_of is_top s g)
+graph_writable : (version : ℕ) (graphs : List Graph) (is_top : Bool) (s : KnownNames) (d : Data) (g : FileGraph) → StatesGraph version d g → IsSomewhereInRange version graphs (placed_graph version tokens_of is_top s g) → IsWritableGraph (placed_graph version tokens_of is_top s g)
 graph_writable version graphs is_top s d g h range =
     let params = map (placed_param s) g.params in
     let named = param_named s h.params.states.values g.params h.params.states.items in
@@ -132,7 +132,7 @@ graph_writable version graphs is_top s d g h range =
 pub writable : (signatures : List SignatureView) (d : Data) (file : File) → StatesIn file.version d file → InRange (graphs_of signatures file) → All IsWritableGraph (graphs_of signatures file).graphs
 writable signatures d file h range =
     let graphs : Graphs = graphs_of signatures file in
-    let here = λ (p : ℕ × FileGraph). scope_of (kernel_names signatures) file.graphs p.1 in
+    let here = λ (p : ℕ × FileGraph). known_names (kernel_names signatures) file.graphs p.1 in
     each_shown (λ d (p : ℕ × FileGraph). StatesGraph file.version d p.1) (λ (p : ℕ × FileGraph). placed_graph file.version tokens_of (p.0 == top_of file) (here p) p.1) (IsSomewhereInRange file.version graphs.graphs) IsWritableGraph
     (λ d p states inside. graph_writable file.version graphs.graphs (p.0 == top_of file) (here p) d p.1 states inside)
     h.graphs.states.values (enumerate_from 0 file.graphs) (numbered (StatesGraph file.version) 0 h.graphs.states.values file.graphs h.graphs.states.items)

@@ -4,7 +4,7 @@ use Rattle.pisdf_model.specs.Details.{of_each}
 use Rattle.pisdf_model.specs.Names.{scoped}
 use Rattle.pisdf_model.specs.declared.names.Scope.TheVariants as scope
 use Rattle.pisdf_model.specs.declared.names.ScopedName.{ScopedName}
-use Rattle.graph_format.specs.Scope.{names_of_params, names_of_ports}
+use Rattle.graph_format.specs.KnownNames.{names_of_params, file_port_names}
 use Rattle.graph_format.specs.declared.actor.FileActor.{FileActor}
 use Rattle.graph_format.specs.declared.actor.FileBody.{FileBody}
 use Rattle.graph_format.specs.declared.actor.FileBody.TheVariants.{Kernel, Config, Child, ConfigChild}
@@ -13,8 +13,8 @@ use Rattle.graph_format.specs.declared.file.FileGraph.{FileGraph}
 
 -- the names of the ports that stand in the actor itself
 abbrev pub own_port_names : FileBody → List (List ℕ)
-own_port_names (Kernel kernel args ins outs) = names_of_ports ins ++ names_of_ports outs
-own_port_names (Config kernel args ins outs sets) = ins ++ names_of_ports outs
+own_port_names (Kernel kernel args ins outs) = file_port_names ins ++ file_port_names outs
+own_port_names (Config kernel args ins outs sets) = ins ++ file_port_names outs
 own_port_names (Child graph args) = []
 own_port_names (ConfigChild graph args sets) = []
 
@@ -27,8 +27,8 @@ abbrev pub graph_walk : ℕ → FileGraph → List ScopedName
 graph_walk n g =
     record { scope = scope.Graphs; name = g.name }
     ∷ (scoped (scope.Parts n) (names_of_params g.params)
-    ++ (scoped (scope.Parts n) (names_of_ports g.inputs)
-    ++ (scoped (scope.Parts n) (names_of_ports g.outputs)
+    ++ (scoped (scope.Parts n) (file_port_names g.inputs)
+    ++ (scoped (scope.Parts n) (file_port_names g.outputs)
     ++ of_each (λ a actor. actor_walk n a actor) g.actors)))
 
 -- all names of a file, but for its top

@@ -6,11 +6,11 @@ pub mod Means
 pub mod Named
 pub mod Objects
 pub mod Placed
-pub mod Places
+pub mod WalkedValues
 pub mod Pointer
 pub mod Reads
 pub mod References
-pub mod Scope
+pub mod KnownNames
 pub mod States
 pub mod Texts
 pub mod Values

@@ -33,43 +33,43 @@ use Rattle.graph_format.specs.declared.param.FileParam.{FileParam}
 use Rattle.graph_format.specs.declared.param.FileParamKind.{FileParamKind}
 use Rattle.graph_format.specs.declared.param.FileParamKind.TheVariants.{Inherited, Derived, Chosen}
 use Rattle.graph_format.specs.declared.port.FilePort.{FilePort}
-use Rattle.graph_format.specs.Scope.{Scope, scope_of, names_at, names_of_graphs}
+use Rattle.graph_format.specs.KnownNames.{KnownNames, known_names, names_at, names_of_graphs}
 
 -- the first place of a name, and 0 where it isn't there
 abbrev pub first_place : List (List ℕ) → List ℕ → ℕ
 first_place names w = unwrap_or (place_of names w) 0
 
-abbrev pub placed_exprs : Scope → List NamedTree → List Tree
+abbrev pub placed_exprs : KnownNames → List NamedTree → List Tree
 placed_exprs s exprs = map (placed_in s.params) exprs
 
-abbrev pub placed_port : Scope → FilePort → Port
+abbrev pub placed_port : KnownNames → FilePort → Port
 placed_port s p = record { name = p.name; rate = placed_in s.params p.rate }
 
-abbrev pub placed_interface : Scope → FilePort → Interface
+abbrev pub placed_interface : KnownNames → FilePort → Interface
 placed_interface s p = record { name = p.name; rate = placed_in s.params p.rate }
 
-abbrev pub placed_kind : Scope → FileParamKind → ParamKind
+abbrev pub placed_kind : KnownNames → FileParamKind → ParamKind
 placed_kind s Inherited = kind.Inherited
 placed_kind s (Derived expr) = kind.Derived (placed_in s.params expr)
 placed_kind s Chosen = kind.Chosen
 
-abbrev pub placed_param : Scope → FileParam → Param
+abbrev pub placed_param : KnownNames → FileParam → Param
 placed_param s p = record { name = p.name; kind = placed_kind s p.kind; low = p.low; high = p.high }
 
-abbrev pub placed_body : Scope → FileBody → Body
+abbrev pub placed_body : KnownNames → FileBody → Body
 placed_body s (Kernel kernel args ins outs) = body.Kernel (first_place s.kernels kernel) (placed_exprs s args) (map (placed_port s) ins) (map (placed_port s) outs)
 placed_body s (Config kernel args ins outs sets) = body.Config (first_place s.kernels kernel) (placed_exprs s args) ins (map (placed_port s) outs) (map (first_place s.params) sets)
 placed_body s (Child graph args) = body.Child (first_place s.graphs graph) (placed_exprs s args)
 placed_body s (ConfigChild graph args sets) = body.ConfigChild (first_place s.graphs graph) (placed_exprs s args) (map (first_place s.params) sets)
 
-abbrev pub placed_actor : Scope → FileActor → Actor
+abbrev pub placed_actor : KnownNames → FileActor → Actor
 placed_actor s a = record { name = a.name; body = placed_body s a.body }
 
 -- the ports of the first actor of that name
-abbrev pub ports_named : Scope → List ℕ → List (List ℕ)
+abbrev pub ports_named : KnownNames → List ℕ → List (List ℕ)
 ports_named s actor = names_at s.ports (place_of s.actors actor)
 
-abbrev pub placed_end : Scope → FileEnd → End
+abbrev pub placed_end : KnownNames → FileEnd → End
 placed_end s (file_end.Interface w) = end.Interface (first_place s.interfaces w)
 placed_end s (file_end.Port actor port) = end.Port (first_place s.actors actor) (first_place (ports_named s actor) port)
 
@@ -84,10 +84,10 @@ mark_of (Zeros n) = if n == 0 then [] else pos 0 ∷ []
 mark_of (Tokens tokens) = marked tokens
 
 -- in a file of this version; each delay stands for what `tokens` gives of it
-abbrev pub placed_fifo : ℕ → (FileDelay → List ℤ) → Bool → Scope → FileFifo → Fifo
+abbrev pub placed_fifo : ℕ → (FileDelay → List ℤ) → Bool → KnownNames → FileFifo → Fifo
 placed_fifo version tokens is_top s f = record { tail = placed_end s f.from; head = placed_end s f.to; delay = tokens f.delay; life = life_of version is_top f.life (tokens f.delay) }
 
-abbrev pub placed_graph : ℕ → (FileDelay → List ℤ) → Bool → Scope → FileGraph → Graph
+abbrev pub placed_graph : ℕ → (FileDelay → List ℤ) → Bool → KnownNames → FileGraph → Graph
 placed_graph version tokens is_top s g = record {
   name = g.name;
   params = map (placed_param s) g.params;
@@ -106,5 +106,5 @@ abbrev pub placed : (FileDelay → List ℤ) → List (List ℕ) → File → Gr
 placed tokens kernels file = record {
   version = file.version;
   top = top_of file;
-  graphs = map (λ (p : ℕ × FileGraph). placed_graph file.version tokens (p.0 == top_of file) (scope_of kernels file.graphs p.1) p.1) (enumerate_from 0 file.graphs);
+  graphs = map (λ (p : ℕ × FileGraph). placed_graph file.version tokens (p.0 == top_of file) (known_names kernels file.graphs p.1) p.1) (enumerate_from 0 file.graphs);
 }

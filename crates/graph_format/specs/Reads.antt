@@ -7,7 +7,7 @@ use Rattle.pisdf_model.specs.declared.graph.Graphs.{Graphs}
 use Rattle.graph_format.specs.Faults.{file_faults, graphs_of}
 use Rattle.pisdf_model.specs.Details.{first}
 use Rattle.graph_format.specs.Objects.{file_at, stated_version}
-use Rattle.graph_format.specs.Places.{places, unformed}
+use Rattle.graph_format.specs.WalkedValues.{walked_values, unformed}
 use Rattle.graph_format.specs.declared.file.File.{File}
 use Rattle.graph_format.specs.declared.graph_fault.GraphFault.{GraphFault}
 use Rattle.graph_format.specs.declared.graph_fault.GraphFault.TheVariants.{Count, Depth, Duplicate, GraphCycle, InterfaceWire, Kernel, Memory, NotJson, ParamOrder, Ports, Shape, Unknown, Version, Wire}
@@ -61,7 +61,7 @@ Reads signatures bytes (Err fault) = (fault ≡ Memory) ⊎ (((fault ≡ NotJson
 pub record IsMisshapen (bytes pointer : List ℕ) : Type 0 where
   pub value : Data
   pub json : IsJson bytes value
-  pub first_one : first (unformed (places (version_of (stated_version value)) value)) ≡ Some pointer
+  pub first_one : first (unformed (walked_values (version_of (stated_version value)) value)) ≡ Some pointer
 
 -- a fault of shape tells the pointer to such a value
 abbrev pub TellsShape : List ℕ → GraphFault → Type 0

@@ -1,5 +1,5 @@
 -- Binding an expression is resolving its names.
-use Rattle.std.proofs.Common.{◌≡◌, ℕ, List, [], ◌∷◌, ◌++◌, Bool, true, false, cond, Option, Some, None, Ok, Err, refl, ◌∙◌}
+use Rattle.std.proofs.Common.{◌≡◌, ℕ, List, [], ◌∷◌, ◌++◌, Bool, true, false, cond, Option, Some, Ok, Err, refl, sym, ◌∙◌}
 use Rattle.std.specs.List.{flat_map}
 use Rattle.std.specs.Prelude.{find, is_none}
 use Rattle.param_expr.specs.Bind.{Binds, names_of, place_of, placed_in}
@@ -7,6 +7,7 @@ use Rattle.param_expr.specs.Named.{NamedTree}
 use Rattle.param_expr.specs.Tree.{Tree}
 use Rattle.param_expr.specs.declared.binding.BindFault.TheVariants.{Unknown}
 use Rattle.pisdf_model.specs.Details.{first}
+use Rattle.pisdf_model.proofs.Holds.{none_first}
 use Rattle.graph_format.specs.References.{missing}
 use Rattle.graph_reader.specs.Resolves.{Resolves}
 
@@ -23,12 +24,8 @@ first_of_missing : (known names : List (List ℕ)) → first (flat_map (missing 
 first_of_missing known [] = refl
 first_of_missing known (w ∷ names) = first_of_chosen (is_none (place_of known w)) w (flat_map (missing known) names) (find (λ w. is_none (place_of known w)) names) (first_of_missing known names)
 
-none_first : {A : Type 0} (xs : List A) → first xs ≡ None → xs ≡ []
-none_first [] h = refl
-none_first (x ∷ xs) h = absurd cc
-
 pub bound_resolves : (known : List (List ℕ)) (expr : NamedTree) (bound : Tree) → Binds known expr (Ok bound) → Resolves (flat_map (missing known) (names_of expr)) (placed_in known expr) (Ok bound)
-bound_resolves known expr bound h = (none_first (flat_map (missing known) (names_of expr)) (first_of_missing known (names_of expr) ∙ h.0), h.1)
+bound_resolves known expr bound h = (none_first (flat_map (missing known) (names_of expr)) (sym (first_of_missing known (names_of expr) ∙ h.0)), h.1)
 
 pub unbound_fails : (known : List (List ℕ)) (expr : NamedTree) (w : List ℕ) → Binds known expr (Err (Unknown w)) → first (flat_map (missing known) (names_of expr)) ≡ Some w
 unbound_fails known expr w h = first_of_missing known (names_of expr) ∙ h

@@ -1,28 +1,25 @@
 -- The counts of a file's parts are those of its graphs.
-use Rattle.std.proofs.Common.{◌≡◌, ◌==◌, ◌||◌, ◌≤◌, ◌<◌, ℕ, suc, List, [], ◌∷◌, ◌++◌, ◌+◌, length, get_or, map, min, take, ℤ, pos, Bool, true, false, Some, refl, sym, ap, ◌∙◌, arith}
+use Rattle.std.proofs.Common.{◌≡◌, ◌==◌, ◌||◌, ◌≤◌, ◌<◌, ℕ, List, [], ◌∷◌, ◌++◌, ◌+◌, length, map, Bool, true, false, Some, refl, sym, ap, ◌∙◌, arith}
 use Rattle.std.specs.Prelude.{nat_le, nat_lt, slice_index_or, sum_by}
-use Rattle.std.specs.List.{enumerate_from, list_any, range_with_len}
+use Rattle.std.specs.List.{enumerate_from, range_with_len}
 use Rattle.std.proofs.lemmas.Bool.Decides.{nat_tests}
 use Rattle.std.proofs.lemmas.List.{length-map}
 use Rattle.std.proofs.lemmas.List.FromFn.{get_or-map-range_with_len, length-enumerate_from}
-use Rattle.std.proofs.lemmas.List.Sums.{sum_by-cons, sum_by_more}
-use Rattle.pisdf_model.specs.Count.{count_faults, counts_of, excess_of, graph_counts}
+use Rattle.std.proofs.lemmas.List.Sums.{sum_by-cons}
+use Rattle.pisdf_model.specs.Count.{count_faults, counts_of, delay_limit, excess_of, graph_counts}
 use Rattle.pisdf_model.specs.Count as model
 use Rattle.pisdf_model.specs.Details.{first, from_number, of_each, unless}
-use Rattle.pisdf_model.specs.Hold.{capped, has_large_hold, is_large, kept_in, kept_tokens, own_hold}
+use Rattle.pisdf_model.specs.Hold.{capped_hold, has_large_hold, is_large, kept_in, own_hold}
 use Rattle.pisdf_model.specs.Nesting.{children}
-use Rattle.pisdf_model.specs.Range.{life_of}
 use Rattle.pisdf_model.specs.declared.counting.Counted.{Counted}
 use Rattle.pisdf_model.specs.declared.counting.Counted.TheVariants as counted
 use Rattle.pisdf_model.specs.declared.fifo.Fifo.{Fifo}
-use Rattle.pisdf_model.specs.declared.fifo.Life.{Life}
-use Rattle.pisdf_model.specs.declared.fifo.Life.TheVariants.{Firing, Permanent}
 use Rattle.pisdf_model.specs.declared.graph.Graph.{Graph}
 use Rattle.pisdf_model.specs.declared.graph.Graphs.{Graphs}
 use Rattle.pisdf_model.proofs.Alike.{of_mapped}
 use Rattle.pisdf_model.proofs.Holds.{large_capped, large_hold}
 use Rattle.graph_format.specs.Placed.{mark_of, placed, placed_actor, placed_fifo, placed_graph, placed_interface, placed_param, first_place, tokens_of, top_of}
-use Rattle.graph_format.specs.Scope.{Scope, scope_of}
+use Rattle.graph_format.specs.KnownNames.{KnownNames, known_names}
 use Rattle.graph_format.specs.declared.fifo.FileFifo.{FileFifo}
 use Rattle.graph_format.specs.declared.file.File.{File}
 use Rattle.graph_format.specs.declared.file.FileGraph.{FileGraph}
@@ -30,15 +27,11 @@ use Rattle.graph_reader.specs.Counted.{has_long_delay, kept_count, own_count, ow
 
 -- ---- one graph
 
--- numbers counted to the limit are added to the limit
-capped_add : (a b : ℕ) → capped (capped a + capped b) ≡ capped (a + b)
-capped_add a b = omega arith
-
-delays_kept : (version : ℕ) (is_top : Bool) (s : Scope) (fifos : List FileFifo) → model.has_long_delay (map (placed_fifo version tokens_of is_top s) fifos) ≡ has_long_delay fifos
+delays_kept : (version : ℕ) (is_top : Bool) (s : KnownNames) (fifos : List FileFifo) → model.has_long_delay (map (placed_fifo version tokens_of is_top s) fifos) ≡ has_long_delay fifos
 delays_kept version is_top s [] = refl
-delays_kept version is_top s (f ∷ fifos) = ap (λ any. nat_lt 65536 (length (tokens_of f.delay)) || any) (delays_kept version is_top s fifos)
+delays_kept version is_top s (f ∷ fifos) = ap (λ any. nat_lt delay_limit (length (tokens_of f.delay)) || any) (delays_kept version is_top s fifos)
 
-parts_kept : (large : Bool) (version : ℕ) (is_top : Bool) (s : Scope) (g : FileGraph) → counts_of large (placed_graph version tokens_of is_top s g) ≡ part_counts large g
+parts_kept : (large : Bool) (version : ℕ) (is_top : Bool) (s : KnownNames) (g : FileGraph) → counts_of large (placed_graph version tokens_of is_top s g) ≡ part_counts large g
 parts_kept large version is_top s g =
     let params = length-map g.params (placed_param s) in
     let inputs = length-map g.inputs (placed_interface s) in
@@ -49,40 +42,17 @@ parts_kept large version is_top s g =
     let long = delays_kept version is_top s g.fifos in
     rw (params, inputs, outputs, actors, fifos, exports, long) refl
 
-tokens_kept : (version : ℕ) (is_top : Bool) (s : Scope) (fifos : List FileFifo) → sum_by (λ (f : Fifo). length (kept_in f)) (map (placed_fifo version tokens_of is_top s) fifos) ≡ sum_by (kept_count version is_top) fifos
+tokens_kept : (version : ℕ) (is_top : Bool) (s : KnownNames) (fifos : List FileFifo) → sum_by (λ (f : Fifo). length (kept_in f)) (map (placed_fifo version tokens_of is_top s) fifos) ≡ sum_by (kept_count version is_top) fifos
 tokens_kept version is_top s [] = refl
 tokens_kept version is_top s (f ∷ fifos) =
     let size : Fifo → ℕ = λ (f : Fifo). length (kept_in f) in
     let made : FileFifo → Fifo = placed_fifo version tokens_of is_top s in
     sum_by-cons size (made f) (map made fifos) ∙ ap (λ n. kept_count version is_top f + n) (tokens_kept version is_top s fifos) ∙ sym (sum_by-cons (kept_count version is_top) f fifos)
 
--- the tokens of one FIFO more
-pub one_more : (f : FileFifo → ℕ) (fifos : List FileFifo) (i : ℕ) (fifo : FileFifo) (total here : ℕ) → i < length fifos → fifo ≡ get_or fifos i fifo → total ≡ capped (sum_by f (take i fifos)) → here ≡ capped (f fifo)
-    → capped (total + here) ≡ capped (sum_by f (take (i + 1) fifos))
-one_more f fifos i fifo total here inside is so_far kept =
-    let before = sum_by f (take i fifos) in
-    ap (λ n. capped (n + here)) so_far ∙ ap (λ n. capped (capped before + n)) kept ∙ capped_add before (f fifo) ∙ ap (λ x. capped (before + f x)) is ∙ sym (ap capped (sum_by_more f fifos i fifo inside))
-
--- the life of a delay depends only on whether it has tokens
-pub life_without : (version : ℕ) (is_top : Bool) (stated : Life) (tokens : List ℤ) → length tokens ≡ 0 → life_of version is_top stated [] ≡ life_of version is_top stated tokens
-life_without version is_top stated [] none = refl
-life_without version is_top stated (t ∷ tokens) none = absurd cc
-
-pub life_with : (version : ℕ) (is_top : Bool) (stated : Life) (tokens : List ℤ) → (length tokens ≡ 0 → ⊥) → life_of version is_top stated (pos 0 ∷ []) ≡ life_of version is_top stated tokens
-life_with version is_top stated [] some = absurd (some refl)
-life_with version is_top stated (t ∷ tokens) some = refl
-
--- tokens go on where their life is permanent
-pub kept_firing : (version : ℕ) (is_top : Bool) (f : FileFifo) → Firing ≡ life_of version is_top f.life (tokens_of f.delay) → 0 ≡ capped (kept_count version is_top f)
-kept_firing version is_top f is = ap (λ life. capped (length (kept_tokens life (tokens_of f.delay)))) is
-
-pub kept_permanent : (version : ℕ) (is_top : Bool) (f : FileFifo) → Permanent ≡ life_of version is_top f.life (tokens_of f.delay) → capped (length (tokens_of f.delay)) ≡ capped (kept_count version is_top f)
-kept_permanent version is_top f is = ap (λ life. capped (length (kept_tokens life (tokens_of f.delay)))) is
-
 -- ---- all graphs
 
 pub own_length : (file : File) (top : ℕ) → length (own_counts file top) ≡ length file.graphs
-own_length file top = length-map (enumerate_from 0 file.graphs) (λ (n : ℕ × FileGraph). capped (own_count file.version (n.0 == top) n.1)) ∙ length-enumerate_from 0 file.graphs
+own_length file top = length-map (enumerate_from 0 file.graphs) (λ (n : ℕ × FileGraph). capped_hold (own_count file.version (n.0 == top) n.1)) ∙ length-enumerate_from 0 file.graphs
 
 numbered_below : {X Y D : Type 0} (m : ℕ × X → Y) (f : ℕ → Y → List D) (g : ℕ → X → List D) (most : ℕ) → ((n : ℕ) (x : X) → n < most → f n (m (n, x)) ≡ g n x) → (n : ℕ) (xs : List X) → n + length xs ≤ most
     → from_number n f (map m (enumerate_from n xs)) ≡ from_number n g xs
@@ -92,10 +62,10 @@ numbered_below m f g most alike n (x ∷ xs) within =
 
 module _ (kernels : List (List ℕ)) (file : File) where
   abbrev made : ℕ × FileGraph → Graph
-  made n = placed_graph file.version tokens_of (n.0 == top_of file) (scope_of kernels file.graphs n.1) n.1
+  made n = placed_graph file.version tokens_of (n.0 == top_of file) (known_names kernels file.graphs n.1) n.1
 
   abbrev marked : ℕ × FileGraph → Graph
-  marked n = placed_graph file.version mark_of (n.0 == top_of file) (scope_of kernels file.graphs n.1) n.1
+  marked n = placed_graph file.version mark_of (n.0 == top_of file) (known_names kernels file.graphs n.1) n.1
 
   abbrev numbered : List (ℕ × FileGraph)
   numbered = enumerate_from 0 file.graphs
@@ -103,10 +73,10 @@ module _ (kernels : List (List ℕ)) (file : File) where
   abbrev own : ℕ × FileGraph → ℕ
   own n = own_count file.version (n.0 == top_of file) n.1
 
-  owns : map capped (map own_hold (map made numbered)) ≡ own_counts file (top_of file)
+  owns : map capped_hold (map own_hold (map made numbered)) ≡ own_counts file (top_of file)
   owns =
-      ap (map capped) (of_mapped made own_hold own (λ n. tokens_kept file.version (n.0 == top_of file) (scope_of kernels file.graphs n.1) n.1.fifos) numbered)
-      ∙ of_mapped own capped (λ n. capped (own n)) (λ n. refl) numbered
+      ap (map capped_hold) (of_mapped made own_hold own (λ n. tokens_kept file.version (n.0 == top_of file) (known_names kernels file.graphs n.1) n.1.fifos) numbered)
+      ∙ of_mapped own capped_hold (λ n. capped_hold (own n)) (λ n. refl) numbered
 
   same_children : map children (map made numbered) ≡ map children (map marked numbered)
   same_children = of_mapped made children (λ n. children (marked n)) (λ n. refl) numbered ∙ sym (of_mapped marked children (λ n. children (marked n)) (λ n. refl) numbered)
@@ -136,7 +106,7 @@ module _ (kernels : List (List ℕ)) (file : File) where
       let inside : n < length (map marked numbered) = rw (long marked) within in
       let test = is_large (own_counts file (top_of file)) (map children (map marked numbered)) in
       let read : slice_index_or larges n false ≡ test n = get_or-map-range_with_len test 0 (length (map marked numbered)) n n false inside (omega arith) in
-      ap excess_of (parts_kept (has_large_hold (map made numbered) n) file.version (n == top_of file) (scope_of kernels file.graphs g) g ∙ ap (λ b. part_counts b g) (large_in n ∙ sym read))
+      ap excess_of (parts_kept (has_large_hold (map made numbered) n) file.version (n == top_of file) (known_names kernels file.graphs g) g ∙ ap (λ b. part_counts b g) (large_in n ∙ sym read))
 
   all_counts : count_faults (placed tokens_of kernels file) ≡ unless (nat_le (length file.graphs) 32) counted.Graphs ++ of_each excess file.graphs
   all_counts =

@@ -1,8 +1,8 @@
 -- Stated numbers that are versions of the format.
-use Rattle.std.proofs.Common.{◌≡◌, ℕ, ◌≤◌, ◌&&◌, Bool, true, false, cond, ℤ, pos, negsuc, Option, Some, None, refl, arith}
+use Rattle.std.proofs.Common.{◌≡◌, ℕ, ◌≤◌, ◌&&◌, Bool, true, false, cond, ℤ, pos, negsuc, Some, None, refl, arith}
 use Rattle.std.specs.Prelude.{int_le, is_none, nat_le}
 use Rattle.std.proofs.lemmas.Bool.Decides.{nat_tests}
-use Rattle.graph_format.specs.Reads.{other_version, version_of}
+use Rattle.graph_format.specs.Reads.{other_version}
 
 none_as : (b : Bool) (z : ℤ) → b ≡ is_none (cond b None (Some z))
 none_as true z = refl

@@ -4,7 +4,7 @@ use Rattle.std.specs.Borrow.{Bor}
 use Rattle.graph_format.specs.declared.fifo.FileDelay.{FileDelay}
 use Rattle.graph_format.specs.declared.file.FileGraph.{FileGraph}
 use Rattle.graph_format.specs.Placed.{mark_of, tokens_of}
-use Rattle.graph_format.specs.Scope.{Scope, interfaces_of, names_of_graphs}
+use Rattle.graph_format.specs.KnownNames.{KnownNames, interfaces_of, names_of_graphs}
 use Rattle.graph_reader.specs.declared.file_names.FileNames.{FileNames}
 use Rattle.graph_reader.specs.declared.surroundings.Delays.{Delays}
 use Rattle.graph_reader.specs.declared.surroundings.Delays.TheVariants.{Tokens, Marks}
@@ -13,7 +13,7 @@ use Rattle.graph_reader.specs.declared.surroundings.Ports.TheVariants.{Own, Chil
 use Rattle.graph_reader.specs.declared.surroundings.Surroundings.{Surroundings}
 
 pub record Setting : Type 0 where
-  pub scope : Scope
+  pub scope : KnownNames
   pub version : ℕ
   pub is_top : Bool
   pub delays : Delays

@@ -1,23 +1,23 @@
 // How many parts there are in a file. Delays are counted, and not made.
 ghost use Rattle.std.specs.Prelude.{◌≡◌, ℕ, nat_lt, Bool, false, List as Seq, IfOk, length, map, slice_index_or};
 ghost use Rattle.std.specs.List.{range_with_len};
-ghost use Rattle.pisdf_model.specs.Count.{count_faults, excess_of};
-ghost use Rattle.pisdf_model.specs.Details.{Answers, of_each};
-ghost use Rattle.pisdf_model.specs.Hold.{capped};
+ghost use Rattle.pisdf_model.specs.Count.{count_faults, delay_limit, excess_of};
+ghost use Rattle.pisdf_model.specs.Details.{Answers, first, of_each};
+ghost use Rattle.pisdf_model.specs.Hold.{capped_hold};
 ghost use Rattle.pisdf_model.specs.Range.{life_of};
 ghost use Rattle.graph_format.specs.Placed.{mark_of, placed, tokens_of};
 ghost use Rattle.graph_reader.specs.Counted.{has_long_delay, kept_count, own_count, own_counts, part_counts};
 
 use graph_format::{File, FileDelay, FileFifo, FileGraph};
 use pisdf_model::{
-    Counted, DetailFault, Graphs, Life, MAX_DELAY_TOKENS, MAX_GRAPHS, PartCounts, capped,
-    capped_sum, large_holds, life_of,
+    Counted, DetailFault, Graphs, Life, MAX_DELAY_TOKENS, MAX_GRAPHS, PartCounts, capped_hold_sum,
+    large_holds, life_of,
 };
 use std::alloc::{AllocError, Global};
 
 /// Whether a delay has too many tokens.
 fn is_long(delay: &FileDelay) -> bool
-    ensures { result ≡ nat_lt 65536 (length (tokens_of delay.now)) }
+    ensures { result ≡ nat_lt delay_limit (length (tokens_of delay.now)) }
 {
     match delay {
         FileDelay::Zeros(count) => *count > MAX_DELAY_TOKENS as u64,
@@ -68,23 +68,23 @@ fn life_in(version: u32, is_top: bool, fifo: &FileFifo) -> Life
     }
 }
 
-/// How many tokens of a FIFO go on over the firings of its graph, counted to one more than the limit.
+/// How many tokens of a FIFO go on over the firings of its graph.
 fn kept_count(version: u32, is_top: bool, fifo: &FileFifo) -> usize
-    ensures { result ≡ capped (kept_count version is_top fifo.now) }
+    ensures { result ≡ kept_count version is_top fifo.now }
 {
     match life_in(version, is_top, fifo) {
         Life::Firing => 0,
-        Life::Permanent => capped(token_count(&fifo.delay)),
+        Life::Permanent => token_count(&fifo.delay),
     }
 }
 
-/// The same of all FIFOs of a graph.
+/// The same of all FIFOs of a graph, counted to one more than the limit.
 fn own_count(version: u32, is_top: bool, graph: &FileGraph) -> usize
-    ensures { result ≡ capped (own_count version is_top graph.now) }
+    ensures { result ≡ capped_hold (own_count version is_top graph.now) }
 {
     let mut total = 0;
     for fifo in graph.fifos.items() {
-        total = capped_sum(total, kept_count(version, is_top, fifo));
+        total = capped_hold_sum(total, kept_count(version, is_top, fifo));
     }
     total
 }
@@ -100,14 +100,12 @@ fn own_counts(alloc: Global, file: &File, top: u32) -> Result<Vec<usize>, AllocE
     Ok(own)
 }
 
-/// Whether the hold of the graph with this number is too large.
-fn is_large(large: &[bool], number: usize) -> bool
-    ensures { result ≡ slice_index_or large.now number false }
+/// The first of what the graph with this number has too many of, where these holds are too large.
+fn first_excess(graph: &FileGraph, large: &[bool], number: usize) -> Option<Counted>
+    ensures { result ≡ first (excess_of (part_counts (slice_index_or large.now number false) graph.now)) }
 {
-    match large.get(number) {
-        Some(is_large) => *is_large,
-        None => false,
-    }
+    let is_large = large.get(number).copied().unwrap_or(false);
+    counts_of(graph, is_large).excess()
 }
 
 /// Whether no graph has too many parts, where these holds are too large.
@@ -115,7 +113,7 @@ fn count_graphs(graphs: &[FileGraph], large: &[bool]) -> Result<(), DetailFault<
     ensures { Answers (of_each (λ n g. excess_of (part_counts (slice_index_or large.now n false) g)) graphs.now) result }
 {
     for (number, graph) in graphs.iter().enumerate() {
-        if let Some(counted) = counts_of(graph, is_large(large, number)).excess() {
+        if let Some(counted) = first_excess(graph, large, number) {
             return Err(DetailFault::Fault(counted));
         }
     }

@@ -3,7 +3,7 @@ ghost use Rattle.kernel_gate.specs.Signed.{signature_view};
 ghost use Rattle.param_expr.specs.Bind.{place_of};
 ghost use Rattle.graph_format.specs.declared.file.FileGraph.{FileGraph};
 ghost use Rattle.graph_format.specs.Kernels.{kernel_names};
-ghost use Rattle.graph_format.specs.Scope.{interfaces_of, names_at, ports_of};
+ghost use Rattle.graph_format.specs.KnownNames.{interfaces_of, names_at, ports_of};
 ghost use Rattle.graph_reader.specs.Setting.{AreOf, lent_names, ports_view};
 
 use crate::names::{Names, names_of, names_of_both};

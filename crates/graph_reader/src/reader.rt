@@ -20,9 +20,9 @@ ghost use Rattle.graph_reader.specs.Setting.{delays_by};
 
 use crate::checks::{Check, follow_rules, told_count, told_kernel};
 use crate::file_counts::count;
-use crate::file_walk::names_of_file;
 use crate::kernels::unfit_kernel;
 use crate::resolved_graphs::graphs_of;
+use crate::scoped_names::names_of_file;
 use crate::stated_file::file_of_bytes;
 use crate::surroundings::Delays;
 use graph_format::{File, GraphFault};

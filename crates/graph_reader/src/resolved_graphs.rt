@@ -6,7 +6,7 @@ ghost use Rattle.graph_format.specs.declared.file.FileGraph.{FileGraph};
 ghost use Rattle.graph_format.specs.Kernels.{kernel_names};
 ghost use Rattle.graph_format.specs.Placed.{placed, placed_graph};
 ghost use Rattle.graph_format.specs.References.{unknown_in_file, unknown_in_graph};
-ghost use Rattle.graph_format.specs.Scope.{interfaces_of, scope_of};
+ghost use Rattle.graph_format.specs.KnownNames.{interfaces_of, known_names};
 ghost use Rattle.graph_reader.specs.Resolves.{Resolves};
 ghost use Rattle.graph_reader.specs.Setting.{AreOf, delays_by};
 
@@ -69,7 +69,7 @@ fn resolve_graph<'a>(
 ) -> Result<Graph, DetailFault<Name>>
     requires { interfaces.now ≡ interfaces_of graph.now }
     ensures { (graphs : Seq FileGraph) → AreOf graphs names.now
-        → Resolves (unknown_in_graph (scope_of names.now.kernels graphs graph.now) graph.now) (placed_graph version (delays_by delays) is_top (scope_of names.now.kernels graphs graph.now) graph.now) result }
+        → Resolves (unknown_in_graph (known_names names.now.kernels graphs graph.now) graph.now) (placed_graph version (delays_by delays) is_top (known_names names.now.kernels graphs graph.now) graph.now) result }
 {
     let surroundings = surroundings_of(alloc, names, interfaces, graph, version, is_top, delays)?;
     let resolved = Graph::resolve(alloc, &surroundings, graph)?;
@@ -86,8 +86,8 @@ fn resolve_graphs<'a>(
     graphs: &'a [FileGraph],
 ) -> Result<List<Graph>, DetailFault<Name>>
     requires { AreOf graphs.now names.now }
-    ensures { Resolves (flat_map (λ graph. unknown_in_graph (scope_of names.now.kernels graphs.now graph) graph) graphs.now)
-        (map (λ numbered. placed_graph version (delays_by delays) (numbered.0 == top) (scope_of names.now.kernels graphs.now numbered.1) numbered.1) (enumerate_from 0 graphs.now)) result }
+    ensures { Resolves (flat_map (λ graph. unknown_in_graph (known_names names.now.kernels graphs.now graph) graph) graphs.now)
+        (map (λ numbered. placed_graph version (delays_by delays) (numbered.0 == top) (known_names names.now.kernels graphs.now numbered.1) numbered.1) (enumerate_from 0 graphs.now)) result }
 {
     let mut resolved = Vec::new(alloc);
     for (place, graph) in graphs.iter().enumerate() {

@@ -2,7 +2,7 @@ ghost use Rattle.std.specs.Prelude.{◌≡◌, IfOk, List as Seq, map, MatchOpti
 ghost use Rattle.param_expr.specs.Bind.{place_of};
 ghost use Rattle.graph_format.specs.declared.file.FileGraph.{FileGraph};
 ghost use Rattle.graph_format.specs.Placed.{ports_named};
-ghost use Rattle.graph_format.specs.Scope.{interfaces_of, ports_of, scope_of};
+ghost use Rattle.graph_format.specs.KnownNames.{interfaces_of, ports_of, known_names};
 ghost use Rattle.graph_reader.specs.Setting.{AreOf, ports_view, setting_of};
 
 use crate::file_names::FileNames;
@@ -100,7 +100,7 @@ pub(crate) fn surroundings_of<'b, 'a>(
 ) -> Result<Surroundings<'b, 'a>, AllocError>
     requires { interfaces.now ≡ interfaces_of graph.now }
     ensures { (graphs : Seq FileGraph) → AreOf graphs names.now
-        → IfOk result (λ s. setting_of s ≡ record { scope = scope_of names.now.kernels graphs graph.now; version = version; is_top = is_top; delays = delays }) }
+        → IfOk result (λ s. setting_of s ≡ record { scope = known_names names.now.kernels graphs graph.now; version = version; is_top = is_top; delays = delays }) }
 {
     let params = names_of(alloc, graph.params.items())?;
     let actors = names_of(alloc, graph.actors.items())?;

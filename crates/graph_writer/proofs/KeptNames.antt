@@ -19,7 +19,7 @@ use Rattle.pisdf_model.specs.declared.graph.Graph.{Graph}
 use Rattle.pisdf_model.specs.declared.graph.Graphs.{Graphs}
 use Rattle.graph_format.proofs.Laws.{interface_names_kept, param_names_kept, port_names_kept}
 use Rattle.graph_format.specs.Named as named
-use Rattle.graph_format.specs.Scope.{Scope, scope_of, interfaces_of, names_of_graphs, ports_of}
+use Rattle.graph_format.specs.KnownNames.{KnownNames, known_names, interfaces_of, names_of_graphs, ports_of}
 use Rattle.graph_format.specs.declared.actor.FileActor.{FileActor}
 use Rattle.graph_format.specs.declared.actor.FileBody.{FileBody}
 use Rattle.graph_format.specs.declared.actor.FileBody.TheVariants.{Kernel, Config, Child, ConfigChild}
@@ -80,18 +80,18 @@ name_again names others w same f = ap (λ ns. name_at_place ns (first_place name
 -- ---- the parts of a graph, and of the graphs that a file means
 
 -- the names that stand at the places of a graph are those of the scope
-pub record HasNames (s : Scope) (graphs : Graphs) (g : Graph) : Type 0 where
+pub record HasNames (s : KnownNames) (graphs : Graphs) (g : Graph) : Type 0 where
   pub params : named.names_of_params g ≡ s.params
   pub interfaces : named.names_of_interfaces g ≡ s.interfaces
   pub actors : named.names_of_actors g ≡ s.actors
   pub ports : map (λ (a : Actor). named.names_of_ports graphs a.body) g.actors ≡ s.ports
 
-interfaces_kept : (version : ℕ) (is_top : Bool) (s : Scope) (g : FileGraph) → named.names_of_interfaces (placed_graph version tokens_of is_top s g) ≡ interfaces_of g
+interfaces_kept : (version : ℕ) (is_top : Bool) (s : KnownNames) (g : FileGraph) → named.names_of_interfaces (placed_graph version tokens_of is_top s g) ≡ interfaces_of g
 interfaces_kept version is_top s g = rw (interface_names_kept s g.inputs, interface_names_kept s g.outputs) refl
 
 module _ (kernels : List (List ℕ)) (file : File) where
-  abbrev pub here : FileGraph → Scope
-  here g = scope_of kernels file.graphs g
+  abbrev pub here : FileGraph → KnownNames
+  here g = known_names kernels file.graphs g
 
   abbrev pub meant : ℕ × FileGraph → Graph
   meant p = placed_graph file.version tokens_of (p.0 == top_of file) (here p.1) p.1

@@ -23,7 +23,7 @@ use Rattle.pisdf_model.specs.declared.param.ParamKind.TheVariants.{Inherited, De
 use Rattle.graph_format.specs.Named as named
 use Rattle.graph_format.specs.Named.{name_at_place, named_actor, named_body, named_end, named_fifo, named_file, named_graph, named_interface, named_kind, named_param, named_port, names_of_actors, names_of_interfaces, names_of_params, names_of_ports_at}
 use Rattle.graph_format.specs.References.{missing, unknown_in_actor, unknown_in_body, unknown_in_expr, unknown_in_fifo, unknown_in_file, unknown_in_graph, unknown_in_kind, unknown_in_param, unknown_in_port}
-use Rattle.graph_format.specs.Scope.{Scope, scope_of}
+use Rattle.graph_format.specs.KnownNames.{KnownNames, known_names}
 use Rattle.graph_format.specs.declared.file.FileGraph.{FileGraph}
 use Rattle.graph_writer.proofs.Distinct.{AllDiffer, PartsDiffer}
 use Rattle.graph_writer.proofs.Resolving.{end_found, file_names, files, none_of_each, scope_again, scope_in}
@@ -43,7 +43,7 @@ module _ (kernels : List (List ℕ)) (graphs : Graphs) (all : AllDiffer graphs) 
   abbrev names : List (List ℕ)
   names = names_of_params g
 
-  abbrev here : Scope
+  abbrev here : KnownNames
   here = scope_in [] graphs g
 
   counted : length names ≡ count
@@ -103,10 +103,10 @@ file_known kernels graphs all range =
     let inside : graphs.top < length (named.names_of_graphs graphs) = omega (arith, range.top, length-map graphs.graphs (λ (g : Graph). g.name)) in
     let top = ap (λ names. missing names (name_at_place (named.names_of_graphs graphs) graphs.top)) (file_names kernels graphs) ∙ known_at (named.names_of_graphs graphs) graphs.top all.names inside in
     let stated = named_graph kernels graphs in
-    let unknown = λ (g : FileGraph). unknown_in_graph (scope_of [] (files kernels graphs) g) g in
+    let unknown = λ (g : FileGraph). unknown_in_graph (known_names [] (files kernels graphs) g) g in
     rw (top, none_of_each stated unknown (λ (g : Graph). unknown (stated g) ≡ []) (λ g none. none) graphs.graphs one) refl
   where
-    one : (i : ℕ) (d : Graph) → i < length graphs.graphs → unknown_in_graph (scope_of [] (files kernels graphs) (named_graph kernels graphs (get_or graphs.graphs i d))) (named_graph kernels graphs (get_or graphs.graphs i d)) ≡ []
+    one : (i : ℕ) (d : Graph) → i < length graphs.graphs → unknown_in_graph (known_names [] (files kernels graphs) (named_graph kernels graphs (get_or graphs.graphs i d))) (named_graph kernels graphs (get_or graphs.graphs i d)) ≡ []
     one i d within =
         let g = get_or graphs.graphs i d in
         let in_range = range.each_graph i d within in

@@ -19,7 +19,7 @@ use Rattle.graph_format.specs.Named as named
 use Rattle.graph_format.specs.Named.{name_at_place, named_actor, named_body, named_end, named_fifo, named_file, named_graph, named_interface, named_kind, named_param, named_port, names_of_params, stated_delay, stated_life}
 use Rattle.graph_format.specs.Placed.{first_place, placed_actor, placed_body, placed_end, placed_fifo, placed_graph, placed_interface, placed_kind, placed_param, placed_port, ports_named, tokens_of, top_of}
 use Rattle.graph_format.specs.References.{missing, unknown_in_actor, unknown_in_body, unknown_in_end, unknown_in_expr, unknown_in_fifo, unknown_in_file, unknown_in_graph, unknown_in_kind, unknown_in_param, unknown_in_port}
-use Rattle.graph_format.specs.Scope.{Scope, names_at, names_of_graphs}
+use Rattle.graph_format.specs.KnownNames.{KnownNames, names_at, names_of_graphs}
 use Rattle.graph_format.specs.declared.actor.FileActor.{FileActor}
 use Rattle.graph_format.specs.declared.actor.FileBody.{FileBody}
 use Rattle.graph_format.specs.declared.actor.FileBody.TheVariants.{Kernel, Config, Child, ConfigChild}
@@ -62,7 +62,7 @@ restated file = record { version = file.version; top = file.top; graphs = map (r
 
 -- ---- the parts of a graph
 
-module _ (signatures : List SignatureView) (all : Graphs) (s : Scope) (g : Graph)
+module _ (signatures : List SignatureView) (all : Graphs) (s : KnownNames) (g : Graph)
     (children : named.names_of_graphs all ≡ s.graphs) (kernels : s.kernels ≡ kernel_names signatures) (kept : HasNames s all g) where
   abbrev names : List (List ℕ)
   names = names_of_params g

@@ -29,7 +29,7 @@ use Rattle.graph_format.specs.Kernels.{is_of_config, is_of_kernel, kernel_names}
 use Rattle.graph_format.specs.Named as named
 use Rattle.graph_format.specs.Named.{name_at_place, named_actor, named_body, named_end, named_fifo, named_file, named_graph, named_interface, named_kind, named_param, named_port, names_of_actors, names_of_interfaces, names_of_params, names_of_ports_at, stated_delay, stated_life}
 use Rattle.graph_format.specs.Placed.{first_place, placed, placed_actor, placed_body, placed_fifo, placed_graph, placed_interface, placed_kind, placed_param, placed_port, tokens_of, top_of}
-use Rattle.graph_format.specs.Scope.{Scope, scope_of}
+use Rattle.graph_format.specs.KnownNames.{KnownNames, known_names}
 use Rattle.graph_format.specs.declared.file.FileGraph.{FileGraph}
 use Rattle.graph_writer.specs.ReadAgain.{ActorsFit, CanBeReadAgain, FitsSignature}
 use Rattle.graph_writer.proofs.Distinct.{AllDiffer, PartsDiffer}
@@ -79,7 +79,7 @@ module _ (signatures : List SignatureView) (graphs : Graphs) (all : AllDiffer gr
   abbrev names : List (List ℕ)
   names = names_of_params g
 
-  abbrev here : Scope
+  abbrev here : KnownNames
   here = scope_in (kernel_names signatures) graphs g
 
   counted : length names ≡ count
@@ -161,10 +161,10 @@ named_then_placed signatures graphs all can =
     let file = named_file (kernel_names signatures) graphs in
     let inside : graphs.top < length (named.names_of_graphs graphs) = omega (arith, can.in_range.top, length-map graphs.graphs (λ (g : Graph). g.name)) in
     let top : top_of file ≡ graphs.top = ap (λ names. first_place names (name_at_place (named.names_of_graphs graphs) graphs.top)) (file_names (kernel_names signatures) graphs) ∙ first_again (named.names_of_graphs graphs) graphs.top all.names inside in
-    let each = numbered_again (named_graph (kernel_names signatures) graphs) (λ (p : ℕ × FileGraph). placed_graph graphs.version tokens_of (p.0 == graphs.top) (scope_of (kernel_names signatures) (files (kernel_names signatures) graphs) p.1) p.1) 0 graphs.graphs (λ i k d is within. one i k d is within) in
+    let each = numbered_again (named_graph (kernel_names signatures) graphs) (λ (p : ℕ × FileGraph). placed_graph graphs.version tokens_of (p.0 == graphs.top) (known_names (kernel_names signatures) (files (kernel_names signatures) graphs) p.1) p.1) 0 graphs.graphs (λ i k d is within. one i k d is within) in
     rw top (ap (λ (list : List Graph). record { version = graphs.version; top = graphs.top; graphs = list }) each)
   where
-    one : (i k : ℕ) (d : Graph) → 0 + i ≡ k → i < length graphs.graphs → placed_graph graphs.version tokens_of (k == graphs.top) (scope_of (kernel_names signatures) (files (kernel_names signatures) graphs) (named_graph (kernel_names signatures) graphs (get_or graphs.graphs i d))) (named_graph (kernel_names signatures) graphs (get_or graphs.graphs i d)) ≡ get_or graphs.graphs i d
+    one : (i k : ℕ) (d : Graph) → 0 + i ≡ k → i < length graphs.graphs → placed_graph graphs.version tokens_of (k == graphs.top) (known_names (kernel_names signatures) (files (kernel_names signatures) graphs) (named_graph (kernel_names signatures) graphs (get_or graphs.graphs i d))) (named_graph (kernel_names signatures) graphs (get_or graphs.graphs i d)) ≡ get_or graphs.graphs i d
     one i k d is within =
         let same : i ≡ k = omega arith in
         let g = get_or graphs.graphs i d in

@@ -20,7 +20,7 @@ use Rattle.graph_format.specs.Faults.{file_faults, fits_kernel, graphs_of}
 use Rattle.graph_format.specs.Kernels.{is_of_config, is_of_kernel, kernel_names, signature_named, unfit_in_body, unfit_in_file, unfit_in_graph}
 use Rattle.graph_format.specs.Named.{named_file}
 use Rattle.graph_format.specs.Placed.{first_place, placed_actor, placed_body}
-use Rattle.graph_format.specs.Scope.{Scope}
+use Rattle.graph_format.specs.KnownNames.{KnownNames}
 use Rattle.graph_format.specs.States.{States}
 use Rattle.graph_format.specs.declared.actor.FileActor.{FileActor}
 use Rattle.graph_format.specs.declared.actor.FileBody.{FileBody}
@@ -40,7 +40,7 @@ use Rattle.graph_format.proofs.Reading.{found, reads_in_range}
 -- ---- kinds of kernels
 
 module _ (signatures : List SignatureView) where
-  kind_kept : (s : Scope) → s.kernels ≡ kernel_names signatures → (b : FileBody) → unfit_in_body signatures b ≡ [] → kind_fits signatures (placed_body s b) ≡ true
+  kind_kept : (s : KnownNames) → s.kernels ≡ kernel_names signatures → (b : FileBody) → unfit_in_body signatures b ≡ [] → kind_fits signatures (placed_body s b) ≡ true
   kind_kept s same (Kernel kernel args ins outs) fits =
       ap (λ names. is_of_kernel (slice_get signatures (first_place names kernel))) same
       ∙ (passes_there is_of_kernel refl signatures kernel (unless_none (is_of_kernel (signature_named signatures kernel)) kernel fits)).passes

@@ -21,8 +21,8 @@ use Rattle.graph_format.specs.Named as named
 use Rattle.graph_format.specs.Named.{name_at_place, named_actor, named_body, named_end, named_graph, named_interface, named_param, named_port, names_of_actors, names_of_interfaces, names_of_params, names_of_ports, names_of_ports_at}
 use Rattle.graph_format.specs.Placed.{first_place, placed_end}
 use Rattle.graph_format.specs.References.{unknown_in_end}
-use Rattle.graph_format.specs.Scope.{Scope, scope_of, interfaces_of, interfaces_named, names_at, ports_of}
-use Rattle.graph_format.specs.Scope as file
+use Rattle.graph_format.specs.KnownNames.{KnownNames, known_names, interfaces_of, interfaces_named, names_at, ports_of}
+use Rattle.graph_format.specs.KnownNames as file
 use Rattle.graph_format.specs.declared.actor.FileActor.{FileActor}
 use Rattle.graph_format.specs.declared.file.FileGraph.{FileGraph}
 use Rattle.graph_format.specs.declared.port.FilePort.{FilePort}
@@ -108,7 +108,7 @@ stands_at graphs g n a p all parts range h =
 
 -- ---- the names that parts can refer to
 
-abbrev pub scope_in : List (List ℕ) → Graphs → Graph → Scope
+abbrev pub scope_in : List (List ℕ) → Graphs → Graph → KnownNames
 scope_in kernels graphs g = record {
   graphs = named.names_of_graphs graphs;
   kernels = kernels;
@@ -150,10 +150,10 @@ module _ (table : List (List ℕ)) (graphs : Graphs) where
   pub file_names : file.names_of_graphs files ≡ named.names_of_graphs graphs
   file_names = graph_names graphs.graphs
 
-  named_interfaces : (names : List (List ℕ)) (interfaces : List Interface) → file.names_of_ports (map (named_interface names) interfaces) ≡ interface_names interfaces
+  named_interfaces : (names : List (List ℕ)) (interfaces : List Interface) → file.file_port_names (map (named_interface names) interfaces) ≡ interface_names interfaces
   named_interfaces names interfaces = of_mapped (named_interface names) (λ (p : FilePort). p.name) (λ (i : Interface). i.name) (λ i. refl) interfaces
 
-  named_ports : (names : List (List ℕ)) (ports : List Port) → file.names_of_ports (map (named_port names) ports) ≡ port_names ports
+  named_ports : (names : List (List ℕ)) (ports : List Port) → file.file_port_names (map (named_port names) ports) ≡ port_names ports
   named_ports names ports = of_mapped (named_port names) (λ (p : FilePort). p.name) (λ (p : Port). p.name) (λ p. refl) ports
 
   interfaces_again : (g : Graph) → interfaces_of (named_graph table graphs g) ≡ names_of_interfaces g
@@ -173,7 +173,7 @@ module _ (table : List (List ℕ)) (graphs : Graphs) where
   ports_again n names differ (body.Child k args) range = child_again differ k range.0
   ports_again n names differ (body.ConfigChild k args sets) range = child_again differ k range.1
 
-  pub scope_again : (kernels : List (List ℕ)) (n : ℕ) (g : Graph) → Differ (named.names_of_graphs graphs) → All (λ a. IsActorInRange graphs.version (length graphs.graphs) n a) g.actors → scope_of kernels files (named_graph table graphs g) ≡ scope_in kernels graphs g
+  pub scope_again : (kernels : List (List ℕ)) (n : ℕ) (g : Graph) → Differ (named.names_of_graphs graphs) → All (λ a. IsActorInRange graphs.version (length graphs.graphs) n a) g.actors → known_names kernels files (named_graph table graphs g) ≡ scope_in kernels graphs g
   unfolding named_graph
   scope_again kernels n g differ range =
       let names = names_of_params g in

@@ -1,3 +1,3 @@
-pub mod Places
+pub mod ChildPorts
 pub mod ReadAgain
 pub mod Upgraded

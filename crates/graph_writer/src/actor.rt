@@ -100,6 +100,40 @@ impl Actors<'_> {
         let sets = list(alloc, &Sets { names: self.names }, sets)?;
         config_actor(alloc, name, kernel, args, ins, outs, sets)
     }
+
+    /// A hierarchical actor of this name.
+    fn child(
+        &self,
+        alloc: Global,
+        name: &str,
+        graph: u32,
+        args: &[Expr],
+    ) -> Result<Value, AllocError>
+        requires { All (IsWritable self.now.names.now) args.now }
+        ensures { IfOk result (λ v. view v ≡ object (body_members name.now (named_body (kernel_names (map signature_view self.now.signatures.now)) self.now.graphs.now self.now.names.now (Body.Child graph args.now)))) }
+    {
+        let graph = graph_name(self.graphs, graph);
+        let args = list(alloc, &Expressions { names: self.names }, args)?;
+        child_actor(alloc, name, graph, args)
+    }
+
+    /// A hierarchical configuration actor of this name.
+    fn config_child(
+        &self,
+        alloc: Global,
+        name: &str,
+        graph: u32,
+        args: &[Expr],
+        sets: &[u32],
+    ) -> Result<Value, AllocError>
+        requires { All (IsWritable self.now.names.now) args.now }
+        ensures { IfOk result (λ v. view v ≡ object (body_members name.now (named_body (kernel_names (map signature_view self.now.signatures.now)) self.now.graphs.now self.now.names.now (Body.ConfigChild graph args.now sets.now)))) }
+    {
+        let graph = graph_name(self.graphs, graph);
+        let args = list(alloc, &Expressions { names: self.names }, args)?;
+        let sets = list(alloc, &Sets { names: self.names }, sets)?;
+        config_child_actor(alloc, name, graph, args, sets)
+    }
 }
 
 impl Writer for Actors<'_> {
@@ -149,16 +183,9 @@ impl Writer for Actors<'_> {
                     sets.items(),
                 )
             }
-            Body::Child { graph, args } => {
-                let graph = graph_name(self.graphs, *graph);
-                let args = list(alloc, &Expressions { names: self.names }, args.items())?;
-                child_actor(alloc, name, graph, args)
-            }
+            Body::Child { graph, args } => self.child(alloc, name, *graph, args.items()),
             Body::ConfigChild { graph, args, sets } => {
-                let graph = graph_name(self.graphs, *graph);
-                let args = list(alloc, &Expressions { names: self.names }, args.items())?;
-                let sets = list(alloc, &Sets { names: self.names }, sets.items())?;
-                config_child_actor(alloc, name, graph, args, sets)
+                self.config_child(alloc, name, *graph, args.items(), sets.items())
             }
         }
     }

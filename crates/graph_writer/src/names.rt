@@ -4,7 +4,7 @@ ghost use Rattle.graph_format.specs.Kernels.{kernel_names};
 ghost use Rattle.graph_format.specs.Named.{name_at_place, named_end, names_of_actors, names_of_graphs, names_of_interfaces, names_of_ports, names_of_ports_at};
 ghost use Rattle.graph_format.specs.Values.{end_text};
 ghost use Rattle.pisdf_model.specs.Parts.{port_names};
-ghost use Rattle.graph_writer.specs.Places.{child_port};
+ghost use Rattle.graph_writer.specs.ChildPorts.{child_port};
 
 use kernel_gate::Signature;
 use param_expr::Name;

@@ -1,4 +1,4 @@
--- How many tokens go on in a graph, counted over its own delays and the graphs that it holds.
+-- How many tokens go on in a graph, counted over its own delays and its children.
 use Rattle.std.proofs.Common.{◌≡◌, ℕ, zero, suc, ◌+◌, ◌≤◌, ◌==◌, ◌&&◌, ◌||◌, ℤ, Bool, false, nat_lt, List, [], ◌∷◌, ◌++◌, length, map, Option, Some, None, refl, sym, ap, ◌∙◌, ⊎_elim, ◌<◌, add-one, arith, get_or, replicate}
 use Rattle.std.specs.Prelude.{slice_get, slice_index_or, sum_by}
 use Rattle.std.specs.List.{flat_map, list_any, range_with_len}
@@ -8,8 +8,8 @@ use Rattle.std.proofs.lemmas.List.Concat.{length-flat_map}
 use Rattle.std.proofs.lemmas.List.FromFn.{get_or-map-range_with_len, length-map-range_with_len, map-range_with_len_more}
 use Rattle.std.proofs.lemmas.List.Sums.{sum_by-append, sum_by-cons}
 use Rattle.pisdf_model.specs.Arrows.{to_of}
-use Rattle.pisdf_model.specs.Hold.{actor_state, capped, graph_state, has_large_hold, hold, hold_to, in_line, initial_to, is_held, is_large, is_named, kept_in, own_hold}
-use Rattle.pisdf_model.specs.Nesting.{children, children_of}
+use Rattle.pisdf_model.specs.Hold.{actor_state, capped_hold, graph_state, has_large_hold, hold, hold_limit, hold_over, in_line, initial_to, is_held, is_large, is_named, kept_in, own_hold}
+use Rattle.pisdf_model.specs.Nesting.{children, children_of, nesting_limit}
 use Rattle.pisdf_model.specs.declared.actor.Actor.{Actor}
 use Rattle.pisdf_model.specs.declared.actor.Body.{Body}
 use Rattle.pisdf_model.specs.declared.actor.Body.TheVariants.{Kernel, Config, Child, ConfigChild}
@@ -39,7 +39,7 @@ line_length state = length-flat_map (λ tokens. tokens) state
 
 -- ---- the tokens of a state
 
-actor_length : (states : ℕ → List (List ℤ)) (body : Body) → length (actor_state states body) ≡ sum_by (λ k. length (in_line (states k))) (children_of body)
+pub actor_length : (states : ℕ → List (List ℤ)) (body : Body) → length (actor_state states body) ≡ sum_by (λ k. length (in_line (states k))) (children_of body)
 actor_length states (Kernel kernel args ins outs) = refl
 actor_length states (Config kernel args ins outs sets) = refl
 actor_length states (Child graph args) = omega arith
@@ -64,60 +64,54 @@ hold_here states held same [] place = refl
 hold_here states held same (g ∷ graphs) zero = graph_length states g ∙ ap (λ n. own_hold g + n) (sum_same (λ k. length (in_line (states k))) held same (children g))
 hold_here states held same (g ∷ graphs) (suc place) = hold_here states held same graphs place
 
-pub held_tokens : (graphs : List Graph) (n place : ℕ) → length (in_line (initial_to graphs n place)) ≡ hold_to (map own_hold graphs) (map children graphs) n place
-unfolding initial_to hold_to
+pub held_tokens : (graphs : List Graph) (n place : ℕ) → length (in_line (initial_to graphs n place)) ≡ hold_over (map own_hold graphs) (map children graphs) n place
+unfolding initial_to hold_over
 held_tokens graphs zero place = refl
-held_tokens graphs (suc n) place = hold_here (initial_to graphs n) (hold_to (map own_hold graphs) (map children graphs) n) (held_tokens graphs n) graphs place
+held_tokens graphs (suc n) place = hold_here (initial_to graphs n) (hold_over (map own_hold graphs) (map children graphs) n) (held_tokens graphs n) graphs place
 
 -- ---- numbers counted to the limit
 
-capped_add : (a b : ℕ) → capped (capped a + capped b) ≡ capped (a + b)
+capped_add : (a b : ℕ) → capped_hold (capped_hold a + capped_hold b) ≡ capped_hold (a + b)
 capped_add a b = omega arith
 
-capped_left : (a b : ℕ) → capped (capped a + b) ≡ capped (a + b)
-capped_left a b = omega arith
-
-capped_right : (a b : ℕ) → capped (a + capped b) ≡ capped (a + b)
-capped_right a b = omega arith
-
 -- two sums whose terms are the same to the limit
-capped_sums : (f g : ℕ → ℕ) → ((k : ℕ) → capped (f k) ≡ capped (g k)) → (xs : List ℕ) → capped (sum_by f xs) ≡ capped (sum_by g xs)
+capped_sums : (f g : ℕ → ℕ) → ((k : ℕ) → capped_hold (f k) ≡ capped_hold (g k)) → (xs : List ℕ) → capped_hold (sum_by f xs) ≡ capped_hold (sum_by g xs)
 capped_sums f g same [] = refl
 capped_sums f g same (x ∷ xs) =
-    ap capped (sum_by-cons f x xs)
+    ap capped_hold (sum_by-cons f x xs)
     ∙ sym (capped_add (f x) (sum_by f xs))
-    ∙ ap (λ n. capped (n + capped (sum_by f xs))) (same x)
-    ∙ ap (λ n. capped (capped (g x) + n)) (capped_sums f g same xs)
+    ∙ ap (λ n. capped_hold (n + capped_hold (sum_by f xs))) (same x)
+    ∙ ap (λ n. capped_hold (capped_hold (g x) + n)) (capped_sums f g same xs)
     ∙ capped_add (g x) (sum_by g xs)
-    ∙ ap capped (sym (sum_by-cons g x xs))
+    ∙ ap capped_hold (sym (sum_by-cons g x xs))
 
-capped_both : (a b c d : ℕ) → capped a ≡ capped c → capped b ≡ capped d → capped (a + b) ≡ capped (c + d)
-capped_both a b c d first second = sym (capped_add a b) ∙ ap (λ n. capped (n + capped b)) first ∙ ap (λ n. capped (capped c + n)) second ∙ capped_add c d
+capped_both : (a b c d : ℕ) → capped_hold a ≡ capped_hold c → capped_hold b ≡ capped_hold d → capped_hold (a + b) ≡ capped_hold (c + d)
+capped_both a b c d first second = sym (capped_add a b) ∙ ap (λ n. capped_hold (n + capped_hold b)) first ∙ ap (λ n. capped_hold (capped_hold c + n)) second ∙ capped_add c d
 
-pub over_capped : (n : ℕ) → nat_lt 262144 (capped n) ≡ nat_lt 262144 n
-over_capped n = same_test (nat_lt 262144 (capped n)) (nat_lt 262144 n) (
-  λ over. lt-ltb 262144 n (let less = ltb-true 262144 (capped n) over in omega arith),
-  λ over. lt-ltb 262144 (capped n) (let less = ltb-true 262144 n over in omega arith),
+pub over_capped : (n : ℕ) → nat_lt hold_limit (capped_hold n) ≡ nat_lt hold_limit n
+over_capped n = same_test (nat_lt hold_limit (capped_hold n)) (nat_lt hold_limit n) (
+  λ over. lt-ltb hold_limit n (let less = ltb-true hold_limit (capped_hold n) over in omega arith),
+  λ over. lt-ltb hold_limit (capped_hold n) (let less = ltb-true hold_limit n over in omega arith),
 )
 
-read_capped : (own : List ℕ) (place : ℕ) → capped (slice_index_or (map capped own) place 0) ≡ capped (slice_index_or own place 0)
+read_capped : (own : List ℕ) (place : ℕ) → capped_hold (slice_index_or (map capped_hold own) place 0) ≡ capped_hold (slice_index_or own place 0)
 read_capped [] place = refl
 read_capped (x ∷ own) zero = omega arith
 read_capped (x ∷ own) (suc place) = read_capped own place
 
-held_capped : (own : List ℕ) (holds : List (List ℕ)) (n place : ℕ) → capped (hold_to (map capped own) holds n place) ≡ capped (hold_to own holds n place)
-unfolding hold_to
+held_capped : (own : List ℕ) (holds : List (List ℕ)) (n place : ℕ) → capped_hold (hold_over (map capped_hold own) holds n place) ≡ capped_hold (hold_over own holds n place)
+unfolding hold_over
 held_capped own holds zero place = refl
 held_capped own holds (suc n) place =
-    capped_both (slice_index_or (map capped own) place 0) (sum_by (hold_to (map capped own) holds n) (to_of holds place)) (slice_index_or own place 0) (sum_by (hold_to own holds n) (to_of holds place))
+    capped_both (slice_index_or (map capped_hold own) place 0) (sum_by (hold_over (map capped_hold own) holds n) (to_of holds place)) (slice_index_or own place 0) (sum_by (hold_over own holds n) (to_of holds place))
     (read_capped own place)
-    (capped_sums (hold_to (map capped own) holds n) (hold_to own holds n) (held_capped own holds n) (to_of holds place))
+    (capped_sums (hold_over (map capped_hold own) holds n) (hold_over own holds n) (held_capped own holds n) (to_of holds place))
 
 -- a graph's own tokens may be counted to the limit
-pub large_capped : (own : List ℕ) (holds : List (List ℕ)) (place : ℕ) → is_large (map capped own) holds place ≡ is_large own holds place
+pub large_capped : (own : List ℕ) (holds : List (List ℕ)) (place : ℕ) → is_large (map capped_hold own) holds place ≡ is_large own holds place
 large_capped own holds place =
     ap (λ over. is_held holds place && over)
-    (sym (over_capped (hold_to (map capped own) holds 8 place)) ∙ ap (nat_lt 262144) (held_capped own holds 8 place) ∙ over_capped (hold_to own holds 8 place))
+    (sym (over_capped (hold_over (map capped_hold own) holds nesting_limit place)) ∙ ap (nat_lt hold_limit) (held_capped own holds nesting_limit place) ∙ over_capped (hold_over own holds nesting_limit place))
 
 -- ---- graphs whose state begins with too many tokens
 
@@ -127,8 +121,8 @@ named_held (g ∷ graphs) place = ap (λ rest. list_any (λ child. child == plac
 
 pub large_hold : (graphs : List Graph) (place : ℕ) → has_large_hold graphs place ≡ is_large (map own_hold graphs) (map children graphs) place
 large_hold graphs place =
-    ap (λ named. named && nat_lt 262144 (hold graphs place)) (named_held graphs place)
-    ∙ ap (λ n. is_held (map children graphs) place && nat_lt 262144 n) (held_tokens graphs 8 place)
+    ap (λ named. named && nat_lt hold_limit (hold graphs place)) (named_held graphs place)
+    ∙ ap (λ n. is_held (map children graphs) place && nat_lt hold_limit n) (held_tokens graphs nesting_limit place)
 
 -- ---- level by level
 
@@ -137,74 +131,71 @@ map_same f g same [] = refl
 map_same f g same (x ∷ xs) = ap (λ y. y ∷ map f xs) (same x) ∙ ap (λ ys. g x ∷ ys) (map_same f g same xs)
 
 module _ (own : List ℕ) (arrows : List (List ℕ)) (long : length own ≡ length arrows) where
-  outside : (n place : ℕ) → length arrows ≤ place → hold_to own arrows n place ≡ 0
-  unfolding hold_to
+  outside : (n place : ℕ) → length arrows ≤ place → hold_over own arrows n place ≡ 0
+  unfolding hold_over
   outside zero place past = refl
   outside (suc n) place past = rw (get_or_past own place 0 (omega arith), get_or_past arrows place [] past) refl
 
   -- what each graph holds over n levels
   abbrev pub level : ℕ → List ℕ
-  level n = map (λ place. capped (hold_to own arrows n place)) (range_with_len 0 (length arrows))
+  level n = map (λ place. capped_hold (hold_over own arrows n place)) (range_with_len 0 (length arrows))
 
-  read_level : (n place : ℕ) → get_or (level n) place 0 ≡ capped (hold_to own arrows n place)
+  read_level : (n place : ℕ) → get_or (level n) place 0 ≡ capped_hold (hold_over own arrows n place)
   read_level n place =
       ⊎_elim
-      (λ (inside : place < length arrows). get_or-map-range_with_len (λ place. capped (hold_to own arrows n place)) 0 (length arrows) place place 0 inside (omega arith))
-      (λ (past : length arrows ≤ place). get_or_past (level n) place 0 (rw (length-map-range_with_len (λ place. capped (hold_to own arrows n place)) 0 (length arrows)) past) ∙ ap capped (sym (outside n place past)))
+      (λ (inside : place < length arrows). get_or-map-range_with_len (λ place. capped_hold (hold_over own arrows n place)) 0 (length arrows) place place 0 inside (omega arith))
+      (λ (past : length arrows ≤ place). get_or_past (level n) place 0 (rw (length-map-range_with_len (λ place. capped_hold (hold_over own arrows n place)) 0 (length arrows)) past) ∙ ap capped_hold (sym (outside n place past)))
       (cases_lt place (length arrows))
 
-  pub level_most : (n k : ℕ) → get_or (level n) k 0 ≤ 262145
-  level_most n k = rw (read_level n k) (omega arith)
-
-  one_place : (n place : ℕ) → capped (get_or own place 0 + sum_by (λ k. get_or (level n) k 0) (to_of arrows place)) ≡ capped (hold_to own arrows (suc n) place)
-  unfolding hold_to
+  one_place : (n place : ℕ) → capped_hold (get_or own place 0 + sum_by (λ k. get_or (level n) k 0) (to_of arrows place)) ≡ capped_hold (hold_over own arrows (suc n) place)
+  unfolding hold_over
   one_place n place =
-      capped_both (get_or own place 0) (sum_by (λ k. get_or (level n) k 0) (to_of arrows place)) (get_or own place 0) (sum_by (hold_to own arrows n) (to_of arrows place)) refl
-      (capped_sums (λ k. get_or (level n) k 0) (hold_to own arrows n) (λ k. ap capped (read_level n k) ∙ (omega arith)) (to_of arrows place))
+      capped_both (get_or own place 0) (sum_by (λ k. get_or (level n) k 0) (to_of arrows place)) (get_or own place 0) (sum_by (hold_over own arrows n) (to_of arrows place)) refl
+      (capped_sums (λ k. get_or (level n) k 0) (hold_over own arrows n) (λ k. ap capped_hold (read_level n k) ∙ (omega arith)) (to_of arrows place))
 
-  pub next_level : (n : ℕ) (holds : List ℕ) → holds ≡ level n → map (λ place. capped (get_or own place 0 + sum_by (λ k. get_or holds k 0) (to_of arrows place))) (range_with_len 0 (length arrows)) ≡ level (n + 1)
+  pub next_level : (n : ℕ) (holds : List ℕ) → holds ≡ level n → map (λ place. capped_hold (get_or own place 0 + sum_by (λ k. get_or holds k 0) (to_of arrows place))) (range_with_len 0 (length arrows)) ≡ level (n + 1)
   next_level n holds is =
-      ap (λ (hs : List ℕ). map (λ place. capped (get_or own place 0 + sum_by (λ k. get_or hs k 0) (to_of arrows place))) (range_with_len 0 (length arrows))) is
-      ∙ map_same (λ place. capped (get_or own place 0 + sum_by (λ k. get_or (level n) k 0) (to_of arrows place))) (λ place. capped (hold_to own arrows (n + 1) place))
-      (λ place. one_place n place ∙ ap (λ k. capped (hold_to own arrows k place)) (sym (add-one n))) (range_with_len 0 (length arrows))
+      ap (λ (hs : List ℕ). map (λ place. capped_hold (get_or own place 0 + sum_by (λ k. get_or hs k 0) (to_of arrows place))) (range_with_len 0 (length arrows))) is
+      ∙ map_same (λ place. capped_hold (get_or own place 0 + sum_by (λ k. get_or (level n) k 0) (to_of arrows place))) (λ place. capped_hold (hold_over own arrows (n + 1) place))
+      (λ place. one_place n place ∙ ap (λ k. capped_hold (hold_over own arrows k place)) (sym (add-one n))) (range_with_len 0 (length arrows))
 
   pub first_level : replicate (length arrows) 0 ≡ level 0
-  unfolding hold_to
+  unfolding hold_over
   first_level = from 0 (length arrows)
     where
-      from : (a n : ℕ) → replicate n 0 ≡ map (λ place. capped (hold_to own arrows 0 place)) (range_with_len a n)
+      from : (a n : ℕ) → replicate n 0 ≡ map (λ place. capped_hold (hold_over own arrows 0 place)) (range_with_len a n)
       from a zero = refl
       from a (suc n) = ap (λ ys. 0 ∷ ys) (from (a + 1) n)
 
 -- one place more
 pub one_more_place : (own holds : List ℕ) (arrows : List (List ℕ)) (place : ℕ) (read to : List ℕ) (here value : ℕ) (mapped : List ℕ) → place < length arrows → read ≡ get_or arrows place read → to ≡ read → here ≡ get_or own place 0
-    → value ≡ capped (here + sum_by (λ k. get_or holds k 0) to) → mapped ≡ map (λ place. capped (get_or own place 0 + sum_by (λ k. get_or holds k 0) (to_of arrows place))) (range_with_len 0 place)
-    → mapped ++ value ∷ [] ≡ map (λ place. capped (get_or own place 0 + sum_by (λ k. get_or holds k 0) (to_of arrows place))) (range_with_len 0 (place + 1))
+    → value ≡ capped_hold (here + sum_by (λ k. get_or holds k 0) to) → mapped ≡ map (λ place. capped_hold (get_or own place 0 + sum_by (λ k. get_or holds k 0) (to_of arrows place))) (range_with_len 0 place)
+    → mapped ++ value ∷ [] ≡ map (λ place. capped_hold (get_or own place 0 + sum_by (λ k. get_or holds k 0) (to_of arrows place))) (range_with_len 0 (place + 1))
 one_more_place own holds arrows place read to here value mapped inside is same at_own told so_far =
-    let f : ℕ → ℕ = λ place. capped (get_or own place 0 + sum_by (λ k. get_or holds k 0) (to_of arrows place)) in
-    let value_is : value ≡ f place = told ∙ ap (λ h. capped (h + sum_by (λ k. get_or holds k 0) to)) at_own ∙ ap (λ t. capped (get_or own place 0 + sum_by (λ k. get_or holds k 0) t)) (same ∙ get_or_read arrows place read inside is []) in
+    let f : ℕ → ℕ = λ place. capped_hold (get_or own place 0 + sum_by (λ k. get_or holds k 0) (to_of arrows place)) in
+    let value_is : value ≡ f place = told ∙ ap (λ h. capped_hold (h + sum_by (λ k. get_or holds k 0) to)) at_own ∙ ap (λ t. capped_hold (get_or own place 0 + sum_by (λ k. get_or holds k 0) t)) (same ∙ get_or_read arrows place read inside is []) in
     ap (λ (m : List ℕ). m ++ value ∷ []) so_far ∙ ap (λ v. map f (range_with_len 0 place) ++ v ∷ []) value_is ∙ sym (map-range_with_len_more f 0 place place (omega arith))
 
 -- one graph more whose hold is told
-pub one_more_large : (own : List ℕ) (arrows : List (List ℕ)) (long : length own ≡ length arrows) (place : ℕ) (holds : List ℕ) (value : Bool) (mapped : List Bool) → holds ≡ level own arrows long 8 → value ≡ (is_held arrows place && nat_lt 262144 (get_or holds place 0))
+pub one_more_large : (own : List ℕ) (arrows : List (List ℕ)) (long : length own ≡ length arrows) (place : ℕ) (holds : List ℕ) (value : Bool) (mapped : List Bool) → holds ≡ level own arrows long nesting_limit → value ≡ (is_held arrows place && nat_lt hold_limit (get_or holds place 0))
     → mapped ≡ map (λ place. is_large own arrows place) (range_with_len 0 place) → mapped ++ value ∷ [] ≡ map (λ place. is_large own arrows place) (range_with_len 0 (place + 1))
 one_more_large own arrows long place holds value mapped is told so_far =
     let value_is : value ≡ is_large own arrows place =
     told
-    ∙ ap (λ (hs : List ℕ). is_held arrows place && nat_lt 262144 (get_or hs place 0)) is
-    ∙ ap (λ n. is_held arrows place && nat_lt 262144 n) (read_level own arrows long 8 place)
-    ∙ ap (λ over. is_held arrows place && over) (over_capped (hold_to own arrows 8 place)) in
+    ∙ ap (λ (hs : List ℕ). is_held arrows place && nat_lt hold_limit (get_or hs place 0)) is
+    ∙ ap (λ n. is_held arrows place && nat_lt hold_limit n) (read_level own arrows long nesting_limit place)
+    ∙ ap (λ over. is_held arrows place && over) (over_capped (hold_over own arrows nesting_limit place)) in
     ap (λ (m : List Bool). m ++ value ∷ []) so_far ∙ ap (λ v. map (λ place. is_large own arrows place) (range_with_len 0 place) ++ v ∷ []) value_is ∙ sym (map-range_with_len_more (λ place. is_large own arrows place) 0 place place (omega arith))
 
 -- all of them
-pub with_large : (graphs : List Graph) (own : List ℕ) (large : List Bool) → own ≡ map (λ g. capped (own_hold g)) graphs → large ≡ map (λ place. is_large own (map children graphs) place) (range_with_len 0 (length graphs)) → large ≡ map (λ place. has_large_hold graphs place) (range_with_len 0 (length graphs))
+pub with_large : (graphs : List Graph) (own : List ℕ) (large : List Bool) → own ≡ map (λ g. capped_hold (own_hold g)) graphs → large ≡ map (λ place. is_large own (map children graphs) place) (range_with_len 0 (length graphs)) → large ≡ map (λ place. has_large_hold graphs place) (range_with_len 0 (length graphs))
 with_large graphs own large own_is large_is =
     large_is
     ∙ map_same (λ place. is_large own (map children graphs) place) (λ place. has_large_hold graphs place)
-    (λ place. ap (λ (os : List ℕ). is_large os (map children graphs) place) (own_is ∙ sym (of_mapped own_hold capped (λ g. capped (own_hold g)) (λ g. refl) graphs)) ∙ large_capped (map own_hold graphs) (map children graphs) place ∙ sym (large_hold graphs place))
+    (λ place. ap (λ (os : List ℕ). is_large os (map children graphs) place) (own_is ∙ sym (of_mapped own_hold capped_hold (λ g. capped_hold (own_hold g)) (λ g. refl) graphs)) ∙ large_capped (map own_hold graphs) (map children graphs) place ∙ sym (large_hold graphs place))
     (range_with_len 0 (length graphs))
 
-none_first : {D : Type 0} (ds : List D) → None ≡ first ds → ds ≡ []
+pub none_first : {D : Type 0} (ds : List D) → None ≡ first ds → ds ≡ []
 none_first [] none = refl
 none_first (d ∷ ds) none = absurd cc
 

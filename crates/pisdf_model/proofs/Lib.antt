@@ -8,6 +8,7 @@ pub mod Firsts
 pub mod Holding
 pub mod Holds
 pub mod InOrder
+pub mod InitialStates
 pub mod Late
 pub mod Lists
 pub mod MarkedFaults
@@ -18,5 +19,6 @@ pub mod Referring
 pub mod Searching
 pub mod Seen
 pub mod Standing
+mod Stated
 pub mod Tallied
 pub mod Walking

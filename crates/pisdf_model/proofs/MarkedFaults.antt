@@ -8,11 +8,11 @@ use Rattle.pisdf_model.specs.Arrows.{on_cycles}
 use Rattle.pisdf_model.specs.Details.{of_each, unless}
 use Rattle.pisdf_model.specs.InterfaceWires.{fifo_misplaced, graph_misplaced, has_delay, interface_wire_faults, is_at_configuration, is_at_input, is_at_interface, is_at_output, is_misplaced}
 use Rattle.pisdf_model.specs.Marked.{marked, marked_fifo, marked_graph, marked_graphs}
-use Rattle.pisdf_model.specs.Nesting.{children, depth_faults, graph_cycle_faults, holds, nested_over}
+use Rattle.pisdf_model.specs.Nesting.{children, depth_faults, graph_cycle_faults, child_lists, nested_over}
 use Rattle.pisdf_model.specs.ParamOrder.{is_late, order_faults, param_order_faults}
 use Rattle.pisdf_model.specs.Parts.{input_names, inputs_of, interface_names, output_names, outputs_of}
 use Rattle.pisdf_model.specs.Ports.{actor_ports, all_sets, body_fits, export_count, graph_ports, inherited_count, param_ports, ports_faults}
-use Rattle.pisdf_model.specs.Wires.{actor_wires, end_text, ends_of, fifo_wires, gives_tokens, graph_wires, interface_wires, is_input_port, is_output_port, names_of_interfaces, names_of_ports, port_text, port_wires, takes_tokens, text_at, text_or_none, times_of_interface, times_of_port, wire_faults}
+use Rattle.pisdf_model.specs.Wires.{actor_wires, end_text, ends_of, fifo_wires, gives_tokens, graph_wires, interface_wires, is_input_port, is_output_port, names_of_interfaces, actor_port_names, port_text, port_wires, takes_tokens, text_at, text_or_none, times_of_interface, times_of_port, wire_faults}
 use Rattle.pisdf_model.specs.declared.actor.Actor.{Actor}
 use Rattle.pisdf_model.specs.declared.actor.Body.{Body}
 use Rattle.pisdf_model.specs.declared.actor.Body.TheVariants.{Kernel, Config, Child, ConfigChild}
@@ -69,7 +69,7 @@ module _ (graphs : List Graph) where
   output_names_alike (Child graph args) = ap interface_names (outputs_alike graph)
   output_names_alike (ConfigChild graph args sets) = ap interface_names (outputs_alike graph)
 
-  port_names_alike : (actor : Actor) → names_of_ports all actor ≡ names_of_ports graphs actor
+  port_names_alike : (actor : Actor) → actor_port_names all actor ≡ actor_port_names graphs actor
   port_names_alike actor = ap (λ names. names ++ output_names all actor.body) (input_names_alike actor.body) ∙ ap (λ names. input_names graphs actor.body ++ names) (output_names_alike actor.body)
 
   -- ---- ports
@@ -197,14 +197,14 @@ module _ (graphs : Graphs) where
   names_marked : map (λ (g : Graph). g.name) (map marked_graph graphs.graphs) ≡ map (λ (g : Graph). g.name) graphs.graphs
   names_marked = of_mapped marked_graph (λ (g : Graph). g.name) (λ (g : Graph). g.name) (λ g. refl) graphs.graphs
 
-  holds_marked : holds (marked_graphs graphs) ≡ holds graphs
+  holds_marked : child_lists (marked_graphs graphs) ≡ child_lists graphs
   holds_marked = of_mapped marked_graph children children (λ g. refl) graphs.graphs
 
   -- the names of graphs at places that depend on what the graphs hold
-  at_places : (places : List (List ℕ) → List ℕ) → map (λ place. slice_index_or (map (λ (g : Graph). g.name) (map marked_graph graphs.graphs)) place []) (places (holds (marked_graphs graphs)))
-      ≡ map (λ place. slice_index_or (map (λ (g : Graph). g.name) graphs.graphs) place []) (places (holds graphs))
+  at_places : (places : List (List ℕ) → List ℕ) → map (λ place. slice_index_or (map (λ (g : Graph). g.name) (map marked_graph graphs.graphs)) place []) (places (child_lists (marked_graphs graphs)))
+      ≡ map (λ place. slice_index_or (map (λ (g : Graph). g.name) graphs.graphs) place []) (places (child_lists graphs))
   at_places places =
-      ap (λ names. map (λ place. slice_index_or names place []) (places (holds (marked_graphs graphs)))) names_marked
+      ap (λ names. map (λ place. slice_index_or names place []) (places (child_lists (marked_graphs graphs)))) names_marked
       ∙ ap (λ arrows. map (λ place. slice_index_or (map (λ (g : Graph). g.name) graphs.graphs) place []) (places arrows)) holds_marked
 
   pub cycles_marked : graph_cycle_faults (marked_graphs graphs) ≡ graph_cycle_faults graphs

@@ -37,19 +37,19 @@ lt_one_more n m =
 
 -- a test of a graph
 abbrev pub over : List (List ℕ) → ℕ → ℕ → Bool
-over holds n place = nat_lt n (nesting_to holds (n + 1) place)
+over child_lists n place = nat_lt n (nesting_to child_lists (n + 1) place)
 
-over_zero : (holds : List (List ℕ)) (place : ℕ) → over holds 0 place ≡ true
+over_zero : (child_lists : List (List ℕ)) (place : ℕ) → over child_lists 0 place ≡ true
 unfolding nesting_to
-over_zero holds place = lt-ltb 0 (1 + greatest (map (nesting_to holds 0) (to_of holds place))) (omega arith)
+over_zero child_lists place = lt-ltb 0 (1 + greatest (map (nesting_to child_lists 0) (to_of child_lists place))) (omega arith)
 
-over_more : (holds : List (List ℕ)) (n place : ℕ) → over holds (n + 1) place ≡ list_any (λ w. over holds n w) (to_of holds place)
+over_more : (child_lists : List (List ℕ)) (n place : ℕ) → over child_lists (n + 1) place ≡ list_any (λ w. over child_lists n w) (to_of child_lists place)
 unfolding nesting_to
-over_more holds n place =
-    let deep : nesting_to holds (n + 1 + 1) place ≡ 1 + greatest (map (nesting_to holds (n + 1)) (to_of holds place)) = ap (λ k. nesting_to holds k place) (add-one (n + 1)) in
+over_more child_lists n place =
+    let deep : nesting_to child_lists (n + 1 + 1) place ≡ 1 + greatest (map (nesting_to child_lists (n + 1)) (to_of child_lists place)) = ap (λ k. nesting_to child_lists k place) (add-one (n + 1)) in
     ap (nat_lt (n + 1)) deep
-    ∙ lt_one_more n (greatest (map (nesting_to holds (n + 1)) (to_of holds place)))
-    ∙ lt_greatest n (nesting_to holds (n + 1)) (to_of holds place)
+    ∙ lt_one_more n (greatest (map (nesting_to child_lists (n + 1)) (to_of child_lists place)))
+    ∙ lt_greatest n (nesting_to child_lists (n + 1)) (to_of child_lists place)
 
 any_same : (p q : ℕ → Bool) (xs : List ℕ) → All (λ x. p x ≡ q x) xs → list_any p xs ≡ list_any q xs
 any_same p q [] same = refl
@@ -64,26 +64,26 @@ by_place f g (x ∷ xs) a same =
     let tail = by_place f g xs (a + 1) (λ i inside. same (suc i) (omega arith) ∙ ap g (omega arith)) in
     ap (λ y. y ∷ map f xs) head ∙ ap (λ ys. g a ∷ ys) tail
 
-pub nested_first : (holds : List (List ℕ)) → replicate (length holds) true ≡ map (λ place. over holds 0 place) (range_with_len 0 (length holds))
-nested_first holds = from 0 (length holds)
+pub nested_first : (child_lists : List (List ℕ)) → replicate (length child_lists) true ≡ map (λ place. over child_lists 0 place) (range_with_len 0 (length child_lists))
+nested_first child_lists = from 0 (length child_lists)
   where
-    from : (a n : ℕ) → replicate n true ≡ map (λ place. over holds 0 place) (range_with_len a n)
+    from : (a n : ℕ) → replicate n true ≡ map (λ place. over child_lists 0 place) (range_with_len a n)
     from a zero = refl
-    from a (suc n) = ap (λ y. y ∷ replicate n true) (sym (over_zero holds a)) ∙ ap (λ ys. over holds 0 a ∷ ys) (from (a + 1) n)
+    from a (suc n) = ap (λ y. y ∷ replicate n true) (sym (over_zero child_lists a)) ∙ ap (λ ys. over child_lists 0 a ∷ ys) (from (a + 1) n)
 
-pub nested_more : (holds : List (List ℕ)) (n : ℕ) (marks : List Bool) → LeadsInside holds → marks ≡ map (λ place. over holds n place) (range_with_len 0 (length holds)) → map (λ to. list_any (λ w. get_or marks w false) to) holds ≡ map (λ place. over holds (n + 1) place) (range_with_len 0 (length holds))
-nested_more holds n marks inside so_far =
-    by_place (λ to. list_any (λ w. get_or marks w false) to) (λ place. over holds (n + 1) place) holds 0
+pub nested_more : (child_lists : List (List ℕ)) (n : ℕ) (marks : List Bool) → LeadsInside child_lists → marks ≡ map (λ place. over child_lists n place) (range_with_len 0 (length child_lists)) → map (λ to. list_any (λ w. get_or marks w false) to) child_lists ≡ map (λ place. over child_lists (n + 1) place) (range_with_len 0 (length child_lists))
+nested_more child_lists n marks inside so_far =
+    by_place (λ to. list_any (λ w. get_or marks w false) to) (λ place. over child_lists (n + 1) place) child_lists 0
     (λ i below.
-    let fits = All-get_or (λ to. All (λ w. w < length holds) to) holds i [] below inside in
-    let same = All-weaker (λ w. w < length holds) (λ w. get_or marks w false ≡ over holds n w) (λ w less. ap (λ ms. get_or ms w false) so_far ∙ get_or-map-range_with_len (λ place. over holds n place) 0 (length holds) w w false less (omega arith)) (to_of holds i) fits in
+    let fits = All-get_or (λ to. All (λ w. w < length child_lists) to) child_lists i [] below inside in
+    let same = All-weaker (λ w. w < length child_lists) (λ w. get_or marks w false ≡ over child_lists n w) (λ w less. ap (λ ms. get_or ms w false) so_far ∙ get_or-map-range_with_len (λ place. over child_lists n place) 0 (length child_lists) w w false less (omega arith)) (to_of child_lists i) fits in
     let at : 0 + i ≡ i = omega arith in
-    any_same (λ w. get_or marks w false) (λ w. over holds n w) (to_of holds i) same
-    ∙ sym (over_more holds n i)
-    ∙ ap (λ place. over holds (n + 1) place) (sym at))
+    any_same (λ w. get_or marks w false) (λ w. over child_lists n w) (to_of child_lists i) same
+    ∙ sym (over_more child_lists n i)
+    ∙ ap (λ place. over child_lists (n + 1) place) (sym at))
 
-pub marks_long : (holds : List (List ℕ)) (n : ℕ) (marks : List Bool) → marks ≡ map (λ place. over holds n place) (range_with_len 0 (length holds)) → length marks ≡ length holds
-marks_long holds n marks so_far = ap length so_far ∙ length-map-range_with_len (λ place. over holds n place) 0 (length holds)
+pub marks_long : (child_lists : List (List ℕ)) (n : ℕ) (marks : List Bool) → marks ≡ map (λ place. over child_lists n place) (range_with_len 0 (length child_lists)) → length marks ≡ length child_lists
+marks_long child_lists n marks so_far = ap length so_far ∙ length-map-range_with_len (λ place. over child_lists n place) 0 (length child_lists)
 
 -- one element more of a list that is mapped
 pub mapped_next : (f : List ℕ → Bool) (xs : List (List ℕ)) (i : ℕ) (read places : List ℕ) (value : Bool) (mapped : List Bool) → i < length xs → read ≡ get_or xs i read → places ≡ read → value ≡ f places → mapped ≡ map f (take i xs) → mapped ++ value ∷ [] ≡ map f (take (i + 1) xs)

@@ -11,7 +11,7 @@ use Rattle.std.proofs.lemmas.Map.Lookups.{CmpEqualImpliesEq, exact_pairs, exact_
 use Rattle.std.proofs.lemmas.Map.Views.{tells_apart}
 use Rattle.pisdf_model.specs.Details.{Answers, Refuses, of_each, unless}
 use Rattle.pisdf_model.specs.EndTimes.{place_cmp, place_of, times_at}
-use Rattle.pisdf_model.specs.Wires.{actor_wires, ends_of, fifo_wires, graph_wires, interface_wires, is_interface, is_port, names_of_interfaces, names_of_ports, port_text, port_wires, times_of_interface, times_of_port}
+use Rattle.pisdf_model.specs.Wires.{actor_wires, ends_of, fifo_wires, graph_wires, interface_wires, is_interface, is_port, names_of_interfaces, actor_port_names, port_text, port_wires, times_of_interface, times_of_port}
 use Rattle.pisdf_model.specs.declared.actor.Actor.{Actor}
 use Rattle.pisdf_model.specs.declared.detail_fault.DetailFault.{DetailFault}
 use Rattle.pisdf_model.specs.declared.fifo.End.{End}
@@ -83,7 +83,7 @@ module _ (times : BTreeMap (Option ℕ × ℕ) ℕ) (ends : List End) (told : To
   ports_alike : (graphs : List Graph) (a : ℕ) (actor : Actor) → actor_wires (λ b p. times_at times (Some b, p)) graphs a actor ≡ actor_wires (times_of_port ends) graphs a actor
   ports_alike graphs a actor =
       same_from (λ p name. port_wires (λ b p. times_at times (Some b, p)) a actor.name p name) (λ p name. port_wires (times_of_port ends) a actor.name p name)
-      (λ p name. ap (λ n. unless (n == 1) (port_text actor.name name)) (told (Some a, p) ∙ same_count (λ end. is_eq (place_cmp (place_of end) (Some a, p))) (is_port a p) (at_port a p) ends)) 0 (names_of_ports graphs actor)
+      (λ p name. ap (λ n. unless (n == 1) (port_text actor.name name)) (told (Some a, p) ∙ same_count (λ end. is_eq (place_cmp (place_of end) (Some a, p))) (is_port a p) (at_port a p) ends)) 0 (actor_port_names graphs actor)
 
   pub actors_alike : (graphs : List Graph) (actors : List Actor) → of_each (λ a actor. actor_wires (λ b p. times_at times (Some b, p)) graphs a actor) actors ≡ of_each (λ a actor. actor_wires (times_of_port ends) graphs a actor) actors
   actors_alike graphs actors = same_from (λ a actor. actor_wires (λ b p. times_at times (Some b, p)) graphs a actor) (λ a actor. actor_wires (times_of_port ends) graphs a actor) (ports_alike graphs) 0 actors

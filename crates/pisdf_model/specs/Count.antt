@@ -21,19 +21,55 @@ word_of counted.Exports = codes "exports"
 word_of counted.Delay = codes "delay"
 word_of counted.Hold = codes "hold"
 
--- some delay has over 65,536 tokens
+-- ---- the limits
+
+-- the most graphs of a file
+abbrev pub graphs_limit : ℕ
+graphs_limit = 32
+
+-- the most parameters of a graph
+abbrev pub params_limit : ℕ
+params_limit = 64
+
+-- the most input interfaces of a graph
+abbrev pub inputs_limit : ℕ
+inputs_limit = 32
+
+-- the most output interfaces of a graph
+abbrev pub outputs_limit : ℕ
+outputs_limit = 32
+
+-- the most actors of a graph
+abbrev pub actors_limit : ℕ
+actors_limit = 64
+
+-- the most FIFOs of a graph
+abbrev pub fifos_limit : ℕ
+fifos_limit = 128
+
+-- the most exports of a graph
+abbrev pub exports_limit : ℕ
+exports_limit = 64
+
+-- the most tokens of a delay
+abbrev pub delay_limit : ℕ
+delay_limit = 65536
+
+-- ---- what is over them
+
+-- some delay has more tokens than the limit
 abbrev pub has_long_delay : List Fifo → Bool
-has_long_delay fifos = list_any (λ fifo. nat_lt 65536 (length fifo.delay)) fifos
+has_long_delay fifos = list_any (λ fifo. nat_lt delay_limit (length fifo.delay)) fifos
 
 -- what there are too many of, where a graph has so many parts
 abbrev pub excess_of : PartCounts → List Counted
 excess_of counts =
-    unless (nat_le counts.params 64) counted.Params
-    ++ (unless (nat_le counts.inputs 32) counted.Inputs
-    ++ (unless (nat_le counts.outputs 32) counted.Outputs
-    ++ (unless (nat_le counts.actors 64) counted.Actors
-    ++ (unless (nat_le counts.fifos 128) counted.Fifos
-    ++ (unless (nat_le counts.exports 64) counted.Exports
+    unless (nat_le counts.params params_limit) counted.Params
+    ++ (unless (nat_le counts.inputs inputs_limit) counted.Inputs
+    ++ (unless (nat_le counts.outputs outputs_limit) counted.Outputs
+    ++ (unless (nat_le counts.actors actors_limit) counted.Actors
+    ++ (unless (nat_le counts.fifos fifos_limit) counted.Fifos
+    ++ (unless (nat_le counts.exports exports_limit) counted.Exports
     ++ (unless (not counts.has_long_delay) counted.Delay
     ++ unless (not counts.has_large_hold) counted.Hold))))))
 
@@ -56,4 +92,4 @@ graph_counts graphs n g = excess_of (counts_of (has_large_hold graphs n) g)
 
 -- the graphs, then what each of them has too many of
 abbrev pub count_faults : Graphs → List Counted
-count_faults graphs = unless (nat_le (length graphs.graphs) 32) counted.Graphs ++ of_each (graph_counts graphs.graphs) graphs.graphs
+count_faults graphs = unless (nat_le (length graphs.graphs) graphs_limit) counted.Graphs ++ of_each (graph_counts graphs.graphs) graphs.graphs

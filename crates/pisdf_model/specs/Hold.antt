@@ -2,7 +2,7 @@
 use Rattle.std.specs.Prelude.{ℕ, zero, suc, ◌+◌, ◌==◌, nat_lt, min, ℤ, Bool, ◌&&◌, List, [], ◌++◌, length, map, sum_by, slice_index_or, Option, Some, None, slice_get}
 use Rattle.std.specs.List.{flat_map, list_any}
 use Rattle.pisdf_model.specs.Arrows.{to_of}
-use Rattle.pisdf_model.specs.Nesting.{children}
+use Rattle.pisdf_model.specs.Nesting.{children, nesting_limit}
 use Rattle.pisdf_model.specs.declared.actor.Actor.{Actor}
 use Rattle.pisdf_model.specs.declared.actor.Body.{Body}
 use Rattle.pisdf_model.specs.declared.actor.Body.TheVariants.{Kernel, Config, Child, ConfigChild}
@@ -42,11 +42,15 @@ unfoldable pub initial_to : List Graph → ℕ → ℕ → List (List ℤ)
 initial_to graphs zero place = []
 initial_to graphs (suc n) place = graph_state (initial_to graphs n) (slice_get graphs place)
 
--- over 8 graphs, which is the most that may be nested in each other
+-- over as many graphs as may be nested in each other
 abbrev pub initial : List Graph → ℕ → List (List ℤ)
-initial graphs place = initial_to graphs 8 place
+initial graphs place = initial_to graphs nesting_limit place
 
 -- ---- how many tokens it has
+
+-- the most tokens that the state of a graph which an actor names begins with
+abbrev pub hold_limit : ℕ
+hold_limit = 262144
 
 abbrev pub hold : List Graph → ℕ → ℕ
 hold graphs place = length (in_line (initial graphs place))
@@ -55,9 +59,9 @@ hold graphs place = length (in_line (initial graphs place))
 abbrev pub is_named : List Graph → ℕ → Bool
 is_named graphs place = list_any (λ (g : Graph). list_any (λ child. child == place) (children g)) graphs
 
--- some actor names the graph at a place, and its state begins with over 262,144 tokens
+-- some actor names the graph at a place, and its state begins with more tokens than the limit
 abbrev pub has_large_hold : List Graph → ℕ → Bool
-has_large_hold graphs place = is_named graphs place && nat_lt 262144 (hold graphs place)
+has_large_hold graphs place = is_named graphs place && nat_lt hold_limit (hold graphs place)
 
 -- ---- the same by numbers alone
 
@@ -65,17 +69,17 @@ has_large_hold graphs place = is_named graphs place && nat_lt 262144 (hold graph
 abbrev pub own_hold : Graph → ℕ
 own_hold g = sum_by (λ (f : Fifo). length (kept_in f)) g.fifos
 
--- the tokens of a graph's own delays, and those of the graphs that it holds, over n graphs
-unfoldable pub hold_to : List ℕ → List (List ℕ) → ℕ → ℕ → ℕ
-hold_to own holds zero place = 0
-hold_to own holds (suc n) place = slice_index_or own place 0 + sum_by (hold_to own holds n) (to_of holds place)
+-- the tokens of a graph's own delays, and those of its children, over n graphs nested in each other
+unfoldable pub hold_over : List ℕ → List (List ℕ) → ℕ → ℕ → ℕ
+hold_over own child_lists zero place = 0
+hold_over own child_lists (suc n) place = slice_index_or own place 0 + sum_by (hold_over own child_lists n) (to_of child_lists place)
 
 abbrev pub is_held : List (List ℕ) → ℕ → Bool
-is_held holds place = list_any (λ to. list_any (λ child. child == place) to) holds
+is_held child_lists place = list_any (λ to. list_any (λ child. child == place) to) child_lists
 
 abbrev pub is_large : List ℕ → List (List ℕ) → ℕ → Bool
-is_large own holds place = is_held holds place && nat_lt 262144 (hold_to own holds 8 place)
+is_large own child_lists place = is_held child_lists place && nat_lt hold_limit (hold_over own child_lists nesting_limit place)
 
--- counted to one more than a state may begin with
-abbrev pub capped : ℕ → ℕ
-capped n = min n 262145
+-- a number of tokens, counted to one more than the limit
+abbrev pub capped_hold : ℕ → ℕ
+capped_hold n = min n (hold_limit + 1)

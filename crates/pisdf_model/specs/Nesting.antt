@@ -20,8 +20,8 @@ abbrev pub children : Graph → List ℕ
 children g = flat_map (λ (a : Actor). children_of a.body) g.actors
 
 -- the graphs that each graph holds over one actor
-abbrev pub holds : Graphs → List (List ℕ)
-holds graphs = map children graphs.graphs
+abbrev pub child_lists : Graphs → List (List ℕ)
+child_lists graphs = map children graphs.graphs
 
 -- each graph that an actor names is there
 abbrev pub RefersToGraphs : Graphs → Type 0
@@ -32,7 +32,7 @@ graph_name graphs place = slice_index_or (map (λ (g : Graph). g.name) graphs.gr
 
 -- the names of the graphs that hold themselves, over one or more actors
 abbrev pub graph_cycle_faults : Graphs → List (List ℕ)
-graph_cycle_faults graphs = map (graph_name graphs) (on_cycles (holds graphs))
+graph_cycle_faults graphs = map (graph_name graphs) (on_cycles (child_lists graphs))
 
 abbrev pub greatest : List ℕ → ℕ
 greatest [] = 0
@@ -40,13 +40,17 @@ greatest (x ∷ xs) = max x (greatest xs)
 
 -- a graph's nesting, counted to at most n: 1 with no hierarchical actor, else one more than the greatest of its children
 unfoldable pub nesting_to : List (List ℕ) → ℕ → ℕ → ℕ
-nesting_to holds zero place = 0
-nesting_to holds (suc n) place = 1 + greatest (map (nesting_to holds n) (to_of holds place))
+nesting_to child_lists zero place = 0
+nesting_to child_lists (suc n) place = 1 + greatest (map (nesting_to child_lists n) (to_of child_lists place))
 
 -- the graphs whose nesting is over n
 abbrev pub nested_over : List (List ℕ) → ℕ → List ℕ
-nested_over holds n = filter (λ place. nat_lt n (nesting_to holds (n + 1) place)) (range_with_len 0 (length holds))
+nested_over child_lists n = filter (λ place. nat_lt n (nesting_to child_lists (n + 1) place)) (range_with_len 0 (length child_lists))
 
--- the names of the graphs whose nesting is over 8
+-- the most graphs that may be nested in each other, the outermost counted
+abbrev pub nesting_limit : ℕ
+nesting_limit = 8
+
+-- the names of the graphs whose nesting is over the limit
 abbrev pub depth_faults : Graphs → List (List ℕ)
-depth_faults graphs = map (graph_name graphs) (nested_over (holds graphs) 8)
+depth_faults graphs = map (graph_name graphs) (nested_over (child_lists graphs) nesting_limit)

@@ -14,8 +14,8 @@ abbrev pub names_of_interfaces : Graph → List (List ℕ)
 names_of_interfaces g = interface_names g.inputs ++ interface_names g.outputs
 
 -- an actor's ports, as ends count them
-abbrev pub names_of_ports : List Graph → Actor → List (List ℕ)
-names_of_ports graphs actor = input_names graphs actor.body ++ output_names graphs actor.body
+abbrev pub actor_port_names : List Graph → Actor → List (List ℕ)
+actor_port_names graphs actor = input_names graphs actor.body ++ output_names graphs actor.body
 
 -- an end's text, as a file writes it
 
@@ -28,7 +28,7 @@ text_or_none (Some name) = name
 
 abbrev pub text_at : List Graph → Option Actor → ℕ → List ℕ
 text_at graphs None p = []
-text_at graphs (Some actor) p = port_text actor.name (text_or_none (slice_get (names_of_ports graphs actor) p))
+text_at graphs (Some actor) p = port_text actor.name (text_or_none (slice_get (actor_port_names graphs actor) p))
 
 abbrev pub end_text : List Graph → Graph → End → List ℕ
 end_text graphs g (Interface i) = text_or_none (slice_get (names_of_interfaces g) i)
@@ -86,7 +86,7 @@ abbrev pub port_wires : (ℕ → ℕ → ℕ) → ℕ → List ℕ → ℕ → L
 port_wires times a actor p name = unless (times a p == 1) (port_text actor name)
 
 abbrev pub actor_wires : (ℕ → ℕ → ℕ) → List Graph → ℕ → Actor → List (List ℕ)
-actor_wires times graphs a actor = of_each (λ p name. port_wires times a actor.name p name) (names_of_ports graphs actor)
+actor_wires times graphs a actor = of_each (λ p name. port_wires times a actor.name p name) (actor_port_names graphs actor)
 
 -- the FIFOs, then the interfaces, then the ports actor by actor
 abbrev pub graph_wires : List Graph → Graph → List (List ℕ)

@@ -124,20 +124,11 @@ fn with_large_holds(alloc: Global, graphs: &[Graph]) -> Result<Vec<bool>, AllocE
     Ok(large)
 }
 
-fn is_marked(marks: &[bool], place: usize) -> bool
-    ensures { result ≡ slice_index_or marks.now place false }
-{
-    match marks.get(place) {
-        Some(is) => *is,
-        None => false,
-    }
-}
-
 /// Whether the graph at a place has not too many parts, where these graphs have too large a hold.
 fn graph_count(large: &[bool], number: usize, graph: &Graph) -> Result<(), DetailFault<Counted>>
     ensures { (graphs : Seq Graph) → large.now ≡ map (λ place. has_large_hold graphs place) (range_with_len 0 (length graphs)) → number < length graphs → Answers (graph_counts graphs number graph.now) result }
 {
-    match counts_of(is_marked(large, number), graph).excess() {
+    match counts_of(large.get(number).copied().unwrap_or(false), graph).excess() {
         None => Ok(()),
         Some(counted) => Err(DetailFault::Fault(counted)),
     }

@@ -46,5 +46,5 @@ pub use parts::Named;
 pub use port_counts::{AnyCounts, Counts, ports};
 pub use range::{in_range, life_of};
 pub use rules::{ModelFault, well_formed};
-pub use state_tokens::{capped, capped_sum, large_holds};
+pub use state_tokens::{capped_hold_sum, large_holds};
 pub use wires::{port_text, wire};

@@ -38,14 +38,14 @@ fn children(alloc: Global, graph: &Graph) -> Result<Vec<u32>, AllocError>
 }
 
 /// The graphs that each graph holds over one actor.
-pub(crate) fn holds(alloc: Global, graphs: &[Graph]) -> Result<Vec<List<u32>>, AllocError>
+pub(crate) fn child_lists(alloc: Global, graphs: &[Graph]) -> Result<Vec<List<u32>>, AllocError>
     ensures { IfOk result (λ v. v.items ≡ map children graphs.now) }
 {
-    let mut holds = Vec::with_capacity(alloc, graphs.len())?;
+    let mut child_lists = Vec::with_capacity(alloc, graphs.len())?;
     for graph in graphs {
-        holds.push(List::new(children(alloc, graph)?))?;
+        child_lists.push(List::new(children(alloc, graph)?))?;
     }
-    Ok(holds)
+    Ok(child_lists)
 }
 
 /// The fault that stands first at the graph at this place, if there is one.
@@ -72,8 +72,8 @@ pub fn graph_cycle(alloc: Global, graphs: &Graphs) -> Result<(), DetailFault<Nam
     requires { RefersToGraphs graphs.now }
     ensures answer { Answers (graph_cycle_faults graphs.now) result }
 {
-    let holds = holds(alloc, graphs.graphs.items())?;
-    let place = first_on_cycle(alloc, &holds)?;
+    let child_lists = child_lists(alloc, graphs.graphs.items())?;
+    let place = first_on_cycle(alloc, &child_lists)?;
     at_graph(graphs, place)
 }
 
@@ -88,28 +88,32 @@ fn any_marked(places: &[u32], marks: &[bool]) -> bool
 /// Marks of the graphs that have a marked child.
 fn with_marked_child(
     alloc: Global,
-    holds: &[List<u32>],
+    child_lists: &[List<u32>],
     marks: &[bool],
 ) -> Result<Vec<bool>, AllocError>
-    requires inside { LeadsInside holds.now }
-    requires long { length marks.now ≡ length holds.now }
-    ensures { IfOk result (λ v. v.items ≡ map (λ to. list_any (λ w. slice_index_or marks.now w false) to) holds.now) }
+    requires inside { LeadsInside child_lists.now }
+    requires long { length marks.now ≡ length child_lists.now }
+    ensures { IfOk result (λ v. v.items ≡ map (λ to. list_any (λ w. slice_index_or marks.now w false) to) child_lists.now) }
 {
-    let mut parents = Vec::with_capacity(alloc, holds.len())?;
-    for children in holds {
+    let mut parents = Vec::with_capacity(alloc, child_lists.len())?;
+    for children in child_lists {
         parents.push(any_marked(children.items(), marks))?;
     }
     Ok(parents)
 }
 
 /// Marks of the graphs whose nesting is over a number.
-fn nested_over(alloc: Global, holds: &[List<u32>], most: usize) -> Result<Vec<bool>, AllocError>
-    requires { LeadsInside holds.now }
-    ensures { IfOk result (λ v. v.items ≡ map (λ place. nat_lt most (nesting_to holds.now (most + 1) place)) (range_with_len 0 (length holds.now))) }
+fn nested_over(
+    alloc: Global,
+    child_lists: &[List<u32>],
+    most: usize,
+) -> Result<Vec<bool>, AllocError>
+    requires { LeadsInside child_lists.now }
+    ensures { IfOk result (λ v. v.items ≡ map (λ place. nat_lt most (nesting_to child_lists.now (most + 1) place)) (range_with_len 0 (length child_lists.now))) }
 {
-    let mut marks = vec![in alloc; true; holds.len()]?;
+    let mut marks = vec![in alloc; true; child_lists.len()]?;
     for _level in 0..most {
-        marks = with_marked_child(alloc, holds, &marks)?;
+        marks = with_marked_child(alloc, child_lists, &marks)?;
     }
     Ok(marks)
 }
@@ -125,7 +129,7 @@ pub fn depth(alloc: Global, graphs: &Graphs) -> Result<(), DetailFault<Name>>
     requires { RefersToGraphs graphs.now }
     ensures answer { Answers (depth_faults graphs.now) result }
 {
-    let holds = holds(alloc, graphs.graphs.items())?;
-    let marks = nested_over(alloc, &holds, MAX_NESTING)?;
+    let child_lists = child_lists(alloc, graphs.graphs.items())?;
+    let marks = nested_over(alloc, &child_lists, MAX_NESTING)?;
     at_graph(graphs, first_marked(&marks))
 }

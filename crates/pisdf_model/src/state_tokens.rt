@@ -1,59 +1,48 @@
 // How many tokens stand in graphs at first that go on over their firings.
-ghost use Rattle.std.specs.Prelude.{ℕ, ◌≡◌, ◌+◌, ◌==◌, ◌&&◌, ◌≤◌, nat_lt, length, map, sum_by, slice_index_or, IfOk};
+ghost use Rattle.std.specs.Prelude.{◌≡◌, ◌+◌, ◌==◌, ◌&&◌, nat_lt, length, map, sum_by, slice_index_or, IfOk};
 ghost use Rattle.std.specs.List.{list_any, range_with_len};
 ghost use Rattle.pisdf_model.specs.Arrows.{to_of};
-ghost use Rattle.pisdf_model.specs.Hold.{capped, hold_to, is_held, is_large, kept_in, own_hold as own_hold_of};
-ghost use Rattle.pisdf_model.specs.Nesting.{children};
+ghost use Rattle.pisdf_model.specs.Hold.{capped_hold, hold_limit, hold_over, is_held, is_large, kept_in, own_hold as own_hold_of};
+ghost use Rattle.pisdf_model.specs.Nesting.{children, nesting_limit};
 
 use crate::fifo::{Fifo, Life};
 use crate::graph::Graph;
 use crate::limits::{MAX_HOLD, MAX_NESTING};
-use crate::nesting::holds;
+use crate::nesting::child_lists;
 use sdf_level::List;
 use std::alloc::{AllocError, Global};
 
-/// Tokens are counted to one more than may go on in a graph that an actor names.
-const CAP: usize = MAX_HOLD + 1;
-
-/// A number of tokens, counted to one more than the limit.
-pub fn capped(count: usize) -> usize
-    ensures { result ≡ capped count }
+/// The sum of two numbers of tokens, counted to one more than `MAX_HOLD`.
+pub fn capped_hold_sum(first: usize, second: usize) -> usize
+    ensures { result ≡ capped_hold (first + second) }
 {
-    count.min(CAP)
+    first.saturating_add(second).min(MAX_HOLD + 1)
 }
 
-/// The sum of two numbers of tokens, each counted to one more than the limit.
-pub fn capped_sum(first: usize, second: usize) -> usize
-    requires first { first ≤ 262145 }
-    requires second { second ≤ 262145 }
-    ensures { result ≡ capped (first + second) }
-{
-    capped(first + second)
-}
-
+/// How many tokens of a FIFO go on over the firings of its graph.
 fn kept_count(fifo: &Fifo) -> usize
-    ensures { result ≡ capped (length (kept_in fifo.now)) }
+    ensures { result ≡ length (kept_in fifo.now) }
 {
     match fifo.life {
         Life::Firing => 0,
-        Life::Permanent => capped(fifo.delay.items().len()),
+        Life::Permanent => fifo.delay.items().len(),
     }
 }
 
 /// How many tokens of a graph's own delays go on, counted to one more than the limit.
 fn own_hold(graph: &Graph) -> usize
-    ensures { result ≡ capped (own_hold_of graph.now) }
+    ensures { result ≡ capped_hold (own_hold_of graph.now) }
 {
     let mut total = 0;
     for fifo in graph.fifos.items() {
-        total = capped_sum(total, kept_count(fifo));
+        total = capped_hold_sum(total, kept_count(fifo));
     }
     total
 }
 
 /// The same of each graph.
 pub(crate) fn own_holds(alloc: Global, graphs: &[Graph]) -> Result<Vec<usize>, AllocError>
-    ensures { IfOk result (λ own. own.items ≡ map (λ g. capped (own_hold_of g)) graphs.now) }
+    ensures { IfOk result (λ own. own.items ≡ map (λ g. capped_hold (own_hold_of g)) graphs.now) }
 {
     let mut own = Vec::with_capacity(alloc, graphs.len())?;
     for graph in graphs {
@@ -62,74 +51,75 @@ pub(crate) fn own_holds(alloc: Global, graphs: &[Graph]) -> Result<Vec<usize>, A
     Ok(own)
 }
 
-fn hold_at(holds: &[usize], place: usize) -> usize
-    ensures { result ≡ slice_index_or holds.now place 0 }
+/// The number at a place, or 0 where there is none.
+fn count_at(counts: &[usize], place: usize) -> usize
+    ensures { result ≡ slice_index_or counts.now place 0 }
 {
-    match holds.get(place) {
-        Some(hold) => *hold,
-        None => 0,
-    }
+    counts.get(place).copied().unwrap_or(0)
 }
 
-/// A graph's own tokens and those of the graphs that it holds.
+/// A graph's own tokens and those of its children.
 fn with_children(own: usize, children: &[u32], holds: &[usize]) -> usize
-    requires { (k : ℕ) → slice_index_or holds.now k 0 ≤ 262145 }
-    ensures { result ≡ capped (own + sum_by (λ k. slice_index_or holds.now k 0) children.now) }
+    ensures { result ≡ capped_hold (own + sum_by (λ k. slice_index_or holds.now k 0) children.now) }
 {
-    let mut total = capped(own);
+    let mut of_children = 0;
     for child in children {
-        total = capped_sum(total, hold_at(holds, *child as usize));
+        of_children = capped_hold_sum(of_children, count_at(holds, *child as usize));
     }
-    total
+    capped_hold_sum(own, of_children)
 }
 
 /// What goes on in each graph over one level more than in these.
-fn one_level(
+fn over_one_level_more(
     alloc: Global,
     own: &[usize],
     children: &[List<u32>],
     holds: &[usize],
 ) -> Result<Vec<usize>, AllocError>
-    requires { (k : ℕ) → slice_index_or holds.now k 0 ≤ 262145 }
-    ensures { IfOk result (λ v. v.items ≡ map (λ place. capped (slice_index_or own.now place 0 + sum_by (λ k. slice_index_or holds.now k 0) (to_of children.now place))) (range_with_len 0 (length children.now))) }
+    ensures { IfOk result (λ v. v.items ≡ map (λ place. capped_hold (slice_index_or own.now place 0 + sum_by (λ k. slice_index_or holds.now k 0) (to_of children.now place))) (range_with_len 0 (length children.now))) }
 {
     let mut more = Vec::with_capacity(alloc, children.len())?;
     for place in 0..children.len() {
-        more.push(with_children(hold_at(own, place), children[place].items(), holds))?;
+        more.push(with_children(count_at(own, place), children[place].items(), holds))?;
     }
     Ok(more)
 }
 
 /// How many tokens go on in each graph, counted to one more than the limit.
-fn holds_of(alloc: Global, own: &[usize], children: &[List<u32>]) -> Result<Vec<usize>, AllocError>
+fn hold_of_each(
+    alloc: Global,
+    own: &[usize],
+    children: &[List<u32>],
+) -> Result<Vec<usize>, AllocError>
     requires { length own.now ≡ length children.now }
-    ensures { IfOk result (λ v. v.items ≡ map (λ place. capped (hold_to own.now children.now 8 place)) (range_with_len 0 (length children.now))) }
+    ensures { IfOk result (λ v. v.items ≡ map (λ place. capped_hold (hold_over own.now children.now nesting_limit place)) (range_with_len 0 (length children.now))) }
 {
     let mut holds = vec![in alloc; 0; children.len()]?;
     for _level in 0..MAX_NESTING {
-        holds = one_level(alloc, own, children, &holds)?;
+        holds = over_one_level_more(alloc, own, children, &holds)?;
     }
     Ok(holds)
 }
 
-fn names(children: &[u32], place: usize) -> bool
+/// Whether the graph at a place is one of these children.
+fn has_child(children: &[u32], place: usize) -> bool
     ensures { result ≡ list_any (λ child. child == place) children.now }
 {
     children.iter().any(|child| *child as usize == place)
 }
 
-/// Whether one of these lists has the place.
+/// Whether the graph at a place is among some graph's children.
 fn is_held(children: &[List<u32>], place: usize) -> bool
     ensures { result ≡ is_held children.now place }
 {
-    children.iter().any(|to| names(to.items(), place))
+    children.iter().any(|to| has_child(to.items(), place))
 }
 
-/// Whether one of these lists has the place, and more tokens go on there than may.
+/// Whether the graph at a place is among some graph's children, and more tokens go on there than may.
 fn is_large(children: &[List<u32>], holds: &[usize], place: usize) -> bool
-    ensures { result ≡ (is_held children.now place && nat_lt 262144 (slice_index_or holds.now place 0)) }
+    ensures { result ≡ (is_held children.now place && nat_lt hold_limit (slice_index_or holds.now place 0)) }
 {
-    is_held(children, place) && hold_at(holds, place) > MAX_HOLD
+    is_held(children, place) && count_at(holds, place) > MAX_HOLD
 }
 
 /// For each graph, whether an actor names it and its state begins with more than `MAX_HOLD` tokens, where so many tokens
@@ -139,8 +129,8 @@ pub fn large_holds(alloc: Global, graphs: &[Graph], own: &[usize]) -> Result<Vec
     requires { length own.now ≡ length graphs.now }
     ensures { IfOk result (λ v. v.items ≡ map (is_large own.now (map children graphs.now)) (range_with_len 0 (length graphs.now))) }
 {
-    let children = holds(alloc, graphs)?;
-    let holds = holds_of(alloc, own, &children)?;
+    let children = child_lists(alloc, graphs)?;
+    let holds = hold_of_each(alloc, own, &children)?;
     let mut large = Vec::with_capacity(alloc, children.len())?;
     for place in 0..children.len() {
         large.push(is_large(&children, &holds, place))?;

@@ -2,7 +2,7 @@ ghost use Rattle.std.specs.Prelude.{◌≡◌, ◌==◌, [], ◌∷◌, ◌++◌
 ghost use Rattle.std.specs.Option.{option_copied};
 ghost use Rattle.pisdf_model.specs.Details.{Answers, Refuses, of_each};
 ghost use Rattle.pisdf_model.specs.EndTimes.{times_at};
-ghost use Rattle.pisdf_model.specs.Wires.{actor_wires, end_text, ends_of, fifo_wires, gives_tokens, graph_wires, interface_wires, is_input_port, is_output_port, names_of_interfaces, names_of_ports, port_text, port_wires, takes_tokens, text_or_none, wire_faults};
+ghost use Rattle.pisdf_model.specs.Wires.{actor_wires, end_text, ends_of, fifo_wires, gives_tokens, graph_wires, interface_wires, is_input_port, is_output_port, names_of_interfaces, actor_port_names, port_text, port_wires, takes_tokens, text_or_none, wire_faults};
 
 use crate::actor::{Actor, Body};
 use crate::detail_fault::DetailFault;
@@ -46,8 +46,8 @@ fn names_of_interfaces(alloc: Global, graph: &Graph) -> Result<Vec<Name>, AllocE
 }
 
 /// The names of an actor's ports, as ends count them.
-fn names_of_ports(alloc: Global, graphs: &[Graph], actor: &Actor) -> Result<Vec<Name>, AllocError>
-    ensures { IfOk result (λ names. names.items ≡ names_of_ports graphs.now actor.now) }
+fn actor_port_names(alloc: Global, graphs: &[Graph], actor: &Actor) -> Result<Vec<Name>, AllocError>
+    ensures { IfOk result (λ names. names.items ≡ actor_port_names graphs.now actor.now) }
 {
     match &actor.body {
         Body::Kernel { ins, outs, .. } => names_of(alloc, ins.items(), outs.items()),
@@ -91,7 +91,7 @@ fn end_text(alloc: Global, graphs: &[Graph], graph: &Graph, end: &End) -> Result
         }
         End::Port { actor, port } => match graph.actors.items().get(*actor as usize) {
             Some(actor) => {
-                let names = names_of_ports(alloc, graphs, actor)?;
+                let names = actor_port_names(alloc, graphs, actor)?;
                 let port = text_or_none(alloc, names.get(*port as usize))?;
                 port_text(alloc, &actor.name, &port)
             }
@@ -253,7 +253,7 @@ fn actor_stands(
 ) -> Result<(), DetailFault<Name>>
     ensures { Answers (actor_wires (λ a p. times_at times.now (Some a, p)) graphs.now number actor.now) result }
 {
-    let names = names_of_ports(alloc, graphs, actor)?;
+    let names = actor_port_names(alloc, graphs, actor)?;
     ports_stand(alloc, times, number, &actor.name, names.as_slice())
 }
 

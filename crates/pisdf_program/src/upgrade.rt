@@ -2,7 +2,6 @@
 ghost use Rattle.std.specs.Prelude.{◌≡◌, ◌≢◌, Err, Some, map, IfErr, IfOk};
 ghost use Rattle.kernel_gate.specs.Signed.{signature_view};
 ghost use Rattle.kernel_gate.specs.Table.{the_signatures};
-ghost use Rattle.pisdf_model.specs.WellFormed.{WellFormed};
 ghost use Rattle.pisdf_program.specs.Loaded.{AreGood};
 ghost use Rattle.pisdf_program.specs.Result.{file_of, latest, result_of_command};
 ghost use Rattle.pisdf_program.specs.Words as table;
@@ -18,15 +17,19 @@ use pisdf_model::Graphs;
 use std::alloc::{AllocError, Global};
 
 /// The graphs as those of version 2, where their version is 1.
-fn latest(alloc: Global, graphs: Graphs) -> Result<Graphs, AllocError>
-    requires { WellFormed graphs }
-    ensures latest { IfOk result (λ new. new ≡ latest graphs) }
-    ensures kept { IfOk result (λ new. new.graphs ≡ graphs.graphs) }
+fn latest(graphs: Graphs) -> Graphs
+    ensures latest { result ≡ latest graphs }
+    ensures kept { result.graphs ≡ graphs.graphs }
 {
     if graphs.version == 1 {
-        return graph_writer::upgrade(alloc, &graphs);
+        Graphs {
+            version: 2,
+            top: graphs.top,
+            graphs: graphs.graphs,
+        }
+    } else {
+        graphs
     }
-    Ok(graphs)
 }
 
 /// The canonical file of graphs, as that of version 2 where their version is 1.
@@ -35,8 +38,7 @@ fn file_of(alloc: Global, graphs: Graphs, signatures: &[Signature]) -> Result<Ve
     requires good { AreGood graphs }
     ensures { IfOk result (λ text. text.items ≡ file_of (latest graphs)) }
 {
-    let latest = latest(alloc, graphs)?;
-    write(alloc, &latest, signatures)
+    write(alloc, &latest(graphs), signatures)
 }
 
 /// Puts the canonical file of the graphs in a file, in one put. The answer is no text for standard error, or a status.

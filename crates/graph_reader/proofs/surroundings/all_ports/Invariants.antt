@@ -1,7 +1,7 @@
 use Rattle.std.proofs.Common.{◌≡◌, List, map, take}
 use Rattle.graph_format.specs.declared.actor.FileActor.{FileActor}
 use Rattle.graph_format.specs.declared.file.FileGraph.{FileGraph}
-use Rattle.graph_format.specs.Scope.{ports_of}
+use Rattle.graph_format.specs.KnownNames.{ports_of}
 use Rattle.graph_reader.specs.Setting.{AreOf, ports_view}
 use Rattle.graph_reader.proofs.surroundings.all_ports.Given as goal
 

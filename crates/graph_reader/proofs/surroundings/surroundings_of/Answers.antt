@@ -1,6 +1,6 @@
 use Rattle.std.proofs.Common.{map, ap, ◌∙◌}
 use Rattle.graph_format.specs.declared.actor.FileActor.{FileActor}
-use Rattle.graph_format.specs.Scope.{names_of_actors, names_of_params, ports_of}
+use Rattle.graph_format.specs.KnownNames.{names_of_actors, names_of_params, ports_of}
 use Rattle.graph_reader.proofs.Placing.{same_setting}
 use Rattle.graph_reader.proofs.surroundings.surroundings_of.Goals as goal
 

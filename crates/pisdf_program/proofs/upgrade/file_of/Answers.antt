@@ -9,5 +9,5 @@ use Rattle.pisdf_program.proofs.upgrade.file_of.Goals as goal
 
 pub returns : goal.returns
 returns c =
-    subst (λ (g : Graphs). IfOk c.write.result (λ text. text.items ≡ compact_text (canonical (kernel_names the_signatures) g))) c.in_ok-latest.ensures.latest
-    (subst (λ (ss : List SignatureView). IfOk c.write.result (λ text. text.items ≡ compact_text (canonical (kernel_names ss) c.in_ok-latest.latest))) c.requires.kernels c.write.ensures.canonical)
+    subst (λ (g : Graphs). IfOk c.write.result (λ text. text.items ≡ compact_text (canonical (kernel_names the_signatures) g))) c.latest.ensures.latest
+    (subst (λ (ss : List SignatureView). IfOk c.write.result (λ text. text.items ≡ compact_text (canonical (kernel_names ss) c.latest.result))) c.requires.kernels c.write.ensures.canonical)

@@ -8,8 +8,8 @@ use Rattle.graph_format.specs.declared.file.FileGraph.{FileGraph}
 use Rattle.graph_format.specs.declared.param.FileParam.{FileParam}
 use Rattle.graph_format.specs.declared.port.FilePort.{FilePort}
 
-abbrev pub names_of_ports : List FilePort → List (List ℕ)
-names_of_ports ports = map (λ (p : FilePort). p.name) ports
+abbrev pub file_port_names : List FilePort → List (List ℕ)
+file_port_names ports = map (λ (p : FilePort). p.name) ports
 
 abbrev pub names_of_params : List FileParam → List (List ℕ)
 names_of_params params = map (λ (p : FileParam). p.name) params
@@ -22,7 +22,7 @@ names_of_graphs graphs = map (λ (g : FileGraph). g.name) graphs
 
 -- a graph's inputs, then its outputs
 abbrev pub interfaces_of : FileGraph → List (List ℕ)
-interfaces_of g = names_of_ports g.inputs ++ names_of_ports g.outputs
+interfaces_of g = file_port_names g.inputs ++ file_port_names g.outputs
 
 -- the list at that place, and no names where there is no place
 abbrev pub names_at : List (List (List ℕ)) → Option ℕ → List (List ℕ)
@@ -35,14 +35,14 @@ interfaces_named graphs w = names_at (map interfaces_of graphs) (place_of (names
 
 -- An actor's inputs, then its outputs. Those of a hierarchical actor are its child's.
 abbrev pub ports_of : List FileGraph → FileBody → List (List ℕ)
-ports_of graphs (Kernel kernel args ins outs) = names_of_ports ins ++ names_of_ports outs
-ports_of graphs (Config kernel args ins outs sets) = ins ++ names_of_ports outs
+ports_of graphs (Kernel kernel args ins outs) = file_port_names ins ++ file_port_names outs
+ports_of graphs (Config kernel args ins outs sets) = ins ++ file_port_names outs
 ports_of graphs (Child graph args) = interfaces_named graphs graph
 ports_of graphs (ConfigChild graph args sets) = interfaces_named graphs graph
 
 -- The names that a part of a graph can refer to: those of the graphs of the file and of the kernels; of the graph's
 -- parameters, interfaces and actors; and, for each of its actors, of the actor's ports.
-pub record Scope : Type 0 where
+pub record KnownNames : Type 0 where
   pub graphs : List (List ℕ)
   pub kernels : List (List ℕ)
   pub params : List (List ℕ)
@@ -51,8 +51,8 @@ pub record Scope : Type 0 where
   pub ports : List (List (List ℕ))
 
 -- the names that the parts of this graph can refer to
-abbrev pub scope_of : List (List ℕ) → List FileGraph → FileGraph → Scope
-scope_of kernels graphs g = record {
+abbrev pub known_names : List (List ℕ) → List FileGraph → FileGraph → KnownNames
+known_names kernels graphs g = record {
   graphs = names_of_graphs graphs;
   kernels = kernels;
   params = names_of_params g.params;

@@ -1,12 +1,9 @@
 use Rattle.std.proofs.Common.{◌≡◌, ◌∙◌, ap, arith}
-use Rattle.pisdf_model.proofs.Holds.{first_level, level, level_most, next_level}
-use Rattle.pisdf_model.proofs.state_tokens.holds_of.Goals as goal
+use Rattle.pisdf_model.proofs.Holds.{first_level, level, next_level}
+use Rattle.pisdf_model.proofs.state_tokens.hold_of_each.Goals as goal
 
 pub loop-level-init : goal.loop-level-init
 loop-level-init c = c.in_ok-holds.ensures.items_if_clones_equal (λ y h. h) ∙ first_level c.args.own.now c.args.children.now c.requires
-
-pub one_level-requires : goal.one_level-requires
-one_level-requires c = λ k. rw (c.deref.ensures.value, c.loop-level.invariant) (level_most c.args.own.now c.args.children.now c.requires c.loop-level._level k)
 
 pub loop-level-preserved : goal.loop-level-preserved
 loop-level-preserved c = c.in_ok-holds-2.ensures ∙ next_level c.args.own.now c.args.children.now c.requires c.loop-level._level c.deref.result.now (c.deref.ensures.value ∙ c.loop-level.invariant)

@@ -185,21 +185,21 @@ has_own_form version an_end d = is_some (option_and_then end_from (as_str d))
 -- ---- the walk
 
 -- a value in the walk: its pointer, and whether it has its form
-pub record Place : Type 0 where
+pub record WalkedValue : Type 0 where
   pub pointer : List ℕ
   pub formed : Bool
 
 -- a value, then those below it, to n levels; below one that has not its form nothing is looked at
-unfoldable pub places_to : ℕ → ℕ → Form → List ℕ → Data → List Place
-places_to version zero form at d = []
-places_to version (suc n) form at d =
+unfoldable pub walked_values_to : ℕ → ℕ → Form → List ℕ → Data → List WalkedValue
+walked_values_to version zero form at d = []
+walked_values_to version (suc n) form at d =
     record { pointer = pointer_text at; formed = has_own_form version form d }
-    ∷ (if has_own_form version form d then flat_map (λ (p : Part). places_to version n p.form (under at p.step) p.value) (parts version form d) else [])
+    ∷ (if has_own_form version form d then flat_map (λ (p : Part). walked_values_to version n p.form (under at p.step) p.value) (parts version form d) else [])
 
 -- the values of a file of a version, which has no more than 8 levels
-abbrev pub places : ℕ → Data → List Place
-places version d = places_to version 8 a_file [] d
+abbrev pub walked_values : ℕ → Data → List WalkedValue
+walked_values version d = walked_values_to version 8 a_file [] d
 
 -- the pointers to those that have not their form
-abbrev pub unformed : List Place → List (List ℕ)
-unformed places = map (λ (p : Place). p.pointer) (filter (λ (p : Place). not p.formed) places)
+abbrev pub unformed : List WalkedValue → List (List ℕ)
+unformed walked_values = map (λ (p : WalkedValue). p.pointer) (filter (λ (p : WalkedValue). not p.formed) walked_values)
