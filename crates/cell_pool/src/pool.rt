@@ -3,7 +3,7 @@ ghost use Rattle.std.specs.Prelude.{◌≡◌, ◌+◌, ◌<◌, ◌≤◌, [], 
 ghost use Rattle.split_block.specs.Places.{AllApart, Clear, has, without, window, write};
 ghost use Rattle.cell_pool.specs.View.{place_of};
 
-use split_block::{Free, Lease, Sole, attach, detach, nothing, part, put, spread};
+use split_block::{Free, Lease, VecWithoutCells, attach, detach, nothing, part, put, spread};
 use std::alloc::{AllocError, Global};
 use std::marker::Model;
 use std::mem;
@@ -12,7 +12,7 @@ use std::mem;
 pub struct Pool {
     free: Free,
     // What makes the block a `Vec` again, where it has a cell.
-    home: Option<Sole<Global>>,
+    home: Option<VecWithoutCells<Global>>,
     base: *mut i64,
     size: usize,
     most: u32,
@@ -57,10 +57,10 @@ impl Pool {
                 alloc,
             });
         }
-        let (run, sole) = detach(cells);
+        let (run, emptied) = detach(cells);
         Ok(Pool {
             free: spread(run),
-            home: Some(sole),
+            home: Some(emptied),
             base,
             size,
             most,
@@ -122,9 +122,9 @@ impl Pool {
             alloc,
         } = self;
         match home {
-            Some(sole) => {
+            Some(emptied) => {
                 let (run, _) = part(free, 0, size);
-                attach(run, sole)
+                attach(run, emptied)
             }
             None => {
                 drop(free);

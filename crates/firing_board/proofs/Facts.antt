@@ -4,7 +4,8 @@ use Rattle.std.specs.Prelude.{ℤ, pos, All, IsTrue}
 use Rattle.std.specs.Option.{option_map}
 use Rattle.std.specs.List.{list_all}
 use Rattle.std.proofs.lemmas.List.{length-set, length-map, length-replicate, get_or-map}
-use Rattle.kernel_gate.specs.Value.{Answer, Gives, Faults, FrameView, lengths}
+use Rattle.kernel_gate.specs.Value.{Answer, Gives, Faults, FrameView, Places, lengths}
+use Rattle.kernel_gate.specs.Leased.{AreWhole}
 use Rattle.kernel_gate.specs.Signed.{Counts, IsFrameOf}
 use Rattle.kernel_gate.specs.Table.{the_value, frame_value}
 use Rattle.firing_board.specs.declared.entry.Item.{Item}
@@ -19,9 +20,11 @@ use Rattle.firing_board.specs.Job.{Job, Fits, job_of, order_of, no_firing}
 use Rattle.firing_board.specs.Core.{Key, Step, Compiles, Fires, item_at, number_of, Mark, Free, Busy, Given, Failed, Running, State, mark_at, running_at, is_given, is_free, is_fed, is_ready, value_of, mark_of, start, finished, claimed, after, state, is_enabled, pick, NoneRuns, free_in, unclaimed}
 use Rattle.firing_board.specs.Slots.{Fault, first_fed, first_failed}
 use Rattle.firing_board.specs.Stages.{slot_mark, marks_of, stage_marks, StageFits, HasNode, HasFiring, IsCounted, firing_in, stage_next}
-use Rattle.firing_board.specs.View.{BoardView, now, frame_at, frame_of, firing_number}
+use Rattle.firing_board.specs.View.{BoardView, IsOwn, now, frame_at, frame_of, firing_number}
 use Rattle.firing_board.specs.Calls.{Picks, Runs, Takes, with_entry}
 use Rattle.firing_board.specs.Kept.{KeptAs}
+use Rattle.firing_board.specs.OnePass.{OnePass, IsOnePass, graphs_of}
+use Rattle.pisdf_model.specs.declared.graph.Graphs.{Graphs}
 use Rattle.firing_board.proofs.Steps.{steps, step_of, Holds, picked, picked_number, legal_holds, both_true, free_is, free_busy, none_some, some_is, false_true}
 use Rattle.firing_board.proofs.Ends.{fires_at}
 use Rattle.firing_board.proofs.Lists.{set_cases}
@@ -98,10 +101,10 @@ firing_in_is job starved (Open firings sinks slots) n fits has = ap (λ (l : Lis
 firing_in_is job starved Unbuilt n fits has = absurd has
 
 -- the frame that is built is the node's
-pub frame_is : (v : BoardView) (path : List ℕ) (stage : Stage) (busy : List Bool) (c n : ℕ) → KeptView v path stage busy c → HasFiring n stage → frame_at v.key.ins (stage_marks (length (job_of v.key.graphs).firings) stage) (firing_in stage n) ≡ frame_of v n
-frame_is v path stage busy c n h has =
-    ap (λ (m : List Mark). frame_at v.key.ins m (firing_in stage n)) h.marks
-    ∙ ap (frame_at v.key.ins (now v).marks) (firing_in_is (job_of v.key.graphs) v.starved stage n h.stage_fits has)
+pub frame_is : (v : BoardView) (path : List ℕ) (stage : Stage) (busy : List Bool) (c n : ℕ) (places : Places) → KeptView v path stage busy c → HasFiring n stage → frame_at v.key.ins (stage_marks (length (job_of v.key.graphs).firings) stage) (firing_in stage n) places ≡ frame_of v n places
+frame_is v path stage busy c n places h has =
+    ap (λ (m : List Mark). frame_at v.key.ins m (firing_in stage n) places) h.marks
+    ∙ ap (λ (f : Firing). frame_at v.key.ins (now v).marks f places) (firing_in_is (job_of v.key.graphs) v.starved stage n h.stage_fits has)
 
 -- ---- the state after a claim
 
@@ -164,10 +167,20 @@ takes_one v path stage busy c w new t h takes =
     let state_is : now new ≡ claimed v.key (now v) w (number_of t.item) = ap now takes.appended ∙ claimed_state v w t.path t.item in
     ap (λ (s : State). unclaimed s + 1) state_is ∙ free_fewer (now v).marks (number_of t.item) it.inside it.free
 
+-- a graph of the first form has one firing, with one output
+one_len : (p : OnePass) (n : ℕ) → n < length (job_of (graphs_of p)).firings → length (get_or (job_of (graphs_of p)).firings n no_firing).lens ≡ 1
+unfolding order_of
+one_len p zero lt = refl
+one_len p (suc n) lt = absurd (omega arith)
+
+one_output : (graphs : Graphs) (n : ℕ) → IsOnePass graphs → n < length (job_of graphs).firings → length (get_or (job_of graphs).firings n no_firing).lens ≡ 1
+one_output graphs n form inside =
+    subst (λ (g : Graphs). n < length (job_of g).firings → length (get_or (job_of g).firings n no_firing).lens ≡ 1) (sym form.1) (one_len form.0 n) inside
+
 -- a firing that was claimed: its value is its frame's, and the frame fits its kernel
-pub firing_started : (v : BoardView) (path : List ℕ) (stage : Stage) (busy : List Bool) (c w n : ℕ) (new : BoardView) (t : Ticket) (f : FrameView) → KeptView v path stage busy c → w < v.key.workers → Takes v new w t → t.item ≡ Node n → f ≡ frame_of v n
-    → Runs new t (frame_value f) × IsFrameOf new.key.signatures f
-firing_started v path stage busy c w n new t f h lt takes item is =
+pub firing_started : (v : BoardView) (path : List ℕ) (stage : Stage) (busy : List Bool) (c w n : ℕ) (new : BoardView) (t : Ticket) (f : FrameView) → KeptView v path stage busy c → w < v.key.workers → Takes v new w t → t.item ≡ Node n → f ≡ frame_of v n f.places → AreWhole f.places
+    → Runs new t (frame_value f) × IsFrameOf new.key.signatures f × IsOwn f
+firing_started v path stage busy c w n new t f h lt takes item is whole =
     let it = taken v.key v.journal v.starved path stage busy c t.item h takes.picked in
     let below = it.below in
     let number : number_of t.item ≡ suc n = ap number_of item in
@@ -177,11 +190,11 @@ firing_started v path stage busy c w n new t f h lt takes item is =
     let step : step_of v.key (number_of t.item) ≡ Fires firing = ap (step_of v.key) number ∙ sym (fires_at (job_of v.key.graphs).firings n inside) in
     let value : value_of v.key.ins (now v).marks (step_of v.key (number_of t.item)) ≡ frame_value f =
     ap (value_of v.key.ins (now v).marks) step
-    ∙ (ap (λ (lens : List ℕ). the_value firing.kind firing.args (frame_of v n).inputs lens 0) (sym (lengths_zeros firing.lens)) ∙ sym (ap frame_value is)) in
+    ∙ (ap (λ (lens : List ℕ). the_value firing.kind firing.args (frame_of v n f.places).inputs lens 0) (sym (lengths_zeros firing.lens)) ∙ sym (ap frame_value is)) in
     let key_is : new.key ≡ v.key = ap (λ (b : BoardView). b.key) takes.appended in
     let fits : Fits v.key.signatures firing = h.fits n no_firing inside in (
       subst (λ (a : Answer). Runs new t a) value (runs_after v path stage busy c w new t h lt takes),
-      subst (λ (g : FrameView). IsFrameOf new.key.signatures g) (sym is) (subst (λ (k : Key). IsFrameOf k.signatures (frame_of v n)) (sym key_is) (
+      subst (λ (g : FrameView). IsFrameOf new.key.signatures g) (sym is) (subst (λ (k : Key). IsFrameOf k.signatures (frame_of v n f.places)) (sym key_is) (
         fits.counts,
         fits.place,
         record {
@@ -191,6 +204,7 @@ firing_started v path stage busy c w n new t f h lt takes item is =
           sets = let none = fits.sets in (omega arith, omega arith);
         },
       )),
+      record { whole = whole; one = ap (λ (g : FrameView). length (lengths g.outputs)) is ∙ (ap (λ (l : List ℕ). length l) (lengths_zeros firing.lens) ∙ one_output v.key.graphs n h.form inside) },
     )
 
 -- ---- the state after a finish

@@ -19,7 +19,7 @@ use Rattle.firing_board.specs.declared.ticket.BoardEnd.TheVariants as end
 use Rattle.firing_board.specs.Job.{job_of, order_of}
 use Rattle.firing_board.specs.Meaning as one
 use Rattle.firing_board.specs.Core.{Key, State, Running, pick, item_at, number_of, running_at, unclaimed, IsQuiet, NoneRuns}
-use Rattle.firing_board.specs.View.{BoardView, now, frame_of}
+use Rattle.firing_board.specs.View.{BoardView, now, frame_of, IsOwn}
 
 -- the ticket's worker runs the ticket's item, whose value is this
 pub record Runs (b : BoardView) (t : Ticket) (answer : Answer) : Type 0 where
@@ -46,7 +46,7 @@ pub record Takes (old new : BoardView) (w : ℕ) (t : Ticket) : Type 0 where
   pub appended : new ≡ with_entry old (entry.Claim w t.path t.item)
 
 abbrev pub Claims : BoardView → BoardView → ℕ → Claim → Type 0
-Claims old new w (claim.Fire t f) = Takes old new w t × (n : ℕ) × (t.item ≡ Node n) × (f ≡ frame_of old n)
+Claims old new w (claim.Fire t f) = Takes old new w t × (n : ℕ) × (t.item ≡ Node n) × (f ≡ frame_of old n f.places)
 Claims old new w (claim.Compile t task) = Takes old new w t × (t.item ≡ Compile) × (task ≡ old.key.graphs)
 Claims old new w claim.Wait = (pick old.key (now old) ≡ None) × (¬ NoneRuns old.key (now old)) × (new ≡ old)
 Claims old new w claim.Finished = IsQuiet old.key (now old) × (new ≡ old)
@@ -60,9 +60,9 @@ TakesOne old new claim.Wait = Unit {0}
 TakesOne old new claim.Finished = Unit {0}
 TakesOne old new claim.Starved = Unit {0}
 
--- the worker of a claim that takes an item runs it. A firing's value is that of its frame, which fits its kernel, and a compilation has none
+-- the worker of a claim that takes an item runs it. A firing's value is that of its frame, which fits its kernel and has blocks of its own, and a compilation has none
 abbrev pub Started : BoardView → Claim → Type 0
-Started new (claim.Fire t f) = Runs new t (frame_value f) × IsFrameOf new.key.signatures f
+Started new (claim.Fire t f) = Runs new t (frame_value f) × IsFrameOf new.key.signatures f × IsOwn f
 Started new (claim.Compile t task) = Runs new t (Gives [] [])
 Started new claim.Wait = Unit {0}
 Started new claim.Finished = Unit {0}

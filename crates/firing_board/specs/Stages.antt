@@ -14,7 +14,7 @@ use Rattle.firing_board.specs.Slots.{first_fed}
 abbrev pub slot_mark : Slot → Mark
 slot_mark slot.Free = Free
 slot_mark slot.Busy = Busy
-slot_mark (slot.Given outs) = Given (map (λ v. v.items) outs.items)
+slot_mark (slot.Given tokens) = Given (tokens.items ∷ [])
 slot_mark (slot.Failed code) = Failed code
 
 abbrev pub marks_of : List Slot → List Mark

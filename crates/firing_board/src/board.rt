@@ -4,6 +4,7 @@ ghost use Rattle.std.specs.Arc.{arc_value};
 ghost use Rattle.kernel_gate.specs.Signed.{IsFrameOf, counts_of};
 ghost use Rattle.kernel_gate.specs.Table.{frame_value};
 ghost use Rattle.kernel_gate.specs.Value.{Gives, told_by};
+ghost use Rattle.kernel_gate.specs.Leased.{AreWhole};
 ghost use Rattle.firing_board.specs.OnePass.{IsOnePass, OnePass, graphs_of};
 ghost use Rattle.firing_board.specs.Job.{Fits, job_of};
 
@@ -56,7 +57,7 @@ impl Model for Board {
 
 impl Board {
     ghost use Rattle.firing_board.specs.Core.{NoneRuns, IsQuiet, running_at, unclaimed};
-    ghost use Rattle.firing_board.specs.View.{frame_of, now};
+    ghost use Rattle.firing_board.specs.View.{IsOwn, frame_of, now};
     ghost use Rattle.firing_board.specs.Calls.{Claims, Compiles, IsNode, Picks, Runs, Started, Takes, TakesOne, Tells, TellsTokens, with_entry};
     ghost use Rattle.firing_board.specs.declared.entry.Entry.TheVariants as entry;
 
@@ -153,6 +154,7 @@ impl Board {
     pub fn finish_fire(&mut self, ticket: Ticket, frame: Frame, fired: Result<(), KernelFault>)
         requires node { IsNode ticket.item }
         requires runs { Runs self.old ticket (told_by frame fired) }
+        requires own { IsOwn frame }
         ensures finishes { self.new ≡ with_entry self.old (entry.Finish ticket.worker) }
         ensures idle { running_at (now self.new).running ticket.worker ≡ None }
         ensures unclaimed { unclaimed (now self.new) ≡ unclaimed (now self.old) }
@@ -162,7 +164,7 @@ impl Board {
             path: _,
             item,
         } = ticket;
-        let slot = stage::slot_of(frame, fired);
+        let slot = stage::slot_of(self.alloc, frame, fired);
         self.journal.push_reserved(Entry::Finish { worker });
         self.busy[worker as usize] = false;
         match item {
@@ -278,7 +280,7 @@ impl Board {
         requires idle { running_at (now self.old).running worker ≡ None }
         requires picked { Picks self.old (Item.Node node) }
         requires fed { self.old.starved ≡ false }
-        ensures ok { IfOk result (λ r. Takes self.old self.new worker r.0 × (r.0.item ≡ Item.Node node) × (r.1 ≡ frame_of self.old node)) }
+        ensures ok { IfOk result (λ r. Takes self.old self.new worker r.0 × (r.0.item ≡ Item.Node node) × (r.1 ≡ frame_of self.old node r.1.places) × AreWhole r.1.places) }
         ensures err { OnErr result (self.new ≡ self.old) }
     {
         self.journal.reserve(self.workers as usize + 1)?;

@@ -1,5 +1,5 @@
 // Where the nodes of a job stand.
-ghost use Rattle.std.specs.Prelude.{◌≡◌, ◌+◌, ◌<◌, ◌^◌, ◌∷◌, [], IfOk, length, map, replicate, Option};
+ghost use Rattle.std.specs.Prelude.{◌≡◌, ◌+◌, ◌<◌, ◌^◌, ◌∷◌, [], IfOk, length, map, replicate, slice_index_or, Option};
 ghost use Rattle.std.specs.List.{list_all};
 ghost use Rattle.firing_board.specs.Core.{is_fed, is_free, is_given, mark_at, outputs_of, outputs_at, Free, Given};
 ghost use Rattle.firing_board.specs.Job.{fed};
@@ -58,12 +58,12 @@ pub(crate) fn next(slots: &[Slot], firings: &[Firing]) -> Option<u32>
     None
 }
 
-/// The outputs of a firing, where it gave them.
-fn outputs(slots: &[Slot], firing: u32) -> &[Vec<i64>]
-    ensures { map (λ v. v.items) result.now ≡ outputs_of (mark_at (marks_of slots.now) firing) }
+/// The tokens of an output port of a firing, where it gave them: it has the port 0 alone.
+fn output(slots: &[Slot], firing: u32, port: u32) -> &[i64]
+    ensures { result.now ≡ slice_index_or (outputs_of (mark_at (marks_of slots.now) firing)) port [] }
 {
     match slots.get(firing as usize) {
-        Some(Slot::Given(outputs)) => outputs.as_slice(),
+        Some(Slot::Given(tokens)) if port == 0 => tokens.as_slice(),
         _ => &[],
     }
 }
@@ -82,10 +82,7 @@ pub(crate) fn tokens(
             Some(tokens) => tokens.items(),
             None => &[],
         },
-        Feed::Output { firing, port } => match outputs(slots, firing).get(port as usize) {
-            Some(tokens) => tokens.as_slice(),
-            None => &[],
-        },
+        Feed::Output { firing, port } => output(slots, firing, port),
     };
     Ok(List::new(Vec::from_slice(alloc, tokens)?))
 }

@@ -1,20 +1,21 @@
 // How far a job is.
 ghost use Rattle.std.specs.Prelude.{◌≡◌, ◌+◌, ◌<◌, ◌∷◌, [], ℕ, Bool, IfOk, IsErr, length, map, replicate, slice_set};
 ghost use Rattle.kernel_gate.specs.Value.{told_by};
+ghost use Rattle.kernel_gate.specs.Leased.{AreWhole};
 ghost use Rattle.firing_board.specs.Core.{Free, Given, mark_of};
 ghost use Rattle.firing_board.specs.Job.{Job, job_of};
 ghost use Rattle.firing_board.specs.OnePass.{IsOnePass};
 ghost use Rattle.firing_board.specs.Calls.{Compiles};
 ghost use Rattle.firing_board.specs.Stages.{HasFiring, HasNode, IsCounted, IsOpen, firing_in, StageFits, marks_of, slot_mark, stage_marks, stage_next};
 ghost use Rattle.firing_board.specs.Ends.{EndsJob};
-ghost use Rattle.firing_board.specs.View.{frame_at};
+ghost use Rattle.firing_board.specs.View.{frame_at, IsOwn};
 
 use crate::compile::CompileEnd;
 use crate::entry::Item;
 use crate::firing::{Feed, Firing};
 use crate::refusal::Cause;
 use crate::{job, slots};
-use kernel_gate::{Frame, KernelFault};
+use kernel_gate::{Frame, KernelFault, Lent};
 use pisdf_model::Graphs;
 use sdf_level::List;
 use std::alloc::{AllocError, Global};
@@ -26,8 +27,8 @@ pub(crate) enum Slot {
     Free,
     /// A worker runs it.
     Busy,
-    /// It gave these tokens, a list for each output port.
-    Given(Vec<Vec<i64>>),
+    /// It gave these tokens to its one output port.
+    Given(Vec<i64>),
     /// Its kernel faulted with this code.
     Failed(u8),
 }
@@ -109,12 +110,35 @@ pub(crate) fn set_slot(stage: &mut Stage, node: u32, slot: Slot)
     }
 }
 
-/// What a fired frame leaves at its node.
-pub(crate) fn slot_of(frame: Frame, fired: Result<(), KernelFault>) -> Slot
+/// The tokens of the one output port of a frame. The rest of the frame is given up. It takes no memory.
+fn only_output(alloc: Global, frame: Frame) -> Vec<i64>
+    requires { IsOwn frame }
+    ensures { frame.outputs ≡ result.items ∷ [] }
+{
+    let Lent {
+        args,
+        inputs,
+        outputs,
+        sets,
+    } = frame.take_back();
+    Frame::lend(0, args, inputs, List::new(Vec::new(alloc)), sets).end();
+    let mut leases = outputs.into_items();
+    match leases.pop() {
+        Some(lease) => {
+            leases.destroy_empty();
+            lease.into_vec()
+        }
+        None => unreachable!(),
+    }
+}
+
+/// What a fired frame leaves at its node. It takes no memory.
+pub(crate) fn slot_of(alloc: Global, frame: Frame, fired: Result<(), KernelFault>) -> Slot
+    requires { IsOwn frame }
     ensures { slot_mark result ≡ mark_of (told_by frame fired) }
 {
     match fired {
-        Ok(()) => Slot::Given(frame.into_outputs()),
+        Ok(()) => Slot::Given(only_output(alloc, frame)),
         Err(fault) => {
             frame.end();
             Slot::Failed(fault.code)
@@ -130,7 +154,8 @@ pub(crate) fn frame(
     node: u32,
 ) -> Result<Frame, AllocError>
     requires { HasFiring node stage.now }
-    ensures { IfOk result (λ f. (n : ℕ) → f ≡ frame_at ins.now (stage_marks n stage.now) (firing_in stage.now node)) }
+    ensures frame { IfOk result (λ f. (n : ℕ) → f ≡ frame_at ins.now (stage_marks n stage.now) (firing_in stage.now node) f.places) }
+    ensures whole { IfOk result (λ f. AreWhole f.places) }
 {
     let Stage::Open { firings, slots, .. } = stage else {
         unreachable!()

@@ -10,5 +10,6 @@ pub mod Rearranged
 pub mod Counted
 pub mod Configured
 pub mod Table
+pub mod Leased
 pub mod Framed
 pub mod Lending

@@ -1,5 +1,6 @@
 -- Frames and what kernels give, as plain data.
-use Rattle.std.specs.Prelude.{◌≡◌, ℕ, ℤ, List, [], map, slice_set, slice_index_or, take, drop, ◌++◌, length, Result, Ok, Err}
+use Rattle.std.specs.Prelude.{◌≡◌, ℕ, ℤ, List, [], map, slice_set, slice_index_or, length, Result, Ok, Err}
+use Rattle.split_block.specs.View.{LeasePlace, refit}
 use Rattle.kernel_gate.specs.declared.fault.KernelFault.{KernelFault}
 
 -- what a firing gives: its outputs and its sets, or a code
@@ -11,6 +12,11 @@ pub data Answer : Type 0 where
 abbrev pub Kernel : Type 0
 Kernel = List ℤ → List (List ℤ) → List ℕ → ℕ → Answer
 
+-- where the cells of a frame's input and output ports lie
+pub record Places : Type 0 where
+  pub inputs : List LeasePlace
+  pub outputs : List LeasePlace
+
 -- a frame as plain data
 pub record FrameView : Type 0 where
   pub kind : ℕ
@@ -18,6 +24,7 @@ pub record FrameView : Type 0 where
   pub inputs : List (List ℤ)
   pub outputs : List (List ℤ)
   pub sets : List ℤ
+  pub places : Places
 
 abbrev pub lengths : List (List ℤ) → List ℕ
 lengths xs = map (λ (x : List ℤ). length x) xs
@@ -42,10 +49,7 @@ pub record SameFrame (old new : FrameView) : Type 0 where
   pub inputs : new.inputs ≡ old.inputs
   pub outputs : lengths new.outputs ≡ lengths old.outputs
   pub sets : length new.sets ≡ length old.sets
-
--- a list that keeps its length whatever is written: cut, or filled up from what was there
-abbrev pub refit : List ℤ → List ℤ → List ℤ
-refit old w = take (length old) (w ++ drop (length w) old)
+  pub places : new.places ≡ old.places
 
 -- the frame with tokens written into an output
 abbrev pub with_output : FrameView → ℕ → List ℤ → FrameView

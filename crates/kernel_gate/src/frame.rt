@@ -2,19 +2,32 @@
 ghost use Rattle.std.specs.Prelude.{◌≡◌, [], ℤ, ℕ, ◌^◌, ◌<◌, List, length, map, replicate, slice_set, slice_index_or, IfOk, pos};
 ghost use Rattle.std.specs.Borrow.{sem};
 ghost use Rattle.kernel_gate.specs.Value.{lengths, port, with_output};
+ghost use Rattle.kernel_gate.specs.Leased.{AreLeases, AreWhole};
 
+use crate::leases::{leased, spend, zeros};
 use sdf_level::List;
+use split_block::Lease;
 use std::alloc::{AllocError, Global};
 use std::marker::Model;
 
-/// What one firing reads and writes: the place of its kernel, the arguments, a list of tokens for each input and
-/// each output port, and a value for each parameter that it sets. It is not `Drop`: who has it hands it on.
+/// What one firing reads and writes: the place of its kernel, the arguments, a lease of cells for the tokens of each
+/// input and each output port, and a value for each parameter that it sets. It is neither `Drop` nor `Clone`: who has
+/// it hands it on.
 pub struct Frame {
     kind: u32,
     args: List<i64>,
-    inputs: List<List<i64>>,
-    outputs: Vec<Vec<i64>>,
+    inputs: Vec<Lease>,
+    outputs: Vec<Lease>,
     sets: Vec<i64>,
+}
+
+/// What a frame was made of, with what it holds: the arguments, the leases of its input and output ports, and the
+/// values of the parameters that it sets. It must be spent, as its leases must.
+pub struct Lent {
+    pub args: List<i64>,
+    pub inputs: List<Lease>,
+    pub outputs: List<Lease>,
+    pub sets: List<i64>,
 }
 
 impl Model for Frame {
@@ -30,7 +43,8 @@ impl Model for Frame {
 impl Frame {
     ghost use Rattle.kernel_gate.specs.Lending.{LendsOutput};
 
-    /// A frame with these arguments and inputs, and with outputs of these lengths and so many sets, all 0.
+    /// A frame with these arguments and inputs, and with outputs of these lengths and so many sets, all 0. Each port is
+    /// a block of its own.
     pub fn start(
         alloc: Global,
         kind: u32,
@@ -41,20 +55,68 @@ impl Frame {
     ) -> Result<Frame, AllocError>
         ensures given { IfOk result (λ f. (f.kind ≡ kind) × (f.args ≡ args) × (f.inputs ≡ inputs)) }
         ensures zeros { IfOk result (λ f. (f.outputs ≡ map (λ n. replicate n (pos 0)) outputs.now) × (f.sets ≡ replicate sets (pos 0))) }
+        ensures whole { IfOk result (λ f. AreWhole f.places) }
     {
-        let mut lists = Vec::with_capacity(alloc, outputs.len())?;
-        for n in outputs {
-            let zeros = vec![in alloc; 0i64; *n as usize]?;
-            lists.push(zeros)?;
-        }
+        let lists = zeros(alloc, outputs)?;
         let sets = vec![in alloc; 0i64; sets as usize]?;
+        // A `Vec` of leases must be spent, even where it is empty: from here on no `?` stands.
+        let given = Vec::with_capacity(alloc, inputs.items().len())?;
+        let written = match Vec::with_capacity(alloc, lists.len()) {
+            Ok(written) => written,
+            Err(error) => {
+                given.destroy_empty();
+                return Err(error);
+            }
+        };
         Ok(Frame {
             kind,
             args,
-            inputs,
-            outputs: lists,
+            inputs: leased(given, inputs.into_items()),
+            outputs: leased(written, lists),
             sets,
         })
+    }
+
+    /// A frame over these leases, with these arguments and sets. It takes no memory.
+    pub fn lend(
+        kind: u32,
+        args: List<i64>,
+        inputs: List<Lease>,
+        outputs: List<Lease>,
+        sets: List<i64>,
+    ) -> Frame
+        ensures given { (result.kind ≡ kind) × (result.args ≡ args) × (result.sets ≡ sets) }
+        ensures inputs { AreLeases result.inputs result.places.inputs inputs }
+        ensures outputs { AreLeases result.outputs result.places.outputs outputs }
+    {
+        Frame {
+            kind,
+            args,
+            inputs: inputs.into_items(),
+            outputs: outputs.into_items(),
+            sets: sets.into_items(),
+        }
+    }
+
+    /// The leases, each where it lay and with what the frame holds, the arguments and the sets. It takes no memory.
+    pub fn take_back(self) -> Lent
+        ensures given { (result.args ≡ self.args) × (result.sets ≡ self.sets) }
+        ensures inputs { AreLeases self.inputs self.places.inputs result.inputs }
+        ensures outputs { AreLeases self.outputs self.places.outputs result.outputs }
+    {
+        let Frame {
+            kind: _,
+            args,
+            inputs,
+            outputs,
+            sets,
+        } = self;
+        Lent {
+            args,
+            inputs: List::new(inputs),
+            outputs: List::new(outputs),
+            sets: List::new(sets),
+        }
     }
 
     /// The place of its kernel.
@@ -76,7 +138,7 @@ impl Frame {
         requires { length self.now.inputs < 2 ^ 32 }
         ensures { result ≡ length self.now.inputs }
     {
-        self.inputs.items().len() as u32
+        self.inputs.len() as u32
     }
 
     /// The tokens of an input port, the oldest first.
@@ -84,7 +146,7 @@ impl Frame {
         requires { port < length self.now.inputs }
         ensures { result.now ≡ slice_index_or self.now.inputs port [] }
     {
-        self.inputs.items()[port as usize].items()
+        self.inputs[port as usize].as_slice()
     }
 
     /// The number of output ports.
@@ -100,7 +162,7 @@ impl Frame {
         requires { port < length self.now.outputs }
         ensures { result ≡ length (slice_index_or self.now.outputs port []) }
     {
-        self.outputs[port as usize].len()
+        self.outputs[port as usize].as_slice().len()
     }
 
     /// The tokens of an output port, to be written. Its length never changes.
@@ -123,7 +185,7 @@ impl Frame {
     {
         (
             self.args.items(),
-            self.inputs.items()[from as usize].items(),
+            self.inputs[from as usize].as_slice(),
             self.outputs[to as usize].as_mut_slice(),
         )
     }
@@ -143,10 +205,10 @@ impl Frame {
         ensures second { result.1.now ≡ slice_index_or self.old.inputs second [] }
         ensures output { result.2.now ≡ slice_index_or self.old.outputs to [] }
     {
-        let inputs = self.inputs.items();
+        let inputs = &self.inputs;
         (
-            inputs[first as usize].items(),
-            inputs[second as usize].items(),
+            inputs[first as usize].as_slice(),
+            inputs[second as usize].as_slice(),
             self.outputs[to as usize].as_mut_slice(),
         )
     }
@@ -166,28 +228,18 @@ impl Frame {
         self.sets[place as usize] = value;
     }
 
-    /// The tokens of the output ports. The rest of the frame is given up. It takes no memory.
-    pub fn into_outputs(self) -> Vec<Vec<i64>>
-        ensures { map (λ v. v.items) result.items ≡ self.outputs }
+    /// Gives up the frame.
+    pub fn end(self)
+        requires whole { AreWhole self.places }
     {
         let Frame {
             kind: _,
             args: _,
-            inputs: _,
+            inputs,
             outputs,
             sets: _,
         } = self;
-        outputs
-    }
-
-    /// Gives up the frame.
-    pub fn end(self) {
-        let Frame {
-            kind: _,
-            args: _,
-            inputs: _,
-            outputs: _,
-            sets: _,
-        } = self;
+        spend(inputs);
+        spend(outputs);
     }
 }

@@ -4,11 +4,12 @@
 mod fault;
 mod frame;
 mod gate;
+mod leases;
 mod limits;
 mod signature;
 
 pub use fault::KernelFault;
-pub use frame::Frame;
+pub use frame::{Frame, Lent};
 pub use gate::Gate;
 pub use limits::{MAX_MEDIAN_TOKENS, MAX_MOVING_WIDTH};
 pub use signature::Signature;

@@ -4,7 +4,8 @@ use Rattle.std.specs.Prelude.{ℤ, Result, Ok, Err}
 use Rattle.std.proofs.lemmas.Bool.Decides.{nat_tests}
 use Rattle.std.proofs.lemmas.List.{nil_from_length, take-append-le}
 use Rattle.std.proofs.Math.Seq.{take-length}
-use Rattle.kernel_gate.specs.Value.{Answer, Gives, Faults, FrameView, told_by, with_output, refit, lengths, port}
+use Rattle.split_block.specs.View.{refit}
+use Rattle.kernel_gate.specs.Value.{Answer, Gives, Faults, FrameView, told_by, with_output, lengths, port}
 use Rattle.kernel_gate.specs.Kernels.{shaped, one_output, one_token, size, pairs_shaped, if_shape, if_value}
 use Rattle.kernel_gate.specs.Tokens.{each, prepend}
 use Rattle.kernel_gate.specs.declared.fault.KernelFault.{KernelFault}

@@ -163,7 +163,7 @@ piece_length i k o le =
 below_bound : {A : Type 0} (n : ℕ) (a b : A) → n < 2 ^ 63 → cond (nat_lt n (2 ^ 63)) a b ≡ a
 below_bound n a b lt = rw (lt-ltb n (2 ^ 63) lt)
 
-bounded_fits : (z : ℤ) → FitsSigned w64 z → bounded z ≡ Ok z
+pub bounded_fits : (z : ℤ) → FitsSigned w64 z → bounded z ≡ Ok z
 bounded_fits (pos n) h = below_bound n (Ok (pos n)) (Err (fault 1)) h.sfits
 bounded_fits (negsuc n) h = below_bound n (Ok (negsuc n)) (Err (fault 1)) h.sfits
 

@@ -5,6 +5,7 @@ mod configured;
 mod counted;
 mod elements;
 mod maps;
+mod partial_sums;
 mod rearranged;
 mod sums;
 mod tokens;

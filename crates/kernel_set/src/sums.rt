@@ -6,8 +6,8 @@ ghost use Rattle.kernel_gate.specs.Tokens.{each, places, mean_of, dot_product, p
 ghost use Rattle.kernel_gate.specs.Sums.{sum_signature, sum_answer, mean_signature, mean_answer, dot_signature, dot_answer, fir_signature, fir_answer, moving_signature, moving_answer};
 ghost use Rattle.kernel_set.specs.Written.{Writes, alone};
 
-use crate::maps::Plus;
-use crate::tokens::{checked_product, checked_quotient, checked_sum, fold};
+use crate::partial_sums::{accumulated, products, total};
+use crate::tokens::checked_quotient;
 use kernel_gate::{Frame, KernelFault, MAX_MOVING_WIDTH};
 
 /// The token as the only one of an output.
@@ -28,36 +28,10 @@ fn write_token(token: Result<i64, KernelFault>, o: &mut [i64]) -> Result<(), Ker
 fn mean_of_tokens(x: &[i64]) -> Result<i64, KernelFault>
     ensures { result ≡ mean_of x.now }
 {
-    match fold(&Plus, 0, x) {
+    match total(x) {
         Ok(all) => checked_quotient(all, x.len() as i64),
         Err(fault) => Err(fault),
     }
-}
-
-/// A partial sum and the product of two tokens.
-#[inline(always)]
-fn accumulated(all: i64, x: i64, z: i64) -> Result<i64, KernelFault>
-    ensures { result ≡ plus_product all (x, z) }
-{
-    match checked_product(x, z) {
-        Ok(y) => checked_sum(all, y),
-        Err(fault) => Err(fault),
-    }
-}
-
-/// The sum of the products of tokens at one place, from the front.
-fn products(x: &[i64], z: &[i64]) -> Result<i64, KernelFault>
-    requires { length x.now ≡ length z.now }
-    ensures { result ≡ dot_product x.now z.now }
-{
-    let mut all = 0;
-    for i in 0..x.len() {
-        match accumulated(all, x[i], z[i]) {
-            Ok(y) => all = y,
-            Err(fault) => return Err(fault),
-        }
-    }
-    Ok(all)
 }
 
 /// The sum of the products of taps and the tokens of a window, the first tap with the newest token.
@@ -118,7 +92,7 @@ pub fn sum(frame: &mut Frame) -> Result<(), KernelFault>
     if o.len() != 1 {
         return Err(KernelFault::SHAPE);
     }
-    write_token(fold(&Plus, 0, x), o)
+    write_token(total(x), o)
 }
 
 /// The sum of the tokens from the front, divided by their number and rounded towards zero. Shape unless the output

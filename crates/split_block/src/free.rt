@@ -4,7 +4,7 @@ ghost use Rattle.std.specs.Coded.{coded_list};
 ghost use denote.RawPtr.{Ptr, ◌+ₚ◌};
 ghost use Rattle.split_block.specs.Places.{Place, place_code, IsPlaced, Clear, has, without, free_owns, window, write};
 
-use crate::block::Run;
+use crate::block::Cells;
 use std::marker::Model;
 
 /// The cells at `ptr` without those at the places `out`, which hold what they held when they went out. It has no bytes.
@@ -28,25 +28,25 @@ pub fn nothing() -> Free
 }
 
 /// All the cells of a run, none of which is out.
-pub fn spread(run: Run) -> Free
+pub fn spread(run: Cells) -> Free
     ensures { (result.ptr ≡ run.ptr) × (result.cells ≡ run.items) × (result.out ≡ []) }
 {
-    let Run {} = run;
+    let Cells {} = run;
     Free {}
 }
 
 /// Takes the cells of a place out.
-pub fn part(free: Free, start: usize, len: usize) -> (Run, Free)
+pub fn part(free: Free, start: usize, len: usize) -> (Cells, Free)
     requires { (start + len ≤ length free.cells) × Clear (record { start = start; len = len }) free.out }
     ensures { (result.0.ptr ≡ free.ptr +ₚ (start * 8)) × (result.0.items ≡ window start len free.cells)
         × (result.1.ptr ≡ free.ptr) × (result.1.cells ≡ free.cells) × (result.1.out ≡ record { start = start; len = len } ∷ free.out) }
 {
     let Free {} = free;
-    (Run {}, Free {})
+    (Cells {}, Free {})
 }
 
 /// Puts the cells of a place back.
-pub fn put(free: Free, start: usize, run: Run) -> Free
+pub fn put(free: Free, start: usize, run: Cells) -> Free
     requires { (run.ptr ≡ free.ptr +ₚ (start * 8)) × (start + length run.items ≤ length free.cells)
         × IsTrue (has (record { start = start; len = length run.items }) free.out)
         × Clear (record { start = start; len = length run.items }) (without (record { start = start; len = length run.items }) free.out) }
@@ -54,6 +54,6 @@ pub fn put(free: Free, start: usize, run: Run) -> Free
         × (result.out ≡ without (record { start = start; len = length run.items }) free.out) }
 {
     let Free {} = free;
-    let Run {} = run;
+    let Cells {} = run;
     Free {}
 }

@@ -4,7 +4,7 @@ ghost use Rattle.std.specs.Borrow.{sem};
 ghost use denote.RawPtr.{◌+ₚ◌};
 ghost use Rattle.split_block.specs.View.{IsWhole, Follows};
 
-use crate::block::{Run, Sole, attach, cut, detach, glue, house, vacate};
+use crate::block::{Cells, VecWithoutCells, attach, cut, detach, glue, take_cells, vec_over};
 use std::alloc::Global;
 use std::marker::Model;
 use std_alloc::vec::Lodged;
@@ -13,7 +13,7 @@ use std_alloc::vec::Lodged;
 pub struct Lease {
     buf: Vec<i64, Lodged>,
     // What makes the block a `Vec` again, where that isn't a pool's: the lease that starts at 0 and has a cell has it.
-    home: Option<Sole<Global>>,
+    home: Option<VecWithoutCells<Global>>,
     base: *mut i64,
     start: usize,
     size: usize,
@@ -64,11 +64,11 @@ impl Lease {
             };
         }
         let base = cells.as_mut_ptr();
-        let (run, sole) = detach(cells);
-        let buf = house(base, size, run);
+        let (run, emptied) = detach(cells);
+        let buf = vec_over(base, size, run);
         Lease {
             buf,
-            home: Some(sole),
+            home: Some(emptied),
             base,
             start: 0,
             size,
@@ -95,10 +95,10 @@ impl Lease {
         let at = at as usize;
         let len = buf.len();
         let ptr = buf.as_mut_ptr();
-        let (front, back) = cut(vacate(buf), at);
+        let (front, back) = cut(take_cells(buf), at);
         let (first, second) = if at == 0 { (None, home) } else { (home, None) };
         let left = Lease {
-            buf: house(ptr, at, front),
+            buf: vec_over(ptr, at, front),
             home: first,
             base,
             start,
@@ -108,7 +108,7 @@ impl Lease {
         };
         let middle = unsafe { ptr.byte_add(at * 8) };
         let right = Lease {
-            buf: house(middle, len - at, back),
+            buf: vec_over(middle, len - at, back),
             home: second,
             base,
             start: start + at,
@@ -144,14 +144,14 @@ impl Lease {
         } = right;
         let len = buf.len() + other.len();
         let ptr = buf.as_mut_ptr();
-        let run = glue(vacate(buf), vacate(other));
+        let run = glue(take_cells(buf), take_cells(other));
         let home = match (home, other_home) {
             (Some(_), Some(_)) => unreachable!(),
-            (Some(sole), None) => Some(sole),
+            (Some(emptied), None) => Some(emptied),
             (None, other) => other,
         };
         Lease {
-            buf: house(ptr, len, run),
+            buf: vec_over(ptr, len, run),
             home,
             base,
             start,
@@ -176,7 +176,7 @@ impl Lease {
             alloc,
         } = self;
         match home {
-            Some(sole) => attach(vacate(buf), sole),
+            Some(emptied) => attach(take_cells(buf), emptied),
             None => {
                 drop(buf);
                 Vec::new(alloc)
@@ -201,7 +201,7 @@ impl Lease {
 
     /// A lease of cells of a pool's block of `size` cells, from the cell `start` on.
     pub fn of_pool(
-        run: Run,
+        run: Cells,
         len: usize,
         base: *mut i64,
         start: usize,
@@ -214,7 +214,7 @@ impl Lease {
     {
         let ptr = unsafe { base.byte_add(start * 8) };
         Lease {
-            buf: house(ptr, len, run),
+            buf: vec_over(ptr, len, run),
             home: None,
             base,
             start,
@@ -225,7 +225,7 @@ impl Lease {
     }
 
     /// The cells of a lease of a pool's block, and where they start.
-    pub fn into_pool(self) -> (Run, usize)
+    pub fn into_pool(self) -> (Cells, usize)
         requires pooled { self.block.pooled ≡ true }
         ensures run { (result.0.ptr ≡ self.block.ptr +ₚ (self.start * 8)) × (result.0.items ≡ self.cells) }
         ensures start { result.1 ≡ self.start }
@@ -244,6 +244,6 @@ impl Lease {
             Some(_) => unreachable!(),
             None => {}
         }
-        (vacate(buf), start)
+        (take_cells(buf), start)
     }
 }

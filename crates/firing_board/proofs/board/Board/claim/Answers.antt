@@ -46,7 +46,7 @@ returns-in-Ok-claim_node-clause-starts c =
     let b = c.self.inside in
     let v : BoardView = c.args.self.now in
     let ok = c.in-Ok-claim_node.ensures.ok in
-    firing_started v b.path b.stage b.busy.items (vec_capacity b.journal) c.args.worker c.in-Some-Node.node c.claim_node.new.self c.in-Ok-claim_node.ticket c.in-Ok-claim_node.frame (kept b v c.self.view_is c.self.invariant) c.requires.worker ok.0 ok.1 ok.2
+    firing_started v b.path b.stage b.busy.items (vec_capacity b.journal) c.args.worker c.in-Some-Node.node c.claim_node.new.self c.in-Ok-claim_node.ticket c.in-Ok-claim_node.frame (kept b v c.self.view_is c.self.invariant) c.requires.worker ok.0 ok.1 ok.2 ok.3
 
 pub returns-in-Ok-claim_node-clause-takes_one : goal.returns-in-Ok-claim_node-clause-takes_one
 returns-in-Ok-claim_node-clause-takes_one c =

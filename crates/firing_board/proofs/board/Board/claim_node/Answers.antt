@@ -55,10 +55,11 @@ returns-clause-ok c =
     let fed = subst (λ (v : BoardView). v.starved ≡ false) (sym is) c.requires.fed in
     let n : ℕ = length (job_of (key_of b).graphs).firings in
     let h = has b c.args.node c.self.invariant fed picked in
-    let frame : c.in_ok-frame.frame ≡ frame_of c.args.self.now c.args.node =
-    c.in_ok-frame.ensures n
-    ∙ (ap (λ (ins : List (List ℤ)). frame_at ins (stage_marks n b.stage) (firing_in b.stage c.args.node)) c.items.ensures
-    ∙ (frame_is (board_view b) b.path b.stage b.busy.items (vec_capacity b.journal) c.args.node c.self.invariant h ∙ ap (λ (v : BoardView). frame_of v c.args.node) is)) in (
+    let places = c.in_ok-frame.frame.places in
+    let frame : c.in_ok-frame.frame ≡ frame_of c.args.self.now c.args.node places =
+    c.in_ok-frame.ensures.frame n
+    ∙ (ap (λ (ins : List (List ℤ)). frame_at ins (stage_marks n b.stage) (firing_in b.stage c.args.node) places) c.items.ensures
+    ∙ (frame_is (board_view b) b.path b.stage b.busy.items (vec_capacity b.journal) c.args.node places c.self.invariant h ∙ ap (λ (v : BoardView). frame_of v c.args.node places) is)) in (
       record {
         worker = refl;
         path = c.in_ok-path.ensures ∙ (c.self.invariant.path_is ∙ ap (λ (v : BoardView). (job_of v.key.graphs).path) is);
@@ -67,4 +68,5 @@ returns-clause-ok c =
       },
       refl,
       frame,
+      c.in_ok-frame.ensures.whole,
     )

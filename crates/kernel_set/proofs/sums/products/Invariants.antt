@@ -1,6 +1,0 @@
-use Rattle.std.proofs.Common.{◌≡◌, drop, zip}
-use Rattle.kernel_gate.specs.Tokens.{dot_product, running, plus_product}
-use Rattle.kernel_set.proofs.sums.products.Given as goal
-
-abbrev pub invariant-loop-i : goal.invariant-loop-i
-invariant-loop-i l = running plus_product l.all (drop l.i (zip l.x l.z)) ≡ dot_product l.x l.z
