@@ -1,0 +1,5 @@
+pub mod Meant
+pub mod Passes
+pub mod Rule
+pub mod Plays
+pub mod Tallied

@@ -1,0 +1,15 @@
+//! A lock round one state, whose passes know what they have done to it.
+#![tactic(auto)]
+
+mod lock;
+mod locked;
+mod pass;
+mod rule;
+pub mod tally;
+#[cfg(test)]
+mod tests;
+mod view;
+
+pub use lock::{Lock, NotMade};
+pub use locked::Locked;
+pub use pass::{Held, Pass, Turn};
