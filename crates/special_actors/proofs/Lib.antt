@@ -1,0 +1,4 @@
+pub mod Gathered
+pub mod Spread
+pub mod Rounds
+pub mod Shapes
