@@ -1,0 +1,14 @@
+pub mod Nodes
+pub mod Wires
+pub mod Cursors
+pub mod Short
+pub mod Flow
+pub mod Delivers
+pub mod Names
+pub mod Ranks
+pub mod Expanded
+pub mod Laws
+pub mod Sequence
+pub mod Numbers
+pub mod Sizes
+pub mod NamedLines
