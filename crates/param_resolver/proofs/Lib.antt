@@ -1,0 +1,12 @@
+pub mod Assignments
+pub mod Configuring
+pub mod Giving
+pub mod Levels
+pub mod NestedGraphs
+pub mod Ranks
+pub mod RatedFaults
+pub mod Resolved
+pub mod Settling
+pub mod Sound
+pub mod SoundValues
+pub mod Walks

@@ -1,0 +1,5 @@
+use Rattle.param_resolver.proofs.SoundValues.{all_sound}
+use Rattle.param_resolver.proofs.laws.all_sound.Goals as goal
+
+pub returns : goal.returns
+returns c = λ params given ordered full none. all_sound params given ordered full none

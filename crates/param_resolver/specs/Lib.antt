@@ -1,0 +1,10 @@
+pub mod Assignment
+pub mod EarlyCheck
+pub mod EarlyView
+pub mod LevelOf
+pub mod Numbering
+pub mod Rates
+pub mod Resolvable
+pub mod Refusal
+pub mod Settled
+pub mod Sound

@@ -1,0 +1,34 @@
+// Laws of the definitions, for whoever proves something above them. The functions do nothing; their contracts are the laws.
+ghost use Rattle.std.specs.Prelude.{◌≡◌, ◌<◌, ℤ, ℕ, Option, None, List as Seq, [], length, slice_get, slice_index_or, IsSome};
+ghost use Rattle.pisdf_model.specs.Range.{InRange};
+ghost use Rattle.pisdf_model.specs.WellFormed.{WellFormed};
+ghost use Rattle.pisdf_model.specs.declared.graph.Graphs.{Graphs};
+ghost use Rattle.pisdf_model.specs.declared.param.Param.{Param};
+ghost use Rattle.param_resolver.specs.Assignment.{IsAssignment, param_faults, values_of};
+ghost use Rattle.param_resolver.specs.EarlyCheck.{check_by, check_of};
+ghost use Rattle.param_resolver.specs.Resolvable.{AreResolvable};
+ghost use Rattle.param_resolver.specs.Settled.{AreOrdered};
+ghost use Rattle.param_resolver.specs.Sound.{AreGiven};
+
+/// Parameters none of which depends on itself have exactly one assignment, whatever they are given.
+pub fn one_assignment()
+    ensures is { (params : Seq Param) (given : Seq (Option ℤ)) → AreOrdered params → IsAssignment params given (values_of params given) }
+    ensures only { (params : Seq Param) (given values : Seq (Option ℤ)) → AreOrdered params → IsAssignment params given values → values ≡ values_of params given }
+{}
+
+/// Well-formed graphs, whose numbers refer to parts, have what is asked of one graph: no parameter depends on itself, and
+/// every expression names parameters that are there.
+pub fn graphs_resolvable()
+    ensures { (graphs : Graphs) → InRange graphs → WellFormed graphs → AreResolvable graphs.graphs }
+{}
+
+/// The early check of a graph, in well-formed graphs, takes those of the graphs that its configuration actors name: there
+/// is no end to the nesting in it.
+pub fn early_unfolds()
+    ensures { (graphs : Graphs) (place : ℕ) (inherited : Seq ℤ) → InRange graphs → WellFormed graphs → place < length graphs.graphs → check_of graphs.graphs place inherited ≡ check_by (check_of graphs.graphs) graphs.graphs (slice_get graphs.graphs place) inherited }
+{}
+
+/// Parameters all of which are given what their kinds want, and none of which has a fault, have all a value.
+pub fn all_sound()
+    ensures { (params : Seq Param) (given : Seq (Option ℤ)) → AreOrdered params → AreGiven params given → param_faults params given ≡ [] → (q : ℕ) → q < length params → IsSome (slice_index_or (values_of params given) q None) }
+{}

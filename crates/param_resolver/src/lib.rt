@@ -1,0 +1,25 @@
+//! What a reconfiguration changes, worked out for one graph: the values of its parameters, the check that is made before
+//! its configuration actors fire, and its level with the rates of its links.
+#![tactic(auto)]
+
+mod assignment;
+mod check;
+mod configuration;
+mod fault;
+mod feeding;
+mod given;
+mod known;
+mod laws;
+mod named;
+mod origin;
+mod part_names;
+mod rates;
+mod resolution;
+
+pub use check::early;
+pub use fault::{EarlyFault, LevelFault, ResolveFault, Why};
+pub use known::Early;
+pub use laws::{all_sound, early_unfolds, graphs_resolvable, one_assignment};
+pub use origin::Origin;
+pub use part_names::part_name;
+pub use resolution::resolve;
