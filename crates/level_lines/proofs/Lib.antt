@@ -1,0 +1,4 @@
+pub mod Placed
+pub mod Puts
+pub mod AtPorts
+pub mod Leaves

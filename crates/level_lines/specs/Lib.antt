@@ -1,0 +1,2 @@
+pub mod AtActors
+pub mod Lines

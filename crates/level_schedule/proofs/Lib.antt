@@ -1,0 +1,3 @@
+pub mod LinkByLink
+pub mod OneAnswer
+pub mod Passed

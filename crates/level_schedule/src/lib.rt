@@ -1,0 +1,11 @@
+//! How one thread fires a level: how often each actor fires, and in which order; or why there is no such schedule (Lee and
+//! Messerschmitt 1987).
+#![tactic(auto)]
+
+mod counting;
+mod excess;
+mod scheduling;
+mod unscheduled;
+
+pub use scheduling::{LevelSchedule, schedule};
+pub use unscheduled::{Unscheduled, What};
