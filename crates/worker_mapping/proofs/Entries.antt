@@ -6,7 +6,7 @@ use Rattle.std.proofs.lemmas.List.Elements.{filter-append}
 use Rattle.std.proofs.lemmas.Bool.{cases_eq, eq-eqb, ne_eqb, lt-ltb}
 use Rattle.worker_mapping.specs.Graph.{CostedGraph, nodes_after, nodes_before, greatest}
 use Rattle.worker_mapping.specs.Schedule.{last_end, end_of, is_placed, times_placed, ready_time, EachEntry}
-use Rattle.worker_mapping.specs.Release.{times}
+use Rattle.sdf_level.specs.Lists.{occurrences}
 use Rattle.worker_mapping.proofs.Kept.{waiting_for, unplaced_below}
 use Rattle.worker_mapping.specs.declared.entry.Entry.{Entry}
 use Rattle.worker_mapping.proofs.Lists.{greatest-append, greatest-le, each-map, each-filter, each-always}
@@ -77,7 +77,7 @@ module _ (placed : List Entry) (e : Entry) where
         (cases_eq e.node n)
 
     -- each node after it waits for one node less, for each edge between them
-    pub waiting_for-push : (edges : List (ℕ × ℕ)) (n : ℕ) → waiting_for edges (placed ++ e ∷ []) n + times n (nodes_after edges e.node) ≡ waiting_for edges placed n
+    pub waiting_for-push : (edges : List (ℕ × ℕ)) (n : ℕ) → waiting_for edges (placed ++ e ∷ []) n + occurrences n (nodes_after edges e.node) ≡ waiting_for edges placed n
     waiting_for-push [] n = refl
     waiting_for-push (x ∷ edges) n =
         let rest = waiting_for-push edges n in
@@ -87,11 +87,11 @@ module _ (placed : List Entry) (e : Entry) where
         let now : is_placed (placed ++ e ∷ []) x.0 ≡ true = rw own is_placed-own in
         let was : is_placed placed x.0 ≡ false = rw own unplaced in
         rw (eq-eqb x.0 e.node own, eq-eqb x.1 n to, now, was) (omega arith))
-        (λ (away : x.1 ≡ n → ⊥). rw (eq-eqb x.0 e.node own, ne_eqb x.1 n away) rest)
+        (λ (away : x.1 ≡ n → ⊥). rw (eq-eqb x.0 e.node own, ne_eqb x.1 n away) (omega arith))
         (cases_eq x.1 n))
         (λ (other : x.0 ≡ e.node → ⊥). ⊎_elim
         (λ (to : x.1 ≡ n). rw (ne_eqb x.0 e.node other, eq-eqb x.1 n to, is_placed-other x.0 (λ s. other (sym s)))
-        (elim (is_placed placed x.0) as (λ b. length (cond (not b) (x.0 ∷ filter (λ m. not (is_placed (placed ++ e ∷ []) m)) (nodes_before edges n)) (filter (λ m. not (is_placed (placed ++ e ∷ []) m)) (nodes_before edges n))) + times n (nodes_after edges e.node) ≡ length (cond (not b) (x.0 ∷ filter (λ m. not (is_placed placed m)) (nodes_before edges n)) (filter (λ m. not (is_placed placed m)) (nodes_before edges n)))) [ true ↦ rest | false ↦ omega arith ]))
+        (elim (is_placed placed x.0) as (λ b. length (cond (not b) (x.0 ∷ filter (λ m. not (is_placed (placed ++ e ∷ []) m)) (nodes_before edges n)) (filter (λ m. not (is_placed (placed ++ e ∷ []) m)) (nodes_before edges n))) + occurrences n (nodes_after edges e.node) ≡ length (cond (not b) (x.0 ∷ filter (λ m. not (is_placed placed m)) (nodes_before edges n)) (filter (λ m. not (is_placed placed m)) (nodes_before edges n)))) [ true ↦ rest | false ↦ omega arith ]))
         (λ (away : x.1 ≡ n → ⊥). rw (ne_eqb x.0 e.node other, ne_eqb x.1 n away) rest)
         (cases_eq x.1 n))
         (cases_eq x.0 e.node)
@@ -107,7 +107,7 @@ module _ (placed : List Entry) (e : Entry) where
   end_of-other m other = rw (last_end-push (λ (x : Entry). eqb x.node m), ne_eqb e.node m other) (omega arith)
 
   -- each node after it is ready at its end or later
-  pub ready-push : (edges : List (ℕ × ℕ)) (n : ℕ) → greatest (map (end_of (placed ++ e ∷ [])) (nodes_before edges n)) ≡ max (greatest (map (end_of placed) (nodes_before edges n))) (cond (ltb 0 (times n (nodes_after edges e.node))) e.end 0)
+  pub ready-push : (edges : List (ℕ × ℕ)) (n : ℕ) → greatest (map (end_of (placed ++ e ∷ [])) (nodes_before edges n)) ≡ max (greatest (map (end_of placed) (nodes_before edges n))) (cond (ltb 0 (occurrences n (nodes_after edges e.node))) e.end 0)
   ready-push [] n = omega arith
   ready-push (x ∷ edges) n =
       let rest = ready-push edges n in
@@ -115,9 +115,11 @@ module _ (placed : List Entry) (e : Entry) where
       (λ (own : x.0 ≡ e.node). ⊎_elim
       (λ (to : x.1 ≡ n).
       let now : end_of (placed ++ e ∷ []) x.0 ≡ max (end_of placed x.0) e.end = rw own end_of-own in
-      let small = cond-le (ltb 0 (times n (nodes_after edges e.node))) e.end in
-      rw (eq-eqb x.0 e.node own, eq-eqb x.1 n to, now, lt-ltb 0 (suc (times n (nodes_after edges e.node))) (omega arith)) (omega arith))
-      (λ (away : x.1 ≡ n → ⊥). rw (eq-eqb x.0 e.node own, ne_eqb x.1 n away) rest)
+      let small = cond-le (ltb 0 (occurrences n (nodes_after edges e.node))) e.end in
+      rw (eq-eqb x.0 e.node own, eq-eqb x.1 n to, now, lt-ltb 0 (1 + occurrences n (nodes_after edges e.node)) (omega arith)) (omega arith))
+      (λ (away : x.1 ≡ n → ⊥).
+      let none : 0 + occurrences n (nodes_after edges e.node) ≡ occurrences n (nodes_after edges e.node) = omega arith in
+      rw (eq-eqb x.0 e.node own, ne_eqb x.1 n away, none) rest)
       (cases_eq x.1 n))
       (λ (other : x.0 ≡ e.node → ⊥). ⊎_elim
       (λ (to : x.1 ≡ n).

@@ -7,14 +7,15 @@ use Rattle.std.proofs.lemmas.Bool.{cases_eq, cases_lt, cases_Bool, eq-eqb, ne_eq
 use Rattle.worker_mapping.specs.Graph.{CostedGraph, nodes_after, nodes_before, greatest, AreThere, Rise}
 use Rattle.worker_mapping.specs.Schedule.{free_time, end_of, is_placed, times_placed, ready_time, IsCandidate, GoesFirst, IsChoice, EachEntry, IsSchedule}
 use Rattle.worker_mapping.specs.Choice.{IsNotAfter, candidate_of, IsNext}
-use Rattle.worker_mapping.specs.Release.{times, Releases}
+use Rattle.sdf_level.specs.Lists.{occurrences}
+use Rattle.worker_mapping.specs.Release.{Releases}
 use Rattle.worker_mapping.proofs.Kept.{waiting_for, unplaced_below, most_cost, Follows}
 use Rattle.worker_mapping.specs.Neighbours.{AreCounted}
 use Rattle.worker_mapping.specs.declared.entry.Entry.{Entry}
 use Rattle.worker_mapping.specs.declared.choice.Candidate.{Candidate}
 use Rattle.worker_mapping.proofs.Lists.{each-weaker, each-append, each-contains}
 use Rattle.worker_mapping.proofs.Edges.{before_is_there}
-use Rattle.worker_mapping.proofs.Releasing.{Contains-from_times, times-from_Contains}
+use Rattle.worker_mapping.proofs.Releasing.{Contains-from_occurrences, occurrences-from_Contains, occurrences-skip}
 use Rattle.worker_mapping.proofs.Entries.{last_end-le, ready_time-le, is_placed-own, is_placed-other, last_end-push, times_placed-push, unplaced_below-push, waiting_for-push, ready-push}
 
 -- a node that waits for none is one whose nodes before it are all placed
@@ -37,24 +38,24 @@ all-placed placed xs h = All-from_recursion (λ m. IsTrue (is_placed placed m)) 
 
 -- the elements that pass a test
 pub Contains-filter : (p : ℕ → Bool) (xs : List ℕ) (n : ℕ) → Contains xs n → p n ≡ true → Contains (filter p xs) n
-Contains-filter p xs n at holds = Contains-from_times n (filter p xs) (go xs (times-from_Contains n xs at)) where
-  go : (ys : List ℕ) → 0 < times n ys → 0 < times n (filter p ys)
+Contains-filter p xs n at holds = Contains-from_occurrences n (filter p xs) (go xs (occurrences-from_Contains n xs at)) where
+  go : (ys : List ℕ) → 0 < occurrences n ys → 0 < occurrences n (filter p ys)
   go [] h = absurd (omega arith)
   go (y ∷ ys) h = ⊎_elim
       (λ (same : y ≡ n). rw (same, holds, eq-eqb n n refl) (omega arith))
-      (λ (other : y ≡ n → ⊥). let k = go ys (rw (ne_eqb y n other) at h) in elim (p y) as (λ b. 0 < times n (cond b (y ∷ filter p ys) (filter p ys))) [ true ↦ rw (ne_eqb y n other) k | false ↦ k ])
+      (λ (other : y ≡ n → ⊥). let k = go ys (let skip = occurrences-skip n y ys other in omega arith) in elim (p y) as (λ b. 0 < occurrences n (cond b (y ∷ filter p ys) (filter p ys))) [ true ↦ let skip = occurrences-skip n y (filter p ys) other in omega arith | false ↦ k ])
       (cases_eq y n)
 
 pub Contains-filtered : (p : ℕ → Bool) (xs : List ℕ) (n : ℕ) → Contains (filter p xs) n → Contains xs n × (p n ≡ true)
-Contains-filtered p xs n at = let k = go xs (times-from_Contains n (filter p xs) at) in (Contains-from_times n xs k.0, k.1) where
-  go : (ys : List ℕ) → 0 < times n (filter p ys) → (0 < times n ys) × (p n ≡ true)
+Contains-filtered p xs n at = let k = go xs (occurrences-from_Contains n (filter p xs) at) in (Contains-from_occurrences n xs k.0, k.1) where
+  go : (ys : List ℕ) → 0 < occurrences n (filter p ys) → (0 < occurrences n ys) × (p n ≡ true)
   go [] h = absurd (omega arith)
   go (y ∷ ys) h = ⊎_elim
       (λ (same : y ≡ n). (rw (eq-eqb y n same) (omega arith), ⊎_elim (λ (holds : p n ≡ true). holds) (λ (fails : p n ≡ false). let other : p y ≡ false = rw same fails in let k = go ys (rw other at h) in k.1) (cases_Bool (p n))))
-      (λ (other : y ≡ n → ⊥). rw (ne_eqb y n other) (go ys (passed (p y) other h)))
+      (λ (other : y ≡ n → ⊥). let k = go ys (passed (p y) other h) in ((let later = k.0 in let skip = occurrences-skip n y ys other in omega arith), k.1))
       (cases_eq y n) where
-        passed : (b : Bool) → (y ≡ n → ⊥) → 0 < times n (cond b (y ∷ filter p ys) (filter p ys)) → 0 < times n (filter p ys)
-        passed true other k = rw (ne_eqb y n other) at k
+        passed : (b : Bool) → (y ≡ n → ⊥) → 0 < occurrences n (cond b (y ∷ filter p ys) (filter p ys)) → 0 < occurrences n (filter p ys)
+        passed true other k = let skip = occurrences-skip n y (filter p ys) other in omega arith
         passed false other k = k
 
 -- one of some numbers has the least value
@@ -210,15 +211,15 @@ module _ (graph : CostedGraph) (workers : ℕ) (placed : List Entry) (waiting re
               (not_after n at)
 
     -- each node after it waits for it
-    pub enough : AllByRecursion (λ n. n < graph.nodes) (nodes_after graph.edges e.node) → (n : ℕ) → times n (nodes_after graph.edges e.node) ≤ slice_index waiting n
+    pub enough : AllByRecursion (λ n. n < graph.nodes) (nodes_after graph.edges e.node) → (n : ℕ) → occurrences n (nodes_after graph.edges e.node) ≤ slice_index waiting n
     enough heads_there n = ⊎_elim
-        (λ (some : 0 < times n (nodes_after graph.edges e.node)).
-        let below : n < graph.nodes = each-contains (λ m. m < graph.nodes) (nodes_after graph.edges e.node) n heads_there (Contains-from_times n (nodes_after graph.edges e.node) some) in
+        (λ (some : 0 < occurrences n (nodes_after graph.edges e.node)).
+        let below : n < graph.nodes = each-contains (λ m. m < graph.nodes) (nodes_after graph.edges e.node) n heads_there (Contains-from_occurrences n (nodes_after graph.edges e.node) some) in
         let w = h.waiting_each n below in
         let k = waiting_for-push placed e node_unplaced graph.edges n in
         omega arith)
-        (λ (none : times n (nodes_after graph.edges e.node) ≤ 0). omega arith)
-        (cases_lt 0 (times n (nodes_after graph.edges e.node)))
+        (λ (none : occurrences n (nodes_after graph.edges e.node) ≤ 0). omega arith)
+        (cases_lt 0 (occurrences n (nodes_after graph.edges e.node)))
 
     module _ (cheap : slice_index graph.costs e.node ≤ most_cost) (waiting' ready' candidates' : List ℕ) (r : Releases (nodes_after graph.edges e.node) e.end waiting ready (filter (λ n. not (eqb n e.node)) candidates) waiting' ready' candidates') where
       own_waits_none : waiting_for graph.edges placed e.node ≡ 0
@@ -238,7 +239,7 @@ module _ (graph : CostedGraph) (workers : ℕ) (placed : List Entry) (waiting re
           let none : waiting_for graph.edges (placed ++ e ∷ []) n ≡ 0 = waits-none (placed ++ e ∷ []) (nodes_before graph.edges n) k.after_all in
           let less = waiting_for-push placed e node_unplaced graph.edges n in
           (r.candidates_each n).1 (⊎_elim
-          (λ (waited : 0 < waiting_for graph.edges placed n). inr (Contains-from_times n (nodes_after graph.edges e.node) (omega arith), waits_now n k.there ∙ none))
+          (λ (waited : 0 < waiting_for graph.edges placed n). inr (Contains-from_occurrences n (nodes_after graph.edges e.node) (omega arith), waits_now n k.there ∙ none))
           (λ (free' : waiting_for graph.edges placed n ≤ 0). inl (Contains-filter (λ m. not (eqb m e.node)) candidates n
           ((h.candidates_each n).1 (record { there = k.there; unplaced = sym (is_placed-other placed e n other) ∙ k.unplaced; after_all = all-placed placed (nodes_before graph.edges n) (omega arith) }))
           (not_own n other)))
@@ -254,7 +255,7 @@ module _ (graph : CostedGraph) (workers : ℕ) (placed : List Entry) (waiting re
             waiting_long = r.waiting_long ∙ h.waiting_long;
             waiting_each = waits_now;
             ready_long = r.ready_long ∙ h.ready_long;
-            ready_each = λ n below. r.ready_each n ∙ ap (λ (x : ℕ). max x (cond (ltb 0 (times n (nodes_after graph.edges e.node))) e.end 0)) (h.ready_each n below) ∙ sym (ready-push placed e graph.edges n);
+            ready_each = λ n below. r.ready_each n ∙ ap (λ (x : ℕ). max x (cond (ltb 0 (occurrences n (nodes_after graph.edges e.node))) e.end 0)) (h.ready_each n below) ∙ sym (ready-push placed e graph.edges n);
             free_long = length-set free e.worker e.end ∙ h.free_long;
             free_each = λ w below. ⊎_elim
                 (λ (own : e.worker ≡ w).
@@ -277,7 +278,7 @@ module _ (graph : CostedGraph) (workers : ℕ) (placed : List Entry) (waiting re
                   candidate_now n was.there was.unplaced (λ (s : e.node ≡ n). eqb-false n e.node (not-true (eqb n e.node) k.1) (sym s)) (omega arith))
                   (λ (freed : Contains (nodes_after graph.edges e.node) n × (slice_index waiting' n ≡ 0)).
                   let below : n < graph.nodes = each-contains (λ m. m < graph.nodes) (nodes_after graph.edges e.node) n heads_there freed.0 in
-                  let some = times-from_Contains n (nodes_after graph.edges e.node) freed.0 in
+                  let some = occurrences-from_Contains n (nodes_after graph.edges e.node) freed.0 in
                   let less = waiting_for-push placed e node_unplaced graph.edges n in
                   let un : is_placed placed n ≡ false = ⊎_elim (λ (holds : is_placed placed n ≡ true). absurd (let z = h.closed n holds in omega arith)) (λ (fails : is_placed placed n ≡ false). fails) (cases_Bool (is_placed placed n)) in
                   candidate_now n below un (λ (s : e.node ≡ n). let z : waiting_for graph.edges placed n ≡ 0 = rw s at own_waits_none in omega arith) (sym (waits_now n below) ∙ freed.1))

@@ -4,47 +4,46 @@ use Rattle.std.specs.List.{Contains, filter}
 use Rattle.std.proofs.lemmas.List.{length-set, length-append, get_or-set_same, get_or-set_other, take_more}
 use Rattle.std.proofs.lemmas.List.Elements.{Contains-push, Contains-push_cases, Contains-append_left, filter-append}
 use Rattle.std.proofs.lemmas.Bool.{cases_eq, eq-eqb, ne_eqb, lt-ltb}
-use Rattle.worker_mapping.specs.Release.{times, Releases}
+use Rattle.sdf_level.specs.Lists.{occurrences}
+use Rattle.sdf_level.proofs.Regrouped.{occurrences-take}
+use Rattle.worker_mapping.specs.Release.{Releases}
 
-pub times-append : (n : ℕ) (xs ys : List ℕ) → times n (xs ++ ys) ≡ times n xs + times n ys
-times-append n xs ys = ap length (filter-append (λ x. eqb x n) xs ys) ∙ length-append (filter (λ x. eqb x n) xs) (filter (λ x. eqb x n) ys)
+pub occurrences-push : (a : ℕ) (xs : List ℕ) (b : ℕ) → occurrences a (xs ++ b ∷ []) ≡ occurrences a xs + occurrences a (b ∷ [])
+occurrences-push a [] b = omega arith
+occurrences-push a (x ∷ xs) b = let rest = occurrences-push a xs b in omega arith
 
-pub times-own : (n : ℕ) → times n (n ∷ []) ≡ 1
-times-own n = rw (eq-eqb n n refl)
+pub occurrences-own : (n : ℕ) → occurrences n (n ∷ []) ≡ 1
+occurrences-own n = rw (eq-eqb n n refl)
 
-pub times-other : (n x : ℕ) → (x ≡ n → ⊥) → times n (x ∷ []) ≡ 0
-times-other n x h = rw (ne_eqb x n h)
+pub occurrences-other : (n x : ℕ) → (x ≡ n → ⊥) → occurrences n (x ∷ []) ≡ 0
+occurrences-other n x h = rw (ne_eqb x n h)
 
-times-take-le : (n : ℕ) (xs : List ℕ) (i : ℕ) → times n (take i xs) ≤ times n xs
-times-take-le n xs zero = omega arith
-times-take-le n [] (suc i) = omega arith
-times-take-le n (x ∷ xs) (suc i) = elim (eqb x n) as (λ b. length (cond b (x ∷ filter (λ y. eqb y n) (take i xs)) (filter (λ y. eqb y n) (take i xs))) ≤ length (cond b (x ∷ filter (λ y. eqb y n) xs) (filter (λ y. eqb y n) xs))) [
-  | true ↦ let h = times-take-le n xs i in omega arith
-  | false ↦ times-take-le n xs i
-]
+-- an element that isn't the number
+pub occurrences-skip : (n x : ℕ) (xs : List ℕ) → (x ≡ n → ⊥) → occurrences n (x ∷ xs) ≡ occurrences n xs
+occurrences-skip n x xs other = rw (ne_eqb x n other) (omega arith)
 
 -- an element that follows is not counted yet
-pub times-take-lt : (xs : List ℕ) (i : ℕ) → i < length xs → times (get_or xs i 0) (take i xs) < times (get_or xs i 0) xs
-times-take-lt xs i h =
+pub occurrences-take-lt : (xs : List ℕ) (i : ℕ) → i < length xs → occurrences (get_or xs i 0) (take i xs) < occurrences (get_or xs i 0) xs
+occurrences-take-lt xs i h =
     let n : ℕ = get_or xs i 0 in
-    let more = ap (times n) (take_more xs i 0 h) ∙ times-append n (take i xs) (n ∷ []) in
-    let one = times-own n in
-    let all = times-take-le n xs (i + 1) in
+    let more = ap (occurrences n) (take_more xs i 0 h) ∙ occurrences-push n (take i xs) n in
+    let one = occurrences-own n in
+    let all = occurrences-take n (i + 1) xs in
     omega arith
 
 -- a number that is counted stands in the list
-pub Contains-from_times : (n : ℕ) (xs : List ℕ) → 0 < times n xs → Contains xs n
-Contains-from_times n [] h = absurd (omega arith)
-Contains-from_times n (x ∷ xs) h = ⊎_elim
+pub Contains-from_occurrences : (n : ℕ) (xs : List ℕ) → 0 < occurrences n xs → Contains xs n
+Contains-from_occurrences n [] h = absurd (omega arith)
+Contains-from_occurrences n (x ∷ xs) h = ⊎_elim
     (λ (same : x ≡ n). (0, omega arith, same))
-    (λ (other : x ≡ n → ⊥). let later = Contains-from_times n xs (rw (ne_eqb x n other) at h) in (suc later.0, (let k = later.1 in omega arith), later.2))
+    (λ (other : x ≡ n → ⊥). let later = Contains-from_occurrences n xs (let skip = occurrences-skip n x xs other in omega arith) in (suc later.0, (let k = later.1 in omega arith), later.2))
     (cases_eq x n)
 
-pub times-from_Contains : (n : ℕ) (xs : List ℕ) → Contains xs n → 0 < times n xs
-times-from_Contains n [] h = let k = h.1 in absurd (omega arith)
-times-from_Contains n (x ∷ xs) h = ⊎_elim
+pub occurrences-from_Contains : (n : ℕ) (xs : List ℕ) → Contains xs n → 0 < occurrences n xs
+occurrences-from_Contains n [] h = let k = h.1 in absurd (omega arith)
+occurrences-from_Contains n (x ∷ xs) h = ⊎_elim
     (λ (same : x ≡ n). rw (eq-eqb x n same) (omega arith))
-    (λ (other : x ≡ n → ⊥). rw (ne_eqb x n other) (times-from_Contains n xs (go h.0 h.1 h.2 other)))
+    (λ (other : x ≡ n → ⊥). let later = occurrences-from_Contains n xs (go h.0 h.1 h.2 other) in let skip = occurrences-skip n x xs other in omega arith)
     (cases_eq x n) where
       go : (k : ℕ) → k < length (x ∷ xs) → get_or (x ∷ xs) k n ≡ n → (x ≡ n → ⊥) → Contains xs n
       go zero below at other = absurd (other at)
@@ -57,26 +56,26 @@ module _ (heads : List ℕ) (end : ℕ) (waiting ready candidates waiting' ready
   waiting-other : (m : ℕ) → (n ≡ m → ⊥) → slice_index (set waiting' n (slice_index waiting' n - 1)) m ≡ slice_index waiting' m
   waiting-other m o = get_or-set_other waiting' n m (slice_index waiting' n - 1) 0 (λ q. o (sym q))
 
-  waits_each : (m : ℕ) → slice_index (set waiting' n (slice_index waiting' n - 1)) m + times m (heads ++ n ∷ []) ≡ slice_index waiting m
+  waits_each : (m : ℕ) → slice_index (set waiting' n (slice_index waiting' n - 1)) m + occurrences m (heads ++ n ∷ []) ≡ slice_index waiting m
   waits_each m = ⊎_elim
-      (λ (own : n ≡ m). rw (← own) (let k = h.waiting_each n in let a = times-append n heads (n ∷ []) in let b = times-own n in let w = waiting-own in omega arith))
-      (λ (other : n ≡ m → ⊥). (let k = h.waiting_each m in let a = times-append m heads (n ∷ []) in let b = times-other m n other in let w = waiting-other m other in omega arith))
+      (λ (own : n ≡ m). rw (← own) (let k = h.waiting_each n in let a = occurrences-push n heads n in let b = occurrences-own n in let w = waiting-own in omega arith))
+      (λ (other : n ≡ m → ⊥). (let k = h.waiting_each m in let a = occurrences-push m heads n in let b = occurrences-other m n other in let w = waiting-other m other in omega arith))
       (cases_eq n m)
 
-  ready-each : (m : ℕ) → slice_index (set ready' n (max (slice_index ready' n) end)) m ≡ max (slice_index ready m) (cond (ltb 0 (times m (heads ++ n ∷ []))) end 0)
+  ready-each : (m : ℕ) → slice_index (set ready' n (max (slice_index ready' n) end)) m ≡ max (slice_index ready m) (cond (ltb 0 (occurrences m (heads ++ n ∷ []))) end 0)
   ready-each m = ⊎_elim
       (λ (own : n ≡ m).
-      let a = times-append n heads (n ∷ []) in
-      let b = times-own n in
-      let positive : ltb 0 (times n (heads ++ n ∷ [])) ≡ true = lt-ltb 0 (times n (heads ++ n ∷ [])) (omega arith) in
+      let a = occurrences-push n heads n in
+      let b = occurrences-own n in
+      let positive : ltb 0 (occurrences n (heads ++ n ∷ [])) ≡ true = lt-ltb 0 (occurrences n (heads ++ n ∷ [])) (omega arith) in
       let now = get_or-set_same ready' n (max (slice_index ready' n) end) 0 inside_ready in
       let k = h.ready_each n in
-      let small = cond-le (ltb 0 (times n heads)) end in
+      let small = cond-le (ltb 0 (occurrences n heads)) end in
       rw (← own, positive, now) (omega arith))
       (λ (other : n ≡ m → ⊥).
-      let a = times-append m heads (n ∷ []) in
-      let b = times-other m n other in
-      let same : times m (heads ++ n ∷ []) ≡ times m heads = omega arith in
+      let a = occurrences-push m heads n in
+      let b = occurrences-other m n other in
+      let same : occurrences m (heads ++ n ∷ []) ≡ occurrences m heads = omega arith in
       rw (same, get_or-set_other ready' n m (max (slice_index ready' n) end) 0 (λ q. other (sym q))) (h.ready_each m))
       (cases_eq n m) where
         cond-le : (b : Bool) (x : ℕ) → cond b x 0 ≤ x

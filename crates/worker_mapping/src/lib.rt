@@ -8,6 +8,8 @@ mod mapping;
 mod neighbours;
 mod priority;
 mod schedule;
+mod scheduled;
 
 pub use entry::Entry;
 pub use mapping::{Mapping, map};
+pub use scheduled::{ListSchedule, schedule_nodes};

@@ -3,7 +3,8 @@ ghost use Rattle.std.specs.Prelude.{◌≡◌, ℕ, ◌^◌, ◌<◌, ◌≤◌,
 ghost use Rattle.worker_mapping.specs.Graph.{AreThere, Rise, graph_of};
 ghost use Rattle.sdf_level.specs.Lists.{lists_of};
 ghost use Rattle.worker_mapping.specs.Neighbours.{AreAfter};
-ghost use Rattle.worker_mapping.specs.Release.{ArePlacesOfZero, Releases, times};
+ghost use Rattle.sdf_level.specs.Lists.{occurrences};
+ghost use Rattle.worker_mapping.specs.Release.{ArePlacesOfZero, Releases};
 ghost use Rattle.worker_mapping.specs.Schedule.{IsSchedule};
 
 use crate::choice::next_entry;
@@ -35,7 +36,7 @@ fn release(
     candidates: &mut Vec<u32>,
 ) -> Result<(), AllocError>
     requires there { All (λ n. (n < length waiting.old) × (n < length ready.old)) heads.now }
-    requires enough { (n : ℕ) → times n heads.now ≤ slice_index waiting.old n }
+    requires enough { (n : ℕ) → occurrences n heads.now ≤ slice_index waiting.old n }
     ensures { let IsAfter = Releases heads.now end waiting.old ready.old candidates.old.items in
         OnOk result (IsAfter waiting.new ready.new candidates.new.items) }
 {

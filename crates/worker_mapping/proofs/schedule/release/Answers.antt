@@ -1,6 +1,6 @@
 use Rattle.std.proofs.Common.{◌≡◌, ℕ, ◌-◌, ◌<◌, length, get_or, take, slice_index, arith}
 use Rattle.std.proofs.lemmas.List.{take_more, get_or-set_same}
-use Rattle.worker_mapping.proofs.Releasing.{times-take-lt, Releases-waits, Releases-frees}
+use Rattle.worker_mapping.proofs.Releasing.{occurrences-take-lt, Releases-waits, Releases-frees}
 use Rattle.worker_mapping.proofs.schedule.release.Goals as goal
 use Rattle.worker_mapping.proofs.schedule.release.Goals.{then-waiting-n-eq0+in_ok-push, else-waiting-n-eq0}
 
@@ -8,7 +8,7 @@ pub overflow_sub-waiting : goal.overflow_sub-waiting
 overflow_sub-waiting c =
     let n : ℕ = get_or c.args.heads.now c.loop-head.head-index 0 in
     let counted = c.loop-head.invariant.waiting_each n in
-    let more = times-take-lt c.args.heads.now c.loop-head.head-index c.loop-head-test.true in
+    let more = occurrences-take-lt c.args.heads.now c.loop-head.head-index c.loop-head-test.true in
     let enough = c.requires.enough n in
     omega arith
 
@@ -16,7 +16,7 @@ pub loop-head-preserved : goal.loop-head-preserved
 loop-head-preserved c =
     let n : ℕ = get_or c.args.heads.now c.loop-head.head-index 0 in
     let counted = c.loop-head.invariant.waiting_each n in
-    let more = times-take-lt c.args.heads.now c.loop-head.head-index c.loop-head-test.true in
+    let more = occurrences-take-lt c.args.heads.now c.loop-head.head-index c.loop-head-test.true in
     let enough : 0 < slice_index c.loop-head.waiting n = (let e = c.requires.enough n in omega arith) in
     let there : (n < length c.args.waiting.now) × (n < length c.args.ready.now) = c.requires.there c.loop-head.head-index 0 c.loop-head-test.true in
     let inside : n < length c.loop-head.waiting = (let l = c.loop-head.invariant.waiting_long in let t = there.0 in omega arith) in

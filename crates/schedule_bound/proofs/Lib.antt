@@ -1,0 +1,10 @@
+pub mod Sums
+pub mod Running
+pub mod Greatest
+pub mod Nexts
+pub mod Walked
+pub mod Placed
+pub mod Covered
+pub mod Scheduled
+pub mod Bounds
+pub mod Limits

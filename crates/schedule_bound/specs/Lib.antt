@@ -1,0 +1,4 @@
+pub mod Slots
+pub mod Feasible
+pub mod Listed
+pub mod Critical
