@@ -1,0 +1,13 @@
+pub mod Kernels
+pub mod Endings
+pub mod States
+pub mod Causes
+pub mod Configuring
+pub mod Preparing
+pub mod Running
+pub mod Meaning
+pub mod Run
+pub mod Sound
+pub mod Turns
+pub mod PartsOf
+pub mod Nested

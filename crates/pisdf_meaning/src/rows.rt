@@ -1,0 +1,56 @@
+// Rows of traces.
+ghost use Rattle.std.specs.Prelude.{ℕ, ◌≡◌, ◌<◌, ◌++◌, List as Seq, [], set, slice_index_or, length, IfOk, OnOk};
+ghost use Rattle.sdf_level.specs.Lists.{lists_of};
+
+use crate::naming::copy_name;
+use crate::outcome::TraceRow;
+use std::alloc::{AllocError, Global};
+
+fn copy_row(alloc: Global, row: &TraceRow) -> Result<TraceRow, AllocError>
+    ensures { IfOk result (λ r. r ≡ row.now) }
+{
+    Ok(TraceRow {
+        path: row.path.copy()?,
+        name: copy_name(alloc, &row.name)?,
+        value: row.value,
+    })
+}
+
+/// Copies of rows, at the end of others.
+pub(crate) fn append_rows(
+    alloc: Global,
+    rows: &mut Vec<TraceRow>,
+    more: &[TraceRow],
+) -> Result<(), AllocError>
+    ensures { OnOk result (rows.new.items ≡ rows.old.items ++ more.now) }
+{
+    for row in more {
+        rows.push(copy_row(alloc, row)?)?;
+    }
+    Ok(())
+}
+
+/// The same for the rows of one actor.
+pub(crate) fn append_to(
+    alloc: Global,
+    rows: &mut [Vec<TraceRow>],
+    actor: u32,
+    more: &[TraceRow],
+) -> Result<(), AllocError>
+    requires { actor < length rows.old }
+    ensures { OnOk result (lists_of rows.new ≡ set (lists_of rows.old) actor (slice_index_or (lists_of rows.old) actor [] ++ more.now)) }
+{
+    append_rows(alloc, &mut rows[actor as usize], more)
+}
+
+/// No rows for each of so many actors.
+pub(crate) fn no_rows(alloc: Global, actors: u32) -> Result<Vec<Vec<TraceRow>>, AllocError>
+    ensures empty { IfOk result (λ rows. (b : ℕ) → slice_index_or (lists_of rows.items) b [] ≡ []) }
+    ensures one_each { IfOk result (λ rows. length rows.items ≡ actors) }
+{
+    let mut rows = Vec::with_capacity(alloc, actors as usize)?;
+    for actor in 0..actors {
+        rows.push(Vec::new(alloc))?;
+    }
+    Ok(rows)
+}
