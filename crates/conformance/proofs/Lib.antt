@@ -1,2 +1,4 @@
+pub mod Fitting
 pub mod Numbered
+pub mod Placed
 pub mod Seen

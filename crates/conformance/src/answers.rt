@@ -1,6 +1,7 @@
 // The calls, each with the driver that makes it.
 use crate::drivers::{
-    expressions, kernels, models, placements, program, reading, solving, tokens, world,
+    expressions, frames, kernels, leases, models, placements, program, reading, solving, tokens,
+    world,
 };
 use crate::trouble::Trouble;
 use serde_json::Value;
@@ -32,6 +33,11 @@ pub enum Call {
     Load,
     Put,
     Run,
+    Start,
+    Copy,
+    Cut,
+    Pool,
+    Lend,
 }
 
 /// The answer of a call on the inputs of a row.
@@ -60,5 +66,10 @@ pub fn answer(call: Call, alloc: Global, row: &Value) -> Result<Value, Trouble> 
         Call::Load => world::loads(alloc, row),
         Call::Put => world::puts(alloc, row),
         Call::Run => program::ran(alloc, row),
+        Call::Start => frames::started(alloc, row),
+        Call::Copy => frames::copied(alloc, row),
+        Call::Cut => leases::cut(alloc, row),
+        Call::Pool => leases::pooled(alloc, row),
+        Call::Lend => leases::lent(alloc, row),
     }
 }

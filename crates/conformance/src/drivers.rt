@@ -2,8 +2,11 @@
 
 mod edges;
 pub mod expressions;
+mod frame_parts;
+pub mod frames;
 mod graphs;
 pub mod kernels;
+pub mod leases;
 mod levels;
 pub mod models;
 pub mod placements;

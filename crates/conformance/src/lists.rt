@@ -1,5 +1,7 @@
 // Lists as the tables write them: `{"times": n, "of": item}` stands for an item, or the items of a list, so many times,
 // and `{"times": n, "from": k}` for n numbers from k on, with `"step": s` each s more than the one before.
+ghost use Rattle.std.specs.Prelude.{◌≡◌, IfSome, sum};
+
 use crate::row::{items, small};
 use crate::trouble::Trouble;
 use serde_json::Value;
@@ -69,6 +71,18 @@ pub fn smalls(alloc: Global, row: &Value, name: &'static str) -> Result<Vec<u32>
         }
     }
     Ok(smalls)
+}
+
+/// The sum of numbers, where it is one of 32 bits.
+#[tactic(auto, using(std::proofs::lemmas::Grind::common_steps))]
+pub fn total(numbers: &[u32]) -> Option<u32>
+    ensures { IfSome result (λ t. t ≡ sum numbers.now) }
+{
+    let mut total = 0u32;
+    for number in numbers {
+        total = total.checked_add(*number)?;
+    }
+    Some(total)
 }
 
 /// The answer that these numbers are.

@@ -17,7 +17,7 @@ use crate::table::{Table, run_table};
 use std::io;
 
 /// The tables, in the order of their lines in the output.
-const TABLES: [Table; 25] = [
+const TABLES: [Table; 30] = [
     Table {
         file: "names.jsonl",
         call: Call::IsName,
@@ -117,6 +117,26 @@ const TABLES: [Table; 25] = [
     Table {
         file: "runs.jsonl",
         call: Call::Run,
+    },
+    Table {
+        file: "frames.jsonl",
+        call: Call::Start,
+    },
+    Table {
+        file: "copies.jsonl",
+        call: Call::Copy,
+    },
+    Table {
+        file: "cuts.jsonl",
+        call: Call::Cut,
+    },
+    Table {
+        file: "pools.jsonl",
+        call: Call::Pool,
+    },
+    Table {
+        file: "lendings.jsonl",
+        call: Call::Lend,
     },
 ];
 

@@ -1,10 +1,13 @@
 // Firings of the kernels, and the frames that they work on.
-ghost use Rattle.std.specs.Prelude.{◌≡◌, ◌≤◌, length, IfOk, IfSome};
+ghost use Rattle.std.specs.Prelude.{◌≡◌, ◌≤◌, length, IfOk};
 ghost use Rattle.std.specs.Bool.{OnTrue};
 ghost use Rattle.kernel_gate.specs.Signed.{IsFrameOf, unnamed};
 ghost use Rattle.kernel_gate.specs.Table.{the_signatures};
+ghost use Rattle.kernel_gate.specs.Leased.{AreWhole};
+ghost use Rattle.conformance.specs.Signatures.{HasKernel};
 
-use crate::lists::{answer_of, numbers, numbers_of, smalls};
+use crate::drivers::frame_parts::given_up;
+use crate::lists::{numbers, numbers_of, smalls};
 use crate::row::{items, small_or, word};
 use crate::trouble::Trouble;
 use kernel_gate::{Frame, Gate, KernelFault, Signature};
@@ -30,7 +33,7 @@ fn fits(s: &Signature, args: usize, ins: usize, outs: usize, sets: u32) -> bool
 }
 
 /// The place of a kernel's name in the table, or the number of kernels where none has it.
-fn place_of(name: &str) -> u32 {
+pub fn place_of(name: &str) -> u32 {
     let mut place = 0u32;
     for signature in Library.signatures() {
         if signature.name == name {
@@ -42,7 +45,7 @@ fn place_of(name: &str) -> u32 {
 }
 
 /// The row's lists of this name.
-fn lists(alloc: Global, row: &Value, name: &'static str) -> Result<Vec<Vec<i64>>, Trouble> {
+pub fn lists(alloc: Global, row: &Value, name: &'static str) -> Result<Vec<Vec<i64>>, Trouble> {
     let mut lists = Vec::new(alloc);
     for list in items(row, name)? {
         match list.as_array() {
@@ -54,7 +57,7 @@ fn lists(alloc: Global, row: &Value, name: &'static str) -> Result<Vec<Vec<i64>>
 }
 
 /// The lists as lists of tokens.
-fn lists_of(alloc: Global, lists: &[Vec<i64>]) -> Result<List<List<i64>>, AllocError>
+pub fn lists_of(alloc: Global, lists: &[Vec<i64>]) -> Result<List<List<i64>>, AllocError>
     ensures { IfOk result (λ l. length l ≡ length lists.now) }
 {
     let mut all = Vec::with_capacity(alloc, lists.len())?;
@@ -65,59 +68,62 @@ fn lists_of(alloc: Global, lists: &[Vec<i64>]) -> Result<List<List<i64>>, AllocE
     Ok(List::new(all))
 }
 
-/// A frame for the kernel at a place, where these counts fit its signature.
-fn frame_for(
-    alloc: Global,
-    kind: u32,
-    args: &[i64],
-    inputs: &[Vec<i64>],
-    outs: &[u32],
-    sets: u32,
-) -> Result<Option<Frame>, AllocError>
-    ensures { IfOk result (λ o. IfSome o (λ f. IsFrameOf (unnamed the_signatures) f)) }
+/// Whether there is a kernel at a place that takes and gives so many.
+pub fn has_kernel(kind: u32, args: usize, ins: usize, outs: usize, sets: u32) -> bool
+    ensures { OnTrue result (HasKernel kind args ins outs sets) }
 {
     let signatures = Library.signatures();
     if signatures.len() <= (kind as usize) {
-        return Ok(None);
+        return false;
     }
-    let signature = &signatures[kind as usize];
-    if !fits(signature, args.len(), inputs.len(), outs.len(), sets) {
-        return Ok(None);
+    if !fits(&signatures[kind as usize], args, ins, outs, sets) {
+        return false;
     }
-    let args = args.to_vec(alloc)?;
+    true
+}
+
+/// A frame for a kernel that takes and gives so many.
+fn frame_for(
+    alloc: Global,
+    kind: u32,
+    args: Vec<i64>,
+    inputs: &[Vec<i64>],
+    outs: &[u32],
+    sets: u32,
+) -> Result<Frame, AllocError>
+    requires { HasKernel kind (length args.items) (length inputs.now) (length outs.now) sets }
+    ensures fitting { IfOk result (λ f. IsFrameOf (unnamed the_signatures) f) }
+    ensures whole { IfOk result (λ f. AreWhole f.places) }
+{
     let inputs = lists_of(alloc, inputs)?;
     let frame = Frame::start(alloc, kind, List::new(args), inputs, outs, sets)?;
-    Ok(Some(frame))
+    Ok(frame)
 }
 
-/// The answer that these lists are.
-fn answer_of_lists(alloc: Global, lists: &[Vec<i64>]) -> Result<Value, Trouble> {
-    let mut values = Vec::new(alloc);
-    for list in lists {
-        values.push(answer_of(alloc, list.as_slice())?)?;
+/// The word for a kernel's fault.
+pub fn word_of(fault: KernelFault) -> &'static str {
+    match fault {
+        KernelFault::OVERFLOW => "overflow",
+        KernelFault::DIVISION => "division",
+        KernelFault::SHAPE => "shape",
+        KernelFault::VALUE => "value",
+        _ => "another fault",
     }
-    Ok(Value::from(values))
 }
 
-/// The outputs and the sets of a frame whose kernel was fired, or the word for its fault.
-fn answer_of_firing(
-    alloc: Global,
-    fired: Result<(), KernelFault>,
-    frame: Frame,
-) -> Result<Value, Trouble> {
-    let sets = answer_of(alloc, frame.sets());
-    let outputs = frame.into_outputs();
+/// The outputs and the sets of a frame once its kernel is fired, or the word for the fault. The frame is given up.
+fn fire(alloc: Global, mut frame: Frame) -> Result<Value, Trouble>
+    requires fitting { IsFrameOf (unnamed the_signatures) frame }
+    requires whole { AreWhole frame.places }
+{
+    let fired = Library.fire(&mut frame);
+    let parts = given_up(alloc, frame)?;
     match fired {
         Ok(()) => {
-            let outputs = answer_of_lists(alloc, outputs.as_slice())?;
-            let values = vec![in alloc; outputs, sets?]?;
+            let values = vec![in alloc; parts.outputs, parts.sets]?;
             Ok(Value::from(values))
         }
-        Err(KernelFault::OVERFLOW) => Ok(Value::try_from_str(alloc, "overflow")?),
-        Err(KernelFault::DIVISION) => Ok(Value::try_from_str(alloc, "division")?),
-        Err(KernelFault::SHAPE) => Ok(Value::try_from_str(alloc, "shape")?),
-        Err(KernelFault::VALUE) => Ok(Value::try_from_str(alloc, "value")?),
-        Err(_) => Ok(Value::try_from_str(alloc, "another fault")?),
+        Err(fault) => Ok(Value::try_from_str(alloc, word_of(fault))?),
     }
 }
 
@@ -129,17 +135,11 @@ pub fn fired(alloc: Global, row: &Value) -> Result<Value, Trouble> {
     let inputs = lists(alloc, row, "ins")?;
     let outs = smalls(alloc, row, "outs")?;
     let sets = small_or(row, "sets", 0)?;
-    let Some(mut frame) = frame_for(
-        alloc,
-        kind,
-        args.as_slice(),
-        inputs.as_slice(),
-        outs.as_slice(),
-        sets,
-    )?
-    else {
+    if !has_kernel(kind, args.len(), inputs.len(), outs.len(), sets) {
         return Err(Trouble::Member("kernel"));
-    };
-    let fired = Library.fire(&mut frame);
-    answer_of_firing(alloc, fired, frame)
+    }
+    fire(
+        alloc,
+        frame_for(alloc, kind, args, inputs.as_slice(), outs.as_slice(), sets)?,
+    )
 }

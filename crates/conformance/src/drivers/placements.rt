@@ -2,7 +2,7 @@
 ghost use Rattle.std.specs.Prelude.{◌≡◌, ◌<◌, ◌≤◌, ◌^◌, All, IsTrue, length, sum};
 
 use crate::drivers::edges::{are_there, edges_of, pairs, rise};
-use crate::lists::{answer_of_smalls, smalls};
+use crate::lists::{answer_of_smalls, smalls, total};
 use crate::row::{items, small};
 use crate::trouble::Trouble;
 use memory_exclusion::{Reach, reach};
@@ -93,23 +93,12 @@ fn checked<X: Exclusion>(
     }
 }
 
-/// Whether each size is at least 1 and their sum is at most 4,294,967,290, so below 2^32.
-#[tactic(auto, using(std::proofs::lemmas::Grind::common_steps))]
+/// Whether each size is at least 1 and their sum is below 2^32.
 fn are_sizes(sizes: &[u32]) -> bool
     ensures filled { IsTrue result → All (λ size. 1 ≤ size) sizes.now }
     ensures sum { IsTrue result → sum sizes.now < 2 ^ 32 }
 {
-    let mut total = 0u32;
-    for size in sizes {
-        match total.checked_add(*size) {
-            Some(more) => total = more,
-            None => return false,
-        }
-    }
-    if total > 4_294_967_290 {
-        return false;
-    }
-    sizes.iter().all(|size| 1 <= *size)
+    total(sizes).is_some() && sizes.iter().all(|size| 1 <= *size)
 }
 
 /// The offsets and the height of the placement of the buffers.

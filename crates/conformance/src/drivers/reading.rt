@@ -42,7 +42,7 @@ fn fault_text(alloc: Global, fault: &GraphFault) -> Result<String, Trouble> {
 
 /// What reading these bytes answers: `ok`, or the first fault.
 fn told(alloc: Global, bytes: &[u8], row: &Value) -> Result<String, Trouble> {
-    match read(alloc, bytes, signatures_of(row)?) {
+    match read(alloc, bytes, signatures_of(alloc, row)?.as_slice()) {
         Ok(_graphs) => Ok(String::from_str(alloc, "ok")?),
         Err(fault) => fault_text(alloc, &fault),
     }
@@ -73,7 +73,11 @@ pub fn fault(alloc: Global, row: &Value) -> Result<Value, Trouble> {
 /// The graphs of the row's file in a few words, or its first fault.
 pub fn meaning(alloc: Global, row: &Value) -> Result<Value, Trouble> {
     let file = file_of(alloc, row)?;
-    match read(alloc, file.as_slice(), signatures_of(row)?) {
+    match read(
+        alloc,
+        file.as_slice(),
+        signatures_of(alloc, row)?.as_slice(),
+    ) {
         Ok(graphs) => Ok(Value::from(shown(alloc, &graphs)?)),
         Err(fault) => Ok(Value::from(fault_text(alloc, &fault)?)),
     }
@@ -83,13 +87,13 @@ pub fn meaning(alloc: Global, row: &Value) -> Result<Value, Trouble> {
 /// `same` where it is the row's file.
 pub fn rewritten(alloc: Global, row: &Value) -> Result<Value, Trouble> {
     let file = file_of(alloc, row)?;
-    let signatures = signatures_of(row)?;
-    let graphs = match read(alloc, file.as_slice(), signatures) {
+    let signatures = signatures_of(alloc, row)?;
+    let graphs = match read(alloc, file.as_slice(), signatures.as_slice()) {
         Ok(graphs) => graphs,
         Err(fault) => return Ok(Value::from(fault_text(alloc, &fault)?)),
     };
-    let written = write(alloc, &graphs, signatures)?;
-    match read(alloc, written.as_slice(), signatures) {
+    let written = write(alloc, &graphs, signatures.as_slice())?;
+    match read(alloc, written.as_slice(), signatures.as_slice()) {
         Ok(again) => {
             if shown(alloc, &again)?.as_str() != shown(alloc, &graphs)?.as_str() {
                 return Ok(Value::try_from_str(alloc, "other graphs")?);

@@ -4,118 +4,52 @@ use crate::trouble::Trouble;
 use kernel_gate::{Gate, Signature};
 use kernel_library::Library;
 use serde_json::Value;
+use std::alloc::Global;
 
-/// Some kernels: the last has the name of an earlier one.
-static SOME: [Signature; 10] = [
-    Signature {
-        name: "pass",
-        config: false,
-        args_min: 0,
-        args_max: 0,
-        ins: 1,
-        outs: 1,
-        sets_min: 0,
-        sets_max: 0,
-    },
-    Signature {
-        name: "gain",
-        config: false,
-        args_min: 1,
-        args_max: 1,
-        ins: 1,
-        outs: 1,
-        sets_min: 0,
-        sets_max: 0,
-    },
-    Signature {
-        name: "clamp",
-        config: false,
-        args_min: 2,
-        args_max: 2,
-        ins: 1,
-        outs: 1,
-        sets_min: 0,
-        sets_max: 0,
-    },
-    Signature {
-        name: "add",
-        config: false,
-        args_min: 0,
-        args_max: 0,
-        ins: 2,
-        outs: 1,
-        sets_min: 0,
-        sets_max: 0,
-    },
-    Signature {
-        name: "min",
-        config: false,
-        args_min: 0,
-        args_max: 0,
-        ins: 2,
-        outs: 1,
-        sets_min: 0,
-        sets_max: 0,
-    },
-    Signature {
-        name: "ramp",
-        config: false,
-        args_min: 2,
-        args_max: 2,
-        ins: 0,
-        outs: 1,
-        sets_min: 0,
-        sets_max: 0,
-    },
-    Signature {
-        name: "read_param",
-        config: true,
-        args_min: 0,
-        args_max: 0,
-        ins: 1,
-        outs: 0,
-        sets_min: 1,
-        sets_max: 4,
-    },
-    Signature {
-        name: "pick",
-        config: true,
-        args_min: 0,
-        args_max: 16,
-        ins: 1,
-        outs: 0,
-        sets_min: 1,
-        sets_max: 1,
-    },
-    Signature {
-        name: "spread",
-        config: true,
-        args_min: 0,
-        args_max: 0,
-        ins: 1,
-        outs: 1,
-        sets_min: 1,
-        sets_max: 1,
-    },
-    Signature {
-        name: "pass",
-        config: true,
-        args_min: 0,
-        args_max: 0,
-        ins: 1,
-        outs: 1,
-        sets_min: 1,
-        sets_max: 1,
-    },
+/// The names of some kernels.
+const SOME: [&str; 9] = [
+    "pass",
+    "gain",
+    "clamp",
+    "add",
+    "min",
+    "ramp",
+    "read_param",
+    "pick",
+    "spread",
 ];
 
+/// The signature of the kernel of this name.
+fn signature_of(name: &str) -> Result<Signature, Trouble> {
+    for signature in Library.signatures() {
+        if signature.name == name {
+            return Ok(*signature);
+        }
+    }
+    Err(Trouble::Member("signatures"))
+}
+
+/// The signatures of some kernels. The last is one of configuration actors, and has the name of the first.
+fn some(alloc: Global) -> Result<Vec<Signature>, Trouble> {
+    let mut some = Vec::new(alloc);
+    for name in SOME {
+        some.push(signature_of(name)?)?;
+    }
+    let mut last = signature_of(SOME[0])?;
+    last.config = true;
+    last.sets_min = 1;
+    last.sets_max = 1;
+    some.push(last)?;
+    Ok(some)
+}
+
 /// The signatures of all kernels, or those that the row names: `some`.
-pub fn signatures_of(row: &Value) -> Result<&'static [Signature], Trouble> {
+pub fn signatures_of(alloc: Global, row: &Value) -> Result<Vec<Signature>, Trouble> {
     if row.get("signatures").is_none() {
-        return Ok(Library.signatures());
+        return Ok(Vec::from_slice(alloc, Library.signatures())?);
     }
     match word(row, "signatures")? {
-        "some" => Ok(&SOME),
+        "some" => some(alloc),
         _ => Err(Trouble::Member("signatures")),
     }
 }
