@@ -1,5 +1,5 @@
 -- Lists of leases.
-use Rattle.std.proofs.Common.{◌≡◌, ℕ, ◌<◌, ◌++◌, ◌∷◌, take, drop, List, [], length, map, set, get_or, refl, sym, ◌∙◌, ap, arith}
+use Rattle.std.proofs.Common.{◌≡◌, ℕ, ◌<◌, ◌++◌, ◌∷◌, drop, List, [], length, map, set, get_or, sym, ◌∙◌, ap, arith}
 use Rattle.std.specs.Prelude.{ℤ}
 use Rattle.std.proofs.lemmas.List.{get_or-map, map-set, length-map, length-take-le, length-append, length-drop, set-get_or}
 use Rattle.split_block.specs.View.{LeaseView, LeasePlace, IsWholePlace, cells_of, lease_place, refit, with_cells}

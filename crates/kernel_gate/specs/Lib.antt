@@ -13,3 +13,4 @@ pub mod Table
 pub mod Leased
 pub mod Framed
 pub mod Lending
+pub mod Laws

@@ -7,13 +7,13 @@ use Rattle.kernel_gate.specs.declared.fault.KernelFault.{KernelFault}
 abbrev pub fault : ℕ → KernelFault
 fault c = record { code = c }
 
-abbrev pub in_i64 : ℤ → Bool
-in_i64 (pos n) = nat_lt n (2 ^ 63)
-in_i64 (negsuc n) = nat_lt n (2 ^ 63)
+abbrev pub is_token : ℤ → Bool
+is_token (pos n) = nat_lt n (2 ^ 63)
+is_token (negsuc n) = nat_lt n (2 ^ 63)
 
 -- a whole number as a token
 abbrev pub bounded : ℤ → Result ℤ KernelFault
-bounded z = if in_i64 z then Ok z else Err (fault overflow)
+bounded z = if is_token z then Ok z else Err (fault overflow)
 
 -- a quotient, rounded towards zero
 abbrev pub quotient : ℤ → ℤ → Result ℤ KernelFault

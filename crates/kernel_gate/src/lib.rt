@@ -4,6 +4,7 @@
 mod fault;
 mod frame;
 mod gate;
+mod laws;
 mod leases;
 mod limits;
 mod signature;
@@ -11,5 +12,6 @@ mod signature;
 pub use fault::KernelFault;
 pub use frame::{Frame, Lent};
 pub use gate::Gate;
+pub use laws::lengths_given;
 pub use limits::{MAX_MEDIAN_TOKENS, MAX_MOVING_WIDTH};
 pub use signature::Signature;

@@ -14,7 +14,7 @@ use borrow.Rule.Slice.PartMut.{put_mid}
 use Rattle.std.proofs.lemmas.List.{take_more, take_all, length-take-le}
 use Rattle.std.proofs.lemmas.List.Concat.{flat_map-append}
 use Rattle.std.specs.List.{between, flat_map}
-use Rattle.kernel_gate.specs.Tokens.{bounded, in_i64, fault, prepend, before, each, places, onward, running, last, window}
+use Rattle.kernel_gate.specs.Tokens.{bounded, is_token, fault, prepend, before, each, places, onward, running, last, window}
 use Rattle.kernel_gate.specs.declared.fault.KernelFault.{KernelFault}
 
 prepend-prepend : (ys : List ℤ) (y : ℤ) (r : Result (List ℤ) KernelFault) → prepend ys (prepend (y ∷ []) r) ≡ prepend (ys ++ y ∷ []) r
@@ -120,7 +120,7 @@ from_the_end xs i n len lt = get_or-reverse xs i (pos 0) (omega arith) ∙ ap (�
 
 -- a number that is a token is that token
 bounded_is : (z y : ℤ) → bounded z ≡ Ok y → y ≡ z
-bounded_is z y = same (in_i64 z)
+bounded_is z y = same (is_token z)
   where
     same : (b : Bool) → cond b (Ok z) (Err (fault 1)) ≡ Ok y → y ≡ z
     same true e = cc

@@ -3,7 +3,7 @@ use Rattle.std.proofs.Common.{◌≡◌, ℕ, zero, suc, ◌+◌, ◌≤◌, ◌
 use Rattle.std.specs.Prelude.{slice_get, slice_index_or, sum_by}
 use Rattle.std.specs.List.{flat_map, list_any, range_with_len}
 use Rattle.std.proofs.lemmas.Bool.{cases_lt, lt-ltb, ltb-true}
-use Rattle.std.proofs.lemmas.List.{get_or_past, get_or_read}
+use Rattle.std.proofs.lemmas.List.{get_or_past, get_or_read, length-map}
 use Rattle.std.proofs.lemmas.List.Concat.{length-flat_map}
 use Rattle.std.proofs.lemmas.List.FromFn.{get_or-map-range_with_len, length-map-range_with_len, map-range_with_len_more}
 use Rattle.std.proofs.lemmas.List.Sums.{sum_by-append, sum_by-cons}
@@ -193,6 +193,16 @@ with_large graphs own large own_is large_is =
     large_is
     ∙ map_same (λ place. is_large own (map children graphs) place) (λ place. has_large_hold graphs place)
     (λ place. ap (λ (os : List ℕ). is_large os (map children graphs) place) (own_is ∙ sym (of_mapped own_hold capped_hold (λ g. capped_hold (own_hold g)) (λ g. refl) graphs)) ∙ large_capped (map own_hold graphs) (map children graphs) place ∙ sym (large_hold graphs place))
+    (range_with_len 0 (length graphs))
+
+-- the same of the number of tokens itself
+pub all_holds : (graphs : List Graph) (own holds : List ℕ) (arrows : List (List ℕ)) → own ≡ map (λ g. capped_hold (own_hold g)) graphs → arrows ≡ map children graphs → holds ≡ map (λ place. capped_hold (hold_over own arrows nesting_limit place)) (range_with_len 0 (length arrows))
+    → holds ≡ map (λ place. capped_hold (hold graphs place)) (range_with_len 0 (length graphs))
+all_holds graphs own holds arrows own_is arrows_are holds_are =
+    holds_are
+    ∙ ap (λ n. map (λ place. capped_hold (hold_over own arrows nesting_limit place)) (range_with_len 0 n)) (ap length arrows_are ∙ length-map graphs children)
+    ∙ map_same (λ place. capped_hold (hold_over own arrows nesting_limit place)) (λ place. capped_hold (hold graphs place))
+    (λ place. ap (λ (os : List ℕ). capped_hold (hold_over os arrows nesting_limit place)) (own_is ∙ sym (of_mapped own_hold capped_hold (λ g. capped_hold (own_hold g)) (λ g. refl) graphs)) ∙ held_capped (map own_hold graphs) arrows nesting_limit place ∙ ap (λ a. capped_hold (hold_over (map own_hold graphs) a nesting_limit place)) arrows_are ∙ ap capped_hold (sym (held_tokens graphs nesting_limit place)))
     (range_with_len 0 (length graphs))
 
 pub none_first : {D : Type 0} (ds : List D) → None ≡ first ds → ds ≡ []

@@ -1,7 +1,7 @@
 ghost use Rattle.std.specs.Prelude.{◌≡◌, [], ◌∷◌};
 ghost use Rattle.std.specs.Option.{option_copied};
 ghost use Rattle.pisdf_model.specs.Details.{Answers, Refuses};
-ghost use Rattle.pisdf_model.specs.InterfaceWires.{graph_misplaced, has_delay, interface_wire_faults, is_at_configuration, is_at_input, is_at_interface, is_at_output, is_configuration_actor, is_misplaced};
+ghost use Rattle.pisdf_model.specs.InterfaceWires.{graph_misplaced, has_delay, interface_wire_faults, is_at_configuration, is_at_input, is_at_interface, is_at_output, is_configuration, is_configuration_actor, is_misplaced};
 
 use crate::actor::{Actor, Body};
 use crate::detail_fault::DetailFault;
@@ -18,16 +18,24 @@ pub struct FifoPlace {
     pub fifo: u32,
 }
 
+/// Whether an actor is a configuration actor, of either kind.
+pub fn is_configuration(body: &Body) -> bool
+    ensures { result ≡ is_configuration body.now }
+{
+    matches!(body, Body::Config { .. } | Body::ConfigChild { .. })
+}
+
 fn is_configuration_actor(actor: Option<&Actor>) -> bool
     ensures { result ≡ is_configuration_actor (option_copied actor.entry) }
 {
     match actor {
-        Some(actor) => matches!(actor.body, Body::Config { .. } | Body::ConfigChild { .. }),
+        Some(actor) => is_configuration(&actor.body),
         None => false,
     }
 }
 
-fn is_at_configuration(graph: &Graph, end: &End) -> bool
+/// Whether an end is a port of a configuration actor.
+pub fn is_at_configuration(graph: &Graph, end: &End) -> bool
     ensures { result ≡ is_at_configuration graph.now end.now }
 {
     match end {

@@ -33,18 +33,19 @@ pub use detail_fault::DetailFault;
 pub use duplicates::duplicate;
 pub use fifo::{End, Fifo, Life};
 pub use graph::{Graph, Graphs, Interface};
-pub use interface_wires::{FifoPlace, interface_wire};
+pub use interface_wires::{FifoPlace, interface_wire, is_at_configuration, is_configuration};
 pub use limits::{
     MAX_ACTORS, MAX_DELAY_TOKENS, MAX_EXPORTS, MAX_FIFOS, MAX_GRAPHS, MAX_HOLD, MAX_INPUTS,
     MAX_NESTING, MAX_OUTPUTS, MAX_PARAMS,
 };
+pub use named_params::refers;
 pub use names::{Scope, ScopedName, push_name, push_names, repeat};
 pub use nesting::{depth, graph_cycle};
 pub use ordering::param_order;
 pub use param::{Param, ParamKind};
-pub use parts::Named;
+pub use parts::{Named, input_count, output_count};
 pub use port_counts::{AnyCounts, Counts, ports};
 pub use range::{in_range, life_of};
 pub use rules::{ModelFault, well_formed};
-pub use state_tokens::{capped_hold_sum, large_holds};
+pub use state_tokens::{capped_hold_sum, graph_holds, large_holds};
 pub use wires::{port_text, wire};

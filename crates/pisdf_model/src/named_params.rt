@@ -27,8 +27,8 @@ fn add_places(expr: &Expr, places: &mut Vec<u32>) -> Result<(), AllocError>
     }
 }
 
-/// The parameters that a parameter refers to.
-fn refers(alloc: Global, kind: &ParamKind) -> Result<Vec<u32>, AllocError>
+/// The places of the parameters that a parameter refers to, from the left. The error is want of memory.
+pub fn refers(alloc: Global, kind: &ParamKind) -> Result<Vec<u32>, AllocError>
     ensures { IfOk result (λ v. v.items ≡ refers kind.now) }
 {
     let mut places = Vec::new(alloc);

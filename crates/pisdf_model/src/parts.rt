@@ -50,7 +50,7 @@ impl Named for Param {
 }
 
 /// How many inputs an actor has; those of a hierarchical actor are its child's.
-pub(crate) fn input_count(graphs: &[Graph], body: &Body) -> usize
+pub fn input_count(graphs: &[Graph], body: &Body) -> usize
     ensures { result ≡ input_count graphs.now body.now }
 {
     match body {
@@ -65,8 +65,8 @@ pub(crate) fn input_count(graphs: &[Graph], body: &Body) -> usize
     }
 }
 
-/// How many outputs an actor has.
-pub(crate) fn output_count(graphs: &[Graph], body: &Body) -> usize
+/// How many outputs an actor has; those of a hierarchical actor are its child's.
+pub fn output_count(graphs: &[Graph], body: &Body) -> usize
     ensures { result ≡ length (output_names graphs.now body.now) }
 {
     match body {

@@ -2,7 +2,7 @@
 ghost use Rattle.std.specs.Prelude.{◌≡◌, ◌+◌, ◌==◌, ◌&&◌, nat_lt, length, map, sum_by, slice_index_or, IfOk};
 ghost use Rattle.std.specs.List.{list_any, range_with_len};
 ghost use Rattle.pisdf_model.specs.Arrows.{to_of};
-ghost use Rattle.pisdf_model.specs.Hold.{capped_hold, hold_limit, hold_over, is_held, is_large, kept_in, own_hold as own_hold_of};
+ghost use Rattle.pisdf_model.specs.Hold.{capped_hold, hold, hold_limit, hold_over, is_held, is_large, kept_in, own_hold as own_hold_of};
 ghost use Rattle.pisdf_model.specs.Nesting.{children, nesting_limit};
 
 use crate::fifo::{Fifo, Life};
@@ -98,6 +98,17 @@ fn hold_of_each(
     for _level in 0..MAX_NESTING {
         holds = over_one_level_more(alloc, own, children, &holds)?;
     }
+    Ok(holds)
+}
+
+/// How many tokens the state of each graph begins with, counted to one more than `MAX_HOLD`. The time taken goes with the
+/// sizes of the graphs. The error is want of memory.
+pub fn graph_holds(alloc: Global, graphs: &[Graph]) -> Result<Vec<usize>, AllocError>
+    ensures { IfOk result (λ v. v.items ≡ map (λ place. capped_hold (hold graphs.now place)) (range_with_len 0 (length graphs.now))) }
+{
+    let own = own_holds(alloc, graphs)?;
+    let children = child_lists(alloc, graphs)?;
+    let holds = hold_of_each(alloc, &own, &children)?;
     Ok(holds)
 }
 

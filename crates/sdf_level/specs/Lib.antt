@@ -9,6 +9,7 @@ pub mod Limits
 pub mod Firings
 pub mod Orders
 pub mod Interfaces
+pub mod Copying
 pub mod Run
 pub mod LevelRun
 pub mod Told
