@@ -1,5 +1,5 @@
 -- The level of a graph (Lee and Messerschmitt 1987), where the values of its parameters and what was known before its configuration actors fired are these; and where that fails.
-use Rattle.std.specs.Prelude.{ℕ, ◌-◌, ℤ, List, [], ◌∷◌, ◌++◌, length, map, slice_get, slice_index, Option, Some, None, if◌then◌else◌}
+use Rattle.std.specs.Prelude.{◌≡◌, ℕ, ◌-◌, ℤ, List, [], ◌∷◌, ◌++◌, length, map, slice_get, slice_index, Option, Some, None, if◌then◌else◌}
 use Rattle.std.specs.List.{flat_map}
 use Rattle.pisdf_model.specs.Details.{of_each}
 use Rattle.pisdf_model.specs.InterfaceWires.{is_at_configuration}
@@ -19,7 +19,7 @@ use Rattle.sdf_level.specs.declared.link.Head.{Head}
 use Rattle.sdf_level.specs.declared.link.Head.TheVariants as head
 use Rattle.param_resolver.specs.EarlyCheck.{early_of, early_faults}
 use Rattle.param_resolver.specs.EarlyView.{EarlyView}
-use Rattle.param_resolver.specs.Numbering.{acting, actor_number, has_state, is_kept, output_count, place_among, source_ends, source_inputs, state_size}
+use Rattle.param_resolver.specs.Numbering.{acting, acting_places, actor_number, has_state, is_kept, output_count, place_among, source_ends, source_inputs, state_size}
 use Rattle.param_resolver.specs.Rates.{arg_faults, arg_values, port_faults, port_rates}
 use Rattle.param_resolver.specs.Refusal.{Refusal, child}
 
@@ -99,6 +99,16 @@ acting_args values (ConfigChild k args sets) = []
 abbrev pub level_args : Graph → List ℤ → List (List ℤ)
 level_args g values = flat_map (λ (actor : Actor). acting_args values actor.body) g.actors
 
+-- the rates of its outputs, without that of its state
+abbrev pub acting_outs : List Graph → List ℤ → Body → List (List ℕ)
+acting_outs graphs values (Kernel kernel args ins outs) = port_rates values outs ∷ []
+acting_outs graphs values (Config kernel args ins outs sets) = []
+acting_outs graphs values (Child k args) = (early_of graphs k (arg_values values args)).outputs ∷ []
+acting_outs graphs values (ConfigChild k args sets) = []
+
+abbrev pub level_outs : List Graph → Graph → List ℤ → List (List ℕ)
+level_outs graphs g values = flat_map (λ (actor : Actor). acting_outs graphs values actor.body) g.actors
+
 -- what is known of the graph that it names, if it names one
 abbrev pub acting_children : List Graph → List ℤ → Body → List (Option EarlyView)
 acting_children graphs values (Kernel kernel args ins outs) = None ∷ []
@@ -108,6 +118,41 @@ acting_children graphs values (ConfigChild k args sets) = []
 
 abbrev pub level_children : List Graph → Graph → List ℤ → List (Option EarlyView)
 level_children graphs g values = flat_map (λ (actor : Actor). acting_children graphs values actor.body) g.actors
+
+-- ---- the same by actor
+
+abbrev pub args_of : List ℤ → Body → List ℤ
+args_of values (Kernel kernel args ins outs) = arg_values values args
+args_of values (Config kernel args ins outs sets) = arg_values values args
+args_of values (Child k args) = arg_values values args
+args_of values (ConfigChild k args sets) = arg_values values args
+
+abbrev pub child_of : List Graph → List ℤ → Body → Option EarlyView
+child_of graphs values (Kernel kernel args ins outs) = None
+child_of graphs values (Config kernel args ins outs sets) = None
+child_of graphs values (Child k args) = Some (early_of graphs k (arg_values values args))
+child_of graphs values (ConfigChild k args sets) = Some (early_of graphs k (arg_values values args))
+
+-- what the lists have at this number is that of this actor
+pub record AreOfActor (graphs : List Graph) (g : Graph) (values : List ℤ) (b : ℕ) (actor : Actor) : Type 0 where
+  pub place : slice_get g.actors (slice_index (acting_places g) b) ≡ Some actor
+  pub args : slice_get (level_args g values) b ≡ Some (args_of values actor.body)
+  pub outs : slice_get (level_outs graphs g values) b ≡ Some (out_rates graphs values actor.body)
+  pub child : slice_get (level_children graphs g values) b ≡ Some (child_of graphs values actor.body)
+
+-- and they have one entry for each actor of the level
+pub record AreOneEach (graphs : List Graph) (g : Graph) (values : List ℤ) : Type 0 where
+  pub places : length (acting_places g) ≡ length (acting g)
+  pub args : length (level_args g values) ≡ length (acting g)
+  pub outs : length (level_outs graphs g values) ≡ length (acting g)
+  pub children : length (level_children graphs g values) ≡ length (acting g)
+
+-- the early check of the graph that the actor names has no fault
+abbrev pub IsChildSound : List Graph → List ℤ → Body → Type 0
+IsChildSound graphs values (Kernel kernel args ins outs) = Unit {0}
+IsChildSound graphs values (Config kernel args ins outs sets) = Unit {0}
+IsChildSound graphs values (Child k args) = early_faults graphs k (arg_values values args) ≡ []
+IsChildSound graphs values (ConfigChild k args sets) = Unit {0}
 
 -- ---- its faults
 

@@ -8,3 +8,4 @@ pub mod Resolvable
 pub mod Refusal
 pub mod Settled
 pub mod Sound
+pub mod Tables

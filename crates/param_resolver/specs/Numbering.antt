@@ -29,6 +29,10 @@ acting g = filter fires g.actors
 abbrev pub actor_number : Graph → ℕ → ℕ
 actor_number g a = count_by fires (take a g.actors)
 
+-- the place of each actor of the level among all actors
+abbrev pub acting_places : Graph → List ℕ
+acting_places g = of_each (λ a actor. if fires actor then a ∷ [] else []) g.actors
+
 -- ---- sources
 
 -- the input interface feeds a configuration actor
@@ -77,6 +81,10 @@ state_size graphs (ConfigChild k args sets) = 0
 
 abbrev pub has_state : List Graph → Actor → Bool
 has_state graphs actor = nat_lt 0 (state_size graphs actor.body)
+
+-- how many inputs an actor of the level has there: one more than in the graph, if its state goes on
+abbrev pub level_inputs : List Graph → Actor → ℕ
+level_inputs graphs actor = input_count graphs actor.body + (if has_state graphs actor then 1 else 0)
 
 -- what each link comes from: the FIFOs that become links, then the actors that have a state, each in file order
 abbrev pub link_origins : List Graph → Graph → List Origin

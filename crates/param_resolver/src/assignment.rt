@@ -2,14 +2,13 @@
 ghost use Rattle.std.specs.Prelude.{◌≡◌, ◌<◌, ◌^◌, ◌++◌, ℕ, pos, [], map, length, slice_set, unwrap_or, slice_index_or, Some, None, IsSome, IfOk, IfSome, IfErr, OnOk};
 ghost use Rattle.param_expr.specs.Eval.{RefersBelow, eval_of};
 ghost use Rattle.pisdf_model.specs.Details.{first};
-ghost use Rattle.pisdf_model.specs.ParamOrder.{places_of, refers};
+ghost use Rattle.pisdf_model.specs.ParamOrder.{places_of, refers as refers_of};
 ghost use Rattle.param_resolver.specs.Assignment.{are_sound, evaluated_within, StandsAt, given_next, given_to, given_within, one_if, numbers as numbers_in, outcome, param_faults, value_in, values_of, why_of, within};
 ghost use Rattle.param_resolver.specs.Settled.{AreOrdered, AreSettled, Keeps, faults_found, KeepsTelling, ReferInside, found_at, value_found, values_found};
 
 use crate::fault::{ResolveFault, Why};
-use crate::named::places;
 use param_expr::{EvalFault, Expr, eval};
-use pisdf_model::{Param, ParamKind};
+use pisdf_model::{Param, ParamKind, refers};
 use std::alloc::{AllocError, Global};
 
 /// What becomes of a parameter: its value where it is sound, none where it is given none or refers to one that isn't
@@ -90,7 +89,7 @@ fn outcome(
     found: &[Option<Outcome>],
     numbers: &[i64],
 ) -> Outcome
-    requires places { places.now ≡ refers param.now.kind }
+    requires places { places.now ≡ refers_of param.now.kind }
     requires numbers { numbers.now ≡ numbers_in (values_found found.now) }
     requires inside { ReferInside (length found.now) param.now.kind }
     ensures { result ≡ outcome (values_found found.now) param.now.low param.now.high param.now.kind given }
@@ -156,7 +155,7 @@ fn settle(
     if found[place].is_some() {
         return Ok(());
     }
-    let named = places(alloc, &params[place].kind)?;
+    let named = refers(alloc, &params[place].kind)?;
     for other in &named {
         settle(alloc, params, given, found, numbers, *other as usize)?;
     }

@@ -38,7 +38,8 @@ fn interface_number(end: End) -> usize
     }
 }
 
-/// The input interface that feeds a port of a configuration actor.
+/// The input interface that feeds a port of a configuration actor. It is looked for among all FIFOs: well-formed graphs have
+/// few of them, and no more such ports than FIFOs.
 fn feeding(fifos: &[Fifo], actor: usize, port: usize) -> usize
     ensures { result ≡ feeding fifos.now actor port }
 {

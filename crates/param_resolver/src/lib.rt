@@ -2,6 +2,7 @@
 //! its configuration actors fire, and its level with the rates of its links.
 #![tactic(auto)]
 
+mod acting;
 mod assignment;
 mod check;
 mod configuration;
@@ -10,7 +11,9 @@ mod feeding;
 mod given;
 mod known;
 mod laws;
-mod named;
+mod level_set;
+mod links;
+mod numbering;
 mod origin;
 mod part_names;
 mod rates;
@@ -19,7 +22,8 @@ mod resolution;
 pub use check::early;
 pub use fault::{EarlyFault, LevelFault, ResolveFault, Why};
 pub use known::Early;
-pub use laws::{all_sound, early_unfolds, graphs_resolvable, one_assignment};
+pub use laws::{all_sound, early_unfolds, graphs_resolvable, level_by_actor, one_assignment};
+pub use level_set::{LevelSet, level_of};
 pub use origin::Origin;
 pub use part_names::part_name;
 pub use resolution::resolve;
