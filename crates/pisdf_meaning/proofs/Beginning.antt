@@ -1,6 +1,6 @@
 -- With what a graph begins.
-use Rattle.std.proofs.Common.{◌≡◌, ◌≢◌, ℕ, zero, suc, ◌-◌, ℤ, List, [], ◌++◌, map, slice_get, Some, None, refl, ap, sym, ◌∙◌, arith}
-use Rattle.pisdf_model.specs.Hold.{actor_state, graph_state, initial_to, kept_in}
+use Rattle.std.proofs.Common.{◌≡◌, ◌≢◌, ℕ, zero, suc, ◌-◌, List, [], ◌++◌, map, slice_get, Some, None, refl, arith}
+use Rattle.pisdf_model.specs.Hold.{actor_state, initial_to, kept_in}
 use Rattle.pisdf_model.specs.declared.actor.Actor.{Actor}
 use Rattle.pisdf_model.specs.declared.graph.Graph.{Graph}
 

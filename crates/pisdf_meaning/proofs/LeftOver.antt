@@ -1,11 +1,10 @@
 -- The actors of a level with counts left, actor by actor.
-use Rattle.std.proofs.Common.{◌≡◌, ℕ, suc, ◌+◌, ◌<◌, ◌≤◌, true, false, List, [], ◌∷◌, ◌++◌, length, get_or, drop, drop-cons, drop_of_length-le, refl, ap, sym, ◌∙◌, append_assoc, append-nil, arith}
+use Rattle.std.proofs.Common.{◌≡◌, ℕ, suc, ◌+◌, ◌<◌, ◌≤◌, true, false, List, [], ◌∷◌, ◌++◌, length, get_or, drop, drop-cons, drop_of_length-le, refl, ap, sym, ◌∙◌, arith}
 use Rattle.std.specs.List.{filter}
 use Rattle.param_resolver.specs.Numbering.{fires}
 use Rattle.pisdf_model.specs.declared.actor.Actor.{Actor}
 use Rattle.pisdf_meaning.specs.Causes.{actors_left, left_of_actor}
 use Rattle.pisdf_meaning.specs.Sound.{no_actor}
-use Rattle.pisdf_meaning.specs.declared.refusal.Left.{Left}
 
 no_counts : (actors : List Actor) → actors_left actors [] ≡ []
 no_counts [] = refl

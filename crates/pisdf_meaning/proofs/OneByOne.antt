@@ -1,8 +1,8 @@
 -- The configuration actors of a graph, one after the other.
-use Rattle.std.proofs.Common.{◌≡◌, ℕ, zero, suc, ◌+◌, ◌<◌, ◌≤◌, Bool, true, false, ⊎_elim, List, [], ◌∷◌, ◌++◌, length, get_or, take, drop, drop-cons, drop_of_length-le, if◌then◌else◌, Result, Ok, Err, refl, ap, sym, ◌∙◌, subst, append_assoc, length-append, arith}
+use Rattle.std.proofs.Common.{◌≡◌, ℕ, zero, suc, ◌+◌, ◌<◌, ◌≤◌, true, false, ⊎_elim, List, [], ◌∷◌, ◌++◌, length, get_or, take, drop, drop-cons, drop_of_length-le, Result, Ok, Err, refl, ap, sym, ◌∙◌, subst, append_assoc, length-append, arith}
 use Rattle.std.specs.List.{flat_map}
 use Rattle.std.proofs.lemmas.Bool.{cases_Bool}
-use Rattle.std.proofs.lemmas.List.{append-nil, take_all, take_more, length-take-le}
+use Rattle.std.proofs.lemmas.List.{append-nil, take_all, take_more}
 use Rattle.param_resolver.specs.EarlyView.{EarlyView}
 use Rattle.pisdf_model.specs.InterfaceWires.{is_configuration}
 use Rattle.pisdf_model.specs.declared.actor.Actor.{Actor}
@@ -23,7 +23,7 @@ with_first_one c a x actors is = rw is refl
 pub without_first_one : (c a : ℕ) (x : Actor) (actors : List Actor) → is_configuration x.body ≡ false → configurations_from c a (x ∷ actors) ≡ configurations_from c (a + 1) actors
 without_first_one c a x actors is = rw is refl
 
-count_with : (c a : ℕ) (actors : List Actor) (x : Actor) → is_configuration x.body ≡ true → length (configurations_from c a (actors ++ x ∷ [])) ≡ length (configurations_from c a actors) + 1
+pub count_with : (c a : ℕ) (actors : List Actor) (x : Actor) → is_configuration x.body ≡ true → length (configurations_from c a (actors ++ x ∷ [])) ≡ length (configurations_from c a actors) + 1
 count_with c a [] x is = ap length (with_first_one c a x [] is)
 count_with c a (y ∷ actors) x is = ⊎_elim
     (λ (holds : is_configuration y.body ≡ true).
@@ -38,7 +38,7 @@ count_with c a (y ∷ actors) x is = ⊎_elim
     omega arith)
     (cases_Bool (is_configuration y.body))
 
-count_without : (c a : ℕ) (actors : List Actor) (x : Actor) → is_configuration x.body ≡ false → length (configurations_from c a (actors ++ x ∷ [])) ≡ length (configurations_from c a actors)
+pub count_without : (c a : ℕ) (actors : List Actor) (x : Actor) → is_configuration x.body ≡ false → length (configurations_from c a (actors ++ x ∷ [])) ≡ length (configurations_from c a actors)
 count_without c a [] x is = ap length (without_first_one c a x [] is)
 count_without c a (y ∷ actors) x is = ⊎_elim
     (λ (holds : is_configuration y.body ≡ true).

@@ -1,5 +1,5 @@
 -- What a configuration actor is fed, with one port more.
-use Rattle.std.proofs.Common.{◌≡◌, ℕ, ◌+◌, ℤ, List, [], ◌∷◌, ◌++◌, refl, sym, arith}
+use Rattle.std.proofs.Common.{◌≡◌, ℕ, ◌+◌, ℤ, List, [], ◌∷◌, ◌++◌, sym, arith}
 use Rattle.std.proofs.lemmas.List.FromFn.{map-range_with_len_more}
 use Rattle.param_resolver.specs.EarlyCheck.{feeding}
 use Rattle.pisdf_model.specs.declared.fifo.Fifo.{Fifo}

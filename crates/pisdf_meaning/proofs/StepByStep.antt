@@ -1,14 +1,14 @@
 -- A firing of a graph step by step.
-use Rattle.std.proofs.Common.{◌≡◌, ℕ, suc, ℤ, List, slice_get, slice_index, Some, Result, Ok, Err, refl, ap, sym, ◌∙◌, subst}
+use Rattle.std.proofs.Common.{◌≡◌, ℤ, List, Result, Ok, Err, refl, ap, sym, ◌∙◌, subst}
 use Rattle.level_schedule.specs.Schedules.{IsScheduled}
 use Rattle.level_schedule.specs.declared.scheduling.LevelSchedule.{LevelSchedule}
 use Rattle.pisdf_model.specs.declared.graph.Graph.{Graph}
 use Rattle.sdf_level.specs.View.{LevelView}
-use Rattle.sdf_level.specs.Firings.{firings, actors_of}
+use Rattle.sdf_level.specs.Firings.{actors_of}
 use Rattle.sdf_level.specs.LevelRun.{Ended, IsLevelRun, end_of}
 use Rattle.pisdf_meaning.specs.Configuring.{Configures}
 use Rattle.pisdf_meaning.specs.Endings.{End, Ends, Then}
-use Rattle.pisdf_meaning.specs.Meaning.{FiresGraph, MeansWithin}
+use Rattle.pisdf_meaning.specs.Meaning.{FiresGraph}
 use Rattle.pisdf_meaning.specs.Nested.{actor_fires}
 use Rattle.pisdf_meaning.specs.Preparing.{resolved, rated, level_in, Schedules}
 use Rattle.pisdf_meaning.specs.Running.{Fires, Traces, HaveRows, RunsLevel, given_by, link_starts, source_tokens, traces_below}

@@ -1,10 +1,10 @@
 -- A run turn by turn.
-use Rattle.std.proofs.Common.{◌≡◌, ◌≢◌, ℕ, zero, suc, ◌+◌, ◌<◌, ◌≤◌, ◌==◌, ◌&&◌, Bool, true, false, ℤ, ⊎_elim, List, [], ◌∷◌, ◌++◌, length, get_or, set, take, drop, drop-cons, drop_of_length-le, map, Result, Ok, Err, if◌then◌else◌, refl, ap, sym, ◌∙◌, subst, append_assoc, arith, get_or-set_same, get_or-set_other}
-use Rattle.std.proofs.lemmas.Bool.{cases_eq, cases_lt, eq-eqb, ne_eqb}
+use Rattle.std.proofs.Common.{◌≡◌, ◌≢◌, ℕ, zero, suc, ◌+◌, ◌<◌, ◌≤◌, ◌==◌, ◌&&◌, ℤ, ⊎_elim, List, [], ◌∷◌, ◌++◌, length, get_or, take, drop, drop-cons, drop_of_length-le, Ok, Err, if◌then◌else◌, refl, ap, sym, ◌∙◌, subst, append_assoc, arith, get_or-set_same, get_or-set_other}
+use Rattle.std.proofs.lemmas.Bool.{cases_eq, eq-eqb, ne_eqb}
 use Rattle.std.proofs.lemmas.List.{append-nil, take_all, take_more, get_or-map, length-map, map-append, take-map}
 use Rattle.sdf_level.specs.View.{LevelView}
 use Rattle.sdf_level.specs.Firings.{firings, actors_of, turns_after, turns_of}
-use Rattle.sdf_level.specs.Run.{inputs, put, Runs, RunsFrom}
+use Rattle.sdf_level.specs.Run.{inputs, RunsFrom}
 use Rattle.sdf_level.specs.declared.turn.Turn.{Turn}
 use Rattle.sdf_level.proofs.FiringLists.{firings-snoc_own, firings-snoc_other, firings-snoc_more}
 use Rattle.pisdf_meaning.specs.Running.{Traces, traces_below}

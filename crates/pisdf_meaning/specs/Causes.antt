@@ -1,5 +1,5 @@
 -- Why a firing of a graph is refused, and where.
-use Rattle.std.specs.Prelude.{ℕ, zero, suc, ℤ, pos, List, [], ◌∷◌, ◌++◌, map, slice_get, slice_index_or, Option, Some, None, Result, Ok, Err}
+use Rattle.std.specs.Prelude.{ℕ, zero, suc, ℤ, pos, List, [], ◌∷◌, ◌++◌, slice_get, Option, Some, None, Result, Ok, Err}
 use Rattle.param_resolver.specs.Refusal as part
 use Rattle.param_resolver.specs.declared.fault.Why.{Why}
 use Rattle.pisdf_model.specs.ParamOrder.{param_name}

@@ -1,5 +1,5 @@
 -- The configuration actors of a graph: each fires once, in file order, before the others.
-use Rattle.std.specs.Prelude.{◌≡◌, ℕ, ◌+◌, ◌==◌, ℤ, pos, List, [], ◌∷◌, ◌++◌, map, length, zip, slice_index_or, Result, Ok, Err, if◌then◌else◌}
+use Rattle.std.specs.Prelude.{◌≡◌, ℕ, ◌+◌, ℤ, List, [], ◌∷◌, map, length, slice_index_or, Result, Ok, Err, if◌then◌else◌}
 use Rattle.std.specs.List.{range_with_len}
 use Rattle.kernel_gate.specs.Value.{Answer, Gives, Faults}
 use Rattle.kernel_gate.specs.Table.{the_value}
@@ -10,14 +10,10 @@ use Rattle.pisdf_model.specs.declared.actor.Actor.{Actor}
 use Rattle.pisdf_model.specs.declared.actor.Body.{Body}
 use Rattle.pisdf_model.specs.declared.actor.Body.TheVariants.{Kernel, Config, Child, ConfigChild}
 use Rattle.pisdf_model.specs.declared.graph.Graph.{Graph}
-use Rattle.pisdf_model.specs.declared.param.Param.{Param}
-use Rattle.pisdf_model.specs.declared.param.ParamKind.{ParamKind}
-use Rattle.pisdf_model.specs.declared.param.ParamKind.TheVariants.{Inherited, Derived, Chosen}
 use Rattle.param_resolver.specs.EarlyCheck.{early_of, feeding}
 use Rattle.param_resolver.specs.EarlyView.{EarlyView}
 use Rattle.pisdf_meaning.specs.Endings.{End, Ends, Then, child_path}
 use Rattle.pisdf_meaning.specs.States.{tokens_at, actor_list, state_in}
-use Rattle.pisdf_meaning.specs.declared.outcome.TraceRow.{TraceRow}
 use Rattle.pisdf_meaning.specs.declared.firing.Configured.{Configured}
 use Rattle.pisdf_meaning.specs.declared.firing.Firing.{Firing}
 use Rattle.pisdf_meaning.specs.declared.refusal.Refusal.{Refusal}

@@ -11,3 +11,7 @@ pub mod Sound
 pub mod Turns
 pub mod PartsOf
 pub mod Nested
+pub mod Prepared
+pub mod Laws
+pub mod Sizes
+pub mod TopLevel

@@ -1,32 +1,46 @@
 -- What is known while a graph fires.
-use Rattle.std.specs.Prelude.{◌≡◌, ℕ, ◌+◌, ◌++◌, ℤ, List, [], ◌∷◌, length, take, drop, slice_get, Some, Result, Ok, Err}
+use Rattle.std.specs.Prelude.{◌≡◌, ℕ, ◌++◌, ℤ, List, [], length, take, drop, slice_get, Some, Result, Ok, Err}
 use Rattle.std.specs.List.{All, flat_map}
 use Rattle.kernel_gate.specs.Signed.{Counts}
 use Rattle.param_resolver.specs.EarlyCheck.{early_faults}
 use Rattle.param_resolver.specs.EarlyView.{EarlyView}
 use Rattle.param_resolver.specs.LevelOf.{level_args}
 use Rattle.param_resolver.specs.Numbering.{acting}
-use Rattle.pisdf_model.specs.Ports.{inherited_count}
 use Rattle.pisdf_model.specs.declared.actor.Actor.{Actor}
+use Rattle.pisdf_model.specs.Range.{InRange}
+use Rattle.pisdf_model.specs.WellFormed.{WellFormed}
 use Rattle.pisdf_model.specs.declared.graph.Graph.{Graph}
+use Rattle.pisdf_model.specs.declared.graph.Graphs.{Graphs}
 use Rattle.pisdf_meaning.specs.Configuring.{Configuration, Configures, LeaveAll, configurations_from, early_in}
 use Rattle.pisdf_meaning.specs.Endings.{Ends}
 use Rattle.pisdf_meaning.specs.Running.{FiresActor}
-use Rattle.pisdf_meaning.specs.Sound.{AllFit, ChildWithin, NestsWithin, actor_at}
+use Rattle.pisdf_meaning.specs.Sound.{AllFit, ChildWithin, GraphFits, NestsWithin, actor_at}
 use Rattle.pisdf_meaning.specs.States.{tokens_at}
 use Rattle.pisdf_meaning.specs.Turns.{TracedFire}
 use Rattle.pisdf_meaning.specs.declared.firing.Configured.{Configured}
 use Rattle.pisdf_meaning.specs.declared.firing.Firing.{Firing}
 use Rattle.pisdf_meaning.specs.declared.refusal.Refusal.{Refusal}
 
--- a graph is fired: it fits the kernels of these signatures, holds graphs of which no more than n are nested in each other,
--- and this is what its early check found, without a fault
-pub record IsUnderway (signatures : List Counts) (n : ℕ) (graphs : List Graph) (g : Graph) (firing : Firing) (early : EarlyView) : Type 0 where
-  pub fit : AllFit signatures graphs
-  pub here : slice_get graphs firing.graph ≡ Some g
-  pub nests : All (λ (a : Actor). ChildWithin (NestsWithin n graphs) a.body) g.actors
-  pub early_is : early ≡ early_in graphs firing
-  pub sound : early_faults graphs firing.graph firing.inherited ≡ []
+-- graphs can be run with the kernels of these signatures
+pub record CanRun (signatures : List Counts) (graphs : Graphs) : Type 0 where
+  pub in_range : InRange graphs
+  pub well_formed : WellFormed graphs
+  pub fit : AllFit signatures graphs.graphs
+
+-- a graph is fired, from whose actors on no more than n graphs are nested in each other, and this is what its early check
+-- found, without a fault
+pub record IsUnderway (signatures : List Counts) (n : ℕ) (graphs : Graphs) (g : Graph) (firing : Firing) (early : EarlyView) : Type 0 where
+  pub can : CanRun signatures graphs
+  pub here : slice_get graphs.graphs firing.graph ≡ Some g
+  pub nests : All (λ (a : Actor). ChildWithin (NestsWithin n graphs.graphs) a.body) g.actors
+  pub early_is : early ≡ early_in graphs.graphs firing
+  pub sound : early_faults graphs.graphs firing.graph firing.inherited ≡ []
+
+-- the same of the run of its level
+pub record Holds (signatures : List Counts) (n : ℕ) (graphs : Graphs) (g : Graph) : Type 0 where
+  pub can : CanRun signatures graphs
+  pub here : GraphFits signatures graphs.graphs g
+  pub nests : All (λ (a : Actor). ChildWithin (NestsWithin n graphs.graphs) a.body) g.actors
 
 -- the actor at a place, as configuration actor of this number
 abbrev pub configuration_at : Graph → ℕ → ℕ → Configuration

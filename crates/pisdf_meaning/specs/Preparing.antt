@@ -13,7 +13,6 @@ use Rattle.param_resolver.specs.Assignment.{given_to, numbers, param_faults, val
 use Rattle.param_resolver.specs.EarlyCheck.{as_refusal}
 use Rattle.param_resolver.specs.LevelOf.{level_at, level_faults}
 use Rattle.param_resolver.specs.Numbering.{acting}
-use Rattle.param_resolver.specs.Refusal as part
 use Rattle.pisdf_meaning.specs.Causes.{unless_refused, schedule_cause}
 use Rattle.pisdf_meaning.specs.Configuring.{Configuration, configurations, early_in}
 use Rattle.pisdf_meaning.specs.declared.firing.Configured.{Configured}
@@ -21,6 +20,11 @@ use Rattle.pisdf_meaning.specs.declared.firing.Firing.{Firing}
 use Rattle.pisdf_meaning.specs.declared.refusal.Refusal.{Refusal}
 
 -- ---- the chosen parameters
+
+-- the values that the first of these sets
+abbrev pub first_sets : List Configured → List ℤ
+first_sets [] = []
+first_sets (one ∷ left) = one.sets
 
 -- each parameter that a configuration actor sets, by its place, with its value
 abbrev pub values_set : List Configuration → List Configured → List (ℕ × ℤ)

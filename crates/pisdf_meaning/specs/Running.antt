@@ -54,13 +54,18 @@ child_firing graphs firing name k args keeps place inputs ins = record {
   state = child_state graphs keeps place inputs ins;
 }
 
+-- firing k of a hierarchical actor, which fires the graph at a place with these arguments, has this answer, and this trace
+-- where it isn't refused
+abbrev pub FiresChild : List Graph → Ends → Firing → List ℤ → Actor → ℕ → ℕ → List TraceRow → List (List ℤ) → Result (List (List ℤ)) Refusal → Type 0
+FiresChild graphs ends firing args actor place k trace read answer =
+    (end : End) × ends (child_firing graphs firing actor.name k args (has_state graphs actor) place (input_count graphs actor.body) read) end ×
+    IfOk end (λ given. trace ≡ given.trace) × (answer ≡ child_fires (has_state graphs actor) end)
+
 -- firing k of this actor, whose arguments have these values, has this answer, and this trace where it isn't refused
 abbrev pub FiresBody : List Graph → Ends → Firing → List ℤ → List ℤ → Actor → Body → ℕ → List TraceRow → List (List ℤ) → Result (List (List ℤ)) Refusal → Type 0
 FiresBody graphs ends firing values args actor (Kernel kernel exprs ins outs) k trace read answer =
     OnOk answer (trace ≡ []) × (answer ≡ kernel_fires firing.path actor.name k (the_value kernel args read (out_rates graphs values actor.body) 0))
-FiresBody graphs ends firing values args actor (Child place exprs) k trace read answer =
-    (end : End) × ends (child_firing graphs firing actor.name k args (has_state graphs actor) place (input_count graphs actor.body) read) end ×
-    IfOk end (λ given. trace ≡ given.trace) × (answer ≡ child_fires (has_state graphs actor) end)
+FiresBody graphs ends firing values args actor (Child place exprs) k trace read answer = FiresChild graphs ends firing args actor place k trace read answer
 FiresBody graphs ends firing values args actor (Config kernel exprs ins outs sets) k trace read answer = ⊥
 FiresBody graphs ends firing values args actor (ConfigChild place exprs sets) k trace read answer = ⊥
 

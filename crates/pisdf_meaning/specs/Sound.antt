@@ -1,5 +1,5 @@
 -- What is known of graphs that are fired.
-use Rattle.std.specs.Prelude.{◌≡◌, ℕ, zero, suc, ◌<◌, ◌^◌, ℤ, List, [], length, take, slice_get, slice_index_or, Option, Some, None, true}
+use Rattle.std.specs.Prelude.{◌≡◌, ℕ, zero, suc, ◌<◌, ◌^◌, ℤ, List, [], length, take, slice_get, slice_index_or, Some, true}
 use Rattle.std.specs.List.{All}
 use Rattle.kernel_gate.specs.Signed.{Counts}
 use Rattle.param_resolver.specs.EarlyCheck.{early_faults, early_of}
@@ -91,3 +91,16 @@ pub record AreRunnable (signatures : List Counts) (graphs : Graphs) : Type 0 whe
   pub fit : AllFit signatures graphs.graphs
   pub nests : NestsWithin nesting_limit graphs.graphs graphs.top
   pub none_inherited : inherited_count (slice_get graphs.graphs graphs.top) ≡ 0
+
+-- ---- kernels alone
+
+-- an actor's kernel is a place of these signatures, and its counts fit
+abbrev pub KernelFits : List Counts → Body → Type 0
+KernelFits signatures (Kernel kernel args ins outs) = FitsKernel signatures kernel (length args) (length ins) (length outs) 0
+KernelFits signatures (Config kernel args ins outs sets) = FitsKernel signatures kernel (length args) (length ins) (length outs) (length sets)
+KernelFits signatures (Child place args) = Unit {0}
+KernelFits signatures (ConfigChild place args sets) = Unit {0}
+
+-- the kernels of all actors fit
+abbrev pub KernelsFit : List Counts → List Graph → Type 0
+KernelsFit signatures graphs = All (λ (g : Graph). All (λ (a : Actor). KernelFits signatures a.body) g.actors) graphs

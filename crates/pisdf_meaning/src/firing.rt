@@ -42,3 +42,12 @@ pub(crate) struct Configured {
     /// The trace of its graph.
     pub(crate) trace: List<TraceRow>,
 }
+
+/// What one firing of an actor of a level gave.
+#[derive(Drop)]
+pub(crate) struct Made {
+    /// The tokens of each output.
+    pub(crate) outs: List<List<i64>>,
+    /// The trace of the graph that it fired, if it did.
+    pub(crate) trace: List<TraceRow>,
+}

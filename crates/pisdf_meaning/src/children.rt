@@ -1,0 +1,124 @@
+// Firings of the graphs that actors name: what they are given, and what becomes of what they give.
+ghost use Rattle.std.specs.Prelude.{◌≡◌, ◌<◌, ◌+◌, ◌^◌, Ok, length, IfOk};
+ghost use Rattle.pisdf_meaning.specs.Configuring.{child_leaves, config_firing, early_in};
+ghost use Rattle.pisdf_meaning.specs.Nested.{configuration_at};
+ghost use Rattle.pisdf_meaning.specs.Running.{child_firing, child_fires, child_state};
+ghost use Rattle.pisdf_meaning.specs.Sound.{actor_at};
+ghost use Rattle.pisdf_model.specs.Parts.{input_count};
+
+use crate::feeding::fed_to;
+use crate::firing::{Configured, Firing, Given, Made};
+use crate::lists::{copy_tokens, tokens_at};
+use crate::path;
+use crate::states::{begin, begin_within, in_line};
+use param_expr::Name;
+use param_resolver::Early;
+use pisdf_model::Graph;
+use sdf_level::List;
+use std::alloc::{AllocError, Global};
+
+/// The state with which a child begins that reads these tokens: of an actor that keeps it, what it reads after the
+/// child's inputs.
+fn child_state(
+    alloc: Global,
+    graphs: &[Graph],
+    keeps: bool,
+    place: u32,
+    inputs: usize,
+    read: &[List<i64>],
+) -> Result<List<List<i64>>, AllocError>
+    ensures { IfOk result (λ state. state ≡ child_state graphs.now keeps place inputs read.now) }
+{
+    if keeps {
+        begin_within(alloc, graphs, place, tokens_at(read, inputs))
+    } else {
+        begin(alloc, graphs, place)
+    }
+}
+
+/// The firing of the graph at a place by firing `turn` of an actor, whose child has so many inputs, and which keeps its
+/// child's state or does not.
+pub(crate) fn child_firing(
+    alloc: Global,
+    graphs: &[Graph],
+    firing: &Firing,
+    actor: &Name,
+    turn: u32,
+    args: &[i64],
+    keeps: bool,
+    place: u32,
+    inputs: usize,
+    read: List<List<i64>>,
+) -> Result<Firing, AllocError>
+    ensures { IfOk result (λ inner. inner ≡ child_firing graphs.now firing.now actor.now turn args.now keeps place inputs read) }
+{
+    let state = child_state(alloc, graphs, keeps, place, inputs, read.items())?;
+    let mut given = read.into_items();
+    given.truncate(inputs);
+    Ok(Firing {
+        path: path::child(alloc, &firing.path, actor, turn)?,
+        graph: place,
+        inherited: copy_tokens(alloc, args)?,
+        inputs: List::new(given),
+        state,
+    })
+}
+
+/// What the actor's firing gives, whose child gave this.
+pub(crate) fn child_made(alloc: Global, keeps: bool, given: Given) -> Result<Made, AllocError>
+    ensures outs { IfOk result (λ made. Ok made.outs ≡ child_fires keeps (Ok given)) }
+    ensures trace { IfOk result (λ made. made.trace ≡ given.trace) }
+{
+    let mut outs = given.outs.into_items();
+    if keeps {
+        outs.push(in_line(alloc, given.state.items())?)?;
+    }
+    Ok(Made {
+        outs: List::new(outs),
+        trace: given.trace,
+    })
+}
+
+/// The firing of the graph at a place by the hierarchical configuration actor of this number, which stands at a place of
+/// its graph and has so many inputs.
+pub(crate) fn config_firing(
+    alloc: Global,
+    graphs: &[Graph],
+    graph: &Graph,
+    early: &Early,
+    firing: &Firing,
+    number: usize,
+    actor: usize,
+    name: &Name,
+    place: u32,
+    inputs: usize,
+) -> Result<Firing, AllocError>
+    requires actor { name.now ≡ (actor_at graph.now actor).name }
+    requires early { early.now ≡ early_in graphs.now firing.now }
+    requires inputs { inputs ≡ input_count graphs.now (actor_at graph.now actor).body }
+    requires few { length graph.now.fifos + actor < 2 ^ 64 }
+    ensures { IfOk result (λ inner. inner ≡ config_firing graphs.now graph.now firing.now (configuration_at graph.now number actor) place) }
+{
+    let line = tokens_at(firing.state.items(), graph.fifos.items().len() + actor);
+    Ok(Firing {
+        path: path::child(alloc, &firing.path, name, 0)?,
+        graph: place,
+        inherited: copy_tokens(alloc, tokens_at(early.args.items(), number))?,
+        inputs: fed_to(alloc, graph, firing.inputs.items(), actor, inputs)?,
+        state: begin_within(alloc, graphs, place, line)?,
+    })
+}
+
+/// What a hierarchical configuration actor leaves, whose child gave this.
+pub(crate) fn child_left(alloc: Global, given: Given) -> Result<Configured, AllocError>
+    ensures leaves { IfOk result (λ one. Ok one ≡ child_leaves (Ok given)) }
+    ensures outs { IfOk result (λ one. one.outs ≡ given.outs) }
+{
+    let state = in_line(alloc, given.state.items())?;
+    Ok(Configured {
+        outs: given.outs,
+        sets: given.exports,
+        state,
+        trace: given.trace,
+    })
+}

@@ -1,0 +1,443 @@
+// One firing of a graph, and of those that it holds.
+ghost use Rattle.std.specs.Prelude.{◌≡◌, ◌<◌, ◌+◌, [], length, slice_get, slice_index, slice_index_or, Some, Ok, Err, List as Seq, IfOk, IfErr, OnOk, if◌then◌else◌};
+ghost use Rattle.std.specs.List.{All};
+ghost use Rattle.kernel_gate.specs.Signed.{unnamed};
+ghost use Rattle.level_schedule.specs.Schedules.{IsScheduled};
+ghost use Rattle.param_resolver.specs.EarlyCheck.{early_faults, early_of};
+ghost use Rattle.param_resolver.specs.Numbering.{level_inputs};
+ghost use Rattle.pisdf_model.specs.InterfaceWires.{is_configuration};
+ghost use Rattle.pisdf_model.specs.Parts.{input_count, inputs_of};
+ghost use Rattle.sdf_level.specs.Firings.{actors_of, turns_of};
+ghost use Rattle.sdf_level.specs.Kept.{how_many};
+ghost use Rattle.sdf_level.specs.Lists.{lists_of};
+ghost use Rattle.sdf_level.specs.Run.{inputs, is_into_actor};
+ghost use Rattle.sdf_level.specs.declared.turn.Turn.{Turn as SeqTurn};
+ghost use Rattle.pisdf_meaning.specs.Configuring.{Configures, Leaves, early_in};
+ghost use Rattle.pisdf_meaning.specs.Endings.{Answers, IfRefused};
+ghost use Rattle.pisdf_meaning.specs.Meaning.{FiresGraph, MeansWithin};
+ghost use Rattle.pisdf_meaning.specs.Nested.{CanRun, HaveLeft, Holds, IsUnderway, actor_fires, configuration_at, outs_count, rates_count};
+ghost use Rattle.pisdf_meaning.specs.Prepared.{IsPrepared};
+ghost use Rattle.pisdf_meaning.specs.Running.{FiresChild, RunsLevel, link_starts, source_tokens};
+ghost use Rattle.pisdf_meaning.specs.Sound.{IsConfiguration, NestsWithin, actor_at};
+ghost use Rattle.pisdf_meaning.specs.States.{tokens_at};
+ghost use Rattle.pisdf_meaning.specs.Turns.{HasRun, MeetsRefusal, TurnFires, TurnRefused};
+ghost use Rattle.pisdf_meaning.specs.declared.outcome.TraceRow.{TraceRow as Row};
+
+use crate::actors::is_configuration;
+use crate::children::{child_firing, child_left, child_made, config_firing};
+use crate::firing::{Configured, Firing, Given, Made};
+use crate::firing_kernels::{fire_kernel_actor, leave_config};
+use crate::giving::given_by;
+use crate::lists::tokens_at;
+use crate::parts::{Prepared, parts_of};
+use crate::preparing::{child_known, prepared, rates_at};
+use crate::refusal::PlainFault;
+use crate::resolving::resolved;
+use crate::rows::append_to;
+use crate::running::{RunState, ended, starting};
+use crate::scheduling::scheduled;
+use kernel_gate::Gate;
+use level_lines::{put, read};
+use level_schedule::LevelSchedule;
+use param_resolver::Early;
+use pisdf_model::{Actor, Body, Graph, Graphs};
+use sdf_level::{List, Turn};
+use std::alloc::Global;
+
+/// What the configuration actor at a place leaves, which has this number among them. From the graph that it names on at
+/// most `levels` are nested in each other.
+#[cycle(firing)]
+fn leave<K: Gate>(
+    alloc: Global,
+    graphs: &Graphs,
+    gate: &K,
+    graph: &Graph,
+    early: &Early,
+    firing: &Firing,
+    number: usize,
+    place: usize,
+    actor: &Actor,
+    levels: usize,
+) -> Result<Configured, PlainFault>
+    requires underway { IsUnderway (unnamed (K.kernels gate.now)) levels graphs.now graph.now firing.now early.now }
+    requires actor { actor.now ≡ actor_at graph.now place }
+    requires is { IsConfiguration graph.now number place }
+    ensures leaves { Answers (Leaves graphs.now.graphs (MeansWithin levels graphs.now.graphs) graph.now firing.now (configuration_at graph.now number place) actor.now.body) result }
+    ensures outs { IfOk result (λ one. length one.outs ≡ length (slice_index_or early.now.outs number [])) }
+{
+    match &actor.body {
+        Body::Config {
+            kernel,
+            ins,
+            sets,
+            ..
+        } => leave_config(
+            alloc,
+            gate,
+            graph,
+            early,
+            firing,
+            number,
+            place,
+            &actor.name,
+            *kernel,
+            ins.items().len(),
+            sets.items().len() as u32,
+        ),
+        Body::ConfigChild { graph: child, .. } => {
+            let inputs = graphs.graphs.items()[*child as usize].inputs.items().len();
+            let inner = config_firing(
+                alloc,
+                graphs.graphs.items(),
+                graph,
+                early,
+                firing,
+                number,
+                place,
+                &actor.name,
+                *child,
+                inputs,
+            )?;
+            let known = child_known(&early.children, number);
+            let given = fire_graph(alloc, graphs, gate, known, &inner, levels)?;
+            Ok(child_left(alloc, given)?)
+        }
+        Body::Kernel { .. } | Body::Child { .. } => unreachable!(),
+    }
+}
+
+/// Adds what the actor at a place leaves, if it is a configuration actor, to what those before it left.
+#[cycle(firing)]
+fn leave_next<K: Gate>(
+    alloc: Global,
+    graphs: &Graphs,
+    gate: &K,
+    graph: &Graph,
+    early: &Early,
+    firing: &Firing,
+    place: usize,
+    configured: &mut Vec<Configured>,
+    levels: usize,
+) -> Result<(), PlainFault>
+    requires underway { IsUnderway (unnamed (K.kernels gate.now)) levels graphs.now graph.now firing.now early.now }
+    requires there { place < length graph.now.actors }
+    requires before { HaveLeft graphs.now.graphs (MeansWithin levels graphs.now.graphs) graph.now firing.now early.now place configured.old.items }
+    ensures left { OnOk result (HaveLeft graphs.now.graphs (MeansWithin levels graphs.now.graphs) graph.now firing.now early.now (place + 1) configured.new.items) }
+    ensures refused { IfErr result (IfRefused (λ refusal. Configures graphs.now.graphs (MeansWithin levels graphs.now.graphs) graph.now firing.now (Err refusal))) }
+{
+    let actor = &graph.actors.items()[place];
+    if !is_configuration(actor) {
+        return Ok(());
+    }
+    let number = configured.len();
+    let one = leave(
+        alloc, graphs, gate, graph, early, firing, number, place, actor, levels,
+    )?;
+    configured.push(one)?;
+    Ok(())
+}
+
+/// What the configuration actors of a graph leave, each of which fires once, in file order. From the graphs that they name
+/// on at most `levels` are nested in each other.
+#[cycle(firing)]
+pub(crate) fn configure<K: Gate>(
+    alloc: Global,
+    graphs: &Graphs,
+    gate: &K,
+    graph: &Graph,
+    early: &Early,
+    firing: &Firing,
+    levels: usize,
+) -> Result<Vec<Configured>, PlainFault>
+    requires { IsUnderway (unnamed (K.kernels gate.now)) levels graphs.now graph.now firing.now early.now }
+    ensures configures { IfOk result (λ configured. Configures graphs.now.graphs (MeansWithin levels graphs.now.graphs) graph.now firing.now (Ok configured.items)) }
+    ensures outs { IfOk result (λ configured. outs_count configured.items ≡ rates_count early.now.outs) }
+    ensures refused { IfErr result (IfRefused (λ refusal. Configures graphs.now.graphs (MeansWithin levels graphs.now.graphs) graph.now firing.now (Err refusal))) }
+{
+    let mut configured = Vec::new(alloc);
+    for place in 0..graph.actors.items().len() {
+        leave_next(
+            alloc,
+            graphs,
+            gate,
+            graph,
+            early,
+            firing,
+            place,
+            &mut configured,
+            levels,
+        )?;
+    }
+    Ok(configured)
+}
+
+/// Firing `turn` of a hierarchical actor, which fires the graph at a place with these arguments, of which this is known
+/// then.
+#[cycle(firing)]
+fn fire_child<K: Gate>(
+    alloc: Global,
+    graphs: &Graphs,
+    gate: &K,
+    firing: &Firing,
+    actor: &Actor,
+    place: u32,
+    turn: u32,
+    args: &[i64],
+    early: &Early,
+    read: List<List<i64>>,
+    levels: usize,
+) -> Result<Made, PlainFault>
+    requires can { CanRun (unnamed (K.kernels gate.now)) graphs.now }
+    requires nested { NestsWithin levels graphs.now.graphs place }
+    requires child { input_count graphs.now.graphs actor.now.body ≡ length (inputs_of (slice_get graphs.now.graphs place)) }
+    requires early { early.now ≡ early_of graphs.now.graphs place args.now }
+    requires sound { early_faults graphs.now.graphs place args.now ≡ [] }
+    requires read { length read ≡ level_inputs graphs.now.graphs actor.now }
+    ensures fires { IfOk result (λ made. FiresChild graphs.now.graphs (MeansWithin levels graphs.now.graphs) firing.now args.now actor.now place turn made.trace read (Ok made.outs)) }
+    ensures refused { IfErr result (IfRefused (λ refusal. (trace : Seq Row) → FiresChild graphs.now.graphs (MeansWithin levels graphs.now.graphs) firing.now args.now actor.now place turn trace read (Err refusal))) }
+{
+    let inputs = graphs.graphs.items()[place as usize].inputs.items().len();
+    let keeps = read.items().len() > inputs;
+    let inner = child_firing(
+        alloc,
+        graphs.graphs.items(),
+        firing,
+        &actor.name,
+        turn,
+        args,
+        keeps,
+        place,
+        inputs,
+        read,
+    )?;
+    let given = fire_graph(alloc, graphs, gate, early, &inner, levels)?;
+    Ok(child_made(alloc, keeps, given)?)
+}
+
+/// A firing of an actor of a level, which reads these tokens.
+#[cycle(firing)]
+fn fire_actor<K: Gate>(
+    alloc: Global,
+    graphs: &Graphs,
+    gate: &K,
+    graph: &Graph,
+    firing: &Firing,
+    prepared: &Prepared,
+    turn: Turn,
+    read: List<List<i64>>,
+    levels: usize,
+) -> Result<Made, PlainFault>
+    requires holds { Holds (unnamed (K.kernels gate.now)) levels graphs.now graph.now }
+    requires prepared { IsPrepared graphs.now.graphs graph.now firing.now prepared.now }
+    requires actor { turn.actor < prepared.now.parts.level.actors }
+    requires read { length read ≡ how_many (is_into_actor turn.actor) prepared.now.parts.level.links }
+    ensures fires { IfOk result (λ made. actor_fires graphs.now.graphs (MeansWithin levels graphs.now.graphs) graph.now firing.now prepared.now.values turn.actor turn.turn made.trace read (Ok made.outs)) }
+    ensures refused { IfErr result (IfRefused (λ refusal. (trace : Seq Row) → actor_fires graphs.now.graphs (MeansWithin levels graphs.now.graphs) graph.now firing.now prepared.now.values turn.actor turn.turn trace read (Err refusal))) }
+{
+    let number = turn.actor as usize;
+    let parts = &prepared.parts;
+    let actor = &graph.actors.items()[parts.places.items()[number] as usize];
+    let args = tokens_at(parts.args.items(), number);
+    match &actor.body {
+        Body::Kernel { kernel, .. } => fire_kernel_actor(
+            alloc,
+            gate,
+            &firing.path,
+            &actor.name,
+            turn.turn,
+            *kernel,
+            args,
+            read,
+            rates_at(parts.outs.items(), number),
+        ),
+        Body::Child { graph: child, .. } => {
+            let early = child_known(parts.children.items(), number);
+            fire_child(
+                alloc, graphs, gate, firing, actor, *child, turn.turn, args, early, read, levels,
+            )
+        }
+        Body::Config { .. } | Body::ConfigChild { .. } => unreachable!(),
+    }
+}
+
+/// Makes a firing of a level's actor: it reads its inputs off the lines, and puts its outputs at their ends.
+#[cycle(firing)]
+fn take_turn<K: Gate>(
+    alloc: Global,
+    graphs: &Graphs,
+    gate: &K,
+    graph: &Graph,
+    firing: &Firing,
+    prepared: &Prepared,
+    turn: Turn,
+    state: &mut RunState,
+    levels: usize,
+) -> Result<(), PlainFault>
+    requires holds { Holds (unnamed (K.kernels gate.now)) levels graphs.now graph.now }
+    requires prepared { IsPrepared graphs.now.graphs graph.now firing.now prepared.now }
+    requires actor { turn.actor < prepared.now.parts.level.actors }
+    requires lines { length state.old.lines.items ≡ length prepared.now.parts.level.links }
+    requires rows { length state.old.rows.items ≡ prepared.now.parts.level.actors }
+    ensures fires { OnOk result (TurnFires (actor_fires graphs.now.graphs (MeansWithin levels graphs.now.graphs) graph.now firing.now prepared.now.values) prepared.now.sources prepared.now.parts.level.links turn.actor turn.turn (lists_of state.old.lines.items) (lists_of state.new.lines.items) (lists_of state.old.rows.items) (lists_of state.new.rows.items)) }
+    ensures lines { OnOk result (length state.new.lines.items ≡ length state.old.lines.items) }
+    ensures rows { OnOk result (length state.new.rows.items ≡ length state.old.rows.items) }
+    ensures refused { IfErr result (IfRefused (TurnRefused (actor_fires graphs.now.graphs (MeansWithin levels graphs.now.graphs) graph.now firing.now prepared.now.values) prepared.now.sources prepared.now.parts.level.links turn.actor turn.turn (lists_of state.old.lines.items))) }
+{
+    let level = &prepared.parts.level;
+    let ports = &prepared.ports;
+    let sources = prepared.sources.items();
+    let tokens = read(
+        alloc,
+        level,
+        ports,
+        sources,
+        &state.lines,
+        turn.actor,
+        turn.turn,
+    )?;
+    let made = fire_actor(
+        alloc, graphs, gate, graph, firing, prepared, turn, tokens, levels,
+    )?;
+    put(
+        level,
+        ports,
+        &mut state.lines,
+        turn.actor,
+        made.outs.items(),
+    )?;
+    append_to(alloc, &mut state.rows, turn.actor, made.trace.items())?;
+    Ok(())
+}
+
+/// Makes the firings of a level in this order, from the lines with which its links begin.
+#[cycle(firing)]
+fn run_turns<K: Gate>(
+    alloc: Global,
+    graphs: &Graphs,
+    gate: &K,
+    graph: &Graph,
+    firing: &Firing,
+    prepared: &Prepared,
+    order: &[Turn],
+    levels: usize,
+) -> Result<RunState, PlainFault>
+    requires holds { Holds (unnamed (K.kernels gate.now)) levels graphs.now graph.now }
+    requires prepared { IsPrepared graphs.now.graphs graph.now firing.now prepared.now }
+    requires numbered { order.now ≡ turns_of (actors_of order.now) }
+    requires inside { All (λ (t : SeqTurn). t.actor < prepared.now.parts.level.actors) order.now }
+    ensures run { IfOk result (λ s. HasRun prepared.now.parts.level (actor_fires graphs.now.graphs (MeansWithin levels graphs.now.graphs) graph.now firing.now prepared.now.values) prepared.now.sources (link_starts graphs.now.graphs graph.now firing.now) (actors_of order.now) (lists_of s.lines.items) (lists_of s.rows.items)) }
+    ensures lines { IfOk result (λ s. length s.lines.items ≡ length prepared.now.parts.level.links) }
+    ensures refused { IfErr result (IfRefused (MeetsRefusal prepared.now.parts.level (actor_fires graphs.now.graphs (MeansWithin levels graphs.now.graphs) graph.now firing.now prepared.now.values) prepared.now.sources (link_starts graphs.now.graphs graph.now firing.now) (actors_of order.now))) }
+{
+    let mut state = starting(
+        alloc,
+        graphs.graphs.items(),
+        graph,
+        firing,
+        prepared.parts.level.actors,
+    )?;
+    for turn in order {
+        take_turn(
+            alloc, graphs, gate, graph, firing, prepared, *turn, &mut state, levels,
+        )?;
+    }
+    Ok(state)
+}
+
+/// Runs the level of a graph by its schedule.
+#[cycle(firing)]
+fn run<K: Gate>(
+    alloc: Global,
+    graphs: &Graphs,
+    gate: &K,
+    graph: &Graph,
+    firing: &Firing,
+    configured: &[Configured],
+    prepared: &Prepared,
+    schedule: &LevelSchedule,
+    levels: usize,
+) -> Result<Given, PlainFault>
+    requires holds { Holds (unnamed (K.kernels gate.now)) levels graphs.now graph.now }
+    requires prepared { IsPrepared graphs.now.graphs graph.now firing.now prepared.now }
+    requires sources { prepared.now.sources ≡ source_tokens graph.now firing.now configured.now }
+    requires schedule { IsScheduled prepared.now.parts.level schedule.now }
+    ensures runs { Answers (RunsLevel graphs.now.graphs (MeansWithin levels graphs.now.graphs) graph.now firing.now configured.now prepared.now.values schedule.now.counts) result }
+    ensures outs { IfOk result (λ given. length given.outs ≡ length prepared.now.parts.level.sinks) }
+{
+    let order = schedule.order.items();
+    let state = run_turns(alloc, graphs, gate, graph, firing, prepared, order, levels)?;
+    let end = ended(alloc, &prepared.parts.level, schedule.counts.items(), state)?;
+    let values = prepared.values.items();
+    Ok(given_by(
+        alloc,
+        graphs.graphs.items(),
+        graph,
+        firing,
+        configured,
+        values,
+        end,
+    )?)
+}
+
+/// One firing of a graph, from whose actors on at most `levels` graphs are nested in each other.
+#[cycle(firing)]
+fn fire_here<K: Gate>(
+    alloc: Global,
+    graphs: &Graphs,
+    gate: &K,
+    graph: &Graph,
+    early: &Early,
+    firing: &Firing,
+    levels: usize,
+) -> Result<Given, PlainFault>
+    requires { IsUnderway (unnamed (K.kernels gate.now)) levels graphs.now graph.now firing.now early.now }
+    ensures fires { Answers (FiresGraph graphs.now.graphs (MeansWithin levels graphs.now.graphs) graph.now firing.now) result }
+    ensures outs { IfOk result (λ given. length given.outs ≡ length early.now.outputs) }
+{
+    let configured = configure(alloc, graphs, gate, graph, early, firing, levels)?;
+    let values = resolved(alloc, graphs, graph, early, firing, &configured)?;
+    let parts = parts_of(alloc, graphs, graph, early, firing, values.items())?;
+    let schedule = scheduled(alloc, graph, firing, &parts.level)?;
+    let prepared = prepared(
+        alloc,
+        graphs.graphs.items(),
+        graph,
+        firing,
+        &configured,
+        parts,
+        values,
+    )?;
+    run(
+        alloc,
+        graphs,
+        gate,
+        graph,
+        firing,
+        &configured,
+        &prepared,
+        &schedule,
+        levels,
+    )
+}
+
+/// One firing of a graph, from which on at most `levels` graphs are nested in each other, and of which this is known
+/// before it.
+#[cycle(firing)]
+pub(crate) fn fire_graph<K: Gate>(
+    alloc: Global,
+    graphs: &Graphs,
+    gate: &K,
+    early: &Early,
+    firing: &Firing,
+    levels: usize,
+) -> Result<Given, PlainFault>
+    requires can { CanRun (unnamed (K.kernels gate.now)) graphs.now }
+    requires nested { NestsWithin levels graphs.now.graphs firing.now.graph }
+    requires early { early.now ≡ early_in graphs.now.graphs firing.now }
+    requires sound { early_faults graphs.now.graphs firing.now.graph firing.now.inherited ≡ [] }
+    ensures means { Answers (MeansWithin levels graphs.now.graphs firing.now) result }
+    ensures outs { IfOk result (λ given. length given.outs ≡ length early.now.outputs) }
+{
+    let graph = &graphs.graphs.items()[firing.graph as usize];
+    fire_here(alloc, graphs, gate, graph, early, firing, levels - 1)
+}

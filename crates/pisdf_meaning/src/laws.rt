@@ -1,0 +1,25 @@
+// Laws of the definitions, for whoever proves something above them. The functions do nothing; their contracts are the laws.
+ghost use Rattle.std.specs.Prelude.{List as Seq};
+ghost use Rattle.kernel_gate.specs.Signed.{Counts};
+ghost use Rattle.pisdf_model.specs.Range.{InRange};
+ghost use Rattle.pisdf_model.specs.WellFormed.{WellFormed};
+ghost use Rattle.pisdf_model.specs.declared.graph.Graph.{Graph};
+ghost use Rattle.pisdf_model.specs.declared.graph.Graphs.{Graphs};
+ghost use Rattle.pisdf_meaning.specs.Laws.{HasOneMeaning, HasOneRun};
+ghost use Rattle.pisdf_meaning.specs.Sizes.{GiveLengths, KeepsSizes};
+ghost use Rattle.pisdf_meaning.specs.Sound.{AllFit};
+
+/// A firing of a graph has only one end: what it gives, its state and its trace, or the refusal, doesn't depend on who
+/// makes it. Nor has a run more than one. This holds of any graphs.
+pub fn one_meaning()
+    ensures firings { (graphs : Seq Graph) → HasOneMeaning graphs }
+    ensures runs { (graphs : Graphs) → HasOneRun graphs }
+{}
+
+/// A firing of a graph that is done gives each output as many tokens as its rate, and leaves a state whose lists are as
+/// long as those with which the graph begins, if the firing began with lists of these lengths. It asks nothing of the
+/// lengths of its inputs. So it is in well-formed graphs whose kernels fit signatures of kernels that give outputs of the
+/// lengths that they are asked for.
+pub fn sizes_kept()
+    ensures { (signatures : Seq Counts) (graphs : Graphs) → InRange graphs → WellFormed graphs → AllFit signatures graphs.graphs → GiveLengths signatures → KeepsSizes graphs.graphs }
+{}

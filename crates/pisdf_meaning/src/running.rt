@@ -1,0 +1,61 @@
+// Where the run of a level stands, and what it leaves.
+ghost use Rattle.std.specs.Prelude.{◌≡◌, ℕ, [], length, slice_index_or, IfOk};
+ghost use Rattle.sdf_level.specs.Lists.{lists_of};
+ghost use Rattle.sdf_level.specs.LevelRun.{end_of};
+ghost use Rattle.pisdf_meaning.specs.Running.{link_starts};
+
+use crate::firing::Firing;
+use crate::giving::LevelEnd;
+use crate::outcome::TraceRow;
+use crate::rows::no_rows;
+use crate::states::link_starts;
+use level_lines::{kept, left};
+use pisdf_model::Graph;
+use sdf_level::{Level, List};
+use std::alloc::{AllocError, Global};
+
+/// Where the run of a level stands.
+#[derive(Drop)]
+pub(crate) struct RunState {
+    /// The line of each link: all tokens that were put on it.
+    pub(crate) lines: Vec<Vec<i64>>,
+    /// The traces of the firings of each actor of the level.
+    pub(crate) rows: Vec<Vec<TraceRow>>,
+}
+
+/// Where it stands before the first firing, in a level of so many actors.
+pub(crate) fn starting(
+    alloc: Global,
+    graphs: &[Graph],
+    graph: &Graph,
+    firing: &Firing,
+    actors: u32,
+) -> Result<RunState, AllocError>
+    ensures lines { IfOk result (λ s. lists_of s.lines.items ≡ link_starts graphs.now graph.now firing.now) }
+    ensures rows { IfOk result (λ s. (b : ℕ) → slice_index_or (lists_of s.rows.items) b [] ≡ []) }
+    ensures one_each { IfOk result (λ s. length s.rows.items ≡ actors) }
+{
+    Ok(RunState {
+        lines: link_starts(alloc, graphs, graph, firing)?,
+        rows: no_rows(alloc, actors)?,
+    })
+}
+
+/// What the run leaves after all firings, of which each actor made its count.
+pub(crate) fn ended(
+    alloc: Global,
+    level: &Level,
+    counts: &[u32],
+    state: RunState,
+) -> Result<LevelEnd, AllocError>
+    requires counts { length counts.now ≡ level.now.actors }
+    requires lines { length state.lines.items ≡ length level.now.links }
+    ensures end { IfOk result (λ e. record { outs = e.outs; left = e.left } ≡ end_of level.now counts.now (lists_of state.lines.items)) }
+    ensures rows { IfOk result (λ e. e.rows ≡ state.rows) }
+{
+    Ok(LevelEnd {
+        outs: kept(alloc, level, &state.lines)?,
+        left: left(alloc, level, counts, &state.lines)?,
+        rows: state.rows,
+    })
+}
