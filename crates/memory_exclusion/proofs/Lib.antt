@@ -2,4 +2,5 @@ pub mod Words
 pub mod Chains
 pub mod Closing
 pub mod Ranking
+pub mod Turning
 pub mod Reached

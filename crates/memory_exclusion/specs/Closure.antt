@@ -7,6 +7,10 @@ use Rattle.memory_exclusion.specs.Bits.{HasBit}
 abbrev pub edges_of : List Ranked → List (ℕ × ℕ)
 edges_of ranked = map (λ (r : Ranked). r.edge) ranked
 
+-- each edge from its head to its tail
+abbrev pub turned : List (ℕ × ℕ) → List (ℕ × ℕ)
+turned edges = map (λ (edge : ℕ × ℕ). (edge.1, edge.0)) edges
+
 -- each edge stands behind those that lead to its tail
 abbrev pub IsInOrder : List (ℕ × ℕ) → Type 0
 IsInOrder edges = (e f : ℕ) → e < length edges → f < length edges → head_of edges f ≡ tail_of edges e → f < e

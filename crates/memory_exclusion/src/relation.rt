@@ -12,7 +12,9 @@ pub struct Reach {
     /// Words to a row.
     pub(crate) width: usize,
     /// A row for each node, of the nodes from which a path of at least one edge leads to it.
-    pub(crate) rows: Vec<u64>,
+    pub(crate) before: Vec<u64>,
+    /// A row for each node, of the nodes to which a path of at least one edge leads from it.
+    pub(crate) behind: Vec<u64>,
 }
 
 impl Model for Reach {
@@ -20,11 +22,11 @@ impl Model for Reach {
 
     ghost Value = { List (ℕ × ℕ) };
 
-    ghost use Rattle.memory_exclusion.specs.Closure.{IsReach};
+    ghost use Rattle.memory_exclusion.specs.Closure.{IsReach, turned};
 
     ghost view = { λ r. r.edges.items };
 
-    ghost invariant = { λ r. IsReach r.edges.items r.width r.rows.items };
+    ghost invariant = { λ r. IsReach r.edges.items r.width r.before.items × IsReach (turned r.edges.items) r.width r.behind.items };
 }
 
 impl Exclusion for Reach {
@@ -40,10 +42,27 @@ impl Exclusion for Reach {
     }
 
     fn excludes(&self, e: u32, f: u32) -> bool {
+        !self.shares(e, f)
+    }
+
+    fn relates(&self, e: u32, f: u32) -> bool {
+        !self.shares(e, f)
+    }
+}
+
+impl Reach {
+    ghost use Rattle.std.specs.Prelude.{◌≡◌, ◌↔◌, ◌<◌, ◌⊎◌, length, IsFalse};
+    ghost use Rattle.memory_exclusion.specs.Paths.{Excludes};
+
+    /// Whether two buffers may share cells. It reads the rows of the ends of `e` alone.
+    fn shares(&self, e: u32, f: u32) -> bool
+        requires e { e < length self.now }
+        requires f { f < length self.now }
+        ensures { IsFalse result ↔ Excludes self.now e f }
+    {
         let (e_tail, e_head) = self.edges[e as usize];
         let (f_tail, f_head) = self.edges[f as usize];
-        let shares = has_bit(&self.rows, self.width, f_tail as usize, e_head as usize)
-            || has_bit(&self.rows, self.width, e_tail as usize, f_head as usize);
-        !shares
+        has_bit(&self.before, self.width, e_tail as usize, f_head as usize)
+            || has_bit(&self.behind, self.width, e_head as usize, f_tail as usize)
     }
 }

@@ -33,25 +33,11 @@ pub(crate) fn least_offset<X: Exclusion>(
         if offset + size <= p.offset {
             return offset;
         }
-        if offset < p.end && relates(exclusion, number, p.number) {
+        if offset < p.end && exclusion.relates(number, p.number) {
             offset = p.end;
         }
     }
     offset
-}
-
-/// Whether two different buffers exclude each other.
-fn relates<X: Exclusion>(exclusion: &X, e: u32, f: u32) -> bool
-    requires e { e < X.range exclusion.now }
-    requires f { f < X.range exclusion.now }
-    requires different { f ≢ e }
-    ensures { IsTrue result ↔ Relates (X.excludes exclusion.now) e f }
-{
-    if e < f {
-        exclusion.excludes(e, f)
-    } else {
-        exclusion.excludes(f, e)
-    }
 }
 
 /// Enters a buffer among those placed, which stay in the order of their offsets.

@@ -1,4 +1,6 @@
-pub mod Choosing
+pub mod CostsSoFar
+pub mod Opening
+pub mod Queued
 pub mod Kept
 pub mod Lists
 pub mod Edges
@@ -11,4 +13,5 @@ pub mod Entries
 pub mod Placing
 pub mod Homes
 pub mod HeaviestPath
+pub mod Stepping
 pub mod Unique

@@ -6,13 +6,12 @@ use Rattle.std.proofs.lemmas.List.Elements.{Contains-get_or, All-from_recursion,
 use Rattle.std.proofs.lemmas.Bool.{cases_eq, cases_lt, cases_Bool, eq-eqb, ne_eqb, eqb-false, true≢false, not-true}
 use Rattle.worker_mapping.specs.Graph.{CostedGraph, nodes_after, nodes_before, greatest, AreThere, Rise}
 use Rattle.worker_mapping.specs.Schedule.{free_time, end_of, is_placed, times_placed, ready_time, IsCandidate, GoesFirst, IsChoice, EachEntry, IsSchedule}
-use Rattle.worker_mapping.specs.Choice.{IsNotAfter, candidate_of, IsNext}
+use Rattle.worker_mapping.specs.Choice.{Candidate, IsNotAfter, candidate_of, IsNext}
 use Rattle.sdf_level.specs.Lists.{occurrences}
 use Rattle.worker_mapping.specs.Release.{Releases}
 use Rattle.worker_mapping.proofs.Kept.{waiting_for, unplaced_below, most_cost, Follows}
 use Rattle.worker_mapping.specs.Neighbours.{AreCounted}
 use Rattle.worker_mapping.specs.declared.entry.Entry.{Entry}
-use Rattle.worker_mapping.specs.declared.choice.Candidate.{Candidate}
 use Rattle.worker_mapping.proofs.Lists.{each-weaker, each-append, each-contains}
 use Rattle.worker_mapping.proofs.Edges.{before_is_there}
 use Rattle.worker_mapping.proofs.Releasing.{Contains-from_occurrences, occurrences-from_Contains, occurrences-skip}
@@ -30,7 +29,7 @@ each_placed placed (x ∷ xs) h = ⊎_elim
     (λ (fails : is_placed placed x ≡ false). absurd (let k : suc (length (filter (λ m. not (is_placed placed m)) xs)) ≡ 0 = rw fails at h in omega arith))
     (cases_Bool (is_placed placed x))
 
-waits-none : (placed : List Entry) (xs : List ℕ) → All (λ m. IsTrue (is_placed placed m)) xs → length (filter (λ m. not (is_placed placed m)) xs) ≡ 0
+pub waits-none : (placed : List Entry) (xs : List ℕ) → All (λ m. IsTrue (is_placed placed m)) xs → length (filter (λ m. not (is_placed placed m)) xs) ≡ 0
 waits-none placed xs all = none_waits placed xs (recursion_from_All (λ m. IsTrue (is_placed placed m)) xs all)
 
 all-placed : (placed : List Entry) (xs : List ℕ) → length (filter (λ m. not (is_placed placed m)) xs) ≡ 0 → All (λ m. IsTrue (is_placed placed m)) xs
@@ -162,7 +161,7 @@ module _ (graph : CostedGraph) (workers : ℕ) (placed : List Entry) (waiting re
     pub node_unplaced : is_placed placed e.node ≡ false
     node_unplaced = node_is.unplaced
 
-    starts : e.start ≡ max (slice_index ready e.node) (slice_index free e.worker)
+    pub starts : e.start ≡ max (slice_index ready e.node) (slice_index free e.worker)
     starts = next.start ∙ ap (λ (c : Candidate). c.start) next.is_first.is ∙ ap (λ (n : ℕ). max (slice_index ready n) (slice_index free e.worker)) (sym next.node)
 
     -- no candidate comes before it

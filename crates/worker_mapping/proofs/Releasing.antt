@@ -1,8 +1,8 @@
 -- Nodes that wait for one node less, one node more.
-use Rattle.std.proofs.Common.{◌≡◌, ℕ, zero, suc, ◌+◌, ◌-◌, ◌<◌, ◌≤◌, inl, inr, ⊎_elim, Bool, true, false, cond, eqb, ltb, List, [], ◌∷◌, ◌++◌, max, length, set, get_or, take, slice_index, arith, refl, ap, sym, ◌∙◌}
-use Rattle.std.specs.List.{Contains, filter}
-use Rattle.std.proofs.lemmas.List.{length-set, length-append, get_or-set_same, get_or-set_other, take_more}
-use Rattle.std.proofs.lemmas.List.Elements.{Contains-push, Contains-push_cases, Contains-append_left, filter-append}
+use Rattle.std.proofs.Common.{◌≡◌, ℕ, zero, suc, ◌+◌, ◌-◌, ◌<◌, ◌≤◌, inl, inr, ⊎_elim, Bool, true, false, cond, ltb, List, [], ◌∷◌, ◌++◌, max, length, set, get_or, take, slice_index, arith, refl, ap, sym, ◌∙◌}
+use Rattle.std.specs.List.{Contains}
+use Rattle.std.proofs.lemmas.List.{length-set, get_or-set_same, get_or-set_other, take_more}
+use Rattle.std.proofs.lemmas.List.Elements.{Contains-push, Contains-push_cases, Contains-append_left}
 use Rattle.std.proofs.lemmas.Bool.{cases_eq, eq-eqb, ne_eqb, lt-ltb}
 use Rattle.sdf_level.specs.Lists.{occurrences}
 use Rattle.sdf_level.proofs.Regrouped.{occurrences-take}

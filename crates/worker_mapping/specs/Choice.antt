@@ -1,7 +1,12 @@
 -- The choices of a list schedule, from what is kept of the entries so far.
 use Rattle.std.specs.Prelude.{◌≡◌, ℕ, ◌+◌, ◌<◌, ◌≤◌, ◌⊎◌, max, List, Contains, length, slice_index}
-use Rattle.worker_mapping.specs.declared.choice.Candidate.{Candidate}
 use Rattle.worker_mapping.specs.declared.entry.Entry.{Entry}
+
+-- what the choice compares of a node that may start at a time
+pub record Candidate : Type 0 where
+  pub start : ℕ
+  pub priority : ℕ
+  pub node : ℕ
 
 -- the first place of the least number
 pub record IsFirstLeast (numbers : List ℕ) (w : ℕ) : Type 0 where

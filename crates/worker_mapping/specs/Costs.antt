@@ -1,6 +1,10 @@
 -- What a node of a single-rate graph costs.
-use Rattle.std.specs.Prelude.{◌≡◌, ℕ, ◌+◌, ◌<◌, ◌==◌, ◌||◌, List, length, filter, slice_index, sum_by}
+use Rattle.std.specs.Prelude.{◌≡◌, ℕ, ◌+◌, ◌<◌, ◌==◌, ◌||◌, List, length, map, filter, slice_index, sum_by}
 use Rattle.sdf_level.specs.declared.single_rate.Edge.{Edge}
+
+-- the tail and the head of each edge
+abbrev pub pairs_of : List Edge → List (ℕ × ℕ)
+pairs_of edges = map (λ (e : Edge). (e.tail, e.head)) edges
 
 -- 1 and the sizes of all edges that leave it or lead to it
 abbrev pub cost_of : List Edge → ℕ → ℕ

@@ -5,4 +5,5 @@ pub mod Schedule
 pub mod Ranked
 pub mod Neighbours
 pub mod Choice
+pub mod Queues
 pub mod Release

@@ -1,8 +1,15 @@
 // The choices of a list schedule.
-ghost use Rattle.std.specs.Prelude.{◌≡◌, ◌+◌, ◌^◌, ◌<◌, [], length, All, IfSome, IfNone, MatchBool};
-ghost use Rattle.worker_mapping.specs.Choice.{IsFirstLeast, IsNotAfter, IsFirstOf, IsNext};
+ghost use Rattle.std.specs.Prelude.{◌≡◌, ℕ, ◌+◌, ◌^◌, ◌<◌, ◌≤◌, [], max, length, All, Contains, IfOk, OnOk, MatchOption};
+ghost use Rattle.worker_mapping.specs.Choice.{IsFirstLeast};
+ghost use Rattle.worker_mapping.specs.Queues.{time_of, Moves, Takes};
 
 use crate::entry::Entry;
+use std::alloc::AllocError;
+use std::collections::BTreeSet;
+
+/// Nodes that wait for nothing but a worker or their time, each with a number: the least number goes first, the lesser node at
+/// a tie.
+pub(crate) type Queue = BTreeSet<(u64, u32)>;
 
 /// The place of the least number, the first at a tie.
 fn earliest(free: &[u64]) -> usize
@@ -18,72 +25,72 @@ fn earliest(free: &[u64]) -> usize
     best
 }
 
-/// What the choice compares of a node that may start at a time.
-#[derive(Clone, Copy)]
-struct Candidate {
-    start: u64,
-    priority: u64,
-    node: u32,
-}
-
-/// It starts earlier; else it has the greater priority; else the lesser number.
-fn goes_before(a: Candidate, b: Candidate) -> bool
-    ensures { MatchBool result (IsNotAfter a b) (IsNotAfter b a) }
+/// When the next node starts: not before the last one did, nor before the worker is free, and where none of the nodes was
+/// ready by then, when the first of the others is.
+fn next_time(now: u64, free: u64, due: &Queue, later: &Queue) -> u64
+    ensures time { result ≡ time_of now free due.now.keys later.now.keys }
+    ensures least { due.now.keys ≡ [] → (key : ℕ × ℕ) → Contains later.now.keys key → result ≤ max (max now free) key.0 }
 {
-    if a.start != b.start {
-        a.start < b.start
-    } else if a.priority != b.priority {
-        b.priority < a.priority
-    } else {
-        a.node < b.node
+    let time = now.max(free);
+    if !due.is_empty() {
+        return time;
+    }
+    match later.first() {
+        Some(first) => time.max(first.0),
+        None => time,
     }
 }
 
-/// The candidate that goes first on a worker that is free at this time.
-fn choose(candidates: &[u32], ready: &[u64], priority: &[u64], free: u64) -> Option<Candidate>
-    requires { All (λ n. (n < length ready.now) × (n < length priority.now)) candidates.now }
-    ensures found { IfSome result (λ c. IsFirstOf candidates.now ready.now priority.now free c) }
-    ensures none { IfNone result (candidates.now ≡ []) }
+/// Lets those start that are ready by now: each goes by its priority, the greatest first.
+fn move_due(
+    now: u64,
+    priority: &[u64],
+    due: &mut Queue,
+    later: &mut Queue,
+) -> Result<(), AllocError>
+    requires { All (λ key. key.1 < length priority.now) later.old.keys }
+    ensures { OnOk result (Moves now priority.now due.old.keys later.old.keys due.new.keys later.new.keys) }
 {
-    let mut best: Option<Candidate> = None;
-    for node in candidates {
-        let n = *node as usize;
-        let candidate = Candidate {
-            start: ready[n].max(free),
-            priority: priority[n],
-            node: *node,
-        };
-        best = match best {
-            Some(other) if !goes_before(candidate, other) => Some(other),
-            _ => Some(candidate),
-        };
+    while let Some(first) = later.first() {
+        let (time, node) = *first;
+        if now < time {
+            break;
+        }
+        due.insert((u64::MAX - priority[node as usize], node))?;
+        later.pop_first();
     }
-    best
+    Ok(())
 }
 
-/// The entry that follows, if there is a candidate.
+/// The entry that follows, if there is a candidate. `now` is the start of the last entry, and then of this one.
 pub(crate) fn next_entry(
     costs: &[u32],
     priority: &[u64],
-    candidates: &[u32],
-    ready: &[u64],
     free: &[u64],
-) -> Option<Entry>
+    now: &mut u64,
+    due: &mut Queue,
+    later: &mut Queue,
+) -> Result<Option<Entry>, AllocError>
     requires workers { 0 < length free.now }
     requires few_workers { length free.now < 2 ^ 32 }
-    requires costs { All (λ n. n < length costs.now) candidates.now }
-    requires there { All (λ n. (n < length ready.now) × (n < length priority.now)) candidates.now }
-    requires ready { All (λ t. t + 2 ^ 32 < 2 ^ 64) ready.now }
+    requires costs { (key : ℕ × ℕ) → Contains due.old.keys key → key.1 < length costs.now }
+    requires costs_later { All (λ key. key.1 < length costs.now) later.old.keys }
+    requires priority { length costs.now ≤ length priority.now }
+    requires time { now.old + 2 ^ 32 < 2 ^ 64 }
     requires free { All (λ t. t + 2 ^ 32 < 2 ^ 64) free.now }
-    ensures found { IfSome result (λ e. IsNext costs.now priority.now candidates.now ready.now free.now e) }
-    ensures none { IfNone result (candidates.now ≡ []) }
+    requires times { All (λ key. key.0 + 2 ^ 32 < 2 ^ 64) later.old.keys }
+    ensures { IfOk result (λ found. MatchOption found ((due.old.keys ≡ []) × (later.old.keys ≡ [])) (Takes costs.now priority.now free.now now.old due.old.keys later.old.keys now.new due.new.keys later.new.keys)) }
 {
     let worker = earliest(free);
-    let chosen = choose(candidates, ready, priority, free[worker])?;
-    Some(Entry {
-        node: chosen.node,
+    *now = next_time(*now, free[worker], due, later);
+    move_due(*now, priority, due, later)?;
+    let Some((_, node)) = due.pop_first() else {
+        return Ok(None);
+    };
+    Ok(Some(Entry {
+        node,
         worker: worker as u32,
-        start: chosen.start,
-        end: chosen.start + costs[chosen.node as usize] as u64,
-    })
+        start: *now,
+        end: *now + costs[node as usize] as u64,
+    }))
 }

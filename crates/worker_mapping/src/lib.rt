@@ -3,6 +3,7 @@
 #![tactic(auto)]
 
 mod choice;
+mod costs;
 mod entry;
 mod mapping;
 mod neighbours;
@@ -10,6 +11,7 @@ mod priority;
 mod schedule;
 mod scheduled;
 
+pub use costs::{edge_pairs, node_costs};
 pub use entry::Entry;
 pub use mapping::{Mapping, map};
 pub use scheduled::{ListSchedule, schedule_nodes};

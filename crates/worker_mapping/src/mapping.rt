@@ -5,9 +5,7 @@ ghost use Rattle.worker_mapping.specs.Paths.{IsHeaviestFrom};
 ghost use Rattle.worker_mapping.specs.Schedule.{AreHomes, IsOneSchedule, times_placed};
 
 use crate::entry::Entry;
-use crate::neighbours::nodes_after;
-use crate::priority::priorities;
-use crate::schedule::list_schedule;
+use crate::scheduled::{ListSchedule, schedule_nodes};
 use sdf_level::List;
 use std::alloc::{AllocError, Global};
 
@@ -45,8 +43,8 @@ fn homes(alloc: Global, nodes: u32, entries: &[Entry]) -> Result<Vec<u32>, Alloc
 /// as soon as it is free and some node is ready: of those ready by then the one of greatest
 /// priority, the least number at a tie. A node is ready when all nodes before it have ended.
 ///
-/// It takes time near linear in the edges, and for each node in the workers and in the nodes that
-/// wait for nothing but a worker. The only error is want of memory.
+/// It takes time near linear in the edges, and for each node in the workers and in the logarithm of
+/// the nodes that wait for nothing but a worker. The only error is want of memory.
 pub fn map(
     alloc: Global,
     nodes: u32,
@@ -74,12 +72,12 @@ pub fn map(
     ensures only_homes { let graph = graph_of nodes edges.now costs.now in
         IfOk result (λ m. (other : List ℕ) → AreHomes graph workers m.priority other → other ≡ m.home) }
 {
-    let after = nodes_after(alloc, nodes, edges)?;
-    let priority = priorities(alloc, nodes, edges, ranks, costs, &after)?;
-    let entries = list_schedule(alloc, nodes, edges, costs, workers, &priority, &after)?;
-    let home = homes(alloc, nodes, &entries)?;
+    let ListSchedule { priority, entries } = schedule_nodes(
+        alloc, nodes, edges, ranks, costs, workers,
+    )?;
+    let home = homes(alloc, nodes, entries.items())?;
     Ok(Mapping {
         home: List::new(home),
-        priority: List::new(priority),
+        priority,
     })
 }

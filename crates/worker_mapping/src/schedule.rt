@@ -1,13 +1,14 @@
 // The list schedule of a graph.
-ghost use Rattle.std.specs.Prelude.{◌≡◌, ℕ, ◌^◌, ◌<◌, ◌≤◌, ◌↔◌, List, length, slice_index, All, Contains, IfOk, OnOk};
+ghost use Rattle.std.specs.Prelude.{◌≡◌, ℕ, ◌^◌, ◌<◌, ◌≤◌, ◌↔◌, List, [], length, slice_index, All, Contains, IfOk, OnOk};
 ghost use Rattle.worker_mapping.specs.Graph.{AreThere, Rise, graph_of};
 ghost use Rattle.sdf_level.specs.Lists.{lists_of};
 ghost use Rattle.worker_mapping.specs.Neighbours.{AreAfter};
 ghost use Rattle.sdf_level.specs.Lists.{occurrences};
 ghost use Rattle.worker_mapping.specs.Release.{ArePlacesOfZero, Releases};
+ghost use Rattle.worker_mapping.specs.Queues.{Queues};
 ghost use Rattle.worker_mapping.specs.Schedule.{IsSchedule};
 
-use crate::choice::next_entry;
+use crate::choice::{Queue, next_entry};
 use crate::entry::Entry;
 use crate::neighbours::edges_before;
 use std::alloc::{AllocError, Global};
@@ -51,6 +52,18 @@ fn release(
     Ok(())
 }
 
+/// Queues these candidates by the times at which they are ready, and leaves none of them.
+fn queue(candidates: &mut Vec<u32>, ready: &[u64], later: &mut Queue) -> Result<(), AllocError>
+    requires { All (λ n. n < length ready.now) candidates.old.items }
+    ensures emptied { OnOk result (candidates.new.items ≡ []) }
+    ensures queued { OnOk result (Queues candidates.old.items ready.now later.old.keys later.new.keys) }
+{
+    while let Some(node) = candidates.pop() {
+        later.insert((ready[node as usize], node))?;
+    }
+    Ok(())
+}
+
 /// The entries of the list schedule, in the order in which they are placed.
 pub(crate) fn list_schedule(
     alloc: Global,
@@ -72,19 +85,24 @@ pub(crate) fn list_schedule(
 {
     // for each node how many edges lead to it from nodes that aren't placed
     let mut waiting = edges_before(alloc, nodes, edges)?;
-    // the nodes that aren't placed and wait for none
+    // the nodes that aren't placed and wait for none, and aren't queued yet
     let mut candidates = places_of_zero(alloc, &waiting)?;
     // for each node the greatest end of the placed nodes before it
     let mut ready = vec![in alloc; 0u64; nodes as usize]?;
     // for each worker the greatest end of its entries
     let mut free = vec![in alloc; 0u64; workers as usize]?;
+    // the candidates that were ready at the last start, and the others
+    let mut due = Queue::new(alloc);
+    let mut later = Queue::new(alloc);
+    let mut now = 0u64;
     let mut entries = Vec::with_capacity(alloc, nodes as usize)?;
-    while let Some(entry) = next_entry(costs, priority, &candidates, &ready, &free) {
+    queue(&mut candidates, &ready, &mut later)?;
+    while let Some(entry) = next_entry(costs, priority, &free, &mut now, &mut due, &mut later)? {
         entries.push(entry)?;
         free[entry.worker as usize] = entry.end;
-        candidates.retain(|node| *node != entry.node);
         let heads = &after[entry.node as usize];
         release(heads, entry.end, &mut waiting, &mut ready, &mut candidates)?;
+        queue(&mut candidates, &ready, &mut later)?;
     }
     Ok(entries)
 }

@@ -1,0 +1,15 @@
+-- What is kept, as keys with compilations.
+use Rattle.std.specs.Prelude.{◌≡◌, ℕ, ◌≤◌, List, map, length}
+use Rattle.std.specs.Arc.{arc_value}
+use Rattle.std.specs.declared.sync.Arc.{Arc}
+use Rattle.lru.specs.LruCache.{LruCache}
+use Rattle.job_compiler.specs.declared.key.Key.{Key}
+use Rattle.job_compiler.specs.Compilation.{Compilation}
+
+abbrev pub compilations : {Z : Type 0} → List (Key × Arc Compilation Z) → List (Key × Compilation)
+compilations entries = map (λ e. (e.0, arc_value e.1)) entries
+
+-- at most 64, and room for so many
+pub record IsKept {Z : Type 0} (cache : LruCache Key (Arc Compilation Z)) : Type 0 where
+  pub room : cache.cap ≡ 64
+  pub within : length cache.entries ≤ 64

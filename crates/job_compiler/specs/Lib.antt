@@ -1,0 +1,4 @@
+pub mod Compilation
+pub mod Refusals
+pub mod Keys
+pub mod Entries

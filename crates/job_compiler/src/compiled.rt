@@ -1,0 +1,96 @@
+use placement::Placement;
+use sdf_level::{Level, List, SingleRate, Turn};
+use std::marker::Model;
+use worker_mapping::Mapping;
+
+/// A level, ready to be run as a job: how often each actor fires and in which order, its single-rate graph, where the buffers
+/// of that graph lie in one run of cells, and the priority and home of each of its nodes.
+///
+/// The type keeps that all of these are those of the level, and the homes those for the number of workers, so that two
+/// compilations of one level for as many workers are the same.
+#[derive(Debug, Drop)]
+pub struct Compiled {
+    pub(crate) level: Level,
+    pub(crate) workers: u32,
+    pub(crate) counts: List<u32>,
+    pub(crate) order: List<Turn>,
+    pub(crate) graph: SingleRate,
+    pub(crate) placement: Placement,
+    pub(crate) mapping: Mapping,
+}
+
+impl Model for Compiled {
+    ghost use Rattle.job_compiler.specs.Compilation.{Compilation};
+
+    ghost Value = { Compilation };
+
+    ghost use Rattle.job_compiler.specs.Compilation.{IsCompiled};
+
+    ghost view = { λ c. record { level = c.level; workers = c.workers; counts = c.counts; order = c.order; graph = c.graph; placement = c.placement; mapping = c.mapping } };
+
+    ghost invariant = { λ c. IsCompiled record { level = c.level; workers = c.workers; counts = c.counts; order = c.order; graph = c.graph; placement = c.placement; mapping = c.mapping } };
+}
+
+impl Compiled {
+    ghost use Rattle.std.specs.Prelude.{◌≡◌};
+    ghost use Rattle.sdf_level.specs.Repetition.{IsRepetition};
+    ghost use Rattle.sdf_level.specs.Limits.{IsWithinLimits};
+    ghost use Rattle.sdf_level.specs.Orders.{IsTurnOrder};
+    ghost use Rattle.job_compiler.specs.Compilation.{IsCompiled, IsExpanded, IsPlaced, IsMapped};
+
+    /// The level that was compiled.
+    pub fn level(&self) -> &Level
+        ensures value { result.now ≡ self.now.level }
+        ensures kept { IsCompiled self.now }
+    {
+        &self.level
+    }
+
+    /// The number of workers that it was compiled for.
+    pub fn workers(&self) -> u32
+        ensures { result ≡ self.now.workers }
+    {
+        self.workers
+    }
+
+    /// How often each actor fires: the repetition vector.
+    pub fn counts(&self) -> &[u32]
+        ensures value { result.now ≡ self.now.counts }
+        ensures repetition { IsRepetition self.now.level result.now }
+        ensures within { IsWithinLimits self.now.level result.now }
+    {
+        self.counts.items()
+    }
+
+    /// The firings in the order of one thread.
+    pub fn order(&self) -> &[Turn]
+        ensures value { result.now ≡ self.now.order }
+        ensures order { IsTurnOrder self.now.level self.now.counts result.now }
+    {
+        self.order.items()
+    }
+
+    /// The single-rate graph.
+    pub fn graph(&self) -> &SingleRate
+        ensures value { result.now ≡ self.now.graph }
+        ensures expanded { IsExpanded self.now.level self.now.counts self.now.order result.now }
+    {
+        &self.graph
+    }
+
+    /// Where the buffer of each edge of the graph lies.
+    pub fn placement(&self) -> &Placement
+        ensures value { result.now ≡ self.now.placement }
+        ensures placed { IsPlaced self.now.graph.edges result.now }
+    {
+        &self.placement
+    }
+
+    /// The priority and the home of each node of the graph.
+    pub fn mapping(&self) -> &Mapping
+        ensures value { result.now ≡ self.now.mapping }
+        ensures mapped { IsMapped self.now.graph self.now.workers result.now }
+    {
+        &self.mapping
+    }
+}

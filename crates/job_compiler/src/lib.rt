@@ -1,0 +1,21 @@
+//! Everything that a job of one level needs before its first firing: how often each actor fires and in which order, the
+//! single-rate graph, where its buffers lie in reused cells, and which worker each node belongs to.
+#![tactic(auto)]
+
+mod cache;
+mod compiled;
+mod compiling;
+mod fault;
+mod keeping;
+mod key;
+mod laws;
+mod parts;
+
+pub use cache::Kept;
+pub use compiled::Compiled;
+pub use compiling::compile;
+pub use fault::CompileFault;
+pub use keeping::{KEPT_LIMIT, kept};
+pub use key::Key;
+pub use laws::one_compilation;
+pub use level_schedule::What;
