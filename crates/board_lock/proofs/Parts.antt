@@ -1,18 +1,20 @@
 -- A view is cut in two, and two views are made one.
-use Rattle.std.proofs.Common.{◌≡◌, ◌≢◌, ℕ, zero, suc, ◌<◌, ◌+◌, ◌⊎◌, ⊎_elim, inl, inr, Bool, true, false, ◌||◌, cond, Option, List, [], ◌∷◌, ◌++◌, length, get_or, set, take, drop, refl, sym, ◌∙◌, ap, subst, arith, length-append, length-drop, lt_of_not-le}
-use Rattle.std.proofs.lemmas.List.{length-take}
+use Rattle.std.proofs.Common.{◌≡◌, ◌≢◌, ℕ, zero, suc, ◌<◌, ◌+◌, ◌⊎◌, ⊎_elim, inl, inr, Bool, true, false, ◌||◌, cond, Option, List, [], ◌∷◌, ◌++◌, length, get_or, set, refl, sym, ◌∙◌, ap, subst, arith, length-append, length-drop, append_assoc, lt_of_not-le}
+use Rattle.std.proofs.lemmas.Bool.{lt-ltb, le-ltb}
+use Rattle.std.proofs.lemmas.List.{length-take, get_or-take, get_or-drop, append_cancel_left}
 use Rattle.std.specs.Prelude.{nat_lt}
 use mathlib.Core.Option.{some, some-injective, some-ne-none}
 use lib.ListN.{get_elem?}
-use native.Mathlib.Decide.{dec_le}
+use native.Mathlib.Decide.{dec_le, ℕ_discrete}
 use Rattle.std.specs.Global.{Box}
 use Rattle.atomic_table.specs.Table.{State, Splits, Joins}
-use Rattle.atomic_table.proofs.Lists.{at_set, set_else, at_longer}
+use Rattle.atomic_table.proofs.Lists.{at_set, set_here, set_else, at_longer, at_last}
 use Rattle.board_lock.specs.declared.view.Stage.TheVariants.{Open, Spent}
 use Rattle.board_lock.specs.declared.view.View.{View}
 use Rattle.board_lock.specs.Meant.{Meant, entries_of, Begins}
-use Rattle.board_lock.specs.Rule.{Has, Told, Fits, AtHome, Out, Running, Kept, first_view_part, second_view_part, joined_view, spent_view}
-use Rattle.board_lock.proofs.Stages.{open_spent, open_holding, starting_open}
+use Rattle.board_lock.specs.Rule.{Has, Told, Fits, Shares, AtHome, Out, Running, Kept, first_view_part, second_view_part, joined_view, spent_view}
+use Rattle.board_lock.proofs.Entries.{entries_within}
+use Rattle.board_lock.proofs.Stages.{open_spent, open_holding, starting_open, at_within}
 use Rattle.board_lock.proofs.Views.{fit_of, fresh_starting, apart_set}
 
 snoc_cases : {A : Type 0} (l : List A) (a b : A) (j : ℕ) → get_elem? (l ++ a ∷ []) j ≡ some b → (get_elem? l j ≡ some b) ⊎ ((j ≡ length l) × (a ≡ b))
@@ -20,20 +22,6 @@ snoc_cases [] a b zero e = inr (refl, some-injective a b e)
 snoc_cases [] a b (suc j) e = absurd (some-ne-none b (sym e))
 snoc_cases (x ∷ xs) a b zero e = inl e
 snoc_cases (x ∷ xs) a b (suc j) e = ⊎_elim (λ a. inl a) (λ a. inr (ap suc a.0, a.1)) (snoc_cases xs a b j e)
-
-get_or-take_below : {A : Type 0} (l : List A) (n k : ℕ) (d : A) → k < length (take n l) → get_or (take n l) k d ≡ get_or l k d
-get_or-take_below [] zero k d lt = absurd (omega arith)
-get_or-take_below [] (suc n) k d lt = absurd (omega arith)
-get_or-take_below (x ∷ xs) zero k d lt = absurd (omega arith)
-get_or-take_below (x ∷ xs) (suc n) zero d lt = refl
-get_or-take_below (x ∷ xs) (suc n) (suc k) d lt = get_or-take_below xs n k d (omega arith)
-
-get_or-drop_at : {A : Type 0} (l : List A) (n k j : ℕ) (d : A) → n + k ≡ j → get_or (drop n l) k d ≡ get_or l j d
-get_or-drop_at [] zero k j d e = refl
-get_or-drop_at [] (suc n) k j d e = refl
-get_or-drop_at (x ∷ xs) zero k j d e = ap (λ (i : ℕ). get_or (x ∷ xs) i d) (omega arith)
-get_or-drop_at (x ∷ xs) (suc n) k zero d e = absurd (omega arith)
-get_or-drop_at (x ∷ xs) (suc n) k (suc j) d e = get_or-drop_at xs n k j d (omega arith)
 
 get_or-append_cases : {A : Type 0} (l r : List A) (k : ℕ) (d : A) → ((k < length l) × (get_or (l ++ r) k d ≡ get_or l k d)) ⊎ ((j : ℕ) × (k ≡ length l + j) × (get_or (l ++ r) k d ≡ get_or r j d))
 get_or-append_cases [] r k d = inr (k, omega arith, refl)
@@ -52,6 +40,14 @@ module _ {S K E P : Type 0} (m : Meant S K E P) where
     right_has : (n : ℕ) → Has (second_view_part at v) n → Has v n
     right_has n has = let a = has.1 in let b = has.2 in let len = length-drop at v.known.own in (has.0, omega arith, omega arith)
 
+    either_has : (n : ℕ) → Has v n → Has (first_view_part at v) n ⊎ Has (second_view_part at v) n
+    either_has n has =
+        let a = has.1 in
+        let b = has.2 in
+        let len = length-take at v.known.own in
+        let len' = length-drop at v.known.own in
+        elim (dec_le (v.known.number + at) n) [ yes above ↦ inr (has.0, above, omega arith) | no below ↦ inl (let under : n < v.known.number + at = lt_of_not-le below in (has.0, a, omega arith)) ]
+
     never_both : (n : ℕ) → Has (first_view_part at v) n → Has (second_view_part at v) n → ⊥
     never_both n l r = let a = l.2 in let b = r.1 in let len = length-take at v.known.own in omega arith
 
@@ -59,18 +55,23 @@ module _ {S K E P : Type 0} (m : Meant S K E P) where
     left_fits t opened f =
         let len = length-take at v.known.own in
         let len' = length-take at v.known.lent in
-        let wide = f.lent_wide in
-        let high = f.high_is in
+        let wide = f.sound_is.lists in
+        let high = f.sound_is.below in
         record {
           key_is = f.key_is;
           opening_is = f.opening_is;
           workers_is = f.workers_is;
-          some_is = omega arith;
-          high_is = omega arith;
+          sound_is = record {
+            some = omega arith;
+            below = omega arith;
+            lists = omega arith;
+            past = f.sound_is.past;
+            begun = f.sound_is.begun;
+            mine = λ k lt. get_or-take at v.known.own k [] (omega arith) ∙ f.sound_is.mine k (omega arith);
+          };
           seen_is = f.seen_is;
-          lent_wide = omega arith;
-          own_is = λ k lt. get_or-take_below v.known.own at k [] lt ∙ f.own_is k (omega arith);
-          lent_is = λ k lt. get_or-take_below v.known.lent at k [] (omega arith) ∙ f.lent_is k (omega arith);
+          own_is = λ k lt. get_or-take at v.known.own k [] (omega arith) ∙ f.own_is k (omega arith);
+          lent_is = λ k lt. get_or-take at v.known.lent k [] (omega arith) ∙ f.lent_is k (omega arith);
           over_is = f.over_is;
           found_is = λ e. absurd (open_holding (sym opened ∙ e));
         }
@@ -79,18 +80,23 @@ module _ {S K E P : Type 0} (m : Meant S K E P) where
     right_fits t opened f =
         let len = length-drop at v.known.own in
         let len' = length-drop at v.known.lent in
-        let wide = f.lent_wide in
-        let high = f.high_is in
+        let wide = f.sound_is.lists in
+        let high = f.sound_is.below in
         record {
           key_is = f.key_is;
           opening_is = f.opening_is;
           workers_is = f.workers_is;
-          some_is = omega arith;
-          high_is = omega arith;
+          sound_is = record {
+            some = omega arith;
+            below = omega arith;
+            lists = omega arith;
+            past = f.sound_is.past;
+            begun = f.sound_is.begun;
+            mine = λ k lt. get_or-drop at v.known.own k [] ∙ (f.sound_is.mine (at + k) (omega arith) ∙ ap (λ (n : ℕ). entries_of m.worker n f.sound_is.past) (omega arith));
+          };
           seen_is = f.seen_is;
-          own_is = λ k lt. get_or-drop_at v.known.own at k (at + k) [] refl ∙ (f.own_is (at + k) (omega arith) ∙ ap (λ (n : ℕ). entries_of m.worker n t.tail) (omega arith));
-          lent_wide = omega arith;
-          lent_is = λ k lt. get_or-drop_at v.known.lent at k (at + k) [] refl ∙ (f.lent_is (at + k) (omega arith) ∙ ap t.lent (omega arith));
+          own_is = λ k lt. get_or-drop at v.known.own k [] ∙ (f.own_is (at + k) (omega arith) ∙ ap (λ (n : ℕ). entries_of m.worker n t.tail) (omega arith));
+          lent_is = λ k lt. get_or-drop at v.known.lent k [] ∙ (f.lent_is (at + k) (omega arith) ∙ ap t.lent (omega arith));
           over_is = f.over_is;
           found_is = λ e. absurd (open_holding (sym opened ∙ e));
         }
@@ -124,6 +130,23 @@ module _ {S K E P : Type 0} (m : Meant S K E P) where
       (λ a. a.0 (r.shares.apart i id n u v a.1 there hu (right_has at v positive inside n hr)))
       (at_set s.views id i (first_view_part at v) u e)
 
+  -- each number stands in one of the parts, or where it stood
+  cut_each : (t : Told K E P) (views : List (View S K E P)) (id at : ℕ) (v : View S K E P) → Shares m t views → get_elem? views id ≡ some v → 0 < at → at < length v.known.own
+      → (n : ℕ) → n < t.workers → (i : ℕ) × (u : View S K E P) × (get_elem? (set views id (first_view_part at v) ++ second_view_part at v ∷ []) i ≡ some u) × Has u n
+  cut_each t views id at v h there positive inside n below =
+      let left : View S K E P = first_view_part at v in
+      let right : View S K E P = second_view_part at v in
+      let e = h.each n below in
+      elim (ℕ_discrete e.0 id) [
+        | yes same ↦
+            let here : e.1 ≡ v = some-injective e.1 v (sym e.2 ∙ (ap (get_elem? views) same ∙ there)) in
+            ⊎_elim
+            (λ has. (id, left, at_longer (set views id left) (right ∷ []) id left (set_here views id left (at_within views id v there)), has))
+            (λ has. (length (set views id left), right, at_last (set views id left) right (length (set views id left)) refl, has))
+            (either_has at v positive inside n (subst (λ (y : View S K E P). Has y n) here e.3))
+        | no other ↦ (e.0, e.1, at_longer (set views id left) (right ∷ []) e.0 e.1 (set_else views id e.0 left other ∙ e.2), e.3)
+      ]
+
   pub cuts : (about : S) (workers id at : ℕ) (v : View S K E P) → v.stage ≡ Open → 0 < at → at < length v.known.own → Splits (Kept m about workers) id v (first_view_part at v) (second_view_part at v)
   cuts about workers id at v opened positive inside s holds there =
       elim holds [
@@ -153,6 +176,7 @@ module _ {S K E P : Type 0} (m : Meant S K E P) where
                     (λ q. a.0 ∙ sym q.0)
                     (snoc_cases (set s.views id left) right x j g))
                     (snoc_cases (set s.views id left) right u i e);
+                each = λ n below. cut_each r.told s.views id at v r.shares there positive inside n below;
                 none_above = r.shares.none_above;
                 unlent_above = r.shares.unlent_above;
               };
@@ -167,25 +191,68 @@ module _ {S K E P : Type 0} (m : Meant S K E P) where
         let len = length-append v.known.own w.known.own in
         elim (dec_le (v.known.number + length v.known.own) n) [ yes above ↦ inr ((λ e. open_spent (sym ow ∙ e)), omega arith, omega arith) | no below ↦ inl ((λ e. open_spent (sym ov ∙ e)), a, lt_of_not-le below) ]
 
+    first_has : (n : ℕ) → Has v n → Has (joined_view v w) n
+    first_has n has = let a = has.1 in let b = has.2 in let len = length-append v.known.own w.known.own in (has.0, a, omega arith)
+
+    second_has : (n : ℕ) → v.stage ≡ Open → Has w n → Has (joined_view v w) n
+    second_has n ov has = let a = has.1 in let b = has.2 in let len = length-append v.known.own w.known.own in ((λ e. open_spent (sym ov ∙ e)), omega arith, omega arith)
+
+    -- the longer of two journals that were seen has the own entries of all numbers of both
+    merged_past : (t : Told K E P) → Fits m t v → Fits m t w → (past : List E) × ((joined_view v w).known.seen ≡ v.known.opening ++ past)
+        × ((k : ℕ) → k < length v.known.own → get_or v.known.own k [] ≡ entries_of m.worker (v.known.number + k) past)
+        × ((k : ℕ) → k < length w.known.own → get_or w.known.own k [] ≡ entries_of m.worker (w.known.number + k) past)
+    merged_past t f g =
+        let one = f.sound_is.past in
+        let two = g.sound_is.past in
+        let begun : w.known.seen ≡ v.known.opening ++ two = g.sound_is.begun ∙ ap (λ (l : List E). l ++ two) (g.opening_is ∙ sym f.opening_is) in
+        let first : t.tail ≡ one ++ f.seen_is.0 = append_cancel_left t.opening t.tail (one ++ f.seen_is.0) (f.seen_is.1 ∙ (ap (λ (l : List E). l ++ f.seen_is.0) (f.sound_is.begun ∙ ap (λ (l : List E). l ++ one) f.opening_is) ∙ append_assoc t.opening one f.seen_is.0)) in
+        let second : t.tail ≡ two ++ g.seen_is.0 = append_cancel_left t.opening t.tail (two ++ g.seen_is.0) (g.seen_is.1 ∙ (ap (λ (l : List E). l ++ g.seen_is.0) (g.sound_is.begun ∙ ap (λ (l : List E). l ++ two) g.opening_is) ∙ append_assoc t.opening two g.seen_is.0)) in
+        let len : length v.known.seen ≡ length v.known.opening + length one = ap length f.sound_is.begun ∙ length-append v.known.opening one in
+        let len' : length w.known.seen ≡ length v.known.opening + length two = ap length begun ∙ length-append v.known.opening two in
+        elim (dec_le (length w.known.seen) (length v.known.seen)) [
+          | yes shorter ↦ (
+            one,
+            ap (λ (b : Bool). cond b w.known.seen v.known.seen) (le-ltb (length v.known.seen) (length w.known.seen) shorter) ∙ f.sound_is.begun,
+            f.sound_is.mine,
+            (λ k lt. g.own_is k lt ∙ sym (entries_within m.worker (w.known.number + k) t.tail two one g.seen_is.0 f.seen_is.0 second first (omega arith) (sym (g.sound_is.mine k lt) ∙ g.own_is k lt))),
+          )
+          | no longer ↦
+              let more : length v.known.seen < length w.known.seen = lt_of_not-le longer in (
+                two,
+                ap (λ (b : Bool). cond b w.known.seen v.known.seen) (lt-ltb (length v.known.seen) (length w.known.seen) more) ∙ begun,
+                (λ k lt. f.own_is k lt ∙ sym (entries_within m.worker (v.known.number + k) t.tail one two f.seen_is.0 g.seen_is.0 first second (omega arith) (sym (f.sound_is.mine k lt) ∙ f.own_is k lt))),
+                g.sound_is.mine,
+              )
+        ]
+
     merged_fits : (t : Told K E P) → v.stage ≡ Open → Fits m t v → Fits m t w → Fits m t (joined_view v w)
     merged_fits t opened f g =
         let len = length-append v.known.own w.known.own in
         let len' = length-append v.known.lent w.known.lent in
-        let wide = f.lent_wide in
-        let wide' = g.lent_wide in
-        let high = g.high_is in
-        let nonempty = f.some_is in
+        let wide = f.sound_is.lists in
+        let wide' = g.sound_is.lists in
+        let high = g.sound_is.below in
+        let nonempty = f.sound_is.some in
+        let workers : v.known.workers ≡ w.known.workers = f.workers_is ∙ sym g.workers_is in
+        let past = merged_past t f g in
         record {
           key_is = f.key_is;
           opening_is = f.opening_is;
           workers_is = f.workers_is;
-          some_is = omega arith;
-          high_is = omega arith;
+          sound_is = record {
+            some = omega arith;
+            below = omega arith;
+            lists = omega arith;
+            past = past.0;
+            begun = past.1;
+            mine = λ k lt. ⊎_elim (λ a. a.1 ∙ past.2 k a.0)
+                (λ a. let e = a.1 in a.2 ∙ (past.3 a.0 (omega arith) ∙ ap (λ (n : ℕ). entries_of m.worker n past.0) (omega arith)))
+                (get_or-append_cases v.known.own w.known.own k []);
+          };
           seen_is = elim (nat_lt (length v.known.seen) (length w.known.seen)) as (λ b. Begins (cond b w.known.seen v.known.seen) (t.opening ++ t.tail)) [ true ↦ g.seen_is | false ↦ f.seen_is ];
           own_is = λ k lt. ⊎_elim (λ a. a.1 ∙ f.own_is k a.0)
               (λ a. let e = a.1 in a.2 ∙ (g.own_is a.0 (omega arith) ∙ ap (λ (n : ℕ). entries_of m.worker n t.tail) (omega arith)))
               (get_or-append_cases v.known.own w.known.own k []);
-          lent_wide = omega arith;
           lent_is = λ k lt. ⊎_elim (λ a. a.1 ∙ f.lent_is k (let below = a.0 in omega arith))
               (λ a. let e = a.1 in a.2 ∙ (g.lent_is a.0 (omega arith) ∙ ap t.lent (omega arith)))
               (get_or-append_cases v.known.lent w.known.lent k []);
@@ -222,6 +289,21 @@ module _ {S K E P : Type 0} (m : Meant S K E P) where
       (λ a. ⊎_elim (λ q. inl (q.0, subst (λ (y : View S K E P). Has y n) (sym q.1) has)) (λ q. inr (q.0, (a.0, q.1))) (at_set s.views id i both u a.1))
       (at_set (set s.views id both) other i spent_view u e)
 
+  -- each number of the two stands in the joined view, and each other one where it stood
+  merge_each : (t : Told K E P) (views : List (View S K E P)) (id other : ℕ) (v w : View S K E P) → v.stage ≡ Open → v.known.number + length v.known.own ≡ w.known.number → Shares m t views → get_elem? views id ≡ some v → get_elem? views other ≡ some w → other ≢ id
+      → (n : ℕ) → n < t.workers → (i : ℕ) × (u : View S K E P) × (get_elem? (set (set views id (joined_view v w)) other spent_view) i ≡ some u) × Has u n
+  merge_each t views id other v w ov beside h at at' differ n below =
+      let both : View S K E P = joined_view v w in
+      let here : get_elem? (set (set views id both) other spent_view) id ≡ some both = set_else (set views id both) other id spent_view (λ e. differ (sym e)) ∙ set_here views id both (at_within views id v at) in
+      let e = h.each n below in
+      elim (ℕ_discrete e.0 id) [
+        | yes same ↦ (id, both, here, first_has v w beside n (subst (λ (y : View S K E P). Has y n) (some-injective e.1 v (sym e.2 ∙ (ap (get_elem? views) same ∙ at))) e.3))
+        | no not_id ↦ elim (ℕ_discrete e.0 other) [
+          | yes same ↦ (id, both, here, second_has v w beside n ov (subst (λ (y : View S K E P). Has y n) (some-injective e.1 w (sym e.2 ∙ (ap (get_elem? views) same ∙ at'))) e.3))
+          | no not_other ↦ (e.0, e.1, set_else (set views id both) other e.0 spent_view not_other ∙ (set_else views id e.0 both not_id ∙ e.2), e.3)
+        ]
+      ]
+
   pub merges : (about : S) (workers id other : ℕ) (v w : View S K E P) → v.stage ≡ Open → w.stage ≡ Open → v.known.number + length v.known.own ≡ w.known.number → Joins (Kept m about workers) id v other w (joined_view v w) spent_view
   merges about workers id other v w ov ow beside s holds at apart_is at_other =
       elim holds [
@@ -251,6 +333,7 @@ module _ {S K E P : Type 0} (m : Meant S K E P) where
                     (λ q. r.shares.apart i j n u x a.1.1 q.1.1 hu hx)
                     (merged_at s id other both j n x k hx))
                     (merged_at s id other both i n u e hu);
+                each = λ n below. merge_each r.told s.views id other v w ov beside r.shares at at' apart_is n below;
                 none_above = r.shares.none_above;
                 unlent_above = r.shares.unlent_above;
               };

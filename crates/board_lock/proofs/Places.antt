@@ -1,6 +1,7 @@
 -- The lent lists of a pass, once it has left a state.
-use Rattle.std.proofs.Common.{◌≡◌, ◌≢◌, ℕ, ◌<◌, ◌+◌, Bool, true, cond, Option, Some, List, [], ◌∷◌, ◌++◌, length, get_or, drop, All, eq-eqb, ne_eqb, refl, sym, ◌∙◌, ap, subst, arith, append-nil, lt_of_not-le}
-use native.Mathlib.Decide.{dec_le}
+use Rattle.std.proofs.Common.{◌≡◌, ◌≢◌, ℕ, ◌<◌, Bool, true, cond, Option, Some, List, [], ◌∷◌, ◌++◌, length, get_or, drop, All, eq-eqb, ne_eqb, refl, sym, ◌∙◌, ap, subst, arith, append-nil, lt_of_not-le}
+use Rattle.std.proofs.Math.Seq.{drop-length}
+use native.Mathlib.Decide.{dec_le, ℕ_discrete}
 use Rattle.board_lock.specs.Meant.{Meant, entries_of}
 use Rattle.board_lock.specs.Passes.{Finds, LendsNothing, MayLeave, seen_in, first_gains, first_becomes}
 use Rattle.board_lock.specs.Tallied.{tally_meant}
@@ -8,8 +9,7 @@ use Rattle.board_lock.specs.declared.view.Known.{Known}
 use Rattle.board_lock.specs.declared.tally.Count.{Count}
 use Rattle.board_lock.specs.declared.tally.Drawer.{Drawer}
 use Rattle.board_lock.specs.declared.tally.Tally.{Tally}
-use Rattle.board_lock.proofs.Entries.{entries-append}
-use Rattle.board_lock.proofs.Stages.{drop-all}
+use Rattle.board_lock.proofs.Entries.{entries-append, entries_all}
 
 first_longer : {P : Type 0} (lists : List (List P)) (here added : List P) → get_or lists 0 [] ≡ here → first_becomes lists (here ++ added) ≡ first_gains lists added
 first_longer [] here added is = refl
@@ -17,7 +17,7 @@ first_longer (l ∷ ls) here added is = ap (λ (x : List _). (x ++ added) ∷ ls
 
 module _ {S K E P : Type 0} (m : Meant S K E P) (p : Known K E P) (x : S) (f : Finds m p x) where
   here_is : get_or p.lent 0 [] ≡ m.lent x p.number
-  here_is = f.lent 0 f.some ∙ ap (m.lent x) (omega arith)
+  here_is = f.lent 0 f.sound.some ∙ ap (m.lent x) (omega arith)
 
   -- what is lent to the pass's number is as found, and has more places
   pub lent_longer : (added : List P) → first_becomes p.lent (m.lent x p.number ++ added) ≡ first_gains p.lent added
@@ -32,6 +32,18 @@ module _ {S K E P : Type 0} (m : Meant S K E P) (p : Known K E P) (x : S) (f : F
             let under : n < p.workers = lt_of_not-le below in
             ap (m.lent x) (omega arith) ∙ (sym (f.lent n (omega arith)) ∙ none n)
       ]
+
+  -- where the pass has both of two numbers, and the second has no own entries, the journal grew by those of the first
+  pub first_alone : (mine : List E) → p.number ≡ 0 → p.workers ≡ 2 → p.own ≡ mine ∷ [] ∷ [] → m.journal x ≡ p.opening ++ mine
+  first_alone mine low two own =
+      let count : length p.own ≡ 2 = ap length own in
+      let here : mine ≡ entries_of m.worker 0 f.tail = ap (λ (l : List (List E)). get_or l 0 []) (sym own) ∙ (f.own 0 (omega arith) ∙ ap (λ (n : ℕ). entries_of m.worker n f.tail) (omega arith)) in
+      let next : [] ≡ entries_of m.worker 1 f.tail = ap (λ (l : List (List E)). get_or l 1 []) (sym own) ∙ (f.own 1 (omega arith) ∙ ap (λ (n : ℕ). entries_of m.worker n f.tail) (omega arith)) in
+      let none : (k : ℕ) → k ≢ 0 → entries_of m.worker k f.tail ≡ [] = λ k other. elim (ℕ_discrete k 1) [
+        | yes one ↦ ap (λ (n : ℕ). entries_of m.worker n f.tail) one ∙ sym next
+        | no more ↦ f.others k (omega arith)
+      ] in
+      f.opening ∙ ap (λ (l : List E). p.opening ++ l) (entries_all m.worker 0 f.tail none ∙ sym here)
 
 -- one more drawer of a worker
 pub drawers_else : (n w label : ℕ) (items : List Drawer) → n ≢ w → entries_of (λ d. d.worker) n (items ++ record { worker = w; label = label } ∷ []) ≡ entries_of (λ d. d.worker) n items
@@ -56,7 +68,7 @@ may_lend k p o x now y w label b known found same number pushed name counts clos
     let drawers' : y.drawers.items ≡ x.drawers.items ++ record { worker = p.number; label = label } ∷ [] =
     drawers ∙ (ap (λ (c : Bool). cond c (now.drawers.items ++ record { worker = w; label = label } ∷ []) now.drawers.items) pushed
     ∙ (ap (λ (t : Tally). t.drawers.items ++ record { worker = w; label = label } ∷ []) same ∙ ap (λ (n : ℕ). x.drawers.items ++ record { worker = n; label = label } ∷ []) number)) in
-    let none : drop (length old) y.counts.items ≡ [] = ap (λ (l : List Count). drop (length old) l) counts' ∙ drop-all old in
+    let none : drop (length old) y.counts.items ≡ [] = ap (λ (l : List Count). drop (length old) l) counts' ∙ drop-length old in
     let may : MayLeave tally_meant (seen_in tally_meant p x) (Some x) y = record {
       key = ap (λ (t : ℕ). Some t) (name ∙ ap (λ (t : Tally). t.name) same) ∙ f.key;
       journal = counts' ∙ (sym (append-nil old) ∙ ap (λ (l : List Count). old ++ l) (sym none));

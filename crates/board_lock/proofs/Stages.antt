@@ -1,5 +1,5 @@
 -- The stages of a seat, and lists with one element.
-use Rattle.std.proofs.Common.{◌≡◌, ℕ, zero, suc, ◌<◌, ◌⊎◌, inl, inr, Option, Some, None, List, [], ◌∷◌, length, get_or, drop, refl, sym, ◌∙◌, ap, arith, replicate}
+use Rattle.std.proofs.Common.{◌≡◌, ℕ, zero, suc, ◌<◌, ◌⊎◌, inl, inr, Option, Some, None, List, [], ◌∷◌, length, refl, sym, ◌∙◌, ap, arith}
 use mathlib.Core.Option.{some, some-injective, some-ne-none}
 use lib.ListN.{get_elem?}
 use Rattle.atomic_table.specs.Table.{rest}
@@ -56,12 +56,3 @@ full l x e = e ∙ ap (λ (k : List (ℕ × _)). (0, x) ∷ rest k) (sym e)
 -- what was taken is what was there
 pub taken : {A : Type 0} (l : List (Option A)) (x : A) (r : Option A) → get_elem? l 0 ≡ some (Some x) → get_elem? l 0 ≡ some r → r ≡ Some x
 taken l x r there took = some-injective r (Some x) (sym took ∙ there)
-
-pub drop-all : {A : Type 0} (l : List A) → drop (length l) l ≡ []
-drop-all [] = refl
-drop-all (x ∷ xs) = drop-all xs
-
-pub get_or_none : {A : Type 0} (n k : ℕ) (x : A) → get_or (replicate n x) k x ≡ x
-get_or_none zero k x = refl
-get_or_none (suc n) zero x = refl
-get_or_none (suc n) (suc k) x = get_or_none n k x

@@ -1,8 +1,9 @@
 -- Each step on the word keeps the rule.
-use Rattle.std.proofs.Common.{◌≡◌, ◌≢◌, ℕ, zero, suc, ◌<◌, ◌+◌, ◌⊎◌, ⊎_elim, inl, inr, eqb, Option, Some, None, IfSome, List, [], ◌∷◌, ◌++◌, length, get_or, set, drop, All, refl, sym, ◌∙◌, ap, subst, arith, append_assoc, append-nil, replicate}
+use Rattle.std.proofs.Common.{◌≡◌, ◌≢◌, ℕ, zero, suc, ◌<◌, ◌≤◌, ◌+◌, ◌⊎◌, ⊎_elim, inl, inr, eqb, Option, Some, None, IfSome, List, [], ◌∷◌, ◌++◌, length, get_or, set, drop, All, refl, sym, ◌∙◌, ap, subst, arith, append_assoc, append-nil, replicate}
 use Rattle.std.specs.Prelude.{slice_set, slice_index}
 use Rattle.std.specs.Global.{Box}
-use Rattle.std.proofs.lemmas.List.{length-replicate}
+use Rattle.std.proofs.Math.Seq.{drop-length}
+use Rattle.std.proofs.lemmas.List.{length-replicate, get_or-replicate}
 use mathlib.Core.Option.{some, none, some-injective}
 use lib.ListN.{get_elem?}
 use prog.Atomic.{either}
@@ -15,7 +16,7 @@ use Rattle.board_lock.specs.Passes.{LendsNothing, Finds, MayLeave, unseen, first
 use Rattle.board_lock.specs.Rule.{Told, Shows, Fits, Shares, Kept, first_view}
 use Rattle.board_lock.specs.Plays.{Sat, started, tried, left, holding_view, left_view}
 use Rattle.board_lock.proofs.Entries.{entries-append, entries_mine, entries_other}
-use Rattle.board_lock.proofs.Stages.{open_spent, open_holding, holding_spent, starting_open, starting_spent, starting_holding, some_is, at_within, only_one, first_value, drop-all, get_or_none}
+use Rattle.board_lock.proofs.Stages.{open_spent, open_holding, holding_spent, starting_open, starting_spent, starting_holding, some_is, at_within, only_one, first_value}
 use Rattle.board_lock.proofs.Views.{told_after, fit_of, fresh_starting, finds_of, shares_set, shares_grow}
 
 -- the lists of places after a step of the first number
@@ -51,9 +52,14 @@ module _ {S K E P : Type 0} (m : Meant S K E P) where
                     key_is = f.key_is;
                     opening_is = f.opening_is;
                     workers_is = f.workers_is;
-                    some_is = f.some_is;
-                    high_is = f.high_is;
-                    lent_wide = f.lent_wide;
+                    sound_is = record {
+                      some = f.sound_is.some;
+                      below = f.sound_is.below;
+                      lists = f.sound_is.lists;
+                      past = t.tail;
+                      begun = h.shows.journal ∙ ap (λ (l : List E). l ++ t.tail) (sym f.opening_is);
+                      mine = f.own_is;
+                    };
                     seen_is = ([], sym h.shows.journal ∙ sym (append-nil (m.journal b.value)));
                     own_is = f.own_is;
                     lent_is = f.lent_is;
@@ -72,7 +78,7 @@ module _ {S K E P : Type 0} (m : Meant S K E P) where
                         homes_is = ap (λ (hs : List _). slice_set hs 0 none) h.homes_is;
                         alone = λ i u e. ⊎_elim (λ a. inr (inr (sym (ap (λ (y : View S K E P). y.stage) a.1), a.0))) (λ a. ⊎_elim (λ o. inl o) (λ o. inr (inl o)) (h.free i u a.1)) (at_set s.views id i w u e);
                       };
-                      shares = shares_set m t s.views id v w r.shares at fit (λ n has. (live, has.1, has.2));
+                      shares = shares_set m t s.views id v w r.shares at fit (λ n has. (live, has.1, has.2)) (λ n has. (holding_spent, has.1, has.2));
                     },
                     ((λ _. (b, finds_of m t s.views v b.value r.shares f h.shows, refl)), (λ no. absurd (no (ap (λ (ws : List ℕ). slice_index ws 0) h.words_is)))),
                   )
@@ -120,18 +126,23 @@ module _ {S K E P : Type 0} (m : Meant S K E P) where
       → ((n : ℕ) → n ≢ v.known.number → m.lent x n ≡ t.lent n) → Fits m (told_after t (unseen m v.known x) (m.lent x) (m.over x)) (left_view m v x)
   fits_left t v x f history mine lent =
       let added : List E = unseen m v.known x in
-      let nonempty = f.some_is in
-      let high = f.high_is in
-      let wide = f.lent_wide in
+      let nonempty = f.sound_is.some in
+      let high = f.sound_is.below in
+      let wide = f.sound_is.lists in
       let owns = length-first_gains v.known.own added in
       let lents = length-first_becomes v.known.lent (m.lent x v.known.number) in
       record {
         key_is = f.key_is;
         opening_is = f.opening_is;
         workers_is = f.workers_is;
-        some_is = omega arith;
-        high_is = omega arith;
-        lent_wide = omega arith;
+        sound_is = record {
+          some = omega arith;
+          below = omega arith;
+          lists = omega arith;
+          past = t.tail ++ added;
+          begun = history ∙ ap (λ (l : List E). l ++ (t.tail ++ added)) (sym f.opening_is);
+          mine = own_left v.known.number v.known.own t.tail added f.own_is mine;
+        };
         seen_is = ([], sym history ∙ sym (append-nil (m.journal x)));
         own_is = own_left v.known.number v.known.own t.tail added f.own_is mine;
         lent_is = λ k lt. first_place v.known.number v.known.lent t.lent (m.lent x) (λ i below. f.lent_is i (omega arith)) (λ i positive below. lent (v.known.number + i) (λ e. omega arith)) k (omega arith);
@@ -161,8 +172,8 @@ module _ {S K E P : Type 0} (m : Meant S K E P) where
                   let key : m.key x ≡ t.key = some_is (m.key x) t.key (may.key ∙ f.key_is) in
                   let lent : (n : ℕ) → n ≢ v.known.number → m.lent x n ≡ t.lent n
                   = lent_still t v x found.0 found.2 (subst (λ y. IfSome y (λ was. (n : ℕ) → n ≢ v.known.number → m.lent x n ≡ m.lent was n)) found.1 may.lent) in
-                  let nonempty = f.some_is in
-                  let high = f.high_is in
+                  let nonempty = f.sound_is.some in
+                  let high = subst (λ (k : ℕ). v.known.number + length v.known.own ≤ k) f.workers_is f.sound_is.below in
                   let owns = length-first_gains v.known.own added in (
                     w,
                     gives,
@@ -184,7 +195,8 @@ module _ {S K E P : Type 0} (m : Meant S K E P) where
                           lent
                           (λ i u other there is_holding. ⊎_elim (λ e. open_holding (sym e ∙ is_holding)) (λ a. ⊎_elim (λ e. holding_spent (sym is_holding ∙ e)) (λ q. other (q.1 ∙ sym holder)) a) (o.alone i u there))
                           (fits_left t v x f history may.mine lent)
-                          (λ n has. let from = has.1 in let to = has.2 in (live, from, omega arith));
+                          (λ n has. let from = has.1 in let to = has.2 in (live, from, omega arith))
+                          (λ n has. let from = has.1 in let to = has.2 in (open_spent, from, omega arith));
                     },
                     (λ c is. let same_box : Some b ≡ Some c = ap first_value is in ap (λ (z : Box S). (left_view m v z.value, [])) (some_is b c same_box)),
                   )
@@ -214,12 +226,17 @@ module _ {S K E P : Type 0} (m : Meant S K E P) where
               key_is = refl;
               opening_is = refl;
               workers_is = refl;
-              some_is = omega arith;
-              high_is = omega arith;
-              lent_wide = omega arith;
+              sound_is = record {
+                some = omega arith;
+                below = omega arith;
+                lists = omega arith;
+                past = [];
+                begun = sym (append-nil (m.journal about));
+                mine = λ k lt. get_or-replicate workers k [] [] (omega arith);
+              };
               seen_is = ([], refl);
-              own_is = λ k lt. get_or_none workers k [];
-              lent_is = λ k lt. get_or_none workers k [] ∙ sym (nothing (0 + k));
+              own_is = λ k lt. get_or-replicate workers k [] [] (omega arith);
+              lent_is = λ k lt. get_or-replicate workers k [] [] (omega arith) ∙ sym (nothing (0 + k));
               over_is = λ e. e;
               found_is = λ _. (about, refl, shows, sym (append-nil (m.journal about)), refl);
             } in (
@@ -238,6 +255,7 @@ module _ {S K E P : Type 0} (m : Meant S K E P) where
                 shares = subst (λ (vs : List (View S K E P)). Shares m t vs) (sym views) record {
                   fits = λ i u e. inr (subst (λ (x : View S K E P). Fits m t x) (only_one w' i u e).1 fit);
                   apart = λ i j n u x e f hu hx. (only_one w' i u e).0 ∙ sym (only_one w' j x f).0;
+                  each = λ n below. (0, w', refl, (holding_spent, omega arith, omega arith));
                   none_above = λ n above. refl;
                   unlent_above = λ n above. nothing n;
                 };
@@ -270,8 +288,9 @@ module _ {S K E P : Type 0} (m : Meant S K E P) where
                   let live' : u.stage ≡ Spent → ⊥ = λ e. holding_spent (sym holding ∙ e) in
                   let g = fit_of m t s.views o.holder u r.shares o.held.1 live' in
                   let wide = f.workers_is in
-                  let nonempty = g.some_is in
-                  let high = g.high_is in
+                  let nonempty = g.sound_is.some in
+                  let high = g.sound_is.below in
+                  let wide' = g.workers_is in
                   let here : id ≡ o.holder = r.shares.apart id o.holder u.known.number v u at o.held.1 (live, omega arith, omega arith) (live', omega arith, omega arith) in
                   let same : v ≡ u = some-injective v u (sym at ∙ (ap (get_elem? s.views) here ∙ o.held.1)) in
                   absurd (open_holding (sym opened ∙ (ap (λ (y : View S K E P). y.stage) same ∙ holding)))
@@ -294,7 +313,7 @@ module _ {S K E P : Type 0} (m : Meant S K E P) where
   -- the first seat may leave the state as it was given, and knows what it knew
   pub first_may_leave : (x : S) (workers : ℕ) → MayLeave m (first_known m x workers) (Some x) x
   first_may_leave x workers =
-      let none : drop (length (m.journal x)) (m.journal x) ≡ [] = drop-all (m.journal x) in
+      let none : drop (length (m.journal x)) (m.journal x) ≡ [] = drop-length (m.journal x) in
       record {
         key = refl;
         journal = sym (append-nil (m.journal x)) ∙ ap (λ (l : List E). m.journal x ++ l) (sym none);
@@ -306,7 +325,7 @@ module _ {S K E P : Type 0} (m : Meant S K E P) where
   pub first_left : (x : S) (workers : ℕ) → LendsNothing m x → known_after m (first_known m x workers) x ≡ first_known m x workers
   first_left x zero nothing = refl
   first_left x (suc n) nothing =
-      let none : drop (length (m.journal x)) (m.journal x) ≡ [] = drop-all (m.journal x) in
+      let none : drop (length (m.journal x)) (m.journal x) ≡ [] = drop-length (m.journal x) in
       let own : first_gains (replicate (suc n) []) (drop (length (m.journal x)) (m.journal x)) ≡ replicate (suc n) [] = ap (λ (l : List E). l ∷ replicate n []) none in
       let lent : first_becomes (replicate (suc n) []) (m.lent x 0) ≡ replicate (suc n) [] = ap (λ (l : List P). l ∷ replicate n []) (nothing 0) in
       ap (λ o. record (first_known m x (suc n)) { own = o; lent = first_becomes (replicate (suc n) []) (m.lent x 0) }) own ∙ ap (λ l. record (first_known m x (suc n)) { lent = l }) lent

@@ -34,10 +34,23 @@ module _ {S K E P : Type 0} (m : Meant S K E P) where
   abbrev pub first_known : S → ℕ → Known K E P
   first_known x workers = record { key = Some (m.key x); opening = m.journal x; seen = m.journal x; over = m.over x; number = 0; own = replicate workers []; lent = replicate workers []; workers = workers }
 
-  -- what is true where a pass finds a state
-  pub record Finds (p : Known K E P) (x : S) : Type 0 where
+  -- what is always true of what a pass knows
+  pub record Sound (p : Known K E P) : Type 0 where
     -- the pass has a number
     pub some : 0 < length p.own
+    -- its numbers are below `workers`
+    pub below : p.number + length p.own ≤ p.workers
+    -- each of them has a list of places
+    pub lists : length p.lent ≡ length p.own
+    -- what it has seen is the opening journal and more
+    pub past : List E
+    pub begun : p.seen ≡ p.opening ++ past
+    -- of the entries after the opening journal, it has seen all own ones of its numbers
+    pub mine : (k : ℕ) → k < length p.own → slice_index_or p.own k [] ≡ entries_of m.worker (p.number + k) past
+
+  -- what is true where a pass finds a state
+  pub record Finds (p : Known K E P) (x : S) : Type 0 where
+    pub sound : Sound p
     -- its key is that of the start
     pub key : Some (m.key x) ≡ p.key
     -- its journal begins with what the pass has seen

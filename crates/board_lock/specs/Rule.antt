@@ -5,7 +5,7 @@ use mathlib.Core.Option.{some, none}
 use lib.ListN.{get_elem?}
 use Rattle.atomic_table.specs.Table.{State}
 use Rattle.board_lock.specs.Meant.{Meant, entries_of, Begins}
-use Rattle.board_lock.specs.Passes.{first_known, first_part, second_part, joined}
+use Rattle.board_lock.specs.Passes.{Sound, first_known, first_part, second_part, joined}
 use Rattle.board_lock.specs.declared.view.Stage.TheVariants.{Starting, Open, Holding, Spent}
 use Rattle.board_lock.specs.declared.view.View.{View}
 
@@ -52,9 +52,7 @@ module _ {S K E P : Type 0} (m : Meant S K E P) where
     pub key_is : v.known.key ≡ Some t.key
     pub opening_is : v.known.opening ≡ t.opening
     pub workers_is : v.known.workers ≡ t.workers
-    pub some_is : 0 < length v.known.own
-    pub high_is : v.known.number + length v.known.own ≤ t.workers
-    pub lent_wide : length v.known.lent ≡ length v.known.own
+    pub sound_is : Sound m v.known
     pub seen_is : Begins v.known.seen (t.opening ++ t.tail)
     pub own_is : (k : ℕ) → k < length v.known.own → slice_index_or v.known.own k [] ≡ entries_of m.worker (v.known.number + k) t.tail
     pub lent_is : (k : ℕ) → k < length v.known.own → slice_index_or v.known.lent k [] ≡ t.lent (v.known.number + k)
@@ -77,10 +75,11 @@ module _ {S K E P : Type 0} (m : Meant S K E P) where
     pub homes_is : s.homes ≡ none ∷ []
     pub alone : (i : ℕ) (v : View S K E P) → get_elem? s.views i ≡ some v → (v.stage ≡ Open) ⊎ ((v.stage ≡ Spent) ⊎ ((v.stage ≡ Holding) × (i ≡ holder)))
 
-  -- all views know what was told, no two have one number, and a number that is no worker's has no entry and nothing lent
+  -- all views know what was told, each worker's number stands in exactly one of them, and a number that is no worker's has no entry and nothing lent
   pub record Shares (t : Told K E P) (views : List (View S K E P)) : Type 0 where
     pub fits : (i : ℕ) (v : View S K E P) → get_elem? views i ≡ some v → (v.stage ≡ Spent) ⊎ Fits t v
     pub apart : (i j n : ℕ) (v w : View S K E P) → get_elem? views i ≡ some v → get_elem? views j ≡ some w → Has v n → Has w n → i ≡ j
+    pub each : (n : ℕ) → n < t.workers → (i : ℕ) × (v : View S K E P) × (get_elem? views i ≡ some v) × Has v n
     pub none_above : (n : ℕ) → t.workers ≤ n → entries_of m.worker n t.tail ≡ []
     pub unlent_above : (n : ℕ) → t.workers ≤ n → t.lent n ≡ []
 

@@ -26,7 +26,7 @@ type StateTable<S> = Table<
     Global,
 >;
 
-/// A state that one worker at a time has. Contracts see a lock as its name.
+/// A state that one worker at a time has. Contracts see a lock as its name. It isn't dropped, but closed.
 pub struct Lock<S: Locked> {
     pub(crate) table: StateTable<S>,
 }

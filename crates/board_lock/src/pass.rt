@@ -15,7 +15,8 @@ pub(crate) type StateSeat<S> = Seat<
     View<S, <S as Locked>::Key, <S as Locked>::Entry, <S as Locked>::Place>,
 >;
 
-/// What a worker knows of the state, and the right to enter the lock. Contracts see it as its lock and what it knows.
+/// What a worker knows of the state, and the right to enter the lock. Contracts see it as its lock and what it knows. One that
+/// is dropped takes its numbers with it, and then no pass can close the lock.
 #[derive(Drop)]
 pub struct Pass<S: Locked> {
     pub(crate) seat: StateSeat<S>,

@@ -1,7 +1,7 @@
 //! An example of what a lock may keep, and of how workers take turns at it.
-ghost use Rattle.std.specs.Prelude.{◌≡◌, true, [], ◌∷◌, IfOk, IfErr, if◌then◌else◌};
+ghost use Rattle.std.specs.Prelude.{◌≡◌, true, [], ◌∷◌, ◌++◌, IfOk, IfErr, if◌then◌else◌};
 ghost use Rattle.board_lock.specs.Passes.{LendsNothing, Later, first_gains};
-ghost use Rattle.board_lock.specs.Tallied.{tally_meant, HasCounted};
+ghost use Rattle.board_lock.specs.Tallied.{tally_meant};
 
 use crate::lock::{Lock, NotMade};
 use crate::locked::Locked;
@@ -44,16 +44,18 @@ impl Locked for Tally {
     ghost meant = { tally_meant };
 }
 
-/// Looks at the tally, and leaves it as it is.
-pub fn look<R: Wait>(rt: &R, lock: &Lock<Tally>, pass: Pass<Tally>) -> Pass<Tally>
+/// Whether the tally is closed, which is left as it is.
+pub fn look<R: Wait>(rt: &R, lock: &Lock<Tally>, pass: Pass<Tally>) -> (Pass<Tally>, bool)
     requires { pass.lock ≡ lock.now }
-    ensures lock { result.lock ≡ lock.now }
-    ensures later { Later pass.known result.known }
-    ensures own { result.known.own ≡ first_gains pass.known.own [] }
-    ensures lent { result.known.lent ≡ pass.known.lent }
+    ensures lock { result.0.lock ≡ lock.now }
+    ensures later { Later pass.known result.0.known }
+    ensures own { result.0.known.own ≡ first_gains pass.known.own [] }
+    ensures lent { result.0.known.lent ≡ pass.known.lent }
+    ensures closed { result.1 ≡ result.0.known.over }
 {
     let held = lock.enter(rt, pass);
-    held.leave()
+    let closed = held.state.closed;
+    (held.leave(), closed)
 }
 
 /// Adds a count by the pass's number, and closes the tally after the last count. It is false where there is no memory,
@@ -115,8 +117,7 @@ pub fn in_turn<R: Wait>(
 ) -> Result<(Tally, bool), NotMade<Tally>>
     requires { LendsNothing tally_meant tally }
     ensures name { IfOk result (λ r. r.0.name ≡ tally.name) }
-    ensures first { IfOk result (λ r. HasCounted tally r.0 0 (if r.1 then record { worker = 0; amount = amount } ∷ [] else [])) }
-    ensures second { IfOk result (λ r. HasCounted tally r.0 1 []) }
+    ensures counts { IfOk result (λ r. r.0.counts.items ≡ tally.counts.items ++ (if r.1 then record { worker = 0; amount = amount } ∷ [] else [])) }
     ensures drawers { IfOk result (λ r. LendsNothing tally_meant r.0) }
     ensures still { IfOk result (λ r. tally.closed ≡ true → r.0.closed ≡ true) }
     ensures closed { IfOk result (λ r. r.1 ≡ true → last ≡ true → r.0.closed ≡ true) }
@@ -126,9 +127,10 @@ pub fn in_turn<R: Wait>(
         Ok((lock, all)) => {
             let (first, second) = lock.split(all, 1);
             let (first, added) = add(rt, &lock, first, amount, last);
-            let second = look(rt, &lock, second);
+            let (second, _) = look(rt, &lock, second);
             let all = lock.join(first, second);
-            Ok((lock.close(all), added))
+            let tally = lock.close(all);
+            Ok((tally, added))
         }
         Err(refused) => Err(refused),
     }

@@ -81,11 +81,11 @@ fn numbers_and_turns(rt: HostRuntime) -> Result<(), Fail> {
         second.count(),
     );
     let (first, added) = add(&rt, &lock, first, 5, false);
-    let second = look(&rt, &lock, second);
+    let (second, closed) = look(&rt, &lock, second);
     let all = lock.join(first, second);
     let tally = lock.close(all);
     assert!(rt; opening == (0, 2) && numbers == (0, 1, 1, 1));
-    assert!(rt; added && tally.name == 7 && tally.counts.len() == 1);
+    assert!(rt; added && !closed && tally.name == 7 && tally.counts.len() == 1);
     assert!(rt; tally.counts[0].worker == 0 && tally.counts[0].amount == 5);
     Ok(())
 }
@@ -100,10 +100,10 @@ fn the_second_closes(rt: HostRuntime) -> Result<(), Fail> {
     let (second, also) = lend(&rt, &lock, second, 4);
     let (first, begun) = add(&rt, &lock, first, 5, false);
     let (second, ended) = add(&rt, &lock, second, 6, true);
-    let first = look(&rt, &lock, first);
+    let (first, closed) = look(&rt, &lock, first);
     let all = lock.join(first, second);
     let tally = lock.close(all);
-    assert!(rt; lent && also && begun && ended && tally.closed);
+    assert!(rt; lent && also && begun && ended && closed && tally.closed);
     assert!(rt; tally.drawers.len() == 2 && tally.counts.len() == 2);
     assert!(rt; tally.drawers[0].worker == 0 && tally.drawers[0].label == 3);
     assert!(rt; tally.drawers[1].worker == 1 && tally.drawers[1].label == 4);
