@@ -1,4 +1,3 @@
 pub mod Fitting
-pub mod Numbered
 pub mod Placed
 pub mod Seen

@@ -1,7 +1,7 @@
 // The calls, each with the driver that makes it.
 use crate::drivers::{
-    expressions, frames, kernels, leases, models, placements, program, reading, solving, tokens,
-    world,
+    bounds, expressions, frames, kernels, leases, lines, made_levels, models, placements, program,
+    reading, resolving, schedules, solving, tokens, world,
 };
 use crate::trouble::Trouble;
 use serde_json::Value;
@@ -38,6 +38,13 @@ pub enum Call {
     Cut,
     Pool,
     Lend,
+    Schedule,
+    Expand,
+    Bound,
+    Line,
+    Resolve,
+    MakeLevel,
+    Begin,
 }
 
 /// The answer of a call on the inputs of a row.
@@ -71,5 +78,12 @@ pub fn answer(call: Call, alloc: Global, row: &Value) -> Result<Value, Trouble> 
         Call::Cut => leases::cut(alloc, row),
         Call::Pool => leases::pooled(alloc, row),
         Call::Lend => leases::lent(alloc, row),
+        Call::Schedule => schedules::scheduled(alloc, row),
+        Call::Expand => schedules::expanded(alloc, row),
+        Call::Bound => bounds::reported(alloc, row),
+        Call::Line => lines::lined(alloc, row),
+        Call::Resolve => resolving::resolved(alloc, row),
+        Call::MakeLevel => made_levels::level_made(alloc, row),
+        Call::Begin => made_levels::run_begun(alloc, row),
     }
 }

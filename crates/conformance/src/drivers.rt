@@ -1,5 +1,6 @@
 //! For each call a function that makes it on the inputs of a row.
 
+pub mod bounds;
 mod edges;
 pub mod expressions;
 mod frame_parts;
@@ -8,10 +9,14 @@ mod graphs;
 pub mod kernels;
 pub mod leases;
 mod levels;
+pub mod lines;
+pub mod made_levels;
 pub mod models;
 pub mod placements;
 pub mod program;
 pub mod reading;
+pub mod resolving;
+pub mod schedules;
 mod shown;
 mod signatures;
 pub mod solving;

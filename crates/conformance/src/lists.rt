@@ -1,5 +1,7 @@
 // Lists as the tables write them: `{"times": n, "of": item}` stands for an item, or the items of a list, so many times,
-// and `{"times": n, "from": k}` for n numbers from k on, with `"step": s` each s more than the one before.
+// and `{"times": n, "from": k}` for n numbers from k on, with `"step": s` each s more than the one before. In a list of rows
+// `{"times": n, "rows": [row, ..], "step": [s, ..]}` stands for these rows of numbers n times, the numbers each time more by
+// their steps.
 ghost use Rattle.std.specs.Prelude.{◌≡◌, IfSome, sum};
 
 use crate::row::{items, small};
@@ -103,6 +105,34 @@ pub fn answer_of_smalls(alloc: Global, numbers: &[u32]) -> Result<Value, Trouble
     Ok(Value::from(values))
 }
 
+/// The numbers of a row, each more by so many times its step.
+fn stepped(alloc: Global, row: &Value, steps: &[Value], times: u32) -> Result<Value, Trouble> {
+    let Some(numbers) = row.as_array() else {
+        return Err(Trouble::Member("rows"));
+    };
+    let mut values = Vec::new(alloc);
+    for (number, step) in numbers.iter().zip(steps) {
+        let (Some(number), Some(step)) = (number.as_i64(), step.as_i64()) else {
+            return Err(Trouble::Member("rows"));
+        };
+        let more = step.saturating_mul(i64::from(times));
+        values.push(Value::from(number.saturating_add(more)))?;
+    }
+    Ok(Value::from(values))
+}
+
+/// The rows that an item stands for, behind those that are there.
+fn push_rows(alloc: Global, values: &mut Vec<Value>, item: &Value) -> Result<(), Trouble> {
+    let rows = items(item, "rows")?;
+    let steps = items(item, "step")?;
+    for times in 0..small(item, "times")? {
+        for row in rows {
+            values.push(stepped(alloc, row, steps, times)?)?;
+        }
+    }
+    Ok(())
+}
+
 /// A wanted answer with its lists written out.
 pub fn written_out(wanted: &Value, alloc: Global) -> Result<Value, Trouble> {
     let Value::Array(list) = wanted else {
@@ -110,7 +140,9 @@ pub fn written_out(wanted: &Value, alloc: Global) -> Result<Value, Trouble> {
     };
     let mut values = Vec::new(alloc);
     for item in list {
-        if item.is_object() && item.get("times").is_some() {
+        if item.is_object() && item.get("rows").is_some() {
+            push_rows(alloc, &mut values, item)?;
+        } else if item.is_object() && item.get("times").is_some() {
             let mut numbers = Vec::new(alloc);
             push_numbers(&mut numbers, item)?;
             for number in numbers {

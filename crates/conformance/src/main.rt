@@ -17,7 +17,7 @@ use crate::table::{Table, run_table};
 use std::io;
 
 /// The tables, in the order of their lines in the output.
-const TABLES: [Table; 30] = [
+const TABLES: [Table; 37] = [
     Table {
         file: "names.jsonl",
         call: Call::IsName,
@@ -137,6 +137,34 @@ const TABLES: [Table; 30] = [
     Table {
         file: "lendings.jsonl",
         call: Call::Lend,
+    },
+    Table {
+        file: "schedules.jsonl",
+        call: Call::Schedule,
+    },
+    Table {
+        file: "expansions.jsonl",
+        call: Call::Expand,
+    },
+    Table {
+        file: "bounds.jsonl",
+        call: Call::Bound,
+    },
+    Table {
+        file: "lines.jsonl",
+        call: Call::Line,
+    },
+    Table {
+        file: "resolutions.jsonl",
+        call: Call::Resolve,
+    },
+    Table {
+        file: "made_levels.jsonl",
+        call: Call::MakeLevel,
+    },
+    Table {
+        file: "first_states.jsonl",
+        call: Call::Begin,
     },
 ];
 

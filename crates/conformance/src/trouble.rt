@@ -1,3 +1,4 @@
+use level_cases::NoLevel;
 use std::alloc::{AllocError, AllocFailed};
 
 /// Why a case gives no answer.
@@ -18,5 +19,14 @@ impl From<AllocError> for Trouble {
 impl<T: Drop> From<AllocFailed<T>> for Trouble {
     fn from(_refused: AllocFailed<T>) -> Trouble {
         Trouble::Memory
+    }
+}
+
+impl From<NoLevel> for Trouble {
+    fn from(cause: NoLevel) -> Trouble {
+        match cause {
+            NoLevel::Lines => Trouble::Member("links"),
+            NoLevel::Memory => Trouble::Memory,
+        }
     }
 }

@@ -1,10 +1,7 @@
 // `repetition` against its definition: the base vector is the least of those that solve the balance equations.
-ghost use Rattle.std.specs.Prelude.{◌≤◌, ◌<◌, ◌^◌, length};
-ghost use Rattle.std.specs.List.{AllByRecursion};
-ghost use Rattle.sdf_level.specs.Numbered.{IsBetween};
+ghost use Rattle.std.specs.Prelude.{◌≤◌};
 
-use crate::levels::{Comparison, all_levels};
-use crate::numbering::level_between;
+use crate::levels::{Comparison, all_levels, level_of};
 use crate::tally::Tally;
 use crate::vectors::Vector;
 use balance_solver::{Unsolved, repetition};
@@ -48,10 +45,10 @@ fn agrees(
     solving: &[Vector],
 ) -> Result<bool, AllocError>
     requires actors { actors ≤ 3 }
-    requires few { length links.now < 2 ^ 32 }
-    requires there { AllByRecursion (IsBetween actors) links.now }
 {
-    let level = level_between(alloc, actors, links)?;
+    let Some(level) = level_of(alloc, actors, links)? else {
+        return Ok(false);
+    };
     match (repetition(alloc, &level), least(solving)) {
         (Ok(found), Some(base)) => Ok(found.items() == &base[..actors as usize]),
         (Ok(_found), None) => Ok(false),

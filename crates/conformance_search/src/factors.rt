@@ -66,8 +66,11 @@ fn rate(number: u32, place: u32) -> u32
     number / 5u32.saturating_pow(place).max(1) % 5
 }
 
+/// How many rows there are.
+pub(crate) const ROWS: u32 = 15_625;
+
 /// The row with this number as a level.
-fn row(alloc: Global, number: u32) -> Result<Level, AllocError> {
+pub(crate) fn row(alloc: Global, number: u32) -> Result<Level, AllocError> {
     let sources = vec![in alloc; rate(number, 0)]?;
     let sinks = vec![in alloc; rate(number, 5)]?;
     let links = vec![in alloc;
@@ -148,7 +151,7 @@ fn agrees(alloc: Global, number: u32) -> Result<Option<bool>, AllocError> {
 /// Compares on all rows with a base vector.
 pub(crate) fn compare(rt: &(impl Print + AllocGlobal)) -> io::Result<Tally> {
     let mut tally = Tally::new();
-    for number in 0..15_625 {
+    for number in 0..ROWS {
         if let Some(same) = agrees(rt.alloc(), number)? {
             if tally.enter(same) {
                 println!(rt; "repetition vector: the row with number {number}")?;

@@ -1,10 +1,9 @@
 // All small levels of links between up to three actors.
-ghost use Rattle.std.specs.Prelude.{◌≤◌, ◌<◌, ◌^◌, All, IfOk, length};
-ghost use Rattle.std.specs.List.{AllByRecursion};
-ghost use Rattle.sdf_level.specs.Numbered.{IsBetween};
+ghost use Rattle.std.specs.Prelude.{◌≡◌, ◌≤◌, IfOk, IfSome};
 
 use crate::vectors::{Vector, that_solve, vectors_from};
-use sdf_level::InnerLink;
+use level_cases::{NoLevel, level_between};
+use sdf_level::{InnerLink, Level};
 use std::alloc::{AllocError, Global};
 use std::io;
 
@@ -22,18 +21,29 @@ pub(crate) trait Comparison {
         links: &[InnerLink],
         solving: &[Vector],
     ) -> io::Result<()>
-        requires actors { actors ≤ 3 }
-        requires few { length links.now < 2 ^ 32 }
-        requires there { AllByRecursion (IsBetween actors) links.now };
+        requires actors { actors ≤ 3 };
+}
+
+/// The level of these links between so many actors, or none where they are no level's.
+pub(crate) fn level_of(
+    alloc: Global,
+    actors: u32,
+    links: &[InnerLink],
+) -> Result<Option<Level>, AllocError>
+    ensures { IfOk result (λ found. IfSome found (λ level. level.actors ≡ actors)) }
+{
+    match level_between(alloc, actors, links) {
+        Ok(level) => Ok(Some(level)),
+        Err(NoLevel::Lines) => Ok(None),
+        Err(NoLevel::Memory) => Err(AllocError),
+    }
 }
 
 /// The link with this number, of those between so many actors with so many rates and delays, each counted from 0.
 fn link_at(number: u32, actors: u32, rates: u32, delays: u32) -> InnerLink
     requires actors { 1 ≤ actors }
     requires some_rates { 1 ≤ rates }
-    requires rates { rates ≤ 262144 }
     requires delays { 1 ≤ delays }
-    ensures { IsBetween actors result }
 {
     let rest = number / delays;
     let ends = rest / rates / rates;
@@ -55,9 +65,7 @@ fn links_between(
 ) -> Result<Vec<InnerLink>, AllocError>
     requires actors { 1 ≤ actors }
     requires some_rates { 1 ≤ rates }
-    requires rates { rates ≤ 262144 }
     requires delays { 1 ≤ delays }
-    ensures { IfOk result (λ links. All (IsBetween actors) links.items) }
 {
     let ends = actors.saturating_mul(rates);
     let count = ends.saturating_mul(ends).saturating_mul(delays);
@@ -88,8 +96,6 @@ fn with_a_second<R: Print + AllocGlobal, C: Comparison>(
     solving: &[Vector],
 ) -> io::Result<()>
     requires actors { actors ≤ 3 }
-    requires links { All (IsBetween actors) links.now }
-    requires one { IsBetween actors one }
 {
     for place in from..links.len() {
         let two = links[place];
@@ -135,9 +141,6 @@ fn with_a_third<R: Print + AllocGlobal, C: Comparison>(
     solving: &[Vector],
 ) -> io::Result<()>
     requires actors { actors ≤ 3 }
-    requires links { All (IsBetween actors) links.now }
-    requires one { IsBetween actors one }
-    requires two { IsBetween actors two }
 {
     for place in from..links.len() {
         let three = links[place];
@@ -158,8 +161,6 @@ fn with_two_more<R: Print + AllocGlobal, C: Comparison>(
     solving: &[Vector],
 ) -> io::Result<()>
     requires actors { actors ≤ 3 }
-    requires links { All (IsBetween actors) links.now }
-    requires one { IsBetween actors one }
 {
     for place in from..links.len() {
         let two = links[place];
@@ -188,6 +189,18 @@ fn three_links<R: Print + AllocGlobal, C: Comparison>(
         let solving = that_solve(rt.alloc(), &vectors, &one)?;
         let next = next_place::<C>(actors, place);
         with_two_more(rt, comparison, actors, &links, next, one, &solving)?;
+    }
+    Ok(())
+}
+
+/// All these levels of up to two links, of one actor, of two and of three.
+pub(crate) fn levels_of_two_links<R: Print + AllocGlobal, C: Comparison>(
+    rt: &R,
+    comparison: &mut C,
+    low: u32,
+) -> io::Result<()> {
+    for actors in 1..4 {
+        up_to_two_links(rt, comparison, actors, low)?;
     }
     Ok(())
 }

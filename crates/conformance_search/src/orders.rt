@@ -1,10 +1,7 @@
 // `order` against the definitions of admissible lists, of the one-thread order and of the counts left.
-ghost use Rattle.std.specs.Prelude.{◌≤◌, ◌<◌, ◌≡◌, ◌^◌, length};
-ghost use Rattle.std.specs.List.{AllByRecursion};
-ghost use Rattle.sdf_level.specs.Numbered.{IsBetween};
+ghost use Rattle.std.specs.Prelude.{◌≤◌};
 
-use crate::levels::{Comparison, all_levels};
-use crate::numbering::level_between;
+use crate::levels::{Comparison, all_levels, level_of};
 use crate::tally::Tally;
 use crate::vectors::{Vector, entry, number_of, vector_at, vector_count};
 use firing_order::{Stuck, order};
@@ -180,7 +177,10 @@ impl Comparison for Orders {
             // The counts are all 0.
             return Ok(());
         }
-        let level = level_between(rt.alloc(), actors, links)?;
+        let Some(level) = level_of(rt.alloc(), actors, links)? else {
+            let _printed = self.tally.enter(false);
+            return Ok(());
+        };
         let reached = reachable(rt.alloc(), actors, links, base)?;
         for counts in solving {
             if counts != &[0, 0, 0] {

@@ -15,7 +15,7 @@ use Rattle.single_rate.specs.declared.wire.Wire.{Wire}
 use Rattle.single_rate.specs.Wires.{wires}
 use Rattle.single_rate.specs.Cursors.{part_at}
 use Rattle.single_rate.specs.Expanded.{nodes, place_of, edge_of, source_nodes, init_nodes, firing_nodes, copied_nodes, end_nodes, sink_nodes}
-use Rattle.single_rate.specs.Ranks.{GoForward, EndsBelow}
+use Rattle.single_rate.specs.Raising.{GoForward, EndsBelow}
 use Rattle.single_rate.proofs.Picked.{Every}
 use Rattle.single_rate.proofs.Places.{HasEnds, place-found, place-below}
 use Rattle.single_rate.proofs.Positions.{position}

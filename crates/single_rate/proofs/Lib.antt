@@ -1,5 +1,6 @@
 pub mod Spans
 pub mod Picked
+pub mod Writers
 pub mod Rows
 pub mod Copies
 pub mod Readers

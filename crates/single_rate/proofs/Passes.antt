@@ -5,6 +5,7 @@ use Rattle.sdf_level.specs.declared.node.Node.{Node}
 use Rattle.sdf_level.specs.declared.node.Node.TheVariants as node
 use Rattle.single_rate.specs.declared.part.Part.{Part}
 use Rattle.single_rate.specs.declared.wire.Wire.{Wire}
+use Rattle.single_rate.proofs.Writers.{writer_of}
 use Rattle.single_rate.specs.Wires.{pieces, piece_counts, pieces_of, all_pieces, into_forks, out_of_joins, total}
 use Rattle.single_rate.specs.Cursors.{part_at, size_at, forks_by, joins_by}
 use Rattle.single_rate.proofs.Skips.{no_part}
@@ -20,7 +21,7 @@ joins-counted l writers b j (r ∷ rs) = rw (joins-counted l writers (b + r.size
 
 -- a step of each pass: what was added, with the rest, is all
 pub pieces-next : (l : ℕ) (writers readers : List Part) (a i : ℕ) (counts : List ℕ) (old new all : List Wire) → i < length writers → a ≡ total (take i writers) → counts ≡ piece_counts 0 writers readers →
-    new ≡ old ++ pieces_of l writers (take i writers) i (part_at writers i) (slice_index counts i) a (a + size_at writers i) 0 0 0 readers →
+    new ≡ old ++ pieces_of (writer_of l writers (take i writers) i (part_at writers i) (slice_index counts i) a (a + size_at writers i)) 0 0 0 readers →
     old ++ all_pieces l writers readers (take i writers) a i (drop i writers) ≡ all → new ++ all_pieces l writers readers (take (i + 1) writers) (a + size_at writers i) (i + 1) (drop (i + 1) writers) ≡ all
 pieces-next l writers readers a i counts old new all inside at is_counts is_new before_all =
     let e : ℕ = a + size_at writers i in
@@ -28,10 +29,10 @@ pieces-next l writers readers a i counts old new all inside at is_counts is_new 
     let rest : List Wire = all_pieces l writers readers (take (i + 1) writers) e (i + 1) (drop (i + 1) writers) in
     let z : 0 + total (take i writers) ≡ a = omega arith in
     let m_is : slice_index counts i ≡ pieces a e 0 readers = ap (λ (c : List ℕ). slice_index c i) is_counts ∙ count-at 0 i writers readers inside ∙ ap (λ x. pieces x (x + size_at writers i) 0 readers) z in
-    let step : all_pieces l writers readers (take i writers) a i (drop i writers) ≡ pieces_of l writers (take i writers) i w (pieces a e 0 readers) a e 0 0 0 readers ++ rest =
-    rw (drop_more writers i no_part inside) (ap (λ (x : List Part). pieces_of l writers (take i writers) i w (pieces a e 0 readers) a e 0 0 0 readers ++ all_pieces l writers readers x e (i + 1) (drop (i + 1) writers)) (sym (take_more writers i no_part inside))) in
-    ap (λ (x : List Wire). x ++ rest) (is_new ∙ ap (λ m. old ++ pieces_of l writers (take i writers) i w m a e 0 0 0 readers) m_is)
-    ∙ append_assoc old (pieces_of l writers (take i writers) i w (pieces a e 0 readers) a e 0 0 0 readers) rest
+    let step : all_pieces l writers readers (take i writers) a i (drop i writers) ≡ pieces_of (writer_of l writers (take i writers) i w (pieces a e 0 readers) a e) 0 0 0 readers ++ rest =
+    rw (drop_more writers i no_part inside) (ap (λ (x : List Part). pieces_of (writer_of l writers (take i writers) i w (pieces a e 0 readers) a e) 0 0 0 readers ++ all_pieces l writers readers x e (i + 1) (drop (i + 1) writers)) (sym (take_more writers i no_part inside))) in
+    ap (λ (x : List Wire). x ++ rest) (is_new ∙ ap (λ m. old ++ pieces_of (writer_of l writers (take i writers) i w m a e) 0 0 0 readers) m_is)
+    ∙ append_assoc old (pieces_of (writer_of l writers (take i writers) i w (pieces a e 0 readers) a e) 0 0 0 readers) rest
     ∙ ap (λ (x : List Wire). old ++ x) (sym step)
     ∙ before_all
 

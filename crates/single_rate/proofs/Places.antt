@@ -5,7 +5,8 @@ use Rattle.sdf_level.specs.declared.node.Node.{Node}
 use Rattle.sdf_level.specs.declared.node.Node.TheVariants as node
 use Rattle.single_rate.specs.Nodes.{same}
 use Rattle.single_rate.specs.declared.wire.Wire.{Wire}
-use Rattle.single_rate.specs.Flow.{gathered, arrives, leaves, Given, Sends, Copies, EachEdge, IsFlow}
+use Rattle.single_rate.specs.Flow.{gathered, arrives, leaves, Given, Sends, EachEdge, IsFlow}
+use Rattle.sdf_level.specs.Copying.{Copies}
 use Rattle.std.specs.List.{All}
 use Rattle.single_rate.specs.Numbers.{HasNumbers}
 use Rattle.single_rate.specs.Expanded.{place_of, edge_of, wire_of}

@@ -4,7 +4,8 @@ use Rattle.std.specs.List.{All, AllByRecursion}
 use Rattle.std.proofs.lemmas.Bool.{cases_eq}
 use Rattle.std.proofs.lemmas.List.{length-set, get_or-set_same, get_or-set_other}
 use Rattle.sdf_level.specs.declared.single_rate.Edge.{Edge}
-use Rattle.single_rate.specs.Ranks.{Among, IsPathTo, IsReached, AreRanks, GoForward, EndsBelow, AreReached, AreSettled, slack}
+use Rattle.single_rate.specs.Ranks.{Among, IsPathTo, IsReached, AreRanks}
+use Rattle.single_rate.specs.Raising.{GoForward, EndsBelow, AreReached, AreSettled, slack}
 
 pub among-all : (P : Edge → Type 0) (edges : List Edge) (e : Edge) → AllByRecursion P edges → Among edges e → P e
 among-all P [] e all i = absurd i

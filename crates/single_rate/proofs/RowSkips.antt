@@ -6,6 +6,7 @@ use Rattle.sdf_level.specs.declared.node.Node.TheVariants as node
 use Rattle.single_rate.specs.declared.part.Port.{Port}
 use Rattle.single_rate.specs.declared.part.Part.{Part}
 use Rattle.single_rate.specs.declared.wire.Wire.{Wire}
+use Rattle.single_rate.proofs.Writers.{writer_of}
 use Rattle.single_rate.specs.Wires.{common, one_piece, pieces, piece, piece_counts, end_at, pieces_of, total}
 use Rattle.single_rate.specs.Cursors.{part_at, size_at}
 use Rattle.single_rate.proofs.Skips.{no_part}
@@ -40,7 +41,7 @@ counts-length b [] others = refl
 counts-length b (r ∷ rs) others = let l = counts-length (b + r.size) rs others in omega arith
 
 module _ (l : ℕ) (writers before : List Part) (i : ℕ) (writer : Part) (many a e : ℕ) where
-  row-skip : (b j k n : ℕ) (rs : List Part) → b + total (take n rs) ≤ a → pieces_of l writers before i writer many a e b j k rs ≡ pieces_of l writers before i writer many a e (b + total (take n rs)) (j + n) k (drop n rs)
+  row-skip : (b j k n : ℕ) (rs : List Part) → b + total (take n rs) ≤ a → pieces_of (writer_of l writers before i writer many a e) b j k rs ≡ pieces_of (writer_of l writers before i writer many a e) (b + total (take n rs)) (j + n) k (drop n rs)
   row-skip b j k zero rs h = let z : b + 0 ≡ b = omega arith in let y : j + 0 ≡ j = omega arith in rw (z, y) refl
   row-skip b j k (suc n) [] h = refl
   row-skip b j k (suc n) (r ∷ rs) h =
@@ -50,30 +51,30 @@ module _ (l : ℕ) (writers before : List Part) (i : ℕ) (writer : Part) (many 
       let u : k + 0 ≡ k = omega arith in
       rw (eq-eqb (common a e b (b + r.size)) 0 none, u, ← s, ← t) (row-skip (b + r.size) (j + 1) k n rs (omega arith))
 
-  pub row-past : (b j k : ℕ) (rs : List Part) → e ≤ b → pieces_of l writers before i writer many a e b j k rs ≡ []
+  pub row-past : (b j k : ℕ) (rs : List Part) → e ≤ b → pieces_of (writer_of l writers before i writer many a e) b j k rs ≡ []
   row-past b j k [] h = refl
   row-past b j k (r ∷ rs) h =
       let none : common a e b (b + r.size) ≡ 0 = omega arith in
       let u : k + 0 ≡ k = omega arith in
       rw (eq-eqb (common a e b (b + r.size)) 0 none, u) (row-past (b + r.size) (j + 1) k rs (omega arith))
 
-  pub row-step : (b j k n : ℕ) (rs : List Part) → n < length rs → pieces_of l writers before i writer many a e b j k (drop n rs)
+  pub row-step : (b j k n : ℕ) (rs : List Part) → n < length rs → pieces_of (writer_of l writers before i writer many a e) b j k (drop n rs)
       ≡ piece (end_at (node.Fork l i) many k writer.at) (end_at (node.Join l j) (pieces b (b + size_at rs n) 0 writers) (pieces b (b + size_at rs n) 0 before) (part_at rs n).at) a e b (b + size_at rs n)
-      ++ pieces_of l writers before i writer many a e (b + size_at rs n) (j + 1) (k + one_piece a e b (b + size_at rs n)) (drop (n + 1) rs)
+      ++ pieces_of (writer_of l writers before i writer many a e) (b + size_at rs n) (j + 1) (k + one_piece a e b (b + size_at rs n)) (drop (n + 1) rs)
   row-step b j k n [] h = absurd (omega arith)
   row-step b j k zero (r ∷ rs) h = refl
   row-step b j k (suc n) (r ∷ rs) h = let s : suc n + 1 ≡ suc (n + 1) = omega arith in rw s (row-step b j k n rs (omega arith))
 
-  pub row-cursor : (n start : ℕ) (rs : List Part) → start ≡ total (take n rs) → start ≤ a → pieces_of l writers before i writer many a e start n 0 (drop n rs) ≡ pieces_of l writers before i writer many a e 0 0 0 rs
+  pub row-cursor : (n start : ℕ) (rs : List Part) → start ≡ total (take n rs) → start ≤ a → pieces_of (writer_of l writers before i writer many a e) start n 0 (drop n rs) ≡ pieces_of (writer_of l writers before i writer many a e) 0 0 0 rs
   row-cursor n start rs at h = let z : 0 + total (take n rs) ≡ start = omega arith in let y : 0 + n ≡ n = omega arith in let s = row-skip 0 0 0 n rs (omega arith) in sym (rw (z, y) at s)
 
   -- one piece more, at its ports
   pub row-pushed : (b n k m met : ℕ) (rs : List Part) (counts : List ℕ) (old new all : List Wire) (t h : Port) → n < length rs → b ≡ total (take n rs) → counts ≡ piece_counts 0 rs writers → met ≡ pieces b (b + size_at rs n) 0 before →
       t ≡ end_at (node.Fork l i) many k writer.at → h ≡ end_at (node.Join l n) (slice_index counts n) met (part_at rs n).at → new ≡ old ++ piece t h a e b (b + size_at rs n) →
-      old ++ pieces_of l writers before i writer many a e b n k (drop n rs) ≡ all → new ++ pieces_of l writers before i writer many a e (b + size_at rs n) (n + 1) (k + one_piece a e b (b + size_at rs n)) (drop (n + 1) rs) ≡ all
+      old ++ pieces_of (writer_of l writers before i writer many a e) b n k (drop n rs) ≡ all → new ++ pieces_of (writer_of l writers before i writer many a e) (b + size_at rs n) (n + 1) (k + one_piece a e b (b + size_at rs n)) (drop (n + 1) rs) ≡ all
   row-pushed b n k m met rs counts old new all t h inside at is_counts is_met is_t is_h is_new before_all =
       let f : ℕ = b + size_at rs n in
-      let rest : List Wire = pieces_of l writers before i writer many a e f (n + 1) (k + one_piece a e b f) (drop (n + 1) rs) in
+      let rest : List Wire = pieces_of (writer_of l writers before i writer many a e) f (n + 1) (k + one_piece a e b f) (drop (n + 1) rs) in
       let z : 0 + total (take n rs) ≡ b = omega arith in
       let m_is : slice_index counts n ≡ pieces b f 0 writers = ap (λ (c : List ℕ). slice_index c n) is_counts ∙ count-at 0 n rs writers inside ∙ ap (λ x. pieces x (x + size_at rs n) 0 writers) z in
       let h_is : h ≡ end_at (node.Join l n) (pieces b f 0 writers) (pieces b f 0 before) (part_at rs n).at = is_h ∙ rw (m_is, is_met) refl in

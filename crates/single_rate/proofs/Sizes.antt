@@ -18,6 +18,7 @@ use Rattle.sdf_level.specs.declared.node.Node.TheVariants as node
 use Rattle.single_rate.specs.declared.part.Port.{Port}
 use Rattle.single_rate.specs.declared.part.Part.{Part}
 use Rattle.single_rate.specs.declared.wire.Wire.{Wire}
+use Rattle.single_rate.proofs.Writers.{writer_of}
 use Rattle.single_rate.specs.Wires.{total, common, piece, pieces, end_at, into_forks, out_of_joins, pieces_of, all_pieces, cut_and_joined, firing_parts, delay_part, broadcast_to, rounded_from, wires_at, wires_from}
 use Rattle.single_rate.specs.Expanded.{edge_of}
 use Rattle.single_rate.specs.Sizes.{space, HasTokens}
@@ -65,7 +66,7 @@ piece-some t h a e b f = ⊎_elim
     (cases_eq (common a e b f) 0)
 
 row-some : (l : ℕ) (writers before : List Part) (i : ℕ) (w : Part) (many a e b j k : ℕ) (rs : List Part) → a ≤ e →
-    Every HasSome (pieces_of l writers before i w many a e b j k rs) × (tokens_on (pieces_of l writers before i w many a e b j k rs) ≤ e - max a b)
+    Every HasSome (pieces_of (writer_of l writers before i w many a e) b j k rs) × (tokens_on (pieces_of (writer_of l writers before i w many a e) b j k rs) ≤ e - max a b)
 row-some l writers before i w many a e b j k [] fits = (tt, omega arith)
 row-some l writers before i w many a e b j k (r ∷ rs) fits =
     let f : ℕ = b + r.size in
@@ -74,15 +75,15 @@ row-some l writers before i w many a e b j k (r ∷ rs) fits =
     let k' : ℕ = k + (if common a e b f == 0 then 0 else 1) in
     let here = piece-some t h a e b f in
     let later = row-some l writers before i w many a e f (j + 1) k' rs fits in
-    let sum = on-append (piece t h a e b f) (pieces_of l writers before i w many a e f (j + 1) k' rs) in
+    let sum = on-append (piece t h a e b f) (pieces_of (writer_of l writers before i w many a e) f (j + 1) k' rs) in
     let split : common a e b f + (e - max a f) ≤ e - max a b = omega arith in
-    (Every-append HasSome (piece t h a e b f) (pieces_of l writers before i w many a e f (j + 1) k' rs) here.0 later.0, omega arith)
+    (Every-append HasSome (piece t h a e b f) (pieces_of (writer_of l writers before i w many a e) f (j + 1) k' rs) here.0 later.0, omega arith)
 
 pieces-some : (l : ℕ) (writers readers before : List Part) (a i : ℕ) (more : List Part) → Every HasSome (all_pieces l writers readers before a i more) × (tokens_on (all_pieces l writers readers before a i more) ≤ total more)
 pieces-some l writers readers before a i [] = (tt, omega arith)
 pieces-some l writers readers before a i (w ∷ more) =
     let e : ℕ = a + w.size in
-    let row : List Wire = pieces_of l writers before i w (pieces a e 0 readers) a e 0 0 0 readers in
+    let row : List Wire = pieces_of (writer_of l writers before i w (pieces a e 0 readers) a e) 0 0 0 readers in
     let rest : List Wire = all_pieces l writers readers (before ++ w ∷ []) e (i + 1) more in
     let here = row-some l writers before i w (pieces a e 0 readers) a e 0 0 0 readers (omega arith) in
     let later = pieces-some l writers readers (before ++ w ∷ []) e (i + 1) more in

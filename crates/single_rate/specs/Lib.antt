@@ -6,6 +6,7 @@ pub mod Flow
 pub mod Delivers
 pub mod Names
 pub mod Ranks
+pub mod Raising
 pub mod Expanded
 pub mod Laws
 pub mod Sequence

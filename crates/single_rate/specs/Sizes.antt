@@ -1,6 +1,7 @@
 -- How large a graph is.
 use Rattle.std.specs.Prelude.{ℕ, ◌+◌, ◌*◌, ◌<◌, ◌≤◌, ◌^◌, List, [], ◌∷◌, length}
 use Rattle.std.specs.List.{All}
+use Rattle.sdf_level.specs.Limits.{tokens_limit}
 use Rattle.sdf_level.specs.declared.node.Node.{Node}
 use Rattle.sdf_level.specs.declared.single_rate.Edge.{Edge}
 
@@ -18,4 +19,4 @@ pub record IsSmall (list : List Node) (edges : List Edge) : Type 0 where
   pub few_nodes : length list < 2 ^ 32
   pub few_edges : length edges < 2 ^ 32
   pub sizes : All HasTokens edges
-  pub tokens : space edges ≤ 3 * 1048576
+  pub tokens : space edges ≤ 3 * tokens_limit

@@ -1,9 +1,9 @@
 // The edges of a link whose stream is cut at Forks and joined at Joins.
-ghost use Rattle.std.specs.Prelude.{ℕ, ◌≡◌, ◌+◌, ◌≤◌, ◌<◌, ◌^◌, [], ◌∷◌, ◌++◌, length, take, nat_lt, if◌then◌else◌, OnOk};
+ghost use Rattle.std.specs.Prelude.{ℕ, ◌≡◌, ◌+◌, ◌≤◌, ◌<◌, ◌^◌, [], ◌∷◌, ◌++◌, length, take, slice_index, nat_lt, if◌then◌else◌, OnOk};
 ghost use Rattle.single_rate.specs.Wires.{total, piece_counts, piece, end_at, pieces_of, all_pieces, cut_and_joined};
-ghost use Rattle.single_rate.specs.Cursors.{IsAtReader, size_at, part_at, forks_by, joins_by};
+ghost use Rattle.single_rate.specs.Cursors.{IsAtReader, size_at, writer_at, forks_by, joins_by};
 
-use crate::counting::{count_pieces, met};
+use crate::counting::{Range, count_pieces, met};
 use crate::part::{Part, Port};
 use crate::wire::Wire;
 use sdf_level::Node;
@@ -28,20 +28,28 @@ fn piece_end(copier: Node, many: u32, port: u32, at: Port) -> Port
     }
 }
 
+/// A link's line: the parts that write to it and those that read from it, and how many pieces each of them has.
+#[derive(Debug, Clone, Copy, Drop)]
+pub struct Line<'a> {
+    pub link: u32,
+    pub writers: &'a [Part],
+    pub writer_pieces: &'a [u32],
+    pub readers: &'a [Part],
+    pub reader_pieces: &'a [u32],
+}
+
 /// Adds the piece of two ranges, if they have places in common.
 fn add_piece(
     tail: Port,
     head: Port,
-    a: u32,
-    e: u32,
-    b: u32,
-    f: u32,
+    written: Range,
+    read: Range,
     wires: &mut Vec<Wire>,
 ) -> Result<(), AllocError>
-    ensures { OnOk result (wires.new.items ≡ wires.old.items ++ piece tail head a e b f) }
+    ensures { OnOk result (wires.new.items ≡ wires.old.items ++ piece tail head written.start written.end read.start read.end) }
 {
-    let place = a.max(b);
-    let end = e.min(f);
+    let place = written.start.max(read.start);
+    let end = written.end.min(read.end);
     if place < end {
         wires.push(Wire {
             tail,
@@ -55,83 +63,71 @@ fn add_piece(
     }
 }
 
-/// Adds the pieces of writer `i`, which begins at place `a`.
+/// Adds the pieces of the writer with this number, which begins at this place.
 fn add_row(
-    link: u32,
-    writers: &[Part],
-    i: usize,
-    many: u32,
-    a: u32,
-    readers: &[Part],
-    reader_pieces: &[u32],
+    line: &Line<'_>,
+    number: usize,
+    place: u32,
     at: &mut Reader,
     wires: &mut Vec<Wire>,
 ) -> Result<(), AllocError>
-    requires writer { i < length writers.now }
-    requires place { a ≡ total (take i writers.now) }
-    requires few_writers { length writers.now < 2 ^ 32 }
-    requires few_readers { length readers.now < 2 ^ 32 }
-    requires short { total writers.now < 2 ^ 32 }
-    requires readers_short { total readers.now < 2 ^ 32 }
-    requires counts { reader_pieces.now ≡ piece_counts 0 readers.now writers.now }
-    requires at { IsAtReader a (take i writers.now) readers.now at.old }
-    ensures wires { OnOk result (wires.new.items ≡ wires.old.items ++ pieces_of link writers.now (take i writers.now) i (part_at writers.now i) many a (a + size_at writers.now i) 0 0 0 readers.now) }
-    ensures at { OnOk result (IsAtReader (a + size_at writers.now i) (take (i + 1) writers.now) readers.now at.new) }
+    requires writer { number < length line.now.writers.now }
+    requires place { place ≡ total (take number line.now.writers.now) }
+    requires few_writers { length line.now.writers.now < 2 ^ 32 }
+    requires few_readers { length line.now.readers.now < 2 ^ 32 }
+    requires short { total line.now.writers.now < 2 ^ 32 }
+    requires readers_short { total line.now.readers.now < 2 ^ 32 }
+    requires writer_counts { line.now.writer_pieces.now ≡ piece_counts 0 line.now.writers.now line.now.readers.now }
+    requires counts { line.now.reader_pieces.now ≡ piece_counts 0 line.now.readers.now line.now.writers.now }
+    requires at { IsAtReader place (take number line.now.writers.now) line.now.readers.now at.old }
+    ensures wires { OnOk result (wires.new.items ≡ wires.old.items ++ pieces_of (writer_at line.now.link line.now.writers.now number (slice_index line.now.writer_pieces.now number) place) 0 0 0 line.now.readers.now) }
+    ensures at { OnOk result (IsAtReader (place + size_at line.now.writers.now number) (take (number + 1) line.now.writers.now) line.now.readers.now at.new) }
 {
-    let writer = writers[i];
-    let e = a + writer.size;
+    let link = line.link;
+    let writer = line.writers[number];
+    let many = line.writer_pieces[number];
+    let end = place + writer.size;
+    let written = Range { start: place, end };
+    let fork = Node::Fork {
+        link,
+        turn: number as u32,
+    };
     let mut port = 0u32;
-    while at.part < readers.len() {
-        let reader = readers[at.part];
-        let f = at.start + reader.size;
-        let tail = piece_end(
-            Node::Fork {
-                link,
-                turn: i as u32,
-            },
-            many,
-            port,
-            writer.at,
-        );
-        let head = piece_end(
-            Node::Join {
-                link,
-                turn: at.part as u32,
-            },
-            reader_pieces[at.part],
-            at.met,
-            reader.at,
-        );
-        add_piece(tail, head, a, e, at.start, f, wires)?;
-        let one = met(a, e, at.start, f);
-        if e < f {
+    while at.part < line.readers.len() {
+        let reader = line.readers[at.part];
+        let read = Range {
+            start: at.start,
+            end: at.start + reader.size,
+        };
+        let tail = piece_end(fork, many, port, writer.at);
+        let join = Node::Join {
+            link,
+            turn: at.part as u32,
+        };
+        let head = piece_end(join, line.reader_pieces[at.part], at.met, reader.at);
+        add_piece(tail, head, written, read, wires)?;
+        let one = met(written, read);
+        if end < read.end {
             at.met += one;
             return Ok(());
         }
         port += one;
         at.part += 1;
-        at.start = f;
+        at.start = read.end;
         at.met = 0;
     }
     Ok(())
 }
 
 /// Adds the pieces of all writers.
-fn add_pieces(
-    link: u32,
-    writers: &[Part],
-    writer_pieces: &[u32],
-    readers: &[Part],
-    reader_pieces: &[u32],
-    wires: &mut Vec<Wire>,
-) -> Result<(), AllocError>
-    requires few_writers { length writers.now < 2 ^ 32 }
-    requires few_readers { length readers.now < 2 ^ 32 }
-    requires short { total writers.now < 2 ^ 32 }
-    requires readers_short { total readers.now < 2 ^ 32 }
-    requires counts { writer_pieces.now ≡ piece_counts 0 writers.now readers.now }
-    requires reader_counts { reader_pieces.now ≡ piece_counts 0 readers.now writers.now }
-    ensures { OnOk result (wires.new.items ≡ wires.old.items ++ all_pieces link writers.now readers.now [] 0 0 writers.now) }
+fn add_pieces(line: &Line<'_>, wires: &mut Vec<Wire>) -> Result<(), AllocError>
+    requires few_writers { length line.now.writers.now < 2 ^ 32 }
+    requires few_readers { length line.now.readers.now < 2 ^ 32 }
+    requires short { total line.now.writers.now < 2 ^ 32 }
+    requires readers_short { total line.now.readers.now < 2 ^ 32 }
+    requires counts { line.now.writer_pieces.now ≡ piece_counts 0 line.now.writers.now line.now.readers.now }
+    requires reader_counts { line.now.reader_pieces.now ≡ piece_counts 0 line.now.readers.now line.now.writers.now }
+    ensures { OnOk result (wires.new.items ≡ wires.old.items ++ all_pieces line.now.link line.now.writers.now line.now.readers.now [] 0 0 line.now.writers.now) }
 {
     let mut at = Reader {
         part: 0,
@@ -139,19 +135,9 @@ fn add_pieces(
         met: 0,
     };
     let mut place = 0u32;
-    for i in 0..writers.len() {
-        add_row(
-            link,
-            writers,
-            i,
-            writer_pieces[i],
-            place,
-            readers,
-            reader_pieces,
-            &mut at,
-            wires,
-        )?;
-        place += writers[i].size;
+    for i in 0..line.writers.len() {
+        add_row(line, i, place, &mut at, wires)?;
+        place += line.writers[i].size;
     }
     Ok(())
 }
@@ -251,14 +237,14 @@ pub fn cut_and_join(
     let writer_pieces = count_pieces(alloc, writers, readers)?;
     let reader_pieces = count_pieces(alloc, readers, writers)?;
     add_into_forks(link, writers, &writer_pieces, wires)?;
-    add_pieces(
+    let line = Line {
         link,
         writers,
-        &writer_pieces,
+        writer_pieces: &writer_pieces,
         readers,
-        &reader_pieces,
-        wires,
-    )?;
+        reader_pieces: &reader_pieces,
+    };
+    add_pieces(&line, wires)?;
     add_out_of_joins(link, readers, &reader_pieces, wires)?;
     Ok(())
 }

@@ -2,7 +2,8 @@
 ghost use Rattle.std.specs.Prelude.{ℕ, ◌≡◌, ◌+◌, ◌<◌, ◌≤◌, ◌^◌, length, set, slice_index, IfOk, IsTrue, IsFalse};
 ghost use Rattle.std.specs.List.{All};
 ghost use Rattle.single_rate.specs.Sequence.{AreBelow};
-ghost use Rattle.single_rate.specs.Ranks.{AreRanks, AreReached, AreSettled, EndsBelow, GoForward, slack};
+ghost use Rattle.single_rate.specs.Ranks.{AreRanks};
+ghost use Rattle.single_rate.specs.Raising.{AreReached, AreSettled, EndsBelow, GoForward, slack};
 
 use crate::sequence::in_order;
 use sdf_level::Edge;

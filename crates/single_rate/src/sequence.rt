@@ -1,7 +1,7 @@
 // The edges of a graph in an order in which ranks can be found.
 ghost use Rattle.std.specs.Prelude.{ℕ, ◌≡◌, ◌+◌, ◌<◌, ◌≤◌, length, OnOk, IfOk};
 ghost use Rattle.std.specs.List.{All};
-ghost use Rattle.single_rate.specs.Ranks.{EndsBelow};
+ghost use Rattle.single_rate.specs.Raising.{EndsBelow};
 ghost use Rattle.single_rate.specs.Sequence.{AreLeaving, AreBelow};
 
 use sdf_level::Edge;

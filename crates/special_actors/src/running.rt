@@ -1,7 +1,7 @@
 // The node's kind, and how it copies.
 ghost use Rattle.std.specs.Prelude.{◌≡◌};
 ghost use Rattle.kernel_gate.specs.Value.{SameFrame};
-ghost use Rattle.special_actors.specs.Copying.{joined, Copies};
+ghost use Rattle.special_actors.specs.Copying.{joined, PassesOn};
 ghost use Rattle.special_actors.specs.Fitting.{IsFrameOf};
 
 use crate::gathering::{copy_whole, keep_last};
@@ -18,7 +18,7 @@ pub fn run_special(node: &Node, frame: &mut Frame)
     requires { IsFrameOf node.now frame.old }
     ensures same { SameFrame frame.old frame.new }
     ensures sets { frame.new.sets ≡ frame.old.sets }
-    ensures copied { Copies node.now (joined frame.old.inputs) (joined frame.new.outputs) }
+    ensures copied { PassesOn node.now (joined frame.old.inputs) (joined frame.new.outputs) }
 {
     match node {
         Node::Source(_) | Node::Init(_) | Node::End(_) | Node::Sink(_) => copy_whole(frame),

@@ -8,7 +8,7 @@ ghost use Rattle.conformance.specs.Signatures.{HasKernel};
 
 use crate::drivers::frame_parts::given_up;
 use crate::lists::{numbers, numbers_of, smalls};
-use crate::row::{items, small_or, word};
+use crate::row::{items, small, small_or, word};
 use crate::trouble::Trouble;
 use kernel_gate::{Frame, Gate, KernelFault, Signature};
 use kernel_library::Library;
@@ -44,16 +44,25 @@ pub fn place_of(name: &str) -> u32 {
     place
 }
 
-/// The row's lists of this name.
+/// The row's lists of this name. `{"times": n, "list": list}` stands for a list so many times.
 pub fn lists(alloc: Global, row: &Value, name: &'static str) -> Result<Vec<Vec<i64>>, Trouble> {
     let mut lists = Vec::new(alloc);
     for list in items(row, name)? {
         match list.as_array() {
             Some(items) => lists.push(numbers_of(alloc, items.as_slice())?)?,
-            None => return Err(Trouble::Member(name)),
+            None => push_same(alloc, &mut lists, list)?,
         }
     }
     Ok(lists)
+}
+
+/// The item's list so many times, behind those that are there.
+fn push_same(alloc: Global, lists: &mut Vec<Vec<i64>>, item: &Value) -> Result<(), Trouble> {
+    let list = items(item, "list")?;
+    for _ in 0..small(item, "times")? {
+        lists.push(numbers_of(alloc, list)?)?;
+    }
+    Ok(())
 }
 
 /// The lists as lists of tokens.

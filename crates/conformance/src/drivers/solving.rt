@@ -39,7 +39,7 @@ pub fn counts(alloc: Global, row: &Value) -> Result<Value, Trouble> {
 }
 
 /// The turns, each an actor and the number of its firing.
-fn text_of_turns(alloc: Global, turns: &[Turn]) -> Result<String, Trouble> {
+pub fn text_of_turns(alloc: Global, turns: &[Turn]) -> Result<String, Trouble> {
     let mut text = String::new(alloc);
     for turn in turns {
         let actor = turn.actor;

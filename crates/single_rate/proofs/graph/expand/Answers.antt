@@ -15,7 +15,8 @@ use Rattle.single_rate.specs.Flow.{IsFlow}
 use Rattle.single_rate.specs.Names.{names}
 use Rattle.single_rate.specs.NamedLines.{named}
 use Rattle.single_rate.specs.Delivers.{Delivers}
-use Rattle.single_rate.specs.Ranks.{AreRanks, GoForward, EndsBelow}
+use Rattle.single_rate.specs.Ranks.{AreRanks}
+use Rattle.single_rate.specs.Raising.{GoForward, EndsBelow}
 use Rattle.single_rate.specs.Laws.{IsGiven, graph}
 use Rattle.std.specs.List.{All}
 use Rattle.single_rate.specs.Numbers.{HasNumbers}

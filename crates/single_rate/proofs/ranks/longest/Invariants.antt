@@ -1,5 +1,5 @@
 use Rattle.std.proofs.Common.{◌≡◌, length}
-use Rattle.single_rate.specs.Ranks.{AreReached, slack}
+use Rattle.single_rate.specs.Raising.{AreReached, slack}
 use Rattle.single_rate.proofs.ranks.longest.Given as goal
 
 abbrev pub ghost-raise_all : goal.ghost-raise_all

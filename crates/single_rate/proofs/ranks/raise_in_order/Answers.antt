@@ -1,6 +1,6 @@
 use Rattle.std.proofs.Common.{ℕ, ◌<◌, ◌∙◌, length, slice_index, slice_index_or, sym, subst, arith}
 use Rattle.sdf_level.specs.declared.single_rate.Edge.{Edge}
-use Rattle.single_rate.specs.Ranks.{EndsBelow}
+use Rattle.single_rate.specs.Raising.{EndsBelow}
 use Rattle.single_rate.proofs.Ranking.{among-all, among-at, reached-within, raised-path}
 use Rattle.single_rate.proofs.ranks.raise_in_order.Goals as goal
 

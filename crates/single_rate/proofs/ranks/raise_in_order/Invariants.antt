@@ -1,5 +1,5 @@
 use Rattle.std.proofs.Common.{◌≡◌, length}
-use Rattle.single_rate.specs.Ranks.{AreReached}
+use Rattle.single_rate.specs.Raising.{AreReached}
 use Rattle.single_rate.proofs.ranks.raise_in_order.Given as goal
 
 abbrev pub invariant-loop-number : goal.invariant-loop-number

@@ -1,5 +1,5 @@
-use Rattle.conformance.proofs.Numbered.{AreNumbered}
-use Rattle.conformance.proofs.drivers.levels.numbered.Given as goal
+use Rattle.level_cases.proofs.Numbered.{AreNumbered}
+use Rattle.level_cases.proofs.building.level_with.Given as goal
 
 -- the links so far have their numbers
 abbrev pub invariant-loop-line : goal.invariant-loop-line

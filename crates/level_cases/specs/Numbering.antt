@@ -1,4 +1,4 @@
--- How the drivers number the ports of a level.
+-- How the ports of a level are numbered.
 use Rattle.std.specs.Prelude.{◌≡◌, ℕ, ◌+◌, ◌<◌, ◌≤◌, List, [], ◌∷◌, ◌++◌, length, set, slice_index}
 use Rattle.sdf_level.specs.declared.TheConstants.{RATE_LIMIT}
 use Rattle.sdf_level.specs.declared.link.Link.{Link}
