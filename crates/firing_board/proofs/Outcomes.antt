@@ -9,10 +9,10 @@ use Rattle.firing_board.specs.declared.entry.Item.TheVariants.{Compile}
 use Rattle.firing_board.specs.declared.entry.Entry.{Entry}
 use Rattle.firing_board.specs.declared.firing.Feed.{Feed}
 use Rattle.firing_board.specs.declared.firing.Firing.{Firing}
-use Rattle.firing_board.specs.declared.outcome.Delays.{Delays}
-use Rattle.firing_board.specs.declared.outcome.Iteration.{Iteration}
-use Rattle.firing_board.specs.declared.refusal.Cause.{Cause}
-use Rattle.firing_board.specs.declared.refusal.Cause.TheVariants as cause
+use Rattle.pisdf_meaning.specs.declared.outcome.Delays.{Delays}
+use Rattle.pisdf_meaning.specs.declared.outcome.Iteration.{Iteration}
+use Rattle.pisdf_meaning.specs.declared.refusal.Cause.{Cause}
+use Rattle.pisdf_meaning.specs.declared.refusal.Cause.TheVariants as cause
 use Rattle.firing_board.specs.declared.stage.JobEnd.{JobEnd}
 use Rattle.firing_board.specs.declared.stage.JobEnd.TheVariants as end
 use Rattle.firing_board.specs.declared.stage.Stage.{Stage}

@@ -7,8 +7,8 @@ use Rattle.kernel_gate.specs.Value.{Answer, Gives, Faults}
 use Rattle.kernel_gate.specs.Kernels.{pass_answer}
 use Rattle.kernel_gate.specs.Table.{the_value}
 use Rattle.pisdf_model.specs.declared.graph.Graphs.{Graphs}
-use Rattle.firing_board.specs.declared.outcome.Delays.{Delays}
-use Rattle.firing_board.specs.declared.outcome.Iteration.{Iteration}
+use Rattle.pisdf_meaning.specs.declared.outcome.Delays.{Delays}
+use Rattle.pisdf_meaning.specs.declared.outcome.Iteration.{Iteration}
 use Rattle.firing_board.specs.declared.ticket.BoardEnd.{BoardEnd}
 use Rattle.firing_board.specs.declared.ticket.BoardEnd.TheVariants as end
 use Rattle.firing_board.specs.Calls.{Tells, TellsTokens}

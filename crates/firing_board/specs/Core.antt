@@ -8,7 +8,7 @@ use Rattle.pisdf_model.specs.declared.graph.Graphs.{Graphs}
 use Rattle.firing_board.specs.declared.firing.Feed.{Feed}
 use Rattle.firing_board.specs.declared.firing.Feed.TheVariants as feed
 use Rattle.firing_board.specs.declared.firing.Firing.{Firing}
-use Rattle.firing_board.specs.declared.outcome.Delays.{Delays}
+use Rattle.pisdf_meaning.specs.declared.outcome.Delays.{Delays}
 use Rattle.firing_board.specs.declared.entry.Item.{Item}
 use Rattle.firing_board.specs.declared.entry.Item.TheVariants.{Configure, Compile, Node}
 use Rattle.firing_board.specs.declared.entry.Entry.{Entry}

@@ -1,6 +1,6 @@
 -- How a quiet job ends.
 use Rattle.std.specs.Prelude.{◌≡◌, ℕ, ℤ, List, [], ◌∷◌, map, Option, Some, None}
-use Rattle.firing_board.specs.declared.refusal.Cause.TheVariants as cause
+use Rattle.pisdf_meaning.specs.declared.refusal.Cause.TheVariants as cause
 use Rattle.firing_board.specs.declared.stage.Stage.{Stage}
 use Rattle.firing_board.specs.declared.stage.Stage.TheVariants.{Waiting, Compiling, Open, Unbuilt}
 use Rattle.firing_board.specs.declared.stage.JobEnd.{JobEnd}

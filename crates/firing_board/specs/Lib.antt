@@ -2,7 +2,6 @@ pub mod OnePass
 pub mod Job
 pub mod Jobs
 pub mod Meaning
-pub mod Run
 pub mod Core
 pub mod View
 pub mod Calls

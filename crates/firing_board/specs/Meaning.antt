@@ -3,10 +3,10 @@ use Rattle.std.specs.Prelude.{◌≡◌, ℕ, ℤ, List, [], ◌∷◌, ◌++◌
 use Rattle.kernel_gate.specs.Value.{Answer, Gives, Faults}
 use Rattle.pisdf_model.specs.declared.graph.Graphs.{Graphs}
 use Rattle.firing_board.specs.declared.firing.Firing.{Firing}
-use Rattle.firing_board.specs.declared.outcome.Delays.{Delays}
-use Rattle.firing_board.specs.declared.outcome.Iteration.{Iteration}
-use Rattle.firing_board.specs.declared.refusal.Refusal.{Refusal}
-use Rattle.firing_board.specs.declared.refusal.Cause.TheVariants as cause
+use Rattle.pisdf_meaning.specs.declared.outcome.Delays.{Delays}
+use Rattle.pisdf_meaning.specs.declared.outcome.Iteration.{Iteration}
+use Rattle.pisdf_meaning.specs.declared.refusal.Refusal.{Refusal}
+use Rattle.pisdf_meaning.specs.declared.refusal.Cause.TheVariants as cause
 use Rattle.firing_board.specs.Job.{Job, fed, given_by, job_of, no_firing}
 
 -- how a list of firings ends: the outputs of each, or the first that faults and its code

@@ -10,13 +10,11 @@ ghost use Rattle.firing_board.specs.Job.{Fits, job_of};
 
 use crate::compile::{CompileEnd, CompileTask};
 use crate::entry::{Entry, Item};
-use crate::outcome::{Delays, Iteration};
-use crate::path::Path;
-use crate::refusal::Refusal;
 use crate::stage::{JobEnd, Slot, Stage};
 use crate::ticket::{BoardEnd, Claim, Ticket};
 use crate::{job, slots, stage};
 use kernel_gate::{Frame, KernelFault, Signature};
+use pisdf_meaning::{Delays, Iteration, Path, Refusal};
 use pisdf_model::Graphs;
 use sdf_level::List;
 use std::alloc::{AllocError, Global};

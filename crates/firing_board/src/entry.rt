@@ -1,4 +1,4 @@
-use crate::path::Path;
+use pisdf_meaning::Path;
 
 /// An item of a job: what a worker claims and finishes.
 #[derive(Clone, Copy, Debug, PartialEq, Eq)]

@@ -1,13 +1,11 @@
 // What a graph's compiled job is made of.
-ghost use Rattle.std.specs.Prelude.{◌≡◌, ◌<◌, ◌^◌, [], IfOk, OnOk, All, length, map, replicate, ◌++◌};
-ghost use Rattle.firing_board.specs.Job.{actor_at, firing_at, firing_of, rate_of, top_of};
+ghost use Rattle.std.specs.Prelude.{◌≡◌, ◌<◌, ◌^◌, [], IfOk, All, length, map};
+ghost use Rattle.firing_board.specs.Job.{actor_at, firing_at, firing_of, rate_of};
 ghost use Rattle.firing_board.specs.Jobs.{AreSmall, InGraph};
-ghost use Rattle.firing_board.specs.Run as run;
 
 use crate::firing::{Feed, Firing};
-use crate::outcome::Delays;
 use param_expr::{Expr, Name, Node};
-use pisdf_model::{Actor, Body, Fifo, Graph, Graphs, Port};
+use pisdf_model::{Actor, Body, Graph, Port};
 use sdf_level::{List, Turn};
 use std::alloc::{AllocError, Global};
 
@@ -73,39 +71,4 @@ pub(crate) fn firings_of(
         firings.push(firing_of(alloc, turn.turn, &actors[turn.actor as usize])?)?;
     }
     Ok(firings)
-}
-
-/// Copies of the FIFOs' delays.
-fn delays_of(alloc: Global, fifos: &[Fifo]) -> Result<Vec<List<i64>>, AllocError>
-    ensures { IfOk result (λ v. v.items ≡ map (λ f. f.delay) fifos.now) }
-{
-    let mut lists = Vec::with_capacity(alloc, fifos.len())?;
-    for fifo in fifos {
-        lists.push(List::new(Vec::from_slice(alloc, fifo.delay.items())?))?;
-    }
-    Ok(lists)
-}
-
-/// Appends so many empty lists.
-fn push_empty(alloc: Global, lists: &mut Vec<List<i64>>, count: usize) -> Result<(), AllocError>
-    ensures { OnOk result (lists.new.items ≡ lists.old.items ++ replicate count []) }
-{
-    for actor in 0..count {
-        let _actor = actor;
-        lists.push(List::new(Vec::new(alloc)))?;
-    }
-    Ok(())
-}
-
-/// The state before the first iteration: for each FIFO of the top graph its delay, and an empty list for each actor.
-pub fn first_delays(alloc: Global, graphs: &Graphs) -> Result<Delays, AllocError>
-    requires { graphs.now.top < length graphs.now.graphs }
-    ensures { IfOk result (λ d. d ≡ run.first_delays graphs.now) }
-{
-    let top = &graphs.graphs.items()[graphs.top as usize];
-    let mut lists = delays_of(alloc, top.fifos.items())?;
-    push_empty(alloc, &mut lists, top.actors.items().len())?;
-    Ok(Delays {
-        lists: List::new(lists),
-    })
 }

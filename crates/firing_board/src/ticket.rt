@@ -1,9 +1,7 @@
 use crate::compile::CompileTask;
 use crate::entry::{Entry, Item};
-use crate::outcome::{Delays, Iteration};
-use crate::path::Path;
-use crate::refusal::Refusal;
 use kernel_gate::Frame;
+use pisdf_meaning::{Delays, Iteration, Path, Refusal};
 use sdf_level::List;
 
 /// The right and the duty to finish an item. It is not `Drop`.

@@ -1,6 +1,5 @@
 pub mod Numbers
-pub mod Passes
-pub mod Pass
+pub mod KernelsFit
 pub mod Reading
 pub mod Rows
 pub mod Runs

@@ -15,8 +15,7 @@ use Rattle.token_text.specs.Streams.{read_of, fault_or, first_fault, streams_of}
 use Rattle.token_text.specs.Records.{records_of}
 use Rattle.token_text.specs.declared.fault.TokenFault.{TokenFault}
 use Rattle.pisdf_model.specs.declared.graph.Graphs.{Graphs}
-use Rattle.firing_board.specs.Run.{needs_of}
-use Rattle.pisdf_program.specs.Result.{graphs_in_json, graphs_in_reading, input_names, json_of, read_graphs, read_streams, streams_in}
+use Rattle.pisdf_program.specs.Result.{graphs_in_json, graphs_in_reading, input_names, json_of, read_graphs, read_streams, streams_in, top_of}
 use Rattle.pisdf_program.specs.declared.status.Status.TheVariants.{GraphRefused, TokensRefused}
 use Rattle.pisdf_program.specs.declared.status.GraphCause.TheVariants as graph
 use Rattle.pisdf_program.specs.declared.status.TokenCause.TheVariants as tokens
@@ -94,5 +93,5 @@ length_read bytes names s h =
     let is = fault_or_ok (first_fault names [] 1 (records_of bytes)) (streams_of names (records_of bytes)) s h in
     ap (length) (sym is) ∙ length_streams names bytes
 
-pub length_names : (g : Graphs) → length (input_names g) ≡ length (needs_of g)
+pub length_names : (g : Graphs) → length (input_names g) ≡ length (top_of g).inputs
 length_names g = simp length-map

@@ -1,18 +1,27 @@
 -- A run, iteration by iteration.
-use Rattle.std.proofs.Common.{◌≡◌, ℕ, suc, ◌+◌, ◌-◌, ◌*◌, ◌≤◌, ◌<◌, ℤ, List, [], ◌∷◌, ◌++◌, length, take, drop, Option, Some, None, refl, sym, ap, ◌∙◌, subst, append_assoc, arith, inl, inr, map, length-append, zero}
+use Rattle.std.proofs.Common.{◌≡◌, ℕ, suc, zero, ◌+◌, ◌-◌, ◌*◌, ◌≤◌, ◌<◌, ℤ, List, [], ◌∷◌, ◌++◌, length, take, drop, Option, Some, None, Result, Ok, Err, refl, sym, ap, ◌∙◌, subst, append_assoc, arith, inl, inr, map, length-append, slice_get, slice_index_or}
 use Rattle.std.proofs.lemmas.List.{append-nil, take-append-le}
 use Rattle.std.proofs.Math.Seq.{drop-nil, take-append_seam, take-append-add}
 use Rattle.outer_world.specs.Sink.{Grows}
 use Rattle.outer_world.specs.Faults.{Rose}
+use Rattle.pisdf_model.specs.Hold.{initial}
+use Rattle.pisdf_model.specs.declared.graph.Graph.{Graph}
 use Rattle.pisdf_model.specs.declared.graph.Graphs.{Graphs}
-use Rattle.firing_board.specs.declared.outcome.Delays.{Delays}
-use Rattle.firing_board.specs.declared.outcome.Iteration.{Iteration}
-use Rattle.firing_board.specs.declared.refusal.Refusal.{Refusal}
-use Rattle.firing_board.specs.Job.{top_of}
-use Rattle.firing_board.specs.Meaning as one
-use Rattle.firing_board.specs.Run as run
-use Rattle.pisdf_program.specs.Calls.{GrowsPartly, GrowsByFirst, EndsRun}
-use Rattle.pisdf_program.specs.Iterated.{Gives, IsRefused, EndsAt}
+use Rattle.pisdf_model.specs.declared.graph.Interface.{Interface}
+use Rattle.param_resolver.specs.EarlyCheck.{early_faults}
+use Rattle.pisdf_meaning.specs.Causes.{unless_refused}
+use Rattle.pisdf_meaning.specs.Endings.{End, IfRefused}
+use Rattle.pisdf_meaning.specs.declared.refusal.PlainFault.{PlainFault}
+use Rattle.pisdf_meaning.specs.declared.refusal.PlainFault.TheVariants as plain
+use Rattle.pisdf_meaning.specs.Laws.{HasOneMeaning}
+use Rattle.pisdf_meaning.specs.Meaning.{Means}
+use Rattle.pisdf_meaning.specs.Run as run
+use Rattle.pisdf_meaning.specs.declared.outcome.Iteration.{Iteration}
+use Rattle.pisdf_meaning.specs.declared.refusal.Refusal.{Refusal}
+use Rattle.pisdf_program.specs.Calls.{GrowsPartly, GrowsByFirst, EndsRun, RanTo, HasBegun, text_of}
+use Rattle.pisdf_program.specs.Iterated.{Checks, Gives, IsRefused, HaveIterated}
+use Rattle.pisdf_program.specs.Result.{no_graph, top_of}
+use Rattle.pisdf_program.specs.Stepped.{EndsAt, refused_end}
 use Rattle.pisdf_program.specs.Streams.{rest_of}
 use Rattle.pisdf_program.specs.Texts.{joined, texts_from, iteration_text}
 use Rattle.pisdf_program.specs.declared.run.RunEnd.{RunEnd}
@@ -24,9 +33,6 @@ pub joined-append : (xs ys : List (List ℕ)) → joined (xs ++ ys) ≡ joined x
 joined-append [] ys = refl
 joined-append (x ∷ xs) ys = ap (λ t. x ++ t) (joined-append xs ys) ∙ sym (append_assoc x (joined xs) (joined ys))
 
-joined_snoc : (xs : List (List ℕ)) (x : List ℕ) → joined (xs ++ x ∷ []) ≡ joined xs ++ x
-joined_snoc xs x = joined-append xs (x ∷ []) ∙ ap (λ t. joined xs ++ t) (append-nil x)
-
 pub grows_on : (a b c : Option (List ℕ)) (x y : List ℕ) → Grows a b x → Grows b c y → Grows a c (x ++ y)
 grows_on a b c x y p q = λ told e. q (told ++ x) (p told e) ∙ ap (λ t. Some t) (append_assoc told x y)
 
@@ -36,6 +42,28 @@ grows_as a b x y e p = subst (Grows a b) e p
 pub grows_none : (a : Option (List ℕ)) → Grows a a []
 grows_none a = λ told e. e ∙ ap (λ t. Some t) (sym (append-nil told))
 
+pub grows_partly_as : (a b : Option (List ℕ)) (x y : List ℕ) → x ≡ y → GrowsPartly a b x → GrowsPartly a b y
+grows_partly_as a b x y e p = subst (GrowsPartly a b) e p
+
+partly_after : (had has new : Option (List ℕ)) (front text : List ℕ) → Grows had has front → GrowsPartly has new text → GrowsPartly had new (front ++ text)
+partly_after had has new front text grows p =
+    let taken : front ++ take p.0 text ≡ take (length front + p.0) (front ++ text) = sym (take-append-add front text p.0) in
+    (length front + p.0, omega (arith, length-append front text, p.1), grows_as had new _ _ taken (grows_on had has new front (take p.0 text) grows p.2))
+
+-- the texts of iterations, and that of one more
+texts-snoc : (n : ℕ) (outputs : List Interface) (its : List Iteration) (i : Iteration) → texts_from n outputs (its ++ i ∷ []) ≡ texts_from n outputs its ++ iteration_text (n + length its) outputs i ∷ []
+texts-snoc n outputs [] i = let e : n ≡ n + 0 = omega arith in ap (λ k. iteration_text k outputs i ∷ []) e
+texts-snoc n outputs (x ∷ its) i =
+    let e : n + 1 + length its ≡ n + length (x ∷ its) = omega arith in
+    ap (λ t. iteration_text n outputs x ∷ t) (texts-snoc (n + 1) outputs its i ∙ ap (λ k. texts_from (n + 1) outputs its ++ iteration_text k outputs i ∷ []) e)
+
+pub text-snoc : (g : Graphs) (its : List Iteration) (i : Iteration) → text_of g (its ++ i ∷ []) ≡ text_of g its ++ iteration_text (length its) (top_of g).outputs i
+text-snoc g its i =
+    let outputs = (top_of g).outputs in
+    let n : 0 + length its ≡ length its = omega arith in
+    ap joined (texts-snoc 0 outputs its i ∙ ap (λ k. texts_from 0 outputs its ++ iteration_text k outputs i ∷ []) n) ∙ joined-append (texts_from 0 outputs its) (iteration_text (length its) outputs i ∷ [])
+    ∙ ap (λ t. text_of g its ++ t) (append-nil (iteration_text (length its) outputs i))
+
 -- ---- what is left of the streams
 
 drop_more : (k m : ℕ) (xs : List ℤ) → drop m (drop k xs) ≡ drop (k + m) xs
@@ -43,101 +71,215 @@ drop_more zero m xs = let e : m ≡ 0 + m = omega arith in ap (λ n. drop n xs) 
 drop_more (suc k) m [] = drop-nil m ∙ sym (drop-nil (suc k + m))
 drop_more (suc k) m (x ∷ xs) = let e : suc (k + m) ≡ suc k + m = omega arith in drop_more k m xs ∙ ap (λ n. drop n (x ∷ xs)) e
 
-one_more_time : (done need : ℕ) → done * need + need ≡ (done + 1) * need
+one_more_time : (done need : ℕ) → done * need + need ≡ suc done * need
 one_more_time done need = grind arith
 
-pub rest_next : (done : ℕ) (needs : List ℕ) (streams : List (List ℤ)) → run.left_by needs (rest_of done needs streams) ≡ rest_of (done + 1) needs streams
+pub rest_next : (done : ℕ) (needs : List ℕ) (streams : List (List ℤ)) → run.left_by needs (rest_of done needs streams) ≡ rest_of (suc done) needs streams
 rest_next done [] streams = refl
 rest_next done (need ∷ needs) [] = refl
 rest_next done (need ∷ needs) (t ∷ streams) =
-    let first : drop need (drop (done * need) t) ≡ drop ((done + 1) * need) t = drop_more (done * need) need t ∙ ap (λ n. drop n t) (one_more_time done need) in
+    let first : drop need (drop (done * need) t) ≡ drop (suc done * need) t = drop_more (done * need) need t ∙ ap (λ n. drop n t) (one_more_time done need) in
     let others = rest_next done needs streams in cc
 
-rest_first : (needs : List ℕ) (streams : List (List ℤ)) → length needs ≡ length streams → rest_of 0 needs streams ≡ streams
-rest_first [] streams h = refl
-rest_first (need ∷ needs) [] h = refl
-rest_first (need ∷ needs) (t ∷ streams) h =
+rest_first : (needs : List ℕ) (streams : List (List ℤ)) → rest_of 0 needs streams ≡ streams
+rest_first [] streams = refl
+rest_first (need ∷ needs) [] = refl
+rest_first (need ∷ needs) (t ∷ streams) =
     let first : drop (0 * need) t ≡ t = let e : 0 * need ≡ 0 = omega arith in ap (λ n. drop n t) e in
-    let others = rest_first needs streams (omega arith) in cc
+    let others = rest_first needs streams in cc
 
 -- ---- one iteration
 
-run_gives : (g : Graphs) (n : ℕ) (d next : Delays) (streams : List (List ℤ)) (i : Iteration) → Gives g d streams i next
-    → run.run_from g (suc n) d streams ≡ run.after i (run.run_from g n next (run.left_by (run.needs_of g) streams))
-run_gives g n d next streams i h = rw (run.run_from, h.enough, h.means) refl
+abbrev State : Type 0
+State = List (List ℤ)
 
-run_short : (g : Graphs) (n : ℕ) (d : Delays) (streams : List (List ℤ)) (lack : run.Lack) → run.first_lack 0 (run.needs_of g) streams ≡ Some lack
-    → run.run_from g (suc n) d streams ≡ run.ended (run.Short lack)
-run_short g n d streams lack h = rw (run.run_from, h) refl
+-- what an iteration finds of its streams, and how the run goes on with it
+abbrev found : Graphs → Graph → State → Result (Option run.Lack) Refusal
+found g top streams = run.after_early g top (run.first_lack 0 (run.top_needs g) streams)
 
-run_refused : (g : Graphs) (n : ℕ) (d : Delays) (streams : List (List ℤ)) (refusal : Refusal) → IsRefused g d streams (one.Refused refusal)
-    → run.run_from g (suc n) d streams ≡ run.ended (run.Refused refusal)
-run_refused g n d streams refusal h = rw (run.run_from, h.enough, h.means) refl
+same_top : (g : Graphs) (a b : Graph) → slice_get g.graphs g.top ≡ Some a → slice_get g.graphs g.top ≡ Some b → a ≡ b
+same_top g a b p q = let e : Some a ≡ Some b = sym p ∙ q in cc
+
+get_there : {X : Type 0} (xs : List X) (n : ℕ) → n < length xs → (x : X) × (slice_get xs n ≡ Some x)
+get_there [] n lt = absurd (omega (arith, lt))
+get_there (x ∷ xs) zero lt = (x, refl)
+get_there (x ∷ xs) (suc n) lt = get_there xs n (omega (arith, lt))
+
+-- there is a top graph
+pub top_there : (g : Graphs) → g.top < length g.graphs → (top : Graph) × (slice_get g.graphs g.top ≡ Some top)
+top_there g lt = get_there g.graphs g.top lt
+
+-- an early check without a fault goes on to the streams
+pub checks : (g : Graphs) (top : Graph) (streams : State) (lack : Option run.Lack) → slice_get g.graphs g.top ≡ Some top → early_faults g.graphs g.top [] ≡ []
+    → run.first_lack 0 (run.top_needs g) streams ≡ lack → Checks g streams (Ok lack)
+checks g top streams lack is sound e =
+    record {
+      top = top;
+      top_is = is;
+      finds = ap (λ f. unless_refused g.graphs top top.name f (run.first_lack 0 (run.top_needs g) streams)) sound ∙ ap (λ l. Ok l) e;
+    }
+
+pub gives : (g : Graphs) (s next tokens ins : State) (needs : List ℕ) (k : ℕ) (i : Iteration) → needs ≡ run.top_needs g → early_faults g.graphs g.top [] ≡ []
+    → None ≡ run.first_lack 0 needs (rest_of k needs tokens) → ins ≡ run.taken needs (rest_of k needs tokens) → run.IterationGives g ins s i next → Gives g s (rest_of k (run.top_needs g) tokens) i next
+gives g s next tokens ins needs k i e sound none is h =
+    record {
+      checks = checks g h.ends.top (rest_of k (run.top_needs g) tokens) None h.ends.top_is sound (ap (λ n. run.first_lack 0 n (rest_of k n tokens)) (sym e) ∙ sym none);
+      gives = subst (λ x. run.IterationGives g x s i next) (is ∙ ap (λ n. run.taken n (rest_of k n tokens)) e) h;
+    }
+
+pub refused_by_one : (g : Graphs) (s tokens ins : State) (needs : List ℕ) (k : ℕ) (refusal : Refusal) → needs ≡ run.top_needs g → early_faults g.graphs g.top [] ≡ []
+    → None ≡ run.first_lack 0 needs (rest_of k needs tokens) → ins ≡ run.taken needs (rest_of k needs tokens) → run.IterationEnds g ins s (Err refusal) → IsRefused g s (rest_of k (run.top_needs g) tokens) refusal
+refused_by_one g s tokens ins needs k refusal e sound none is h =
+    record {
+      checks = checks g h.top (rest_of k (run.top_needs g) tokens) None h.top_is sound (ap (λ n. run.first_lack 0 n (rest_of k n tokens)) (sym e) ∙ sym none);
+      ends = subst (λ x. run.IterationEnds g x s (Err refusal)) (is ∙ ap (λ n. run.taken n (rest_of k n tokens)) e) h;
+    }
+
+pub lacks : (g : Graphs) (tokens : State) (needs : List ℕ) (k : ℕ) (lack : run.Lack) → g.top < length g.graphs → needs ≡ run.top_needs g → early_faults g.graphs g.top [] ≡ []
+    → Some lack ≡ run.first_lack 0 needs (rest_of k needs tokens) → Checks g (rest_of k (run.top_needs g) tokens) (Ok (Some lack))
+lacks g tokens needs k lack lt e sound some =
+    let top = top_there g lt in
+    checks g top.0 (rest_of k (run.top_needs g) tokens) (Some lack) top.1 sound (ap (λ n. run.first_lack 0 n (rest_of k n tokens)) (sym e) ∙ sym some)
+
+run_gives : (g : Graphs) (n : ℕ) (s next streams : State) (i : Iteration) (rest : run.Run) → Gives g s streams i next
+    → run.RunsFrom g n next (run.left_by (run.top_needs g) streams) rest → run.RunsFrom g (suc n) s streams (run.after i rest)
+run_gives g n s next streams i rest h more =
+    let given = h.gives.given in
+    let is : run.after i rest ≡ run.after (run.iteration_of given) rest = ap (λ j. run.after j rest) h.gives.iteration_is in
+    let on = subst (λ t. run.RunsFrom g n t (run.left_by (run.top_needs g) streams) rest) h.gives.state_is more in
+    (h.checks.top, h.checks.top_is, subst (λ f. run.AfterCheck g (run.RunsFrom g n) s streams f (run.after i rest)) (sym h.checks.finds) (Ok given, h.gives.ends, (rest, on, is)))
+
+run_short : (g : Graphs) (n : ℕ) (s streams : State) (lack : run.Lack) → Checks g streams (Ok (Some lack)) → run.RunsFrom g (suc n) s streams (run.ended (run.Short lack))
+run_short g n s streams lack h =
+    (h.top, h.top_is, subst (λ f. run.AfterCheck g (run.RunsFrom g n) s streams f (run.ended (run.Short lack))) (sym h.finds) refl)
+
+run_refused : (g : Graphs) (n : ℕ) (s streams : State) (refusal : Refusal) → IsRefused g s streams refusal → run.RunsFrom g (suc n) s streams (run.ended (run.Refused refusal))
+run_refused g n s streams refusal h =
+    (h.checks.top, h.checks.top_is, subst (λ f. run.AfterCheck g (run.RunsFrom g n) s streams f (run.ended (run.Refused refusal))) (sym h.checks.finds) (Err refusal, h.ends, refl))
+
+pub run_unchecked : (g : Graphs) (n : ℕ) (s streams : State) (refusal : Refusal) → Checks g streams (Err refusal) → run.RunsFrom g (suc n) s streams (run.ended (run.Refused refusal))
+run_unchecked g n s streams refusal h =
+    (h.top, h.top_is, subst (λ f. run.AfterCheck g (run.RunsFrom g n) s streams f (run.ended (run.Refused refusal))) (sym h.finds) refl)
+
+-- ---- there is one end
+
+abbrev pub HasOneEnd : Type 0
+HasOneEnd = (graphs : List Graph) → HasOneMeaning graphs
+
+one_end : HasOneEnd → (g : Graphs) (inputs state : State) (e e' : End) → run.IterationEnds g inputs state e → run.IterationEnds g inputs state e' → e ≡ e'
+one_end one g inputs state e e' h h' =
+    let top = same_top g h'.top h.top h'.top_is h.top_is in
+    one g.graphs (run.top_firing h.top g.top inputs state) e e' h.means (subst (λ (t : Graph). Means g.graphs (run.top_firing t g.top inputs state) e') top h'.means)
+
+-- where an iteration gives something, the rest of the run is from what it leaves
+goes_on_from : HasOneEnd → (g : Graphs) (n : ℕ) (s next streams : State) (i : Iteration) (r : run.Run) → Gives g s streams i next → run.RunsFrom g (suc n) s streams r
+    → (rest : run.Run) × run.RunsFrom g n next (run.left_by (run.top_needs g) streams) rest × (r ≡ run.after i rest)
+goes_on_from one g n s next streams i r h (top, top_is, check) =
+    let rest_run : State → State → run.Run → Type 0 = run.RunsFrom g n in
+    let same = same_top g top h.checks.top top_is h.checks.top_is in
+    let finds : found g top streams ≡ Ok None = ap (λ t. found g t streams) same ∙ h.checks.finds in
+    let iterates : run.Iterates g rest_run s streams None r = subst (λ f. run.AfterCheck g rest_run s streams f r) finds check in
+    let given = h.gives.given in
+    let ends : iterates.0 ≡ Ok given = one_end one g (run.taken (run.top_needs g) streams) s iterates.0 (Ok given) iterates.1 h.gives.ends in
+    let on : run.GoesOn (λ t q. rest_run t (run.left_by (run.top_needs g) streams) q) (Ok given) r = subst (λ e. run.GoesOn (λ t q. rest_run t (run.left_by (run.top_needs g) streams) q) e r) ends iterates.2 in
+    (on.0, subst (λ t. rest_run t (run.left_by (run.top_needs g) streams) on.0) (sym h.gives.state_is) on.1, on.2 ∙ ap (λ j. run.after j on.0) (sym h.gives.iteration_is))
+
+abbrev OneFrom : Graphs → ℕ → Type 0
+OneFrom g n = (s streams : State) (r r' : run.Run) → run.RunsFrom g n s streams r → run.RunsFrom g n s streams r' → r ≡ r'
+
+one_going : (g : Graphs) (n : ℕ) (streams : State) (e : End) (r r' : run.Run) → OneFrom g n
+    → run.GoesOn (λ t q. run.RunsFrom g n t (run.left_by (run.top_needs g) streams) q) e r → run.GoesOn (λ t q. run.RunsFrom g n t (run.left_by (run.top_needs g) streams) q) e r' → r ≡ r'
+one_going g n streams (Ok given) r r' one (more, on, is) (more', on', is') =
+    is ∙ ap (run.after (run.iteration_of given)) (one given.state (run.left_by (run.top_needs g) streams) more more' on on') ∙ sym is'
+one_going g n streams (Err refusal) r r' one is is' = is ∙ sym is'
+
+one_checked : HasOneEnd → (g : Graphs) (n : ℕ) (s streams : State) (f : Result (Option run.Lack) Refusal) (r r' : run.Run) → OneFrom g n
+    → run.AfterCheck g (run.RunsFrom g n) s streams f r → run.AfterCheck g (run.RunsFrom g n) s streams f r' → r ≡ r'
+one_checked one g n s streams (Err refusal) r r' rest is is' = is ∙ sym is'
+one_checked one g n s streams (Ok (Some lack)) r r' rest is is' = is ∙ sym is'
+one_checked one g n s streams (Ok None) r r' rest (e, ends, on) (e', ends', on') =
+    let same : e' ≡ e = one_end one g (run.taken (run.top_needs g) streams) s e' e ends' ends in
+    one_going g n streams e r r' rest on (subst (λ x. run.GoesOn (λ t q. run.RunsFrom g n t (run.left_by (run.top_needs g) streams) q) x r') same on')
+
+one_from : HasOneEnd → (g : Graphs) (n : ℕ) → OneFrom g n
+one_from one g zero s streams r r' is is' = is ∙ sym is'
+one_from one g (suc n) s streams r r' (top, top_is, check) (top', top_is', check') =
+    let same = same_top g top' top top_is' top_is in
+    one_checked one g n s streams (found g top streams) r r' (one_from one g n) check (subst (λ t. run.AfterCheck g (run.RunsFrom g n) s streams (found g t streams) r') same check')
+
+pub one_run : HasOneEnd → (g : Graphs) (streams : State) (n : ℕ) (r r' : run.Run) → run.IsRun g streams n r → run.IsRun g streams n r' → r ≡ r'
+one_run one g streams n r r' h h' = one_from one g n (initial g.graphs g.top) streams r r' h h'
 
 -- ---- the iterations so far
 
-abbrev pub rest_run : Graphs → ℕ → ℕ → Delays → List (List ℤ) → run.Run
-rest_run g n done d tokens = run.run_from g (n - done) d (rest_of done (run.needs_of g) tokens)
+-- iterations, and then a run
+abbrev pub then_run : List Iteration → run.Run → run.Run
+then_run its rest = record { iterations = its ++ rest.iterations; end = rest.end }
 
-abbrev pub texts_of : Graphs → run.Run → List (List ℕ)
-texts_of g r = texts_from 0 (top_of g).outputs r.iterations
+pub counted : (g : Graphs) (streams : State) (k : ℕ) (its : List Iteration) (s : State) → HaveIterated g streams k its s → length its ≡ k
+counted g streams zero its s h = ap (length {A = Iteration}) h.0
+counted g streams (suc k) its s (before, from, i, h, gives, is) =
+    let l = counted g streams k before from h in
+    let e = ap (length {A = Iteration}) is in
+    omega (arith, e, l, length-append before (i ∷ []))
 
--- the first `done` of n iterations were put, and leave these delays
-pub record Reached (g : Graphs) (total : run.Run) (n done : ℕ) (d : Delays) (tokens : List (List ℤ)) (had has : Option (List ℕ)) : Type 0 where
-  pub so_far : List (List ℕ)
-  pub written : Grows had has (joined so_far)
-  pub texts : texts_of g total ≡ so_far ++ texts_from done (top_of g).outputs (rest_run g n done d tokens).iterations
-  pub end : total.end ≡ (rest_run g n done d tokens).end
+after_snoc : (before : List Iteration) (i : Iteration) (rest : run.Run) → then_run before (run.after i rest) ≡ then_run (before ++ i ∷ []) rest
+after_snoc before i rest = ap (λ its. record { iterations = its; end = rest.end }) (sym (append_assoc before (i ∷ []) rest.iterations))
 
-pub starts : (g : Graphs) (n : ℕ) (d : Delays) (tokens : List (List ℤ)) (had : Option (List ℕ)) → d ≡ run.first_delays g → length (run.needs_of g) ≡ length tokens
-    → Reached g (run.run_of g tokens n) n 0 d tokens had had
-starts g n d tokens had first fit =
-    let whole : run.run_of g tokens n ≡ rest_run g n 0 d tokens =
-    let e : n ≡ n - 0 = omega arith in
-    ap (λ m. run.run_from g m (run.first_delays g) tokens) e ∙ ap (run.run_from g (n - 0) (run.first_delays g)) (sym (rest_first (run.needs_of g) tokens fit))
-    ∙ ap (λ f. rest_run g n 0 f tokens) (sym first) in
+-- the rest of the run, from the state that they leave
+pub whole_run : (g : Graphs) (streams : State) (k m : ℕ) (its : List Iteration) (s : State) (rest : run.Run) → HaveIterated g streams k its s
+    → run.RunsFrom g m s (rest_of k (run.top_needs g) streams) rest → run.IsRun g streams (k + m) (then_run its rest)
+whole_run g streams zero m its s rest h more =
+    let first = rest_first (run.top_needs g) streams in
+    let on = subst (λ t. run.RunsFrom g m t streams rest) h.1 (subst (λ t. run.RunsFrom g m s t rest) first more) in
+    let is : rest ≡ then_run its rest = ap (λ l. then_run l rest) (sym h.0) in
+    let n : m ≡ 0 + m = omega arith in
+    subst (λ q. run.IsRun g streams q (then_run its rest)) n (subst (λ r. run.IsRun g streams m r) is on)
+whole_run g streams (suc k) m its s rest (before, from, i, h, gives, is) more =
+    let next = subst (λ t. run.RunsFrom g m s t rest) (sym (rest_next k (run.top_needs g) streams)) more in
+    let one = run_gives g m from s (rest_of k (run.top_needs g) streams) i rest gives next in
+    let all = whole_run g streams k (suc m) before from (run.after i rest) h one in
+    let n : k + suc m ≡ suc k + m = omega arith in
+    let same : then_run before (run.after i rest) ≡ then_run its rest = after_snoc before i rest ∙ ap (λ l. then_run l rest) (sym is) in
+    subst (λ r. run.IsRun g streams (suc k + m) r) same (subst (λ q. run.IsRun g streams q (then_run before (run.after i rest))) n all)
+
+-- each run of more iterations begins with them
+pub run_begins : HasOneEnd → (g : Graphs) (streams : State) (k m : ℕ) (its : List Iteration) (s : State) (r : run.Run) → HaveIterated g streams k its s → run.IsRun g streams (k + m) r → (rest : run.Run) × run.RunsFrom g m s (rest_of k (run.top_needs g) streams) rest × (r ≡ then_run its rest)
+run_begins one g streams zero m its s r h is =
+    let first = rest_first (run.top_needs g) streams in
+    let n : 0 + m ≡ m = omega arith in
+    let here = subst (λ q. run.IsRun g streams q r) n is in
+    (r, subst (λ t. run.RunsFrom g m t (rest_of 0 (run.top_needs g) streams) r) (sym h.1) (subst (λ t. run.RunsFrom g m (initial g.graphs g.top) t r) (sym first) here), ap (λ l. then_run l r) (sym h.0))
+run_begins one g streams (suc k) m its s r (before, from, i, h, gives, its_are) is =
+    let n : suc k + m ≡ k + suc m = omega arith in
+    let more = run_begins one g streams k (suc m) before from r h (subst (λ q. run.IsRun g streams q r) n is) in
+    let on = goes_on_from one g m from s (rest_of k (run.top_needs g) streams) i more.0 gives more.1 in
+    let same : then_run before (run.after i on.0) ≡ then_run its on.0 = after_snoc before i on.0 ∙ ap (λ l. then_run l on.0) (sym its_are) in
+    (on.0, subst (λ t. run.RunsFrom g m s t on.0) (rest_next k (run.top_needs g) streams) on.1, more.2 ∙ ap (then_run before) on.2 ∙ same)
+
+-- the first k iterations were put, and leave this state
+pub record Reached (g : Graphs) (streams : State) (k : ℕ) (s : State) (had has : Option (List ℕ)) : Type 0 where
+  pub so_far : List Iteration
+  pub done : HaveIterated g streams k so_far s
+  pub written : Grows had has (text_of g so_far)
+
+pub starts : (g : Graphs) (streams s : State) (had : Option (List ℕ)) → s ≡ initial g.graphs g.top → Reached g streams 0 s had had
+starts g streams s had first = record { so_far = []; done = (refl, first); written = grows_none had }
+
+-- the text of one more iteration
+one_text : (g : Graphs) (streams : State) (k : ℕ) (its : List Iteration) (s : State) (i : Iteration) → HaveIterated g streams k its s
+    → text_of g its ++ iteration_text k (top_of g).outputs i ≡ text_of g (its ++ i ∷ [])
+one_text g streams k its s i h = ap (λ n. text_of g its ++ iteration_text n (top_of g).outputs i) (sym (counted g streams k its s h)) ∙ sym (text-snoc g its i)
+
+pub goes_on : (g : Graphs) (streams : State) (k : ℕ) (s next : State) (had has new : Option (List ℕ)) (i : Iteration) → Reached g streams k s had has
+    → Gives g s (rest_of k (run.top_needs g) streams) i next → Grows has new (iteration_text k (top_of g).outputs i) → Reached g streams (k + 1) next had new
+goes_on g streams k s next had has new i r gives grows =
+    let n : suc k ≡ k + 1 = omega arith in
+    let done : HaveIterated g streams (suc k) (r.so_far ++ i ∷ []) next = (r.so_far, s, i, r.done, gives, refl) in
     record {
-      so_far = [];
-      written = grows_none had;
-      texts = ap (texts_of g) whole;
-      end = ap (λ (r : run.Run). r.end) whole;
-    }
-
-pub gives : (g : Graphs) (d next : Delays) (needs : List ℕ) (tokens ins : List (List ℤ)) (done : ℕ) (i : Iteration) → needs ≡ run.needs_of g
-    → None ≡ run.first_lack 0 needs (rest_of done needs tokens) → ins ≡ run.taken needs (rest_of done needs tokens) → one.meaning g d ins ≡ one.Done i next
-    → Gives g d (rest_of done (run.needs_of g) tokens) i next
-gives g d next needs tokens ins done i e none is m = record {
-  enough = ap (λ n. run.first_lack 0 n (rest_of done n tokens)) (sym e) ∙ sym none;
-  means = ap (λ n. one.meaning g d (run.taken n (rest_of done n tokens))) (sym e) ∙ ap (one.meaning g d) (sym is) ∙ m;
-}
-
-pub grows_partly_as : (a b : Option (List ℕ)) (x y : List ℕ) → x ≡ y → GrowsPartly a b x → GrowsPartly a b y
-grows_partly_as a b x y e p = subst (GrowsPartly a b) e p
-
-same_rest : (g : Graphs) (n done : ℕ) (d : Delays) (tokens : List (List ℤ)) → done < n
-    → rest_run g n done d tokens ≡ run.run_from g (suc (n - (done + 1))) d (rest_of done (run.needs_of g) tokens)
-same_rest g n done d tokens lt =
-    let e : n - done ≡ suc (n - (done + 1)) = omega arith in
-    ap (λ m. run.run_from g m d (rest_of done (run.needs_of g) tokens)) e
-
-rest_gives : (g : Graphs) (n done : ℕ) (d next : Delays) (tokens : List (List ℤ)) (i : Iteration) → done < n → Gives g d (rest_of done (run.needs_of g) tokens) i next
-    → rest_run g n done d tokens ≡ run.after i (rest_run g n (done + 1) next tokens)
-rest_gives g n done d next tokens i lt h =
-    same_rest g n done d tokens lt ∙ run_gives g (n - (done + 1)) d next (rest_of done (run.needs_of g) tokens) i h
-    ∙ ap (λ s. run.after i (run.run_from g (n - (done + 1)) next s)) (rest_next done (run.needs_of g) tokens)
-
-pub goes_on : (g : Graphs) (total : run.Run) (n done : ℕ) (d next : Delays) (tokens : List (List ℤ)) (had has new : Option (List ℕ)) (i : Iteration) → done < n
-    → Reached g total n done d tokens had has → Gives g d (rest_of done (run.needs_of g) tokens) i next → Grows has new (iteration_text done (top_of g).outputs i)
-    → Reached g total n (done + 1) next tokens had new
-goes_on g total n done d next tokens had has new i lt r h grows =
-    let text = iteration_text done (top_of g).outputs i in
-    let is = rest_gives g n done d next tokens i lt h in
-    record {
-      so_far = r.so_far ++ text ∷ [];
-      written = grows_as had new _ _ (sym (joined_snoc r.so_far text)) (grows_on had has new (joined r.so_far) text r.written grows);
-      texts = r.texts ∙ ap (λ (s : run.Run). r.so_far ++ texts_from done (top_of g).outputs s.iterations) is
-          ∙ sym (append_assoc r.so_far (text ∷ []) (texts_from (done + 1) (top_of g).outputs (rest_run g n (done + 1) next tokens).iterations));
-      end = r.end ∙ ap (λ (s : run.Run). s.end) is;
+      so_far = r.so_far ++ i ∷ [];
+      done = subst (λ m. HaveIterated g streams m (r.so_far ++ i ∷ []) next) n done;
+      written = grows_as had new _ _ (one_text g streams k r.so_far s i r.done) (grows_on had has new (text_of g r.so_far) _ r.written grows);
     }
 
 -- ---- how a run ends
@@ -146,57 +288,70 @@ pub rose_since : (a b c : ℕ) → a ≤ b → Rose b c → Rose a c
 rose_since a b c le (inl lt) = inl (omega arith)
 rose_since a b c le (inr last) = inr last
 
--- the first texts were written
-pub first_written : (g : Graphs) (total : run.Run) (n done : ℕ) (d : Delays) (tokens : List (List ℤ)) (had has : Option (List ℕ))
-    → Reached g total n done d tokens had has → GrowsByFirst had has (texts_of g total)
-first_written g total n done d tokens had has r =
-    let more = texts_from done (top_of g).outputs (rest_run g n done d tokens).iterations in
-    let front : take (length r.so_far) (texts_of g total) ≡ r.so_far = ap (take (length r.so_far)) r.texts ∙ take-append_seam r.so_far more in
-    (length r.so_far, grows_as had has _ _ (ap joined (sym front)) r.written)
-
 -- where the run ends here without an iteration, all its texts were written
-all_written : (g : Graphs) (total : run.Run) (n done : ℕ) (d : Delays) (tokens : List (List ℤ)) (had has new : Option (List ℕ)) (e : run.RunEnd)
-    → Reached g total n done d tokens had has → Grows has new [] → rest_run g n done d tokens ≡ run.ended e
-    → (total.end ≡ e) × Grows had new (joined (texts_of g total))
-all_written g total n done d tokens had has new e r none is =
-    let texts : texts_of g total ≡ r.so_far = r.texts ∙ ap (λ (s : run.Run). r.so_far ++ texts_from done (top_of g).outputs s.iterations) is ∙ append-nil r.so_far in (
-      r.end ∙ ap (λ (s : run.Run). s.end) is,
-      grows_as had new _ _ (append-nil (joined r.so_far) ∙ ap joined (sym texts)) (grows_on had has new (joined r.so_far) [] r.written none),
-    )
+all_written : (g : Graphs) (streams : State) (n k : ℕ) (s : State) (had has new : Option (List ℕ)) (e : run.RunEnd) → k ≤ n
+    → Reached g streams k s had has → Grows has new [] → run.RunsFrom g (n - k) s (rest_of k (run.top_needs g) streams) (run.ended e) → RanTo g streams n had new e
+all_written g streams n k s had has new e le r none rest =
+    let whole = whole_run g streams k (n - k) r.so_far s (run.ended e) r.done rest in
+    let m : k + (n - k) ≡ n = omega (arith, le) in
+    let its : r.so_far ++ [] ≡ r.so_far = append-nil r.so_far in
+    let text : text_of g r.so_far ++ [] ≡ text_of g (r.so_far ++ []) = append-nil (text_of g r.so_far) ∙ ap (text_of g) (sym its) in
+    (then_run r.so_far (run.ended e), subst (λ q. run.IsRun g streams q (then_run r.so_far (run.ended e))) m whole, refl, grows_as had new _ _ text (grows_on had has new (text_of g r.so_far) [] r.written none))
 
-partly : (had has new : Option (List ℕ)) (front text more all : List ℕ) → all ≡ front ++ (text ++ more) → Grows had has front → GrowsPartly has new text → GrowsPartly had new all
-partly had has new front text more all is grows p =
-    let kept = p.0 in
-    let le : kept ≤ length text = p.1 in
-    let taken : front ++ take kept text ≡ take (length front + kept) all =
-    sym (ap (take (length front + kept)) is ∙ take-append-add front (text ++ more) kept ∙ ap (λ t. front ++ t) (take-append-le kept text more le)) in
-    let len = ap (length {A = ℕ}) is in
-    (length front + kept, omega (arith, length-append front (text ++ more), length-append text more), grows_as had new _ _ taken (grows_on had has new front (take kept text) grows p.2))
+one_less : (n k : ℕ) → k < n → suc (n - (k + 1)) ≡ n - k
+one_less n k lt = omega arith
 
-pub ends_at : (g : Graphs) (total : run.Run) (n done : ℕ) (d : Delays) (tokens : List (List ℤ)) (had has new : Option (List ℕ)) (first before now : ℕ) (e : RunEnd) → done < n → first ≤ before
-    → Reached g total n done d tokens had has → EndsAt g done d (rest_of done (run.needs_of g) tokens) has new before now e
-    → EndsRun g total had new first now e
-ends_at g total n done d tokens had has new first before now (end.Done left) lt le r h = absurd h
-ends_at g total n done d tokens had has new first before now (end.Short stream held needs) lt le r h =
-    all_written g total n done d tokens had has new _ r h.1 (same_rest g n done d tokens lt ∙ run_short g (n - (done + 1)) d (rest_of done (run.needs_of g) tokens) _ h.0)
-ends_at g total n done d tokens had has new first before now (end.Refused refusal) lt le r h =
-    all_written g total n done d tokens had has new _ r h.1 (same_rest g n done d tokens lt ∙ run_refused g (n - (done + 1)) d (rest_of done (run.needs_of g) tokens) refusal h.0)
-ends_at g total n done d tokens had has new first before now end.WriteFault lt le r (rose, i, next, gives, grows) =
-    let is = rest_gives g n done d next tokens i lt gives in
-    let text = iteration_text done (top_of g).outputs i in
-    let more = texts_from (done + 1) (top_of g).outputs (rest_run g n (done + 1) next tokens).iterations in
-    let all : joined (texts_of g total) ≡ joined r.so_far ++ (text ++ joined more) =
-    ap joined (r.texts ∙ ap (λ (s : run.Run). r.so_far ++ texts_from done (top_of g).outputs s.iterations) is) ∙ joined-append r.so_far (text ∷ more) in
-    (rose_since first before now le rose, partly had has new (joined r.so_far) text (joined more) (joined (texts_of g total)) all r.written grows)
-ends_at g total n done d tokens had has new first before now end.Memory lt le r h =
-    let w = first_written g total n done d tokens had has r in
-    (w.0, grows_as had new _ _ (append-nil (joined (take w.0 (texts_of g total)))) (grows_on had has new (joined (take w.0 (texts_of g total))) [] w.1 h))
+pub first_written : (g : Graphs) (streams : State) (n k : ℕ) (s : State) (had has : Option (List ℕ)) → k ≤ n → Reached g streams k s had has
+    → HasBegun g streams n (λ its. Grows had has (text_of g its))
+first_written g streams n k s had has le r = (k, le, r.so_far, s, r.done, r.written)
 
-pub finished : (g : Graphs) (total : run.Run) (n : ℕ) (d : Delays) (tokens : List (List ℤ)) (had has : Option (List ℕ)) (left : List ℕ)
-    → Reached g total n n d tokens had has → left ≡ map (λ t. length t) (rest_of n (run.needs_of g) tokens)
-    → (total.end ≡ run.Done left) × Grows had has (joined (texts_of g total))
-finished g total n d tokens had has left r is =
-    let none : n - n ≡ 0 = omega arith in
-    let e : rest_run g n n d tokens ≡ run.ended (run.Done left) =
-    ap (λ m. run.run_from g m d (rest_of n (run.needs_of g) tokens)) none ∙ ap (λ l. run.ended (run.Done l)) (sym is) in
-    all_written g total n n d tokens had has has (run.Done left) r (grows_none has) e
+pub ends_at : (g : Graphs) (streams : State) (n k : ℕ) (s : State) (had has new : Option (List ℕ)) (first before now : ℕ) (e : RunEnd) → k < n → first ≤ before
+    → Reached g streams k s had has → EndsAt g k s (rest_of k (run.top_needs g) streams) has new before now e → EndsRun g streams n had new first now e
+ends_at g streams n k s had has new first before now (end.Done left) lt le r h = absurd h
+ends_at g streams n k s had has new first before now (end.Short stream held needs) lt le r h =
+    let lack : run.Lack = record { stream = stream; has = held; needs = needs } in
+    all_written g streams n k s had has new (run.Short lack) (omega (arith, lt)) r h.1
+    (subst (λ m. run.RunsFrom g m s (rest_of k (run.top_needs g) streams) (run.ended (run.Short lack))) (one_less n k lt) (run_short g (n - (k + 1)) s (rest_of k (run.top_needs g) streams) lack h.0))
+ends_at g streams n k s had has new first before now (end.Refused refusal) lt le r h =
+    all_written g streams n k s had has new (run.Refused refusal) (omega (arith, lt)) r h.1
+    (subst (λ m. run.RunsFrom g m s (rest_of k (run.top_needs g) streams) (run.ended (run.Refused refusal))) (one_less n k lt) (run_refused g (n - (k + 1)) s (rest_of k (run.top_needs g) streams) refusal h.0))
+ends_at g streams n k s had has new first before now end.WriteFault lt le r (rose, i, next, gives, grows) =
+    let text = one_text g streams k r.so_far s i r.done in
+    let done : HaveIterated g streams (suc k) (r.so_far ++ i ∷ []) next = (r.so_far, s, i, r.done, gives, refl) in
+    (rose_since first before now le rose, (suc k, omega (arith, lt), r.so_far ++ i ∷ [], next, done, grows_partly_as had new _ _ text (partly_after had has new (text_of g r.so_far) _ r.written grows)))
+ends_at g streams n k s had has new first before now end.Memory lt le r h =
+    (k, omega (arith, lt), r.so_far, s, r.done, grows_as had new _ _ (append-nil (text_of g r.so_far)) (grows_on had has new (text_of g r.so_far) [] r.written h))
+
+pub finished : (g : Graphs) (streams : State) (n : ℕ) (s : State) (had has : Option (List ℕ)) (left : List ℕ) → Reached g streams n s had has
+    → left ≡ map (λ t. length t) (rest_of n (run.top_needs g) streams) → RanTo g streams n had has (run.Done left)
+finished g streams n s had has left r is =
+    let none : 0 ≡ n - n = omega arith in
+    let over : run.RunsFrom g 0 s (rest_of n (run.top_needs g) streams) (run.ended (run.Done left)) = ap (λ l. run.ended (run.Done l)) is in
+    all_written g streams n n s had has has (run.Done left) (omega arith) r (grows_none has) (subst (λ m. run.RunsFrom g m s (rest_of n (run.top_needs g) streams) (run.ended (run.Done left))) none over)
+
+-- no iteration was asked for
+pub nothing_run : (g : Graphs) (streams : State) (had : Option (List ℕ)) (left : List ℕ) → left ≡ map (λ t. length t) streams → RanTo g streams 0 had had (run.Done left)
+nothing_run g streams had left is = (run.ended (run.Done left), ap (λ l. run.ended (run.Done l)) is, refl, grows_none had)
+
+-- the early check of the first iteration refuses the run
+pub refused_first : (g : Graphs) (streams : State) (n : ℕ) (had : Option (List ℕ)) (refusal : Refusal) → 0 < n → Checks g streams (Err refusal) → RanTo g streams n had had (run.Refused refusal)
+refused_first g streams n had refusal lt h =
+    let m : suc (n - 1) ≡ n = omega (arith, lt) in
+    (run.ended (run.Refused refusal), subst (λ q. run.IsRun g streams q (run.ended (run.Refused refusal))) m (run_unchecked g (n - 1) (initial g.graphs g.top) streams refusal h), refl, grows_none had)
+
+-- the early check of the first iteration may refuse a run that has one
+pub unchecked : (g : Graphs) (streams : State) (n : ℕ) (had : Option (List ℕ)) (before now : ℕ) (fault : PlainFault) → 0 < n → g.top < length g.graphs
+    → IfRefused (λ refusal. (top : Graph) (lack : Option run.Lack) → slice_get g.graphs g.top ≡ Some top → run.after_early g top lack ≡ Err refusal) fault
+    → EndsRun g streams n had had before now (refused_end fault)
+unchecked g streams n had before now (plain.Refused refusal) lt there h =
+    let top = top_there g there in
+    refused_first g streams n had refusal lt record { top = top.0; top_is = top.1; finds = h top.0 (run.first_lack 0 (run.top_needs g) streams) top.1 }
+unchecked g streams n had before now plain.Memory lt there h = (0, omega (arith, lt), [], initial g.graphs g.top, (refl, refl), grows_none had)
+
+index_is : {X : Type 0} (xs : List X) (n : ℕ) (x d : X) → slice_get xs n ≡ Some x → slice_index_or xs n d ≡ x
+index_is [] n x d h = absurd cc
+index_is (y ∷ ys) zero x d h = cc
+index_is (y ∷ ys) (suc n) x d h = index_is ys n x d h
+
+pub top_is : (g : Graphs) (top : Graph) → slice_get g.graphs g.top ≡ Some top → top_of g ≡ top
+top_is g top h = index_is g.graphs g.top top no_graph h

@@ -1,10 +1,12 @@
 -- What the calls of the program say.
-use Rattle.std.specs.Prelude.{◌≡◌, ℕ, ◌≤◌, List, length, take, Option}
+use Rattle.std.specs.Prelude.{◌≡◌, ℕ, ◌≤◌, ℤ, List, length, take, Option}
 use Rattle.outer_world.specs.Faults.{Rose}
 use Rattle.outer_world.specs.Sink.{Grows}
-use Rattle.firing_board.specs.Run as run
+use Rattle.pisdf_meaning.specs.Run as run
+use Rattle.pisdf_meaning.specs.declared.outcome.Iteration.{Iteration}
 use Rattle.pisdf_model.specs.declared.graph.Graphs.{Graphs}
-use Rattle.firing_board.specs.Job.{top_of}
+use Rattle.pisdf_program.specs.Iterated.{HaveIterated}
+use Rattle.pisdf_program.specs.Result.{top_of}
 use Rattle.pisdf_program.specs.Texts.{joined, texts_from}
 use Rattle.pisdf_program.specs.declared.run.RunEnd.{RunEnd}
 use Rattle.pisdf_program.specs.declared.run.RunEnd.TheVariants as here
@@ -17,12 +19,23 @@ GrowsPartly had has text = (kept : ℕ) × (kept ≤ length text) × Grows had h
 abbrev pub GrowsByFirst : Option (List ℕ) → Option (List ℕ) → List (List ℕ) → Type 0
 GrowsByFirst had has texts = (count : ℕ) × Grows had has (joined (take count texts))
 
--- the end of a run that went through, its texts being written; a failed put and want of memory leave the first texts
-abbrev pub EndsRun : Graphs → run.Run → Option (List ℕ) → Option (List ℕ) → ℕ → ℕ → RunEnd → Type 0
-EndsRun graphs r had has before now (here.Done left) = (r.end ≡ run.Done left) × Grows had has (joined (texts_from 0 (top_of graphs).outputs r.iterations))
-EndsRun graphs r had has before now (here.Short stream has_tokens needs) =
-    (r.end ≡ run.Short record { stream = stream; has = has_tokens; needs = needs }) × Grows had has (joined (texts_from 0 (top_of graphs).outputs r.iterations))
-EndsRun graphs r had has before now (here.Refused refusal) =
-    (r.end ≡ run.Refused refusal) × Grows had has (joined (texts_from 0 (top_of graphs).outputs r.iterations))
-EndsRun graphs r had has before now here.WriteFault = Rose before now × GrowsPartly had has (joined (texts_from 0 (top_of graphs).outputs r.iterations))
-EndsRun graphs r had has before now here.Memory = GrowsByFirst had has (texts_from 0 (top_of graphs).outputs r.iterations)
+-- so many iterations were done, and these texts of them were written whole
+abbrev pub text_of : Graphs → List Iteration → List ℕ
+text_of graphs iterations = joined (texts_from 0 (top_of graphs).outputs iterations)
+
+-- the run of n iterations ends so, and its texts were written
+abbrev pub RanTo : Graphs → List (List ℤ) → ℕ → Option (List ℕ) → Option (List ℕ) → run.RunEnd → Type 0
+RanTo graphs streams n had has end = (r : run.Run) × run.IsRun graphs streams n r × (r.end ≡ end) × Grows had has (text_of graphs r.iterations)
+
+-- the first of n iterations were done, and of the list of their texts this was written
+abbrev pub HasBegun : Graphs → List (List ℤ) → ℕ → (List Iteration → Type 0) → Type 0
+HasBegun graphs streams n Written =
+    (k : ℕ) × (k ≤ n) × (iterations : List Iteration) × (state : List (List ℤ)) × HaveIterated graphs streams k iterations state × Written iterations
+
+-- how a run of n iterations ended; a failed put and want of memory leave the first texts
+abbrev pub EndsRun : Graphs → List (List ℤ) → ℕ → Option (List ℕ) → Option (List ℕ) → ℕ → ℕ → RunEnd → Type 0
+EndsRun graphs streams n had has before now (here.Done left) = RanTo graphs streams n had has (run.Done left)
+EndsRun graphs streams n had has before now (here.Short stream has_tokens needs) = RanTo graphs streams n had has (run.Short record { stream = stream; has = has_tokens; needs = needs })
+EndsRun graphs streams n had has before now (here.Refused refusal) = RanTo graphs streams n had has (run.Refused refusal)
+EndsRun graphs streams n had has before now here.WriteFault = Rose before now × HasBegun graphs streams n (λ iterations. GrowsPartly had has (text_of graphs iterations))
+EndsRun graphs streams n had has before now here.Memory = HasBegun graphs streams n (λ iterations. Grows had has (text_of graphs iterations))

@@ -1,6 +1,6 @@
 -- A lack of tokens as it stands in the program, as plain data.
 use Rattle.std.specs.Prelude.{Option, option_map}
-use Rattle.firing_board.specs.Run as run
+use Rattle.pisdf_meaning.specs.Run as run
 use Rattle.pisdf_program.specs.declared.streams.Lack.{Lack}
 
 abbrev pub lack_of : Lack → run.Lack

@@ -3,11 +3,11 @@ pub mod Number
 pub mod Words
 pub mod WordsSeen
 pub mod Worked
-pub mod FirstForm
 pub mod LackSeen
 pub mod Streams
 pub mod Calls
 pub mod Iterated
+pub mod Stepped
 pub mod LineSeen
 pub mod Loaded
 pub mod Texts

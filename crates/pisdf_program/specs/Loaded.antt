@@ -1,14 +1,13 @@
 -- What loading a file gives.
 use Rattle.std.specs.Prelude.{◌≡◌, ℕ, Bool, true, false, Result, Ok, Err, All}
-use Rattle.std.specs.Arc.{arc_value}
 use Rattle.outer_world.specs.Faults.{Rose}
 use Rattle.pisdf_model.specs.Range.{InRange}
 use Rattle.pisdf_model.specs.WellFormed.{WellFormed}
 use Rattle.pisdf_model.specs.declared.graph.Graphs.{Graphs}
 use Rattle.graph_format.specs.Writable.{IsWritableGraph}
-use Rattle.firing_board.specs.OnePass.{IsOnePass}
-use Rattle.firing_board.specs.Run.{needs_of}
-use Rattle.pisdf_program.specs.declared.load.Runnable.{Runnable}
+use Rattle.kernel_gate.specs.Signed.{unnamed}
+use Rattle.kernel_gate.specs.Table.{the_signatures}
+use Rattle.pisdf_meaning.specs.Sound.{KernelsFit}
 use Rattle.pisdf_program.specs.declared.status.Status.{Status}
 use Rattle.pisdf_program.specs.declared.status.Status.TheVariants.{Done, Usage, GraphRefused, TokensRefused, RunRefused, ReadFault, WriteFault, WantOfMemory, NotYet}
 use Rattle.pisdf_program.specs.declared.status.Which.{Which}
@@ -29,10 +28,6 @@ is_answer (NotYet later) = true
 abbrev pub Settles : {A : Type 0} → Result A Status → Result A Status → Type 0
 Settles told (Ok x) = told ≡ Ok x
 Settles told (Err status) = is_answer status ≡ true → told ≡ Err status
-
-abbrev pub GraphSettles : Result Graphs Status → Result Runnable Status → Type 0
-GraphSettles told (Ok loaded) = told ≡ Ok (arc_value loaded.graphs)
-GraphSettles told (Err status) = is_answer status ≡ true → told ≡ Err status
 
 -- a status of reading a file: its fault is one of reading this file, whose count rose
 abbrev pub FaultsOnly : Which → ℕ → ℕ → Status → Type 0
@@ -58,13 +53,9 @@ NoFault WriteFault = ⊥
 NoFault WantOfMemory = Unit {0}
 NoFault (NotYet later) = Unit {0}
 
--- graphs that were read: in range, without a fault, and such that they can be written
+-- graphs that were read: in range, without a fault, such that they can be written, and fitting the kernels of the table
 pub record AreGood (graphs : Graphs) : Type 0 where
   pub in_range : InRange graphs
   pub well_formed : WellFormed graphs
   pub writable : All IsWritableGraph graphs.graphs
-
--- graphs that can be run, and how many tokens an iteration takes from each input
-pub record CanRun (loaded : Runnable) : Type 0 where
-  pub form : IsOnePass (arc_value loaded.graphs)
-  pub needs : loaded.needs ≡ needs_of (arc_value loaded.graphs)
+  pub kernels : KernelsFit (unnamed the_signatures) graphs.graphs

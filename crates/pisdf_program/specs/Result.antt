@@ -1,5 +1,5 @@
 -- The result of a command: what it writes and how it ends, from the words and the files that they name.
-use Rattle.std.specs.Prelude.{ℕ, ◌==◌, nat_lt, ℤ, List, [], ◌∷◌, map, length, slice_index_or, Option, Some, None, is_some, option_map, option_and_then, Result, Ok, Err, if◌then◌else◌}
+use Rattle.std.specs.Prelude.{◌≡◌, ℕ, ◌==◌, nat_lt, ℤ, Bool, true, false, List, [], ◌∷◌, map, length, slice_index_or, Option, Some, None, Result, Ok, Err, if◌then◌else◌}
 use Rattle.std.specs.Str.{is_utf8}
 use Rattle.serde_json.specs.Data.{Data}
 use Rattle.serde_json.specs.Read.{read}
@@ -8,6 +8,7 @@ use Rattle.kernel_gate.specs.Table.{the_signatures}
 use Rattle.token_text.specs.Streams.{read_of}
 use Rattle.token_text.specs.declared.fault.TokenFault.{TokenFault}
 use Rattle.pisdf_model.specs.declared.graph.Interface.{Interface}
+use Rattle.pisdf_model.specs.declared.graph.Graph.{Graph}
 use Rattle.pisdf_model.specs.declared.graph.Graphs.{Graphs}
 use Rattle.graph_format.specs.Canonical.{canonical}
 use Rattle.graph_format.specs.Kernels.{kernel_names}
@@ -15,10 +16,8 @@ use Rattle.graph_format.specs.Reads.{reading}
 use Rattle.graph_format.specs.declared.graph_fault.GraphFault.{GraphFault}
 use Rattle.graph_format.specs.declared.graph_fault.GraphFault.TheVariants.{NotJson}
 use Rattle.graph_writer.specs.Upgraded.{upgraded}
-use Rattle.firing_board.specs.Job.{top_of}
-use Rattle.firing_board.specs.Run as run
+use Rattle.pisdf_meaning.specs.Run as run
 use Rattle.pisdf_program.specs.Words.{Command, command_of, Run, Plain, Plan, Journal, Soak, Upgrade}
-use Rattle.pisdf_program.specs.FirstForm.{pass_rate}
 use Rattle.pisdf_program.specs.Texts.{texts_from, left_lines, line_of}
 use Rattle.pisdf_program.specs.declared.status.Status.{Status}
 use Rattle.pisdf_program.specs.declared.status.Status.TheVariants.{Done, Usage, GraphRefused, TokensRefused, RunRefused, NotYet}
@@ -42,10 +41,6 @@ refused status = record { texts = []; line = line_of status; status = status }
 abbrev pub json_of : List ℕ → Option Data
 json_of bytes = if is_utf8 bytes then read bytes else None
 
--- graphs that the program runs in this stage
-abbrev pub if_runs : Graphs → Result Graphs Status
-if_runs graphs = if is_some (pass_rate graphs) then Ok graphs else Err (NotYet later.Graph)
-
 abbrev pub graphs_in_reading : Result Graphs GraphFault → Result Graphs Status
 graphs_in_reading (Ok graphs) = Ok graphs
 graphs_in_reading (Err fault) = Err (GraphRefused (graph.Fault fault))
@@ -58,18 +53,20 @@ graphs_in_json (Some value) = graphs_in_reading (reading the_signatures value)
 unfoldable pub read_graphs : List ℕ → Result Graphs Status
 read_graphs bytes = if nat_lt 4194304 (length bytes) then Err (GraphRefused graph.TooLong) else graphs_in_json (json_of bytes)
 
--- the graphs that were read, where the program runs them
-abbrev pub runnable : Result Graphs Status → Result Graphs Status
-runnable (Ok graphs) = if_runs graphs
-runnable (Err status) = Err status
-
 -- ---- the token file
 
 abbrev pub streams_in : Result (List (List ℤ)) TokenFault → Result (List (List ℤ)) Status
 streams_in (Ok streams) = Ok streams
 streams_in (Err fault) = Err (TokensRefused (tokens.Fault fault))
 
--- the names of the top graph's inputs
+abbrev pub no_graph : Graph
+no_graph = record { name = []; params = []; inputs = []; outputs = []; actors = []; fifos = []; exports = [] }
+
+-- the top graph
+abbrev pub top_of : Graphs → Graph
+top_of graphs = slice_index_or graphs.graphs graphs.top no_graph
+
+-- the names of its inputs
 abbrev pub input_names : Graphs → List (List ℕ)
 input_names graphs = map (λ (i : Interface). i.name) (top_of graphs).inputs
 
@@ -103,14 +100,23 @@ outcome_of graphs r = record {
   status = status_of graphs r.end;
 }
 
-abbrev pub run_streams : Graphs → ℕ → Result (List (List ℤ)) Status → Outcome
-run_streams graphs iterations (Ok streams) = outcome_of graphs (run.run_of graphs streams iterations)
-run_streams graphs iterations (Err status) = refused status
+-- what one thread gets from the streams in a token file, or the refusal
+abbrev pub RunsStreams : Graphs → ℕ → Result (List (List ℤ)) Status → Outcome → Type 0
+RunsStreams graphs iterations (Ok streams) o = (r : run.Run) × run.IsRun graphs streams iterations r × (o ≡ outcome_of graphs r)
+RunsStreams graphs iterations (Err status) o = o ≡ refused status
 
--- the token file comes after the graph file
-abbrev pub run_graph : ℕ → Option (List ℕ) → Result Graphs Status → Option Outcome
-run_graph iterations file (Ok graphs) = option_map (λ bytes. run_streams graphs iterations (read_streams graphs bytes)) file
-run_graph iterations file (Err status) = Some (refused status)
+-- the token file comes after the graph file; nothing is said of a file that isn't told
+abbrev pub RunsTokens : Graphs → ℕ → Option (List ℕ) → Outcome → Type 0
+RunsTokens graphs iterations None o = ⊥
+RunsTokens graphs iterations (Some bytes) o = RunsStreams graphs iterations (read_streams graphs bytes) o
+
+abbrev pub RunsGraphs : Result Graphs Status → ℕ → Option (List ℕ) → Outcome → Type 0
+RunsGraphs (Ok graphs) iterations tokens o = RunsTokens graphs iterations tokens o
+RunsGraphs (Err status) iterations tokens o = o ≡ refused status
+
+abbrev pub RunsFile : Option (List ℕ) → ℕ → Option (List ℕ) → Outcome → Type 0
+RunsFile None iterations tokens o = ⊥
+RunsFile (Some bytes) iterations tokens o = RunsGraphs (read_graphs bytes) iterations tokens o
 
 -- ---- graph files written anew
 
@@ -126,20 +132,55 @@ abbrev pub upgrade_graphs : Result Graphs Status → Outcome
 upgrade_graphs (Ok graphs) = record { texts = file_of (latest graphs) ∷ []; line = []; status = Done }
 upgrade_graphs (Err status) = refused status
 
+abbrev pub Upgrades : Option (List ℕ) → Outcome → Type 0
+Upgrades None o = ⊥
+Upgrades (Some bytes) o = o ≡ upgrade_graphs (read_graphs bytes)
+
 -- ---- the commands
 
-abbrev pub result_of_command : Option Command → (List ℕ → Option (List ℕ)) → Option Outcome
-result_of_command None files = Some (refused Usage)
-result_of_command (Some (Run graph tokens iterations workers)) files =
-    if workers == 1
-    then option_and_then (λ bytes. run_graph iterations (files tokens) (runnable (read_graphs bytes))) (files graph)
-    else Some (refused (NotYet later.Workers))
-result_of_command (Some (Plain graph tokens iterations)) files = Some (refused (NotYet later.Command))
-result_of_command (Some (Plan graph tokens workers)) files = Some (refused (NotYet later.Command))
-result_of_command (Some (Journal graph tokens iterations workers)) files = Some (refused (NotYet later.Command))
-result_of_command (Some (Soak number workers)) files = Some (refused (NotYet later.Command))
-result_of_command (Some (Upgrade graph)) files = option_map (λ bytes. upgrade_graphs (read_graphs bytes)) (files graph)
+-- with one worker, as this stage runs
+abbrev pub RunsAlone : Bool → Option (List ℕ) → ℕ → Option (List ℕ) → Outcome → Type 0
+RunsAlone true graph iterations tokens o = RunsFile graph iterations tokens o
+RunsAlone false graph iterations tokens o = o ≡ refused (NotYet later.Workers)
 
--- the result of a command in these words, where a file by its name is told, as far as the command loads it
-abbrev pub result_of : List (List ℕ) → (List ℕ → Option (List ℕ)) → Option Outcome
-result_of words files = result_of_command (command_of words) files
+-- a command comes to this outcome, where a file by its name is told
+abbrev pub ComesTo : Option Command → (List ℕ → Option (List ℕ)) → Outcome → Type 0
+ComesTo None files o = o ≡ refused Usage
+ComesTo (Some (Run graph tokens iterations workers)) files o = RunsAlone (workers == 1) (files graph) iterations (files tokens) o
+ComesTo (Some (Plain graph tokens iterations)) files o = RunsFile (files graph) iterations (files tokens) o
+ComesTo (Some (Plan graph tokens workers)) files o = o ≡ refused (NotYet later.Command)
+ComesTo (Some (Journal graph tokens iterations workers)) files o = o ≡ refused (NotYet later.Command)
+ComesTo (Some (Soak number workers)) files o = o ≡ refused (NotYet later.Command)
+ComesTo (Some (Upgrade graph)) files o = Upgrades (files graph) o
+
+-- the result of a command in these words
+abbrev pub ResultOf : List (List ℕ) → (List ℕ → Option (List ℕ)) → Outcome → Type 0
+ResultOf words files o = ComesTo (command_of words) files o
+
+-- ---- which files a command must know
+
+abbrev pub IsTold : Option (List ℕ) → Type 0
+IsTold None = ⊥
+IsTold (Some bytes) = Unit {0}
+
+abbrev pub IsToldAfter : Result Graphs Status → Option (List ℕ) → Type 0
+IsToldAfter (Ok graphs) tokens = IsTold tokens
+IsToldAfter (Err status) tokens = Unit {0}
+
+abbrev pub AreTold : Option (List ℕ) → Option (List ℕ) → Type 0
+AreTold None tokens = ⊥
+AreTold (Some bytes) tokens = IsToldAfter (read_graphs bytes) tokens
+
+abbrev pub AreToldAlone : Bool → Option (List ℕ) → Option (List ℕ) → Type 0
+AreToldAlone true graph tokens = AreTold graph tokens
+AreToldAlone false graph tokens = Unit {0}
+
+-- the files that a command loads are told
+abbrev pub Knows : Option Command → (List ℕ → Option (List ℕ)) → Type 0
+Knows None files = Unit {0}
+Knows (Some (Run graph tokens iterations workers)) files = AreToldAlone (workers == 1) (files graph) (files tokens)
+Knows (Some (Plain graph tokens iterations)) files = AreTold (files graph) (files tokens)
+Knows (Some (Plan graph tokens workers)) files = Unit {0}
+Knows (Some (Journal graph tokens iterations workers)) files = Unit {0}
+Knows (Some (Soak number workers)) files = Unit {0}
+Knows (Some (Upgrade graph)) files = IsTold (files graph)

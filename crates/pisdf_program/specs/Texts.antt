@@ -7,10 +7,15 @@ use Rattle.token_text.specs.declared.fault.TokenFault.TheVariants as fault
 use Rattle.pisdf_model.specs.declared.graph.Interface.{Interface}
 use Rattle.graph_format.specs.declared.graph_fault.GraphFault.{GraphFault}
 use Rattle.graph_format.specs.declared.graph_fault.GraphFault.TheVariants as format
-use Rattle.firing_board.specs.declared.outcome.Iteration.{Iteration}
-use Rattle.firing_board.specs.declared.outcome.TraceRow.{TraceRow}
-use Rattle.firing_board.specs.declared.refusal.Cause.{Cause}
-use Rattle.firing_board.specs.declared.refusal.Cause.TheVariants.{Kernel}
+use Rattle.pisdf_meaning.specs.declared.outcome.Iteration.{Iteration}
+use Rattle.pisdf_meaning.specs.declared.outcome.TraceRow.{TraceRow}
+use Rattle.pisdf_meaning.specs.declared.refusal.Cause.{Cause}
+use Rattle.pisdf_meaning.specs.declared.refusal.Cause.TheVariants as cause
+use Rattle.pisdf_meaning.specs.declared.refusal.Left.{Left}
+use Rattle.param_resolver.specs.declared.fault.Why.{Why}
+use Rattle.param_resolver.specs.declared.fault.Why.TheVariants as why
+use Rattle.level_schedule.specs.declared.unscheduled.What.{What}
+use Rattle.level_schedule.specs.declared.unscheduled.What.TheVariants as what
 use Rattle.pisdf_program.specs.declared.status.Status.{Status}
 use Rattle.pisdf_program.specs.declared.status.Status.TheVariants.{Done, Usage, GraphRefused, TokensRefused, RunRefused, ReadFault, WriteFault, WantOfMemory, NotYet}
 use Rattle.pisdf_program.specs.declared.status.GraphCause.{GraphCause}
@@ -108,15 +113,43 @@ tokens_line (tokens.Fault fault) = fault_line fault
 tokens_line (tokens.Short name has needs) =
     joined (codes "tokens: short " ∷ name ∷ codes " has " ∷ decimal has ∷ codes " needs " ∷ decimal needs ∷ codes "\n" ∷ [])
 
+-- why a number isn't what it may be
+abbrev pub why_words : Why → List ℕ
+why_words (why.Value value) = codes "value " ++ signed_decimal value
+why_words why.Overflow = codes "overflow"
+why_words why.Division = codes "division"
+
+-- a parameter's value has its range beside it
+abbrev pub range_words : Why → ℤ → ℤ → List ℕ
+range_words (why.Value value) low high = joined (codes " range " ∷ signed_decimal low ∷ codes " " ∷ signed_decimal high ∷ [])
+range_words why.Overflow low high = []
+range_words why.Division low high = []
+
+abbrev pub what_word : What → List ℕ
+what_word what.Firings = codes "firings"
+what_word what.Links = codes "links"
+what_word what.Tokens = codes "tokens"
+
+-- each actor with firings left, and how many
+abbrev pub left_words : List Left → List ℕ
+left_words [] = []
+left_words (left ∷ more) = joined (codes " " ∷ left.name ∷ codes " " ∷ decimal left.count ∷ []) ++ left_words more
+
+abbrev pub cause_words : Cause → List ℕ
+cause_words (cause.Param name why low high) = joined (codes "param " ∷ name ∷ codes " " ∷ why_words why ∷ range_words why low high ∷ [])
+cause_words (cause.Rate name why) = joined (codes "rate " ∷ name ∷ codes " " ∷ why_words why ∷ [])
+cause_words cause.Rates = codes "rates"
+cause_words (cause.Limit what value) = joined (codes "limit " ∷ what_word what ∷ codes " " ∷ decimal value ∷ [])
+cause_words (cause.Deadlock left) = codes "deadlock" ++ left_words left
+cause_words (cause.Kernel name firing code) = joined (codes "kernel " ∷ name ∷ codes ":" ∷ decimal firing ∷ codes " " ∷ decimal code ∷ [])
+
 -- at a path
 abbrev pub refusal_line : List ℕ → Cause → List ℕ
-refusal_line path (Kernel name firing code) =
-    joined (codes "run: " ∷ path ∷ codes " kernel " ∷ name ∷ codes ":" ∷ decimal firing ∷ codes " " ∷ decimal code ∷ codes "\n" ∷ [])
+refusal_line path reason = joined (codes "run: " ∷ path ∷ codes " " ∷ cause_words reason ∷ codes "\n" ∷ [])
 
 abbrev pub later_line : Later → List ℕ
 later_line later.Command = codes "notyet command\n"
 later_line later.Workers = codes "notyet workers\n"
-later_line later.Graph = codes "notyet graph\n"
 
 -- the line of a status. After Done there are lines for the streams with tokens left, and after a failed put there is none
 abbrev pub line_of : Status → List ℕ

@@ -15,7 +15,7 @@ seen (here.Upgrade graph) = words.Upgrade graph.now
 -- a run has at most 65,536 iterations
 abbrev pub IsFew : Command → Type 0
 IsFew (here.Run graph tokens iterations workers) = iterations ≤ 65536
-IsFew (here.Plain graph tokens iterations) = Unit {0}
+IsFew (here.Plain graph tokens iterations) = iterations ≤ 65536
 IsFew (here.Plan graph tokens workers) = Unit {0}
 IsFew (here.Journal graph tokens iterations workers) = Unit {0}
 IsFew (here.Soak number workers) = Unit {0}

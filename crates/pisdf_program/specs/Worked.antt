@@ -4,12 +4,11 @@ use Rattle.std.specs.declared.alloc.Global.{Global}
 use Rattle.outer_world.specs.Faults.{Rose}
 use Rattle.outer_world.specs.Sink.{Grows}
 use Rattle.pisdf_model.specs.declared.graph.Graphs.{Graphs}
-use Rattle.firing_board.specs.Job.{top_of}
 use Rattle.pisdf_program.specs.Calls.{GrowsPartly, GrowsByFirst}
 use Rattle.pisdf_program.specs.Loaded.{is_answer}
-use Rattle.pisdf_program.specs.Result.{Outcome, short_of}
+use Rattle.pisdf_program.specs.Result.{Outcome, short_of, top_of}
 use Rattle.pisdf_program.specs.Texts.{joined, left_lines, line_of, memory_line, read_line}
-use Rattle.pisdf_program.specs.Words.{Command, Run, Upgrade}
+use Rattle.pisdf_program.specs.Words.{Command, Run, Plain, Upgrade}
 use Rattle.pisdf_program.specs.declared.run.RunEnd.{RunEnd}
 use Rattle.pisdf_program.specs.declared.run.RunEnd.TheVariants as end
 use Rattle.pisdf_program.specs.declared.status.Status.{Status}
@@ -36,24 +35,29 @@ Reports graphs end.Memory (Err status) = status ≡ WantOfMemory
 -- ---- before anything is put to standard error
 
 -- the told files decide this status and this line, and all texts were put
-abbrev pub Decided : Option Outcome → Option (List ℕ) → Option (List ℕ) → List ℕ → Status → Type 0
-Decided expected had has line status = (o : Outcome) → expected ≡ Some o → (o.status ≡ status) × (o.line ≡ line) × Grows had has (joined o.texts)
+abbrev pub Decided : (Outcome → Type 0) → Option (List ℕ) → Option (List ℕ) → List ℕ → Status → Type 0
+Decided expected had has line status = (o : Outcome) → expected o → (o.status ≡ status) × (o.line ≡ line) × Grows had has (joined o.texts)
 
-abbrev pub Stopped : Option Outcome → Option (List ℕ) → Option (List ℕ) → ℕ → ℕ → Status → Type 0
+abbrev pub Stopped : (Outcome → Type 0) → Option (List ℕ) → Option (List ℕ) → ℕ → ℕ → Status → Type 0
 Stopped expected had has before now Done = ⊥
 Stopped expected had has before now Usage = Decided expected had has (line_of Usage) Usage
 Stopped expected had has before now (GraphRefused cause) = Decided expected had has (line_of (GraphRefused cause)) (GraphRefused cause)
 Stopped expected had has before now (TokensRefused cause) = Decided expected had has (line_of (TokensRefused cause)) (TokensRefused cause)
 Stopped expected had has before now (RunRefused refusal) = Decided expected had has (line_of (RunRefused refusal)) (RunRefused refusal)
 Stopped expected had has before now (ReadFault which) = Grows had has []
-Stopped expected had has before now WriteFault = Rose before now × ((o : Outcome) → expected ≡ Some o → GrowsPartly had has (joined o.texts))
-Stopped expected had has before now WantOfMemory = (o : Outcome) → expected ≡ Some o → GrowsByFirst had has o.texts
+Stopped expected had has before now WriteFault = Rose before now × ((o : Outcome) → expected o → GrowsPartly had has (joined o.texts))
+Stopped expected had has before now WantOfMemory = (o : Outcome) → expected o → GrowsByFirst had has o.texts
 Stopped expected had has before now (NotYet later) = Decided expected had has (line_of (NotYet later)) (NotYet later)
 
 -- the lines for standard error after Done, or the status otherwise
-abbrev pub Works : Option Outcome → Option (List ℕ) → Option (List ℕ) → ℕ → ℕ → Result (String Global) Status → Type 0
+abbrev pub Works : (Outcome → Type 0) → Option (List ℕ) → Option (List ℕ) → ℕ → ℕ → Result (String Global) Status → Type 0
 Works expected had has before now (Ok text) = Decided expected had has (string_bytes text) Done
 Works expected had has before now (Err status) = Stopped expected had has before now status
+
+-- where the files are told and a status was worked out that is neither a fault nor want of memory, there is an outcome
+abbrev pub IsThere : Type 0 → (Outcome → Type 0) → Result (String Global) Status → Type 0
+IsThere told expected (Ok text) = told → (o : Outcome) × expected o
+IsThere told expected (Err status) = told → is_answer status ≡ true → (o : Outcome) × expected o
 
 -- ---- standard error
 
@@ -105,12 +109,12 @@ pub record IsUnread (which : Which) (out_had out_has err_had err_has : Option (L
   pub out : Grows out_had out_has []
   pub err : Grows err_had err_has (read_line which)
 
--- what the call has done, `expected` being the outcome of the told files: by status
-pub record Ended (expected : Option Outcome) (out_had out_has err_had err_has : Option (List ℕ)) (out_before out_now err_before err_now : ℕ) (status : Status) : Type 0 where
-  pub result : (o : Outcome) → expected ≡ Some o → is_answer status ≡ true → IsResult o out_had out_has err_had err_has status
-  pub memory : (o : Outcome) → expected ≡ Some o → status ≡ WantOfMemory → IsStarved o out_had out_has err_had err_has
+-- what the call has done, by status, `expected` being the outcome of the files where they are told
+pub record Ended (expected : Outcome → Type 0) (out_had out_has err_had err_has : Option (List ℕ)) (out_before out_now err_before err_now : ℕ) (status : Status) : Type 0 where
+  pub result : (o : Outcome) → expected o → is_answer status ≡ true → IsResult o out_had out_has err_had err_has status
+  pub memory : (o : Outcome) → expected o → status ≡ WantOfMemory → IsStarved o out_had out_has err_had err_has
   pub write : status ≡ WriteFault → Rose out_before out_now ⊎ Rose err_before err_now
-  pub cut : (o : Outcome) → expected ≡ Some o → status ≡ WriteFault → IsCut o out_had out_has err_had err_has
+  pub cut : (o : Outcome) → expected o → status ≡ WriteFault → IsCut o out_had out_has err_had err_has
   pub unread : (which : Which) → status ≡ ReadFault which → IsUnread which out_had out_has err_had err_has
 
 -- ---- the files of a command
@@ -119,6 +123,8 @@ pub record Ended (expected : Option Outcome) (out_had out_has err_had err_has : 
 abbrev pub file_in : Which → Command → Option (List ℕ)
 file_in Graph (Run graph tokens iterations workers) = if workers == 1 then Some graph else None
 file_in Tokens (Run graph tokens iterations workers) = if workers == 1 then Some tokens else None
+file_in Graph (Plain graph tokens iterations) = Some graph
+file_in Tokens (Plain graph tokens iterations) = Some tokens
 file_in Graph (Upgrade graph) = Some graph
 file_in which _ = None
 
@@ -138,9 +144,9 @@ CountRose command before now status = (which : Which) → status ≡ ReadFault w
 -- ---- completeness
 
 -- the status is the outcome's, or want of memory, or a fault where a count rose: of a sink, or of one of the command's files
-abbrev pub Completes : Option Outcome → Option Command → (List ℕ → ℕ) → (List ℕ → ℕ) → ℕ → ℕ → ℕ → ℕ → Status → Type 0
+abbrev pub Completes : (Outcome → Type 0) → Option Command → (List ℕ → ℕ) → (List ℕ → ℕ) → ℕ → ℕ → ℕ → ℕ → Status → Type 0
 Completes expected command before now out_before out_now err_before err_now status =
-    (o : Outcome) → expected ≡ Some o
+    (o : Outcome) → expected o
     → (status ≡ o.status)
     ⊎ (status ≡ WantOfMemory)
     ⊎ ((status ≡ WriteFault) × (Rose out_before out_now ⊎ Rose err_before err_now))

@@ -1,9 +1,7 @@
-//! The commands of the program, over files by name and two sinks of bytes: `run GRAPH TOKENS ITERATIONS WORKERS` and
-//! `upgrade GRAPH`.
+//! The commands of the program, over files by name and two sinks of bytes: `run GRAPH TOKENS ITERATIONS WORKERS`,
+//! `plain GRAPH TOKENS ITERATIONS` and `upgrade GRAPH`.
 #![tactic(auto)]
 
-mod first_form;
-mod iterate;
 mod limits;
 mod line;
 mod load;
@@ -17,7 +15,5 @@ mod texts;
 mod upgrade;
 mod words;
 
-pub use iterate::{drive, opened};
-pub use load::{Runnable, load_runnable};
 pub use program::run_program;
 pub use status::{GraphCause, Later, Status, TokenCause, Which};

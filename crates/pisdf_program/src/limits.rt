@@ -20,6 +20,3 @@ pub const WORKER_DIGITS: usize = 2;
 pub const GENERATED: u32 = 65_535;
 
 pub const GENERATED_DIGITS: usize = 5;
-
-/// The rate of a graph of one kernel `pass`.
-pub const PASS_RATE: u32 = 1_024;

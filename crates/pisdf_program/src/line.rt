@@ -1,12 +1,14 @@
 // The lines that a status puts to standard error.
-ghost use Rattle.std.specs.Prelude.{◌≡◌, ◌==◌, ◌++◌, [], if◌then◌else◌, IfOk, OnOk, IsOk, string_bytes};
+ghost use Rattle.std.specs.Prelude.{◌≡◌, ◌==◌, ◌++◌, [], codes, if◌then◌else◌, IfOk, OnOk, IsOk, string_bytes};
 ghost use Rattle.pisdf_program.specs.LineSeen.{line_text};
-ghost use Rattle.pisdf_program.specs.Texts.{graph_fault_line, graph_line, later_line, left_line, left_lines, line_of, named_line, read_line, refusal_line, tokens_line};
+ghost use Rattle.pisdf_program.specs.Texts.{cause_words, graph_fault_line, graph_line, later_line, left_line, left_lines, left_words, line_of, named_line, range_words, read_line, refusal_line, tokens_line, what_word, why_words};
 
 use crate::status::{GraphCause, Later, Status, TokenCause, Which};
-use firing_board::{Cause, Refusal};
 use graph_format::GraphFault;
+use level_schedule::What;
 use param_expr::Name;
+use param_resolver::Why;
+use pisdf_meaning::{Cause, Left, Refusal};
 use pisdf_model::Interface;
 use std::alloc::{AllocError, Global};
 use std::fmt::Write;
@@ -104,7 +106,6 @@ fn later_line(later: Later) -> &'static str
     match later {
         Later::Command => "notyet command\n",
         Later::Workers => "notyet workers\n",
-        Later::Graph => "notyet graph\n",
     }
 }
 
@@ -142,29 +143,124 @@ fn short_line(alloc: Global, stream: &Name, has: u64, needs: u32) -> Result<Stri
     format!(in alloc; "tokens: short {name} has {has} needs {needs}\n")
 }
 
-fn refusal_line(alloc: Global, refusal: &Refusal) -> Result<String, AllocError>
-    ensures { IfOk result (λ s. string_bytes s ≡ refusal_line refusal.now.path refusal.now.cause) }
+/// Appends why a number isn't what it may be.
+fn push_why(text: &mut String, why: Why) -> Result<(), AllocError>
+    ensures { OnOk result (string_bytes text.new ≡ string_bytes text.old ++ why_words why) }
 {
-    let path = refusal.path.text().text();
-    match &refusal.cause {
+    match why {
+        Why::Value(value) => write!(text, "value {value}"),
+        Why::Overflow => write!(text, "overflow"),
+        Why::Division => write!(text, "division"),
+    }
+}
+
+/// Appends the range of a parameter, where its value lies outside it.
+fn push_range(text: &mut String, why: Why, low: i64, high: i64) -> Result<(), AllocError>
+    ensures { OnOk result (string_bytes text.new ≡ string_bytes text.old ++ range_words why low high) }
+{
+    match why {
+        Why::Value(_) => write!(text, " range {low} {high}"),
+        Why::Overflow | Why::Division => Ok(()),
+    }
+}
+
+fn what_word(what: What) -> &'static str
+    ensures { result.now ≡ what_word what }
+{
+    match what {
+        What::Firings => "firings",
+        What::Links => "links",
+        What::Tokens => "tokens",
+    }
+}
+
+/// Appends each actor with firings left.
+fn push_left_over(text: &mut String, left: &[Left]) -> Result<(), AllocError>
+    ensures { OnOk result (string_bytes text.new ≡ string_bytes text.old ++ left_words left.now) }
+{
+    for actor in left {
+        let name = actor.name.text();
+        let count = actor.count;
+        write!(text, " {name} {count}")?;
+    }
+    Ok(())
+}
+
+fn push_param(
+    text: &mut String,
+    name: &Name,
+    why: Why,
+    low: i64,
+    high: i64,
+) -> Result<(), AllocError>
+    ensures { OnOk result (string_bytes text.new ≡ string_bytes text.old ++ cause_words (Cause.Param name.now why low high)) }
+{
+    let name = name.text();
+    write!(text, "param {name} ")?;
+    push_why(text, why)?;
+    push_range(text, why, low, high)
+}
+
+fn push_rate(text: &mut String, name: &Name, why: Why) -> Result<(), AllocError>
+    ensures { OnOk result (string_bytes text.new ≡ string_bytes text.old ++ cause_words (Cause.Rate name.now why)) }
+{
+    let name = name.text();
+    write!(text, "rate {name} ")?;
+    push_why(text, why)
+}
+
+fn push_limit(text: &mut String, what: What, value: u64) -> Result<(), AllocError>
+    ensures { OnOk result (string_bytes text.new ≡ string_bytes text.old ++ cause_words (Cause.Limit what value)) }
+{
+    let what = what_word(what);
+    write!(text, "limit {what} {value}")
+}
+
+fn push_deadlock(text: &mut String, left: &[Left]) -> Result<(), AllocError>
+    ensures { OnOk result (string_bytes text.new ≡ string_bytes text.old ++ (codes "deadlock" ++ left_words left.now)) }
+{
+    write!(text, "deadlock")?;
+    push_left_over(text, left)
+}
+
+fn push_kernel(text: &mut String, actor: &Name, firing: u32, code: u8) -> Result<(), AllocError>
+    ensures { OnOk result (string_bytes text.new ≡ string_bytes text.old ++ cause_words (Cause.Kernel actor.now firing code)) }
+{
+    let actor = actor.text();
+    write!(text, "kernel {actor}:{firing} {code}")
+}
+
+/// Appends a cause.
+fn push_cause(text: &mut String, cause: &Cause) -> Result<(), AllocError>
+    ensures { OnOk result (string_bytes text.new ≡ string_bytes text.old ++ cause_words cause.now) }
+{
+    match cause {
+        Cause::Param {
+            name,
+            why,
+            low,
+            high,
+        } => push_param(text, name, *why, *low, *high),
+        Cause::Rate { name, why } => push_rate(text, name, *why),
+        Cause::Rates => write!(text, "rates"),
+        Cause::Limit { what, value } => push_limit(text, *what, *value),
+        Cause::Deadlock { left } => push_deadlock(text, left.items()),
         Cause::Kernel {
             actor,
             firing,
             code,
-        } => kernel_line(alloc, path, actor.text(), *firing, *code),
+        } => push_kernel(text, actor, *firing, *code),
     }
 }
 
-fn kernel_line(
-    alloc: Global,
-    path: &str,
-    actor: &str,
-    firing: u32,
-    code: u8,
-) -> Result<String, AllocError>
-    ensures { IfOk result (λ s. string_bytes s ≡ refusal_line path.now (Cause.Kernel actor.now firing code)) }
+fn refusal_line(alloc: Global, refusal: &Refusal) -> Result<String, AllocError>
+    ensures { IfOk result (λ s. string_bytes s ≡ refusal_line refusal.now.path refusal.now.cause) }
 {
-    format!(in alloc; "run: {path} kernel {actor}:{firing} {code}\n")
+    let path = refusal.path.text().text();
+    let mut text = format!(in alloc; "run: {path} ")?;
+    push_cause(&mut text, &refusal.cause)?;
+    write!(text, "\n")?;
+    Ok(text)
 }
 
 /// The line of a status. That of `Usage` takes no memory.

@@ -1,21 +1,22 @@
 // The top call.
-ghost use Rattle.std.specs.Prelude.{◌≡◌, ◌≢◌, ◌⊎◌, ◌↔◌, ◌<◌, ◌≤◌, map, IfErr, IfOk, IsTrue, length, string_bytes};
+ghost use Rattle.std.specs.Prelude.{◌≡◌, ◌≢◌, ◌⊎◌, ◌↔◌, ◌<◌, ◌≤◌, true, map, IfErr, IfOk, IsTrue, length, string_bytes};
 ghost use Rattle.kernel_gate.specs.Table.{the_signatures};
-ghost use Rattle.pisdf_program.specs.Result.{name_at, result_of, result_of_command};
+ghost use Rattle.pisdf_program.specs.Loaded.{is_answer};
+ghost use Rattle.pisdf_program.specs.Result.{AreTold, Knows, Outcome, ResultOf, RunsFile, name_at};
 ghost use Rattle.pisdf_program.specs.Words as table;
-ghost use Rattle.pisdf_program.specs.Worked.{Completes, Concludes, CountRose, Ended, PutsLine, Reports, TellsUnlessCut, Works};
+ghost use Rattle.pisdf_program.specs.Worked.{Completes, Concludes, CountRose, Ended, IsThere, PutsLine, Reports, TellsUnlessCut, Works};
 
 use crate::line::{MEMORY, left_lines, line_of};
-use crate::load::{load_runnable, load_streams};
+use crate::load::{load_graphs, load_streams};
 use crate::put::put_text;
 use crate::run::{RunEnd, run_all, top_of};
 use crate::status::{Later, Status, TokenCause};
-use crate::streams::Streams;
 use crate::upgrade::upgrade;
 use crate::words::{Command, read_words};
 use kernel_gate::Gate;
 use outer_world::{Shelf, Sink};
 use param_expr::Name;
+use pisdf_meaning::one_meaning;
 use pisdf_model::{Graphs, Interface};
 use std::alloc::{AllocError, Global};
 
@@ -50,8 +51,8 @@ fn report(alloc: Global, graphs: &Graphs, end: RunEnd) -> Result<String, Status>
     }
 }
 
-/// Runs a graph file on a token file with one worker. The answer is the lines for standard error after a run that is
-/// done, or another status; nothing was put to standard error yet.
+/// Runs a graph file on a token file by one thread. The answer is the lines for standard error after a run that is done,
+/// or another status; nothing was put to standard error yet.
 fn run<S: Shelf, O: Sink, K: Gate>(
     alloc: Global,
     graph: &str,
@@ -63,26 +64,22 @@ fn run<S: Shelf, O: Sink, K: Gate>(
 ) -> Result<String, Status>
     requires kernels { K.kernels gate.now ≡ the_signatures }
     requires few { iterations ≤ 65536 }
-    ensures works { Works (result_of_command (Some (table.Run graph.now tokens.now iterations 1)) (S.holds shelf.old)) (O.written out.old) (O.written out.new) (O.faults out.old) (O.faults out.new) result }
-    ensures read { IfErr result (CountRose (Some (table.Run graph.now tokens.now iterations 1)) (S.faults shelf.old) (S.faults shelf.new)) }
+    ensures works { Works (RunsFile (S.holds shelf.old graph.now) iterations (S.holds shelf.old tokens.now)) (O.written out.old) (O.written out.new) (O.faults out.old) (O.faults out.new) result }
+    ensures there { IsThere (AreTold (S.holds shelf.old graph.now) (S.holds shelf.old tokens.now)) (RunsFile (S.holds shelf.old graph.now) iterations (S.holds shelf.old tokens.now)) result }
+    ensures read { IfErr result (CountRose (Some (table.Plain graph.now tokens.now iterations)) (S.faults shelf.old) (S.faults shelf.new)) }
     ensures usage { result ≢ Err Status.Usage }
 {
-    let loaded = match load_runnable(alloc, shelf, graph, gate.signatures()) {
-        Ok(loaded) => loaded,
+    one_meaning();
+    let graphs = match load_graphs(alloc, shelf, graph, gate.signatures()) {
+        Ok(graphs) => graphs,
         Err(status) => return Err(status),
     };
-    let streams = match load_streams(alloc, shelf, tokens, &loaded.graphs) {
+    let streams = match load_streams(alloc, shelf, tokens, &graphs) {
         Ok(streams) => streams,
         Err(status) => return Err(status),
     };
-    let needs = loaded.needs.items();
-    let given = streams.items();
-    let feed = Streams {
-        needs,
-        tokens: given,
-    };
-    let end = run_all(alloc, &loaded.graphs, &feed, iterations, gate, out);
-    report(alloc, &loaded.graphs, end)
+    let end = run_all(alloc, &graphs, streams.items(), iterations, gate, out);
+    report(alloc, &graphs, end)
 }
 
 /// Does what the words ask for, up to what is put to standard error.
@@ -94,7 +91,8 @@ fn work<S: Shelf, O: Sink, K: Gate>(
     gate: &K,
 ) -> Result<String, Status>
     requires kernels { K.kernels gate.now ≡ the_signatures }
-    ensures works { Works (result_of (map string_bytes words.now) (S.holds shelf.old)) (O.written out.old) (O.written out.new) (O.faults out.old) (O.faults out.new) result }
+    ensures works { Works (ResultOf (map string_bytes words.now) (S.holds shelf.old)) (O.written out.old) (O.written out.new) (O.faults out.old) (O.faults out.new) result }
+    ensures there { IsThere (Knows (table.command_of (map string_bytes words.now)) (S.holds shelf.old)) (ResultOf (map string_bytes words.now) (S.holds shelf.old)) result }
     ensures read { IfErr result (CountRose (table.command_of (map string_bytes words.now)) (S.faults shelf.old) (S.faults shelf.new)) }
     ensures usage { table.command_of (map string_bytes words.now) ≡ None → (result ≡ Err Status.Usage) × (shelf.new ≡ shelf.old) }
     ensures only { result ≡ Err Status.Usage → table.command_of (map string_bytes words.now) ≡ None }
@@ -114,7 +112,11 @@ fn work<S: Shelf, O: Sink, K: Gate>(
             }
             run(alloc, graph, tokens, iterations, shelf, out, gate)
         }
-        Command::Plain { .. } => Err(Status::NotYet(Later::Command)),
+        Command::Plain {
+            graph,
+            tokens,
+            iterations,
+        } => run(alloc, graph, tokens, iterations, shelf, out, gate),
         Command::Plan { .. } => Err(Status::NotYet(Later::Command)),
         Command::Journal { .. } => Err(Status::NotYet(Later::Command)),
         Command::Soak { .. } => Err(Status::NotYet(Later::Command)),
@@ -177,8 +179,10 @@ pub fn run_program<S: Shelf, O: Sink, E: Sink, K: Gate + Sync>(
     ensures read { CountRose (table.command_of (map string_bytes words.now)) (S.faults shelf.old) (S.faults shelf.new) result }
     ensures usage { table.command_of (map string_bytes words.now) ≡ None → ((result ≡ Status.Usage) ⊎ (result ≡ Status.WriteFault)) × (shelf.new ≡ shelf.old) }
     ensures only_usage { result ≡ Status.Usage → table.command_of (map string_bytes words.now) ≡ None }
-    ensures complete { Completes (result_of (map string_bytes words.now) (S.holds shelf.old)) (table.command_of (map string_bytes words.now)) (S.faults shelf.old) (S.faults shelf.new) (O.faults out.old) (O.faults out.new) (E.faults err.old) (E.faults err.new) result }
-    ensures ended { Ended (result_of (map string_bytes words.now) (S.holds shelf.old)) (O.written out.old) (O.written out.new) (E.written err.old) (E.written err.new) (O.faults out.old) (O.faults out.new) (E.faults err.old) (E.faults err.new) result }
+    ensures complete { Completes (ResultOf (map string_bytes words.now) (S.holds shelf.old)) (table.command_of (map string_bytes words.now)) (S.faults shelf.old) (S.faults shelf.new) (O.faults out.old) (O.faults out.new) (E.faults err.old) (E.faults err.new) result }
+    // Where the files that the command loads are told, an answer is the status of such a result.
+    ensures there { Knows (table.command_of (map string_bytes words.now)) (S.holds shelf.old) → is_answer result ≡ true → (o : Outcome) × ResultOf (map string_bytes words.now) (S.holds shelf.old) o }
+    ensures ended { Ended (ResultOf (map string_bytes words.now) (S.holds shelf.old)) (O.written out.old) (O.written out.new) (E.written err.old) (E.written err.new) (O.faults out.old) (O.faults out.new) (E.faults err.old) (E.faults err.new) result }
 {
     let worked = work(alloc, words, shelf, out, gate);
     conclude(alloc, err, worked)

@@ -1,25 +1,23 @@
-// A run over its iterations.
-ghost use Rattle.std.specs.Prelude.{◌≡◌, ◌<◌, ◌≤◌, length};
-ghost use Rattle.std.specs.Arc.{arc_value};
+// A run over its iterations, by one thread.
+ghost use Rattle.std.specs.Prelude.{◌≡◌, ◌<◌, ◌≤◌, [], length, map, IfOk};
 ghost use Rattle.kernel_gate.specs.Table.{the_signatures};
-ghost use Rattle.firing_board.specs.Job.{top_of};
-ghost use Rattle.firing_board.specs.OnePass.{IsOnePass};
-ghost use Rattle.firing_board.specs.Run.{needs_of, run_of};
+ghost use Rattle.param_resolver.specs.EarlyCheck.{early_faults};
+ghost use Rattle.pisdf_meaning.specs.Run.{top_needs};
 ghost use Rattle.pisdf_program.specs.Calls.{EndsRun};
-ghost use Rattle.pisdf_program.specs.Iterated.{Steps};
+ghost use Rattle.pisdf_program.specs.Loaded.{AreGood};
+ghost use Rattle.pisdf_program.specs.Result.{top_of};
+ghost use Rattle.pisdf_program.specs.Stepped.{Steps, refused_end};
 ghost use Rattle.pisdf_program.specs.Streams.{rest_of};
 
-use crate::iterate::{IterationFault, iterate};
 use crate::put::put_text;
 use crate::streams::{Lack, Streams};
 use crate::texts::iteration_text;
-use firing_board::{Delays, Refusal, first_delays};
 use kernel_gate::Gate;
 use outer_world::Sink;
+use pisdf_meaning::{Delays, PlainFault, Refusal, first_delays, plain_iteration, top_needs};
 use pisdf_model::{Graph, Graphs};
 use sdf_level::List;
-use std::alloc::Global;
-use std::sync::Arc;
+use std::alloc::{AllocError, Global};
 
 /// How a run ended.
 #[derive(Drop)]
@@ -45,6 +43,16 @@ fn short(lack: Lack) -> RunEnd
     }
 }
 
+/// The end of a run where one thread gets nothing from an iteration.
+fn refused(fault: PlainFault) -> RunEnd
+    ensures { result ≡ refused_end fault }
+{
+    match fault {
+        PlainFault::Refused(refusal) => RunEnd::Refused(refusal),
+        PlainFault::Memory => RunEnd::Memory,
+    }
+}
+
 /// The top graph.
 pub(crate) fn top_of(graphs: &Graphs) -> &Graph
     requires { graphs.now.top < length graphs.now.graphs }
@@ -53,22 +61,23 @@ pub(crate) fn top_of(graphs: &Graphs) -> &Graph
     &graphs.graphs.items()[graphs.top as usize]
 }
 
-/// Makes and puts one iteration, and answers the delays that it leaves, or how the run ends with it.
+/// Makes and puts one iteration, which leaves its state for the next, or answers how the run ends with it.
 fn step<O: Sink, K: Gate>(
     alloc: Global,
-    graphs: &Arc<Graphs>,
+    graphs: &Graphs,
     streams: &Streams<'_>,
     number: u32,
-    delays: &Delays,
+    delays: &mut Delays,
     gate: &K,
     out: &mut O,
-) -> Result<Delays, RunEnd>
-    requires form { IsOnePass (arc_value graphs.now) }
+) -> Result<(), RunEnd>
+    requires good { AreGood graphs.now }
     requires kernels { K.kernels gate.now ≡ the_signatures }
     requires few { number ≤ 65536 }
-    requires needs { streams.now.needs.now ≡ needs_of (arc_value graphs.now) }
+    requires needs { streams.now.needs.now ≡ top_needs graphs.now }
     requires fit { length streams.now.needs.now ≡ length streams.now.tokens.now }
-    ensures steps { Steps (arc_value graphs.now) number delays.now (rest_of number (needs_of (arc_value graphs.now)) streams.now.tokens.now) (O.written out.old) (O.written out.new) (O.faults out.old) (O.faults out.new) result }
+    requires sound { early_faults graphs.now.graphs graphs.now.top [] ≡ [] }
+    ensures steps { Steps graphs.now number delays.old.lists delays.new.lists (rest_of number (top_needs graphs.now) streams.now.tokens.now) (O.written out.old) (O.written out.new) (O.faults out.old) (O.faults out.new) result }
     ensures never_falls { O.faults out.old ≤ O.faults out.new }
 {
     match streams.first_lack(number) {
@@ -78,44 +87,44 @@ fn step<O: Sink, K: Gate>(
     let Ok(ins) = streams.taken(alloc, number) else {
         return Err(RunEnd::Memory);
     };
-    let (iteration, next) = match iterate(alloc, graphs, delays, ins.as_slice(), gate) {
-        Ok(given) => given,
-        Err(IterationFault::Refused(refusal)) => return Err(RunEnd::Refused(refusal)),
-        Err(IterationFault::Memory) => return Err(RunEnd::Memory),
+    let iteration = match plain_iteration(alloc, graphs, delays, ins.as_slice(), gate) {
+        Ok(iteration) => iteration,
+        Err(fault) => return Err(refused(fault)),
     };
     let top = top_of(graphs);
     let Ok(text) = iteration_text(alloc, number, top.outputs.items(), &iteration) else {
         return Err(RunEnd::Memory);
     };
     match put_text(out, text.as_slice()) {
-        Ok(()) => Ok(next),
+        Ok(()) => Ok(()),
         Err(_) => Err(RunEnd::WriteFault),
     }
 }
 
-/// Runs so many iterations. Each text is put once, whole, when its iteration is done.
-pub(crate) fn run_all<O: Sink, K: Gate>(
+/// Runs so many iterations, at least one, on streams from which each takes what the top graph needs.
+fn run_some<O: Sink, K: Gate>(
     alloc: Global,
-    graphs: &Arc<Graphs>,
+    graphs: &Graphs,
     streams: &Streams<'_>,
     iterations: u32,
     gate: &K,
     out: &mut O,
 ) -> RunEnd
-    requires form { IsOnePass (arc_value graphs.now) }
+    requires good { AreGood graphs.now }
     requires kernels { K.kernels gate.now ≡ the_signatures }
     requires few { iterations ≤ 65536 }
-    requires needs { streams.now.needs.now ≡ needs_of (arc_value graphs.now) }
+    requires needs { streams.now.needs.now ≡ top_needs graphs.now }
     requires fit { length streams.now.needs.now ≡ length streams.now.tokens.now }
-    ensures ends { EndsRun (arc_value graphs.now) (run_of (arc_value graphs.now) streams.now.tokens.now iterations) (O.written out.old) (O.written out.new) (O.faults out.old) (O.faults out.new) result }
+    requires sound { early_faults graphs.now.graphs graphs.now.top [] ≡ [] }
+    ensures ends { EndsRun graphs.now streams.now.tokens.now iterations (O.written out.old) (O.written out.new) (O.faults out.old) (O.faults out.new) result }
     ensures never_falls { O.faults out.old ≤ O.faults out.new }
 {
     let Ok(mut delays) = first_delays(alloc, graphs) else {
         return RunEnd::Memory;
     };
     for number in 0..iterations {
-        match step(alloc, graphs, streams, number, &delays, gate, out) {
-            Ok(next) => delays = next,
+        match step(alloc, graphs, streams, number, &mut delays, gate, out) {
+            Ok(()) => {}
             Err(end) => return end,
         }
     }
@@ -123,4 +132,49 @@ pub(crate) fn run_all<O: Sink, K: Gate>(
         Ok(left) => RunEnd::Done { left },
         Err(_) => RunEnd::Memory,
     }
+}
+
+/// How many tokens each stream holds.
+fn lengths(alloc: Global, streams: &[List<i64>]) -> Result<List<u64>, AllocError>
+    ensures { IfOk result (λ l. l ≡ map (λ t. length t) streams.now) }
+{
+    let counts: Vec<u64> = streams
+        .iter()
+        .map(|tokens| tokens.items().len() as u64)
+        .collect(alloc)?;
+    Ok(List::new(counts))
+}
+
+/// Runs so many iterations. Each text is put once, whole, when its iteration is done. Without an iteration nothing is
+/// checked.
+pub(crate) fn run_all<O: Sink, K: Gate>(
+    alloc: Global,
+    graphs: &Graphs,
+    streams: &[List<i64>],
+    iterations: u32,
+    gate: &K,
+    out: &mut O,
+) -> RunEnd
+    requires good { AreGood graphs.now }
+    requires kernels { K.kernels gate.now ≡ the_signatures }
+    requires few { iterations ≤ 65536 }
+    requires fit { length streams.now ≡ length (top_of graphs.now).inputs }
+    ensures ends { EndsRun graphs.now streams.now iterations (O.written out.old) (O.written out.new) (O.faults out.old) (O.faults out.new) result }
+    ensures never_falls { O.faults out.old ≤ O.faults out.new }
+{
+    if iterations == 0 {
+        return match lengths(alloc, streams) {
+            Ok(left) => RunEnd::Done { left },
+            Err(_) => RunEnd::Memory,
+        };
+    }
+    let needs = match top_needs(alloc, graphs) {
+        Ok(needs) => needs,
+        Err(fault) => return refused(fault),
+    };
+    let feed = Streams {
+        needs: needs.items(),
+        tokens: streams,
+    };
+    run_some(alloc, graphs, &feed, iterations, gate, out)
 }

@@ -2,9 +2,9 @@ ghost use Rattle.std.specs.Prelude.{◌≡◌};
 ghost use Rattle.std.specs.Process.{exit_status};
 ghost use Rattle.pisdf_program.specs.Codes.{code_of};
 
-use firing_board::Refusal;
 use graph_format::GraphFault;
 use param_expr::Name;
+use pisdf_meaning::Refusal;
 use std::process::ExitCode;
 use token_text::TokenFault;
 
@@ -55,12 +55,10 @@ pub enum Which {
 /// What the program doesn't do yet.
 #[derive(Clone, Copy, Debug, PartialEq, Eq)]
 pub enum Later {
-    /// A command other than `run`.
+    /// A command other than `run`, `plain` and `upgrade`.
     Command,
     /// More than one worker.
     Workers,
-    /// A graph other than one kernel `pass` between one input and one output.
-    Graph,
 }
 
 impl Status {

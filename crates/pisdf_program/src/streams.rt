@@ -1,6 +1,6 @@
 // The tokens that an iteration takes from the input streams.
 ghost use Rattle.std.specs.Prelude.{◌≡◌, ◌≤◌, ◌*◌, drop, length, map, take, IfOk};
-ghost use Rattle.firing_board.specs.Run.{first_lack, taken};
+ghost use Rattle.pisdf_meaning.specs.Run.{first_lack, taken};
 ghost use Rattle.pisdf_program.specs.Streams.{rest_of};
 ghost use Rattle.pisdf_program.specs.LackSeen.{lack_seen};
 

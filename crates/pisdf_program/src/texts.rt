@@ -2,7 +2,7 @@
 ghost use Rattle.std.specs.Prelude.{◌≡◌, ◌++◌, IfOk, OnOk};
 ghost use Rattle.pisdf_program.specs.Texts.{iteration_text, param_rows, token_rows};
 
-use firing_board::{Iteration, TraceRow};
+use pisdf_meaning::{Iteration, TraceRow};
 use pisdf_model::Interface;
 use sdf_level::List;
 use std::alloc::{AllocError, Global};

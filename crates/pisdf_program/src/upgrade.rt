@@ -3,9 +3,9 @@ ghost use Rattle.std.specs.Prelude.{◌≡◌, ◌≢◌, Err, Some, map, IfErr,
 ghost use Rattle.kernel_gate.specs.Signed.{signature_view};
 ghost use Rattle.kernel_gate.specs.Table.{the_signatures};
 ghost use Rattle.pisdf_program.specs.Loaded.{AreGood};
-ghost use Rattle.pisdf_program.specs.Result.{file_of, latest, result_of_command};
+ghost use Rattle.pisdf_program.specs.Result.{IsTold, Upgrades, file_of, latest};
 ghost use Rattle.pisdf_program.specs.Words as table;
-ghost use Rattle.pisdf_program.specs.Worked.{CountRose, Works};
+ghost use Rattle.pisdf_program.specs.Worked.{CountRose, IsThere, Works};
 
 use crate::load::load_graphs;
 use crate::put::put_text;
@@ -50,7 +50,8 @@ pub(crate) fn upgrade<S: Shelf, O: Sink, K: Gate>(
     gate: &K,
 ) -> Result<String, Status>
     requires kernels { K.kernels gate.now ≡ the_signatures }
-    ensures works { Works (result_of_command (Some (table.Upgrade graph.now)) (S.holds shelf.old)) (O.written out.old) (O.written out.new) (O.faults out.old) (O.faults out.new) result }
+    ensures works { Works (Upgrades (S.holds shelf.old graph.now)) (O.written out.old) (O.written out.new) (O.faults out.old) (O.faults out.new) result }
+    ensures there { IsThere (IsTold (S.holds shelf.old graph.now)) (Upgrades (S.holds shelf.old graph.now)) result }
     ensures read { IfErr result (CountRose (Some (table.Upgrade graph.now)) (S.faults shelf.old) (S.faults shelf.new)) }
     ensures usage { result ≢ Err Status.Usage }
 {

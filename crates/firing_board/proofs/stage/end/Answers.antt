@@ -3,7 +3,7 @@ use Rattle.std.proofs.lemmas.List.{get_or_read, length-map}
 use Rattle.std.specs.Prelude.{List, Some, slice_index_or}
 use Rattle.firing_board.specs.declared.stage.Slot.{Slot}
 use Rattle.firing_board.specs.declared.firing.Firing.{Firing}
-use Rattle.firing_board.specs.declared.refusal.Cause.TheVariants as cause
+use Rattle.pisdf_meaning.specs.declared.refusal.Cause.TheVariants as cause
 use Rattle.firing_board.specs.Job.{no_firing}
 use Rattle.firing_board.specs.Ends.{EndsJob}
 use Rattle.firing_board.specs.Slots.{Fault, first_failed}

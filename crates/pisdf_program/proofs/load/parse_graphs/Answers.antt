@@ -1,7 +1,8 @@
-use Rattle.std.proofs.Common.{◌≡◌, subst, List, Ok, Err, true, false}
+use Rattle.std.proofs.Common.{◌≡◌, subst, List, Ok, Err, true, false, map}
 use Rattle.graph_format.specs.declared.graph_fault.GraphFault.TheVariants.{Memory}
-use Rattle.kernel_gate.specs.Signed.{SignatureView}
+use Rattle.kernel_gate.specs.Signed.{SignatureView, signature_view}
 use Rattle.graph_format.specs.Reads.{AreReadAs, Reads}
+use Rattle.pisdf_program.proofs.KernelsFit.{kernels_fit}
 use Rattle.pisdf_program.proofs.Reading.{fault_read, graphs_read}
 use Rattle.pisdf_program.proofs.load.parse_graphs.Goals as goal
 
@@ -17,3 +18,15 @@ returns-else-is_memory-clause-settles c =
     let fault = c.in-Err.fault in
     λ answer. fault_read bytes fault (subst (λ (s : List SignatureView). Reads s bytes (Err fault)) c.requires c.in-Err.ensures.exact)
     (λ (e : fault ≡ Memory). let yes : c.is_memory.result ≡ true = c.is_memory.ensures.1 e in let no : c.is_memory.result ≡ false = c.if-is_memory.false in absurd cc)
+
+pub returns-in-Ok-clause-good : goal.returns-in-Ok-clause-good
+returns-in-Ok-clause-good c =
+    let graphs = c.in-Ok.graphs in
+    let means = c.in-Ok.ensures.means in
+    let stated = c.in-Ok.ensures.stated means.0 means.2.0 means.1 means.2.1 in
+    record {
+      in_range = c.in-Ok.ensures.in_range;
+      well_formed = c.in-Ok.ensures.well_formed;
+      writable = c.in-Ok.ensures.writable;
+      kernels = kernels_fit (map signature_view c.args.signatures.now) means.2.0 graphs stated.0 stated.1 c.requires;
+    }

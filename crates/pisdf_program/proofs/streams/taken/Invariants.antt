@@ -1,5 +1,5 @@
 use Rattle.std.proofs.Common.{◌≡◌, ◌++◌, drop}
-use Rattle.firing_board.specs.Run.{taken}
+use Rattle.pisdf_meaning.specs.Run.{taken}
 use Rattle.pisdf_program.specs.Streams.{rest_of}
 use Rattle.pisdf_program.proofs.streams.taken.Given as goal
 

@@ -1,7 +1,7 @@
 use Rattle.std.proofs.Common.{◌≡◌, ◌∙◌, ◌⊎◌, ℕ, true, false, List, [], rules, sym, subst, ap, refl, vec_capacity}
 use Rattle.std.specs.Prelude.{ℤ}
-use Rattle.firing_board.specs.declared.outcome.TraceRow.{TraceRow}
-use Rattle.firing_board.specs.declared.outcome.Iteration.{Iteration}
+use Rattle.pisdf_meaning.specs.declared.outcome.TraceRow.{TraceRow}
+use Rattle.pisdf_meaning.specs.declared.outcome.Iteration.{Iteration}
 use Rattle.firing_board.specs.declared.stage.JobEnd.{JobEnd}
 use Rattle.firing_board.specs.declared.stage.JobEnd.TheVariants as end
 use Rattle.firing_board.specs.declared.ticket.BoardEnd.TheVariants as board

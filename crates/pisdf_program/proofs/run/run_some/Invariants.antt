@@ -1,0 +1,11 @@
+use Rattle.std.proofs.Common.{◌≤◌}
+use Rattle.pisdf_program.proofs.Runs.{Reached}
+use Rattle.pisdf_program.proofs.run.run_some.Given as goal
+
+abbrev pub invariant-loop-number : goal.invariant-loop-number
+invariant-loop-number g l =
+    let sink = g.O.Sink in
+    record {
+      reached : Reached l.graphs l.streams.tokens.now l.number l.delays.lists (sink.written l.fn.out) (sink.written l.out);
+      never_falls : sink.faults l.fn.out ≤ sink.faults l.out;
+    }

@@ -1,0 +1,36 @@
+-- What one iteration of a run says.
+use Rattle.std.specs.Prelude.{◌≡◌, ℕ, ℤ, List, [], Option, Some, Result, Ok, Err}
+use Rattle.outer_world.specs.Faults.{Rose}
+use Rattle.outer_world.specs.Sink.{Grows}
+use Rattle.pisdf_model.specs.declared.graph.Graphs.{Graphs}
+use Rattle.pisdf_meaning.specs.declared.outcome.Iteration.{Iteration}
+use Rattle.pisdf_meaning.specs.declared.refusal.PlainFault.{PlainFault}
+use Rattle.pisdf_meaning.specs.declared.refusal.PlainFault.TheVariants as plain
+use Rattle.pisdf_program.specs.Calls.{GrowsPartly}
+use Rattle.pisdf_program.specs.Iterated.{Checks, Gives, IsRefused}
+use Rattle.pisdf_program.specs.Result.{top_of}
+use Rattle.pisdf_program.specs.Texts.{iteration_text}
+use Rattle.pisdf_program.specs.declared.run.RunEnd.{RunEnd}
+use Rattle.pisdf_program.specs.declared.run.RunEnd.TheVariants as end
+
+-- the end of a run where one thread gets nothing from an iteration
+abbrev pub refused_end : PlainFault → RunEnd
+refused_end (plain.Refused refusal) = end.Refused refusal
+refused_end plain.Memory = end.Memory
+
+-- iteration `number` ended the run
+abbrev pub EndsAt : Graphs → ℕ → List (List ℤ) → List (List ℤ) → Option (List ℕ) → Option (List ℕ) → ℕ → ℕ → RunEnd → Type 0
+EndsAt graphs number state streams had has before now (end.Done left) = ⊥
+EndsAt graphs number state streams had has before now (end.Short stream held needs) =
+    Checks graphs streams (Ok (Some record { stream = stream; has = held; needs = needs })) × Grows had has []
+EndsAt graphs number state streams had has before now (end.Refused refusal) = IsRefused graphs state streams refusal × Grows had has []
+EndsAt graphs number state streams had has before now end.WriteFault =
+    Rose before now × (iteration : Iteration) × (next : List (List ℤ)) × Gives graphs state streams iteration next
+    × GrowsPartly had has (iteration_text number (top_of graphs).outputs iteration)
+EndsAt graphs number state streams had has before now end.Memory = Grows had has []
+
+-- iteration `number` was written whole and left this state, or it ended the run
+abbrev pub Steps : Graphs → ℕ → List (List ℤ) → List (List ℤ) → List (List ℤ) → Option (List ℕ) → Option (List ℕ) → ℕ → ℕ → Result (Unit {0}) RunEnd → Type 0
+Steps graphs number state next streams had has before now (Ok done) =
+    (iteration : Iteration) × Gives graphs state streams iteration next × Grows had has (iteration_text number (top_of graphs).outputs iteration)
+Steps graphs number state next streams had has before now (Err end) = EndsAt graphs number state streams had has before now end
