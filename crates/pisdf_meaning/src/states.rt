@@ -137,7 +137,7 @@ fn push_actor_lists(
 }
 
 /// The state with which the graph at a place begins. It takes as many steps as the state has tokens, and as the graph and
-/// those nested in it have parts.
+/// those nested in it have parts, each counted once for every path of actors that leads to it.
 pub(crate) fn begin(
     alloc: Global,
     graphs: &[Graph],
