@@ -1,0 +1,12 @@
+pub mod Places
+pub mod Turns
+pub mod Nesting
+pub mod Unsettled
+pub mod Running
+pub mod Finding
+pub mod Ending
+pub mod Telling
+pub mod Counting
+pub mod OneStep
+pub mod Appending
+pub mod Examples
