@@ -1,7 +1,7 @@
 // The calls, each with the driver that makes it.
 use crate::drivers::{
-    bounds, expressions, frames, kernels, leases, lines, made_levels, models, placements, program,
-    reading, resolving, schedules, solving, tokens, world,
+    bounds, expressions, frames, kernels, leases, lines, made_levels, models, orderings,
+    placements, program, reading, resolving, schedules, solving, tokens, world,
 };
 use crate::trouble::Trouble;
 use serde_json::Value;
@@ -45,6 +45,7 @@ pub enum Call {
     Resolve,
     MakeLevel,
     Begin,
+    OrderWorkers,
 }
 
 /// The answer of a call on the inputs of a row.
@@ -85,5 +86,6 @@ pub fn answer(call: Call, alloc: Global, row: &Value) -> Result<Value, Trouble> 
         Call::Resolve => resolving::resolved(alloc, row),
         Call::MakeLevel => made_levels::level_made(alloc, row),
         Call::Begin => made_levels::run_begun(alloc, row),
+        Call::OrderWorkers => orderings::orders_and_offsets(alloc, row),
     }
 }

@@ -12,6 +12,7 @@ mod levels;
 pub mod lines;
 pub mod made_levels;
 pub mod models;
+pub mod orderings;
 pub mod placements;
 pub mod program;
 pub mod reading;

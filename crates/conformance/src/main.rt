@@ -17,7 +17,7 @@ use crate::table::{Table, run_table};
 use std::io;
 
 /// The tables, in the order of their lines in the output.
-const TABLES: [Table; 37] = [
+const TABLES: [Table; 38] = [
     Table {
         file: "names.jsonl",
         call: Call::IsName,
@@ -165,6 +165,10 @@ const TABLES: [Table; 37] = [
     Table {
         file: "first_states.jsonl",
         call: Call::Begin,
+    },
+    Table {
+        file: "orderings.jsonl",
+        call: Call::OrderWorkers,
     },
 ];
 

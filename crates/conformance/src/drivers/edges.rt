@@ -65,7 +65,8 @@ pub fn are_there(nodes: u32, edges: &[(u32, u32)]) -> bool
     edges.iter().all(|edge| edge.0 < nodes && edge.1 < nodes)
 }
 
-fn rank_at(ranks: &[u32], node: u32) -> u32
+/// The rank of a node, 0 where it has none.
+pub fn rank_at(ranks: &[u32], node: u32) -> u32
     ensures { result ≡ slice_index ranks.now node }
 {
     ranks.get(node as usize).copied().unwrap_or(0)

@@ -1,0 +1,10 @@
+pub mod Grouped
+pub mod OpenSets
+pub mod Waiting
+pub mod Standing
+pub mod Following
+pub mod OneLine
+pub mod Rising
+pub mod Neighbouring
+pub mod LiveBuffers
+pub mod WholeRuns
