@@ -4,4 +4,4 @@ cd "$(dirname "$0")" || exit 1
 for file in data/*; do
   set -- "$@" --data "$(basename "$file")=$file"
 done
-exec rt try --seconds 300 "$@"
+exec rt try --seconds 900 "$@"

@@ -1,7 +1,8 @@
 // Texts as the tables write them, so that long ones take few words:
 //
 // - a string is itself, and a list its pieces one after the other;
-// - `{"times": n, "of": piece}` is a piece so many times, and with `"between": text` this text between them;
+// - `{"times": n, "of": piece}` is a piece so many times, and with `"between": text` this text between them; with the
+//   member `numbered` the marks that the written piece has are replaced as in the next form;
 // - `{"times": n, "each": text, "from": k}` is a text so many times, `#` in it replaced by the numbers from k on (from 0
 //   on where it isn't given), and `@` by the number after; `between` as before;
 // - `{"bytes": [n, ..]}` are these bytes, and `{"json": value}` the compact text of a value;
@@ -61,6 +62,22 @@ fn push_times(bytes: &mut Vec<u8>, piece: &Value, of: &[u8]) -> Result<(), Troub
     Ok(())
 }
 
+/// A piece so many times, as it is or with numbers in the place of its marks.
+fn push_copies(
+    alloc: Global,
+    bytes: &mut Vec<u8>,
+    piece: &Value,
+    of: Vec<u8>,
+) -> Result<(), Trouble> {
+    if piece.get("numbered").is_none() {
+        return push_times(bytes, piece, of.as_slice());
+    }
+    match String::from_utf8(of) {
+        Ok(pattern) => push_each(alloc, bytes, piece, pattern.as_str()),
+        Err(_) => Err(Trouble::Member("of")),
+    }
+}
+
 fn push_bytes(bytes: &mut Vec<u8>, numbers: &[Value]) -> Result<(), Trouble> {
     for number in numbers {
         match number.as_u64().map(u8::try_from) {
@@ -105,7 +122,7 @@ fn push_piece(piece: &Value, alloc: Global, bytes: &mut Vec<u8>) -> Result<(), T
             }
             if let Some(of) = members.get("of") {
                 push_piece(of, alloc, &mut inner)?;
-                return push_times(bytes, piece, inner.as_slice());
+                return push_copies(alloc, bytes, piece, inner);
             }
             return Err(Trouble::Member("times"));
         }

@@ -91,6 +91,26 @@ module _ (test : ℕ → Link → Bool) (only : (link : Link) (s t : ℕ) → te
   pub links-enough : (n : ℕ) (links : List Link) → ((s : ℕ) → s < n → how_many (test s) links ≡ 1) → n ≤ length links
   links-enough n links each = let m = each-met n links each in let w = met-within n links in omega arith
 
+  -- the links that meet a test are of those that meet this one
+  module _ (of : Link → Bool) (is_of : (link : Link) (s : ℕ) → test s link ≡ true → of link ≡ true) where
+    met-of : (n : ℕ) (link : Link) → met n link ≤ one (of link)
+    met-of n link = ⊎_elim
+        (λ (e : of link ≡ true). let o = met-once n link in rw e o)
+        (λ (e : of link ≡ false). let none = met-none n link (λ s h. ⊎_elim (λ (t : test s link ≡ true). absurd (let f = is_of link s t in cc)) (λ (f : test s link ≡ false). f) (cases_Bool (test s link))) in omega arith)
+        (cases_Bool (of link))
+
+    all-of : (n : ℕ) (links : List Link) → all_met n links ≤ how_many of links
+    all-of n [] = let m = none-met n in omega arith
+    all-of n (link ∷ links) = let m = met-more n link links in let o = met-of n link in let w = all-of n links in omega arith
+
+    counted : (links : List Link) → ((s : ℕ) → 0 < how_many (test (s + 1)) links → 0 < how_many (test s) links) → (n : ℕ) → 0 < how_many (test n) links → n < all_met (suc n) links
+    counted links gapless zero there = omega arith
+    counted links gapless (suc n) there = let e : suc n ≡ n + 1 = omega arith in let c = counted links gapless n (gapless n (rw e at there)) in omega arith
+
+    -- where a test without a gap before it is met, its number is below the count of them
+    pub number-below : (links : List Link) → ((s : ℕ) → 0 < how_many (test (s + 1)) links → 0 < how_many (test s) links) → (n : ℕ) → 0 < how_many (test n) links → n < how_many of links
+    number-below links gapless n there = let c = counted links gapless n there in let a = all-of (suc n) links in omega arith
+
 equal : (t s : ℕ) → (t == s) ≡ true → t ≡ s
 equal t s h = ⊎_elim (λ (e : t ≡ s). e) (λ (n : t ≡ s → ⊥). absurd (let f = ne_eqb t s n in cc)) (cases_eq t s)
 

@@ -58,10 +58,10 @@ stage-most level q list (node.Join l j) = let link : Link = slice_index_or level
 stage-most level q list (node.Round l) = omega arith
 
 module _ (list : List Node) (S : Node → ℕ) where
-  abbrev number_stage : ℕ → ℕ
+  abbrev pub number_stage : ℕ → ℕ
   number_stage i = S (slice_index_or list i (node.Source 0))
 
-  edges-forward : (ws : List Wire) → Every (HasEnds list) ws → Every (Rises S) ws → AllByRecursion (λ e. number_stage e.tail < number_stage e.head) (map (edge_of list) ws)
+  pub edges-forward : (ws : List Wire) → Every (HasEnds list) ws → Every (Rises S) ws → AllByRecursion (λ e. number_stage e.tail < number_stage e.head) (map (edge_of list) ws)
   edges-forward [] ends rises = tt
   edges-forward (w ∷ ws) ends rises = (
     (let t : number_stage (place_of list w.tail.node) ≡ S w.tail.node = ap S (place-found list w.tail.node ends.0.0) in

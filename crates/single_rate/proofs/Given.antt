@@ -52,7 +52,7 @@ pub Fails-delay : (n : Node) (port : ℕ) (m : Node) (d : ℕ) → same n m ≡ 
 Fails-delay n port m zero h = tt
 Fails-delay n port m (suc d) h = ((rw h refl), tt)
 
-turn_fails : (b k port a j p : ℕ) → (k ≡ j → ⊥) → at_port (node.Firing b k) port record { node = node.Firing a j; port = p } ≡ false
+pub turn_fails : (b k port a j p : ℕ) → (k ≡ j → ⊥) → at_port (node.Firing b k) port record { node = node.Firing a j; port = p } ≡ false
 turn_fails b k port a j p other = rw (ne_eqb k j other, and-false (b == a)) refl
 
 pub Fails-past : (b i port a p r k m : ℕ) → i < k → Fails (at_port (node.Firing b i) port) (firing_parts a p r k m)

@@ -34,7 +34,7 @@ first-firings : (P : List ℕ → ℕ → Type 0) (before first after : List ℕ
 first-firings P before [] after each = tt
 first-firings P before (b ∷ first) after each = (each.0, first-firings P (before ++ b ∷ []) first after each.1)
 
-next-firing : (P : List ℕ → ℕ → Type 0) (before first after : List ℕ) (b : ℕ) → EachFiring P before (first ++ b ∷ after) → P (before ++ first) b
+pub next-firing : (P : List ℕ → ℕ → Type 0) (before first after : List ℕ) (b : ℕ) → EachFiring P before (first ++ b ∷ after) → P (before ++ first) b
 next-firing P before [] after b each = let Q : List ℕ → Type 0 = λ l. P l b in subst Q (sym (append-nil before)) each.0
 next-firing P before (c ∷ first) after b each = let Q : List ℕ → Type 0 = λ l. P l b in subst Q (append_assoc before (c ∷ []) first) (next-firing P (before ++ c ∷ []) first after b each.1)
 

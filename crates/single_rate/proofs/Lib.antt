@@ -41,3 +41,12 @@ pub mod NumberRows
 pub mod FewNodes
 pub mod Sizes
 pub mod NamedEdges
+pub mod Once
+pub mod Turns
+pub mod PortCounts
+pub mod PortOrders
+pub mod PortLinks
+pub mod PortNodes
+pub mod PortCopies
+pub mod PortsAll
+pub mod PortsUsed

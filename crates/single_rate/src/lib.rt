@@ -15,6 +15,6 @@ mod sequence;
 mod wire;
 
 pub use graph::expand;
-pub use laws::tokens_delivered;
+pub use laws::{graphs_numbered, tokens_delivered};
 pub use part::{Part, Port};
 pub use wire::Wire;

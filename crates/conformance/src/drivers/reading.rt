@@ -1,11 +1,15 @@
 // Graph files: what reading them answers, and what is written of the graphs.
+ghost use Rattle.std.specs.Prelude.{◌≡◌, IfOk};
+ghost use Rattle.pisdf_model.specs.WellFormed.{WellFormed};
+
 use crate::drivers::shown::shown;
 use crate::drivers::signatures::signatures_of;
 use crate::notation::{bytes, quoted};
 use crate::trouble::Trouble;
 use graph_format::GraphFault;
 use graph_reader::read;
-use graph_writer::write;
+use graph_writer::{upgrade, write};
+use pisdf_model::Graphs;
 use serde_json::Value;
 use std::alloc::Global;
 
@@ -83,13 +87,27 @@ pub fn meaning(alloc: Global, row: &Value) -> Result<Value, Trouble> {
     }
 }
 
-/// What is written of the graphs of the row's file, where these are read from it again, with `'` in the place of `"`;
-/// `same` where it is the row's file.
+/// These graphs, as those of version 2 where the row asks for `upgraded` ones.
+fn asked_for(alloc: Global, row: &Value, graphs: Graphs) -> Result<Graphs, Trouble>
+    requires { WellFormed graphs }
+    ensures { IfOk result (λ asked. asked.graphs ≡ graphs.graphs) }
+{
+    if row.get("upgraded").is_none() {
+        return Ok(graphs);
+    }
+    if graphs.version != 1 {
+        return Err(Trouble::Member("upgraded"));
+    }
+    Ok(upgrade(alloc, &graphs)?)
+}
+
+/// What is written of the graphs of the row's file, or of the upgraded ones, where these are read from it again, with `'`
+/// in the place of `"`; `same` where it is the row's file.
 pub fn rewritten(alloc: Global, row: &Value) -> Result<Value, Trouble> {
     let file = file_of(alloc, row)?;
     let signatures = signatures_of(alloc, row)?;
     let graphs = match read(alloc, file.as_slice(), signatures.as_slice()) {
-        Ok(graphs) => graphs,
+        Ok(graphs) => asked_for(alloc, row, graphs)?,
         Err(fault) => return Ok(Value::from(fault_text(alloc, &fault)?)),
     };
     let written = write(alloc, &graphs, signatures.as_slice())?;

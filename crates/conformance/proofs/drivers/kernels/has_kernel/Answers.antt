@@ -1,7 +1,7 @@
 use Rattle.std.proofs.Common.{[], false, refl, arith}
 use Rattle.kernel_gate.specs.Table.{the_signatures}
 use Rattle.kernel_gate.specs.declared.signature.Signature.{Signature}
-use Rattle.conformance.proofs.Seen.{signature_at}
+use Rattle.kernel_library.proofs.Seen.{signature_at}
 use Rattle.conformance.proofs.drivers.kernels.has_kernel.Goals as goal
 
 -- what an index past the end would read

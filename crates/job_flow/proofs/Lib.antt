@@ -1,0 +1,12 @@
+pub mod Examples
+pub mod Steady
+pub mod Collected
+pub mod Sized
+pub mod Flows
+pub mod Failures
+pub mod Ends
+pub mod Jobs
+pub mod OwnPorts
+pub mod Slots
+pub mod ReadRates
+pub mod Words
