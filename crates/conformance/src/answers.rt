@@ -1,7 +1,7 @@
 // The calls, each with the driver that makes it.
 use crate::drivers::{
-    bounds, expressions, frames, kernels, leases, lines, made_levels, models, orderings,
-    placements, program, reading, resolving, schedules, solving, tokens, world,
+    bounds, compilations, expressions, frames, kernels, leases, lines, made_levels, models,
+    orderings, placements, program, reading, resolving, schedules, solving, tokens, world,
 };
 use crate::trouble::Trouble;
 use serde_json::Value;
@@ -46,6 +46,8 @@ pub enum Call {
     MakeLevel,
     Begin,
     OrderWorkers,
+    Compile,
+    Keep,
 }
 
 /// The answer of a call on the inputs of a row.
@@ -87,5 +89,7 @@ pub fn answer(call: Call, alloc: Global, row: &Value) -> Result<Value, Trouble> 
         Call::MakeLevel => made_levels::level_made(alloc, row),
         Call::Begin => made_levels::run_begun(alloc, row),
         Call::OrderWorkers => orderings::orders_and_offsets(alloc, row),
+        Call::Compile => compilations::compilation(alloc, row),
+        Call::Keep => compilations::kept_by(alloc, row),
     }
 }

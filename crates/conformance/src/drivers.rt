@@ -1,6 +1,7 @@
 //! For each call a function that makes it on the inputs of a row.
 
 pub mod bounds;
+pub mod compilations;
 mod edges;
 pub mod expressions;
 mod frame_parts;

@@ -17,7 +17,7 @@ use crate::table::{Table, run_table};
 use std::io;
 
 /// The tables, in the order of their lines in the output.
-const TABLES: [Table; 38] = [
+const TABLES: [Table; 41] = [
     Table {
         file: "names.jsonl",
         call: Call::IsName,
@@ -119,6 +119,10 @@ const TABLES: [Table; 38] = [
         call: Call::Run,
     },
     Table {
+        file: "jobs.jsonl",
+        call: Call::Run,
+    },
+    Table {
         file: "frames.jsonl",
         call: Call::Start,
     },
@@ -169,6 +173,14 @@ const TABLES: [Table; 38] = [
     Table {
         file: "orderings.jsonl",
         call: Call::OrderWorkers,
+    },
+    Table {
+        file: "compilations.jsonl",
+        call: Call::Compile,
+    },
+    Table {
+        file: "keepings.jsonl",
+        call: Call::Keep,
     },
 ];
 

@@ -49,13 +49,33 @@ fn excludes(edges: &[(u32, u32)], e: u32, f: u32) -> bool {
     }
 }
 
-/// Whether the relation has as many buffers as there are edges, and says of each two what paths say.
+/// Whether the row of a buffer has the others that exclude it, and no more of them.
+fn row_agrees(edges: &[(u32, u32)], relation: &Reach, e: u32) -> bool {
+    let range = relation.range();
+    let mut row = [0u64; 1];
+    if range > 64 || e >= range {
+        return false;
+    }
+    relation.write_row(e, &mut row);
+    for f in 0..range {
+        let has = row[0] >> f & 1 == 1;
+        if f != e && has != excludes(edges, e, f) {
+            return false;
+        }
+    }
+    true
+}
+
+/// Whether the relation has as many buffers as there are edges, and says of each two what paths say, also in rows.
 fn agrees(edges: &[(u32, u32)], relation: &Reach) -> bool {
     for f in 0..relation.range() {
         for e in 0..f {
             if relation.excludes(e, f) != excludes(edges, e, f) {
                 return false;
             }
+        }
+        if !row_agrees(edges, relation, f) {
+            return false;
         }
     }
     relation.range() as usize == edges.len()

@@ -1,7 +1,2 @@
-pub mod Lists
-pub mod Steps
-pub mod Ends
-pub mod Fields
-pub mod Facts
-pub mod Outcomes
-pub mod Passes
+pub mod Examples
+pub mod Picked

@@ -1,11 +1,4 @@
-pub mod OnePass
-pub mod Job
-pub mod Jobs
-pub mod Meaning
-pub mod Core
-pub mod View
-pub mod Calls
-pub mod Slots
-pub mod Stages
-pub mod Ends
-pub mod Kept
+pub mod Keys
+pub mod Entries
+pub mod Picks
+pub mod Legal

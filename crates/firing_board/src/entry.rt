@@ -1,21 +1,21 @@
 use pisdf_meaning::Path;
 
-/// An item of a job: what a worker claims and finishes.
-#[derive(Clone, Copy, Debug, PartialEq, Eq)]
+/// An item of a job.
+#[derive(Debug, Clone, Copy, PartialEq, Eq, Drop)]
 pub enum Item {
-    /// The firing of the configuration actor at this place of the graph's actors.
+    /// A configuration actor that fires a kernel, by its place among the actors of its graph.
     Configure(u32),
-    /// The compilation of the job.
+    /// The compilation.
     Compile,
-    /// The node with this number.
+    /// A node of the single-rate graph, by its number.
     Node(u32),
 }
 
-/// One event of a board.
+/// A step of a worker, as the journal has it.
 #[derive(Drop)]
 pub enum Entry {
-    /// A worker claimed an item of the job at a path.
+    /// The worker claims an item of the job with this path.
     Claim { worker: u32, path: Path, item: Item },
-    /// A worker finished the item that it ran.
+    /// The worker finishes the item that it runs.
     Finish { worker: u32 },
 }

@@ -1,18 +1,9 @@
-//! The board of one job: workers claim its items and finish them, and its journal has each claim and finish. The job is
-//! one firing of a graph.
+//! The board: which items of the open jobs may be claimed and finished, in what order they are handed to workers, and what
+//! every journal of claims and finishes that has ended tells.
 #![tactic(auto)]
 
-mod board;
-mod compile;
 mod entry;
-mod firing;
-mod job;
-mod slots;
-mod stage;
-mod ticket;
+mod laws;
 
-pub use board::Board;
-pub use compile::{CompileEnd, CompileTask};
 pub use entry::{Entry, Item};
-pub use firing::{Feed, Firing};
-pub use ticket::{BoardEnd, Claim, Ticket};
+pub use laws::journals_tell_one_thread;

@@ -4,3 +4,4 @@ pub mod Closing
 pub mod Ranking
 pub mod Turning
 pub mod Reached
+pub mod Neither

@@ -1,8 +1,8 @@
 -- The paths of a graph whose edges are turned round.
-use Rattle.std.proofs.Common.{◌≡◌, ℕ, ◌+◌, ◌-◌, ◌*◌, ◌<◌, ◌≤◌, List, length, map, slice_index, get_or, All, refl, sym, ap, ◌∙◌, arith}
+use Rattle.std.proofs.Common.{◌≡◌, ℕ, ◌-◌, ◌<◌, ◌≤◌, List, length, map, slice_index, get_or, All, sym, ap, ◌∙◌, arith}
 use Rattle.std.proofs.lemmas.List.{get_or-map, length-map}
 use Rattle.std.proofs.lemmas.List.Elements.{All-map, All-weaker}
-use Rattle.memory_exclusion.specs.Paths.{tail_of, head_of, IsPath}
+use Rattle.memory_exclusion.specs.Paths.{IsPath}
 use Rattle.memory_exclusion.specs.Closure.{turned}
 use Rattle.memory_exclusion.proofs.Chains.{IsEdge, Comes, first, next, path_of, comes_by}
 

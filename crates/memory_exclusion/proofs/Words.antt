@@ -1,11 +1,11 @@
 -- One word of a row changes, and then each word of it.
-use Rattle.std.proofs.Common.{◌≡◌, ◌≢◌, ℕ, ◌+◌, ◌-◌, ◌*◌, ◌/◌, ◌%◌, ◌^◌, ◌<◌, ◌≤◌, ◌⊎◌, inl, inr, ⊎_elim, List, length, set, slice_index, bit_or, w64, sym, ◌∙◌, refl, arith, max}
+use Rattle.std.proofs.Common.{◌≡◌, ◌≢◌, ℕ, ◌+◌, ◌-◌, ◌*◌, ◌/◌, ◌%◌, ◌^◌, ◌<◌, ◌≤◌, ◌⊎◌, inl, inr, ⊎_elim, List, length, set, slice_index, bit_or, bit_and, w64, sym, ◌∙◌, refl, arith, max}
 use Rattle.std.proofs.lemmas.Bool.{cases_lt, cases_eq}
 use Rattle.std.proofs.lemmas.List.{get_or-set_same, get_or-set_other, length-set}
 use Rattle.std.proofs.lemmas.Nat.{same_from_place}
-use Rattle.std.proofs.lemmas.Nat.Bits.{bit_at_or, bit_at-lt, bit_at_set_same, bit_at_set_other}
+use Rattle.std.proofs.lemmas.Nat.Bits.{bit_at_or, bit_at-lt, bit_at_set_same, bit_at_set_other, bit_at_clear_same, bit_at_clear_other}
 use Rattle.std.specs.Int.{bit_at}
-use Rattle.memory_exclusion.specs.Bits.{AddsBit, AddsRow}
+use Rattle.memory_exclusion.specs.Bits.{AddsBit, DropsBit, AddsRow}
 
 -- the place of a bit within its word, and its word within the row
 low_bit : (b : ℕ) → b % 64 < 64
@@ -73,6 +73,38 @@ module _ (words : List ℕ) (width row bit : ℕ) (long : row * width + width �
         ))
         (cases_eq (b % 64) (bit % 64)))
         (λ (other : r * width + b / 64 ≢ place). inl (rw (get_or-set_other words place (r * width + b / 64) (bit_or (slice_index words place) (1 * 2 ^ (bit % 64) % 2 ^ 64)) 0 other) at has))
+        (cases_eq (r * width + b / 64) place);
+  }
+
+  unfoldable pub without_bit : List ℕ
+  without_bit = set words place (bit_and (slice_index words place) (2 ^ 64 - 1 - 1 * 2 ^ (bit % 64) % 2 ^ 64))
+
+  pub bit_dropped : DropsBit width words without_bit row bit
+  unfolding without_bit place
+  bit_dropped = record {
+    long = length-set words place (bit_and (slice_index words place) (2 ^ 64 - 1 - 1 * 2 ^ (bit % 64) % 2 ^ 64));
+    kept = λ r b fits has other. ⊎_elim
+        (λ (here : r * width + b / 64 ≡ place).
+        let same : (r ≡ row) × (b / 64 ≡ bit / 64) = same_from_place r (b / 64) row (bit / 64) width (word_of b width fits) (word_of bit width below) here in
+        rw (here, get_or-set_same words place (bit_and (slice_index words place) (2 ^ 64 - 1 - 1 * 2 ^ (bit % 64) % 2 ^ 64)) 0 inside)
+        (bit_at_clear_other w64 (slice_index words place) (bit % 64) (low_bit bit) (b % 64) (low_bit b) (λ own. other (same.0, same_bit b bit same.1 own)) ∙ (rw here at has)))
+        (λ (apart : r * width + b / 64 ≢ place). rw (get_or-set_other words place (r * width + b / 64) (bit_and (slice_index words place) (2 ^ 64 - 1 - 1 * 2 ^ (bit % 64) % 2 ^ 64)) 0 apart) has)
+        (cases_eq (r * width + b / 64) place);
+    gone = λ has.
+        let one = rw (get_or-set_same words place (bit_and (slice_index words place) (2 ^ 64 - 1 - 1 * 2 ^ (bit % 64) % 2 ^ 64)) 0 inside) at has in
+        let none = bit_at_clear_same w64 (slice_index words place) (bit % 64) (low_bit bit) in
+        omega arith;
+    only = λ r b has. ⊎_elim
+        (λ (here : r * width + b / 64 ≡ place).
+        let one = rw (here, get_or-set_same words place (bit_and (slice_index words place) (2 ^ 64 - 1 - 1 * 2 ^ (bit % 64) % 2 ^ 64)) 0 inside) at has in
+        ⊎_elim
+        (λ (own : b % 64 ≡ bit % 64).
+        let none = bit_at_clear_same w64 (slice_index words place) (bit % 64) (low_bit bit) in
+        let both = rw own at one in
+        absurd (omega arith))
+        (λ (free : b % 64 ≢ bit % 64). rw here (sym (bit_at_clear_other w64 (slice_index words place) (bit % 64) (low_bit bit) (b % 64) (low_bit b) free) ∙ one))
+        (cases_eq (b % 64) (bit % 64)))
+        (λ (apart : r * width + b / 64 ≢ place). rw (get_or-set_other words place (r * width + b / 64) (bit_and (slice_index words place) (2 ^ 64 - 1 - 1 * 2 ^ (bit % 64) % 2 ^ 64)) 0 apart) at has)
         (cases_eq (r * width + b / 64) place);
   }
 

@@ -1,19 +1,13 @@
-ghost use Rattle.std.specs.Prelude.{ℕ, ◌≡◌, ◌+◌, ◌-◌, ◌*◌, ◌^◌, ◌<◌, ◌≤◌, length, map, replicate, slice_index, All, IfOk, IsPermutation};
-ghost use Rattle.memory_exclusion.specs.Closure.{edges_of, turned, IsInOrder, HasRows, IsClosure, IsReach};
+ghost use Rattle.std.specs.Prelude.{ℕ, ◌≡◌, ◌+◌, ◌-◌, ◌*◌, ◌^◌, ◌<◌, ◌≤◌, List, length, map, replicate, slice_index, All, IfOk};
+ghost use Rattle.memory_exclusion.specs.Closure.{turned, IsInOrder, HasRows, IsOwnClosure, IsClosure, IsReach};
 
-use crate::bits::{add_bit, add_row};
+use crate::bits::{add_bit, add_row, drop_bit};
 use crate::relation::Reach;
 use std::alloc::{AllocError, Global};
 
-/// An edge beside the rank of its tail.
-#[derive(Clone, Copy, Debug)]
-pub(crate) struct Ranked {
-    pub(crate) rank: u32,
-    pub(crate) edge: (u32, u32),
-}
-
 /// The exclusions among the edges of a graph of `nodes` nodes. An edge is a pair of its tail and
-/// its head; `ranks` has a number for each node, and these rise along each edge.
+/// its head; `ranks` has a number for each node, and these rise along each edge. It takes two rows of
+/// bits for each node, a bit for each edge.
 ///
 /// # Errors
 ///
@@ -30,7 +24,7 @@ pub fn reach(
     requires rising { All (λ edge. slice_index ranks.now edge.0 < slice_index ranks.now edge.1) edges.now }
     ensures { IfOk result (λ reach. reach ≡ edges.now) }
 {
-    let width = (nodes as usize).div_ceil(64);
+    let width = edges.len().div_ceil(64);
     let before = closed_rows(alloc, nodes, width, edges, ranks)?;
     let turned = turn_round(alloc, edges)?;
     let falling = fall(alloc, ranks)?;
@@ -57,7 +51,7 @@ fn fall(alloc: Global, ranks: &[u32]) -> Result<Vec<u32>, AllocError>
     ranks.iter().map(|rank| u32::MAX - *rank).collect(alloc)
 }
 
-/// A row for each node, `width` words each, with the nodes from which a path of at least one edge leads to it.
+/// A row for each node, `width` words each, with the edges from whose heads a path of at least one edge leads to it.
 fn closed_rows(
     alloc: Global,
     nodes: u32,
@@ -65,50 +59,67 @@ fn closed_rows(
     edges: &[(u32, u32)],
     ranks: &[u32],
 ) -> Result<Vec<u64>, AllocError>
-    requires wide { nodes ≤ 64 * width }
-    requires narrow { width < 2 ^ 27 }
+    requires wide { length edges.now ≤ 64 * width }
+    requires narrow { 64 * width < length edges.now + 64 }
     requires few { length edges.now < 2 ^ 32 }
     requires ends { All (λ edge. (edge.0 < nodes) × (edge.1 < nodes)) edges.now }
     requires ranks { length ranks.now ≡ nodes }
     requires rising { All (λ edge. slice_index ranks.now edge.0 < slice_index ranks.now edge.1) edges.now }
     ensures { IfOk result (λ rows. IsReach edges.now width rows.items) }
 {
-    let ranked = by_rank(alloc, edges, ranks)?;
+    let order = by_rank(alloc, edges, ranks)?;
     let mut rows = vec![in alloc; 0u64; nodes as usize * width]?;
-    close(&ranked, width, &mut rows);
+    close(edges, &order, width, &mut rows);
+    drop_own(edges, width, &mut rows);
     Ok(rows)
 }
 
-/// The edges by the ranks of their tails, upwards, so that each stands behind those that lead to its
-/// tail.
-fn by_rank(alloc: Global, edges: &[(u32, u32)], ranks: &[u32]) -> Result<Vec<Ranked>, AllocError>
+/// The edges' numbers with the ranks of their tails, by these ranks upwards, so that each stands behind those that lead
+/// to its tail.
+fn by_rank(
+    alloc: Global,
+    edges: &[(u32, u32)],
+    ranks: &[u32],
+) -> Result<Vec<(u32, u32)>, AllocError>
+    requires few { length edges.now < 2 ^ 32 }
     requires ends { All (λ edge. edge.0 < length ranks.now) edges.now }
     requires rising { All (λ edge. slice_index ranks.now edge.0 < slice_index ranks.now edge.1) edges.now }
-    ensures same { IfOk result (λ v. IsPermutation edges.now (edges_of v.items)) }
-    ensures in_order { IfOk result (λ v. IsInOrder (edges_of v.items)) }
+    ensures { IfOk result (λ order. IsInOrder edges.now order.items) }
 {
-    let mut ranked = Vec::with_capacity(alloc, edges.len())?;
-    for &edge in edges {
-        ranked.push(Ranked {
-            rank: ranks[edge.0 as usize],
-            edge,
-        })?;
+    let mut order = Vec::with_capacity(alloc, edges.len())?;
+    for (e, edge) in edges.iter().enumerate() {
+        order.push((ranks[edge.0 as usize], e as u32))?;
     }
-    ranked.sort_unstable_by_key(|r: &Ranked| r.rank);
-    Ok(ranked)
+    order.sort_unstable_by_key(|ranked| ranked.0);
+    Ok(order)
 }
 
-/// Enters into the row of each node the nodes from which a path of at least one edge leads to it.
-/// The row of an edge's tail is complete when the edge comes.
-fn close(ranked: &[Ranked], width: usize, rows: &mut [u64])
-    requires in_order { IsInOrder (edges_of ranked.now) }
-    requires fits { All (HasRows width (length rows.old)) (edges_of ranked.now) }
+/// Enters into the row of each node the edges from whose heads a path leads to it, those that lead to it at once among
+/// them. The row of an edge's tail is complete when the edge comes.
+fn close(edges: &[(u32, u32)], order: &[(u32, u32)], width: usize, rows: &mut [u64])
+    requires in_order { IsInOrder edges.now order.now }
+    requires wide { length edges.now ≤ 64 * width }
+    requires fits { All (HasRows width (length rows.old)) edges.now }
     requires clear { rows.old ≡ replicate (length rows.old) 0 }
-    ensures { IsClosure (edges_of ranked.now) width rows.new }
+    ensures { IsOwnClosure edges.now width rows.new }
 {
-    for r in ranked {
-        let (tail, head) = (r.edge.0 as usize, r.edge.1 as usize);
-        add_row(rows, width, head, tail);
-        add_bit(rows, width, head, tail);
+    for ranked in order {
+        let e = ranked.1 as usize;
+        let (tail, head) = edges[e];
+        add_row(rows, width, head as usize, tail as usize);
+        add_bit(rows, width, head as usize, e);
+    }
+}
+
+/// Takes out of the row of each node the edges that lead to it at once. No path leads from them to it: ranks rise.
+fn drop_own(edges: &[(u32, u32)], width: usize, rows: &mut [u64])
+    requires rising { (ranks : List ℕ) × All (λ edge. slice_index ranks edge.0 < slice_index ranks edge.1) edges.now }
+    requires wide { length edges.now ≤ 64 * width }
+    requires fits { All (HasRows width (length rows.old)) edges.now }
+    requires closed { IsOwnClosure edges.now width rows.old }
+    ensures { IsClosure edges.now width rows.new }
+{
+    for (e, edge) in edges.iter().enumerate() {
+        drop_bit(rows, width, edge.1 as usize, e);
     }
 }

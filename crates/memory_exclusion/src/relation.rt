@@ -1,4 +1,4 @@
-use crate::bits::has_bit;
+use crate::bits::{has_bit, write_neither};
 use placement_checker::Exclusion;
 use std::marker::Model;
 
@@ -11,9 +11,9 @@ pub struct Reach {
     pub(crate) edges: Vec<(u32, u32)>,
     /// Words to a row.
     pub(crate) width: usize,
-    /// A row for each node, of the nodes from which a path of at least one edge leads to it.
+    /// A row for each node, of the edges from whose heads a path of at least one edge leads to it.
     pub(crate) before: Vec<u64>,
-    /// A row for each node, of the nodes to which a path of at least one edge leads from it.
+    /// A row for each node, of the edges to whose tails a path of at least one edge leads from it.
     pub(crate) behind: Vec<u64>,
 }
 
@@ -48,6 +48,18 @@ impl Exclusion for Reach {
     fn relates(&self, e: u32, f: u32) -> bool {
         !self.shares(e, f)
     }
+
+    fn write_row(&self, e: u32, row: &mut [u64]) {
+        let (tail, head) = self.edges[e as usize];
+        write_neither(
+            self.width,
+            &self.before,
+            tail as usize,
+            &self.behind,
+            head as usize,
+            row,
+        );
+    }
 }
 
 impl Reach {
@@ -60,9 +72,8 @@ impl Reach {
         requires f { f < length self.now }
         ensures { IsFalse result ↔ Excludes self.now e f }
     {
-        let (e_tail, e_head) = self.edges[e as usize];
-        let (f_tail, f_head) = self.edges[f as usize];
-        has_bit(&self.before, self.width, e_tail as usize, f_head as usize)
-            || has_bit(&self.behind, self.width, e_head as usize, f_tail as usize)
+        let (tail, head) = self.edges[e as usize];
+        has_bit(&self.before, self.width, tail as usize, f as usize)
+            || has_bit(&self.behind, self.width, head as usize, f as usize)
     }
 }

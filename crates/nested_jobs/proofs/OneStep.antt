@@ -86,7 +86,7 @@ module _ {J W A : Type 0} (rs : Rules J W A) (rank : J → ℕ) (law : Lawful rs
 
   -- ---- the rules of the pick
 
-  outer_open : (m : Marks J A) (q : Place) (c : J) → m q ≡ Open c → outer m q ≡ q
+  pub outer_open : (m : Marks J A) (q : Place) (c : J) → m q ≡ Open c → outer m q ≡ q
   outer_open m [] c o = refl
   outer_open m (i ∷ p) c o = ap (outer_by (i ∷ p) (outer m p)) o
 
@@ -94,7 +94,7 @@ module _ {J W A : Type 0} (rs : Rules J W A) (rank : J → ℕ) (law : Lawful rs
   free_below m a [] h free = free
   free_below m a (k ∷ way) h free = h.fresh k (way ++ a) (free_below m a way h free)
 
-  outer_below : (m : Marks J A) (i : ℕ) (q : Place) (c : J) (way : List ℕ) → Nested rs top m → m q ≡ Open c → m (i ∷ q) ≡ Free → outer m (way ++ i ∷ q) ≡ q
+  pub outer_below : (m : Marks J A) (i : ℕ) (q : Place) (c : J) (way : List ℕ) → Nested rs top m → m q ≡ Open c → m (i ∷ q) ≡ Free → outer m (way ++ i ∷ q) ≡ q
   outer_below m i q c [] h o free = ap (outer_by (i ∷ q) (outer m q)) free ∙ outer_open m q c o
   outer_below m i q c (k ∷ way) h o free = ap (outer_by (k ∷ way ++ i ∷ q) (outer m (way ++ i ∷ q))) (free_below m (i ∷ q) (k ∷ way) h free) ∙ outer_below m i q c way h o free
 

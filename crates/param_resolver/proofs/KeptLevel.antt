@@ -55,32 +55,32 @@ few_each h one n (x ∷ xs) =
 
 -- ---- sums
 
-sum_below : ℕ → (ℕ → ℕ) → ℕ
+pub sum_below : ℕ → (ℕ → ℕ) → ℕ
 sum_below zero f = 0
 sum_below (suc n) f = sum_below n f + f n
 
-sum_same : (n : ℕ) (f g : ℕ → ℕ) → ((s : ℕ) → f s ≡ g s) → sum_below n f ≡ sum_below n g
+pub sum_same : (n : ℕ) (f g : ℕ → ℕ) → ((s : ℕ) → f s ≡ g s) → sum_below n f ≡ sum_below n g
 unfolding sum_below
 sum_same zero f g same = refl
 sum_same (suc n) f g same = let rest = sum_same n f g same in let here = same n in omega arith
 
-sum_plus : (n : ℕ) (f g : ℕ → ℕ) → sum_below n (λ s. f s + g s) ≡ sum_below n f + sum_below n g
+pub sum_plus : (n : ℕ) (f g : ℕ → ℕ) → sum_below n (λ s. f s + g s) ≡ sum_below n f + sum_below n g
 unfolding sum_below
 sum_plus zero f g = refl
 sum_plus (suc n) f g = let rest = sum_plus n f g in omega arith
 
-sum_ones : (n : ℕ) (f : ℕ → ℕ) → ((s : ℕ) → s < n → f s ≡ 1) → sum_below n f ≡ n
+pub sum_ones : (n : ℕ) (f : ℕ → ℕ) → ((s : ℕ) → s < n → f s ≡ 1) → sum_below n f ≡ n
 unfolding sum_below
 sum_ones zero f ones = refl
 sum_ones (suc n) f ones = let rest = sum_ones n f (λ s below. ones s (omega arith)) in let here = ones n (omega arith) in omega arith
 
-sum_nothing : (n : ℕ) (f : ℕ → ℕ) → ((s : ℕ) → s < n → f s ≡ 0) → sum_below n f ≡ 0
+pub sum_nothing : (n : ℕ) (f : ℕ → ℕ) → ((s : ℕ) → s < n → f s ≡ 0) → sum_below n f ≡ 0
 unfolding sum_below
 sum_nothing zero f none = refl
 sum_nothing (suc n) f none = let rest = sum_nothing n f (λ s below. none s (omega arith)) in let here = none n (omega arith) in omega arith
 
 -- one number is met once
-sum_met : (n x : ℕ) → x < n → sum_below n (λ s. one (x == s)) ≡ 1
+pub sum_met : (n x : ℕ) → x < n → sum_below n (λ s. one (x == s)) ≡ 1
 unfolding sum_below
 sum_met zero x below = absurd (omega arith)
 sum_met (suc n) x below = ⊎_elim
@@ -166,7 +166,7 @@ module _ (graphs : List Graph) (place : ℕ) (g : Graph) (here : slice_get graph
       (only P (has_state graphs x) (state_link graphs g n x.body) (λ is. subst (λ m. P (state_link graphs g m x.body)) at_n (each 0 x refl is)))
       (states_have P (n + 1) actors (λ j y at is. let next : n + suc j ≡ n + 1 + j = omega arith in subst (λ m. P (state_link graphs g m y.body)) next (each (suc j) y at is)))
 
-  links_have : (P : Link → Type 0) → ((f : Fifo) → IsSound graphs g f → is_kept g f ≡ true → P (link_of graphs g values f)) → ((a : ℕ) (x : Actor) → slice_get g.actors a ≡ Some x → has_state graphs x ≡ true → P (state_link graphs g a x.body)) → AllByRecursion P level.links
+  pub links_have : (P : Link → Type 0) → ((f : Fifo) → IsSound graphs g f → is_kept g f ≡ true → P (link_of graphs g values f)) → ((a : ℕ) (x : Actor) → slice_get g.actors a ≡ Some x → has_state graphs x ≡ true → P (state_link graphs g a x.body)) → AllByRecursion P level.links
   links_have P fifos states =
       all_append P _ _ (fifos_have P fifos 0 g.fifos wired.fifos)
       (states_have P 0 g.actors (λ j x at is. let at_j : j ≡ 0 + j = omega arith in subst (λ m. P (state_link graphs g m x.body)) at_j (states j x at is)))

@@ -3,7 +3,7 @@ use Rattle.std.proofs.Common.{◌≡◌, ℕ, ◌+◌, ◌<◌, ◌≤◌, List,
 use Rattle.std.proofs.lemmas.List.{map_more, take_all}
 use Rattle.pisdf_model.specs.Details.{of_each}
 use Rattle.pisdf_model.proofs.Walking.{Stands, ends, goes_on, is_done}
-use Rattle.param_resolver.specs.Refusal.{Refusal, StandsFirst, refusal_of}
+use Rattle.param_resolver.specs.Refusal.{Refusal, StandsFirst, TellsMemory, refusal_of}
 use Rattle.std.specs.Result.{IsErrAnd}
 use Rattle.param_resolver.specs.declared.fault.EarlyFault.{EarlyFault}
 
@@ -49,9 +49,9 @@ both_none xs ys none nothing = rw (none, nothing) refl
 
 -- ---- a fault that is passed on
 
-pub passed : {T : Type 0} (result : Result T EarlyFault) (from : Option Refusal) (faults : List Refusal) → IsErrAnd result (λ e. refusal_of e ≡ from) → StandsFirst faults from → IfErr result (λ f. StandsFirst faults (refusal_of f))
+pub passed : {T : Type 0} (result : Result T EarlyFault) (from : Option Refusal) (faults : List Refusal) → IsErrAnd result (λ e. (refusal_of e ≡ from) × TellsMemory e) → StandsFirst faults from → IfErr result (λ f. StandsFirst faults (refusal_of f))
 passed (Ok v) from faults is stands = absurd is
-passed (Err e) from faults is stands = rw is stands
+passed (Err e) from faults is stands = rw is.0 stands
 
 pub passed_same : {T : Type 0} (result : Result T EarlyFault) (fault : EarlyFault) (faults : List Refusal) → IsErrAnd result (λ e. e ≡ fault) → StandsFirst faults (refusal_of fault) → IfErr result (λ f. StandsFirst faults (refusal_of f))
 passed_same (Ok v) fault faults is stands = absurd is

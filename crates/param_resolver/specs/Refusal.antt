@@ -42,6 +42,13 @@ level_refusal_of (level.Rate name why) = Some (rate name why)
 level_refusal_of (level.Child actor fault) = option_map (child actor) (refusal_of fault)
 level_refusal_of level.Memory = None
 
+-- want of memory is told as just that, also where it is met in the graph of an actor
+abbrev pub TellsMemory : EarlyFault → Type 0
+TellsMemory fault = refusal_of fault ≡ None → fault ≡ Memory
+
+abbrev pub TellsLevelMemory : LevelFault → Type 0
+TellsLevelMemory fault = level_refusal_of fault ≡ None → fault ≡ level.Memory
+
 -- it stands first among these, unless it is want of memory
 abbrev pub StandsFirst : List Refusal → Option Refusal → Type 0
 StandsFirst refusals None = Unit {0}

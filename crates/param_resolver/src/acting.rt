@@ -6,7 +6,7 @@ ghost use Rattle.param_resolver.specs.EarlyCheck.{early_faults, early_of};
 ghost use Rattle.param_resolver.specs.LevelOf.{acting_args, acting_children, acting_faults, acting_outs, level_args, level_children, level_faults, level_outs};
 ghost use Rattle.param_resolver.specs.Numbering.{acting_places};
 ghost use Rattle.param_resolver.specs.Rates.{arg_faults, arg_values as values_of_args, port_faults, port_rates as rates_of_ports};
-ghost use Rattle.param_resolver.specs.Refusal.{Refusal, StandsFirst, child, level_refusal_of, part_refusal_of, refusal_of};
+ghost use Rattle.param_resolver.specs.Refusal.{Refusal, StandsFirst, TellsLevelMemory, TellsMemory, child, level_refusal_of, part_refusal_of, refusal_of};
 ghost use Rattle.param_resolver.specs.Resolvable.{AreArgsBelow, ArePortsBelow, AreResolvable, IsBodyResolvable, IsNestedWithin};
 ghost use Rattle.param_resolver.specs.Tables.{acting_ins, acting_place, level_ins};
 
@@ -91,7 +91,8 @@ fn add_kernel(
 /// The fault of the graph that the actor at a place names, as one of the level.
 fn below(actor: usize, fault: EarlyFault) -> LevelFault
     requires { actor < 2 ^ 32 }
-    ensures { (r : Seq Refusal) → StandsFirst r (refusal_of fault) → StandsFirst (map (child actor) r) (level_refusal_of result) }
+    ensures stands { (r : Seq Refusal) → StandsFirst r (refusal_of fault) → StandsFirst (map (child actor) r) (level_refusal_of result) }
+    ensures memory { TellsMemory fault → TellsLevelMemory result }
 {
     match fault {
         EarlyFault::Memory => LevelFault::Memory,
@@ -125,6 +126,7 @@ fn add_child(
     ensures children { OnOk result (acting.new.children.items ≡ acting.old.children.items ++ Some (early_of graphs.now place (values_of_args values.now args.now)) ∷ []) }
     ensures sound { OnOk result (arg_faults values.now actor.now args.now ++ map (child number) (early_faults graphs.now place (values_of_args values.now args.now)) ≡ []) }
     ensures fault { IfErr result (λ f. StandsFirst (arg_faults values.now actor.now args.now ++ map (child number) (early_faults graphs.now place (values_of_args values.now args.now))) (level_refusal_of f)) }
+    ensures memory { IfErr result TellsLevelMemory }
 {
     let own = arg_values(alloc, actor, args, values)?;
     let early = match early_within(alloc, graphs, place, &own, MAX_NESTING) {
@@ -158,6 +160,7 @@ fn add_actor(
     ensures children { OnOk result (acting.new.children.items ≡ acting.old.children.items ++ acting_children graphs.now values.now body.now) }
     ensures sound { OnOk result (acting_faults graphs.now values.now number actor.now body.now ≡ []) }
     ensures fault { IfErr result (λ f. StandsFirst (acting_faults graphs.now values.now number actor.now body.now) (level_refusal_of f)) }
+    ensures memory { IfErr result TellsLevelMemory }
 {
     match body {
         Body::Config { .. } | Body::ConfigChild { .. } => Ok(()),
@@ -210,6 +213,7 @@ pub(crate) fn acting_of(
     ensures children { IfOk result (λ acting. acting.children.items ≡ level_children graphs.now graph.now values.now) }
     ensures sound { OnOk result (level_faults graphs.now graph.now values.now ≡ []) }
     ensures fault { IfErr result (λ f. StandsFirst (level_faults graphs.now graph.now values.now) (level_refusal_of f)) }
+    ensures memory { IfErr result TellsLevelMemory }
 {
     let mut acting = Acting {
         places: Vec::new(alloc),

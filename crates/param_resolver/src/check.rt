@@ -3,7 +3,7 @@ ghost use Rattle.pisdf_model.specs.Ports.{inherited_count};
 ghost use Rattle.pisdf_model.specs.Range.{InRange};
 ghost use Rattle.pisdf_model.specs.WellFormed.{WellFormed};
 ghost use Rattle.param_resolver.specs.EarlyCheck.{early_faults, early_of};
-ghost use Rattle.param_resolver.specs.Refusal.{StandsFirst, refusal_of};
+ghost use Rattle.param_resolver.specs.Refusal.{StandsFirst, TellsMemory, refusal_of};
 
 use crate::configuration::early_within;
 use crate::fault::EarlyFault;
@@ -25,7 +25,7 @@ use std::alloc::Global;
 /// - `Rate`: the first interface, port or argument that has no such rate or no value; the port of a hierarchical
 ///   configuration actor whose rate isn't that of the interface, with its rate.
 /// - `Child`: the first fault of the early check of the graph that the actor names.
-/// - `Memory`: want of memory.
+/// - `Memory`: want of memory, also where it is met in the check of a graph that an actor names.
 pub fn early(
     alloc: Global,
     graphs: &Graphs,
@@ -39,6 +39,7 @@ pub fn early(
     ensures known { IfOk result (λ e. e ≡ early_of graphs.now.graphs graph inherited.now) }
     ensures sound { OnOk result (early_faults graphs.now.graphs graph inherited.now ≡ []) }
     ensures first_fault { IfErr result (λ fault. StandsFirst (early_faults graphs.now.graphs graph inherited.now) (refusal_of fault)) }
+    ensures memory { IfErr result TellsMemory }
 {
     early_within(
         alloc,

@@ -10,12 +10,12 @@ ghost use Rattle.param_resolver.specs.EarlyView.{whole};
 ghost use Rattle.param_resolver.specs.Rates.{arg_faults, arg_values, interface_rates as input_rates, port_faults, port_rates};
 ghost use Rattle.param_expr.specs.Eval.{RefersBelow};
 ghost use Rattle.param_resolver.specs.Settled.{AreOrdered};
-ghost use Rattle.param_resolver.specs.Refusal.{Refusal, StandsFirst, child, part_refusal_of, refusal_of};
+ghost use Rattle.param_resolver.specs.Refusal.{Refusal, StandsFirst, TellsMemory, child, part_refusal_of, refusal_of};
 ghost use Rattle.param_resolver.specs.Resolvable.{AreArgsBelow, AreNestedWithin, ArePortsBelow, AreResolvable, IsBodyResolvable, IsNestedWithin, IsResolvable};
 
 use crate::assignment::assign;
 use crate::fault::EarlyFault;
-use crate::feeding::inputs_fed;
+use crate::feeds::inputs_fed;
 use crate::given::given_to;
 use crate::known::Early;
 use crate::rates::{PartFault, arg_values, interface_rates, port_rates};
@@ -78,7 +78,8 @@ fn add_kernel(
 /// The fault of the graph that the actor at a place names, as one of the graph above.
 fn above(alloc: Global, actor: usize, fault: EarlyFault) -> EarlyFault
     requires { actor < 2 ^ 32 }
-    ensures { (r : Seq Refusal) → StandsFirst r (refusal_of fault) → StandsFirst (map (child actor) r) (refusal_of result) }
+    ensures stands { (r : Seq Refusal) → StandsFirst r (refusal_of fault) → StandsFirst (map (child actor) r) (refusal_of result) }
+    ensures memory { TellsMemory fault → TellsMemory result }
 {
     match fault {
         EarlyFault::Memory => EarlyFault::Memory,
@@ -117,6 +118,7 @@ fn check_rates(alloc: Global, graph: &Graph, inherited: &[i64]) -> Result<Rated,
     ensures outputs { IfOk result (λ r. r.outputs.items ≡ input_rates (early_numbers graph.now inherited.now) graph.now.outputs) }
     ensures sound { OnOk result (rated_faults graph.now inherited.now ≡ []) }
     ensures fault { IfErr result (λ f. StandsFirst (rated_faults graph.now inherited.now) (refusal_of f)) }
+    ensures memory { IfErr result TellsMemory }
 {
     let given = given_to(alloc, graph.params.items(), inherited, &[])?;
     let assigned = assign(alloc, graph.params.items(), &given)?;
@@ -170,6 +172,7 @@ fn add_child(
     ensures children { OnOk result (configured.new.children.items ≡ configured.old.children.items ++ Some (check_to levels graphs.now place (arg_values numbers.now args.now)).early ∷ []) }
     ensures sound { OnOk result (child_config_faults (check_to levels graphs.now) graphs.now graph.now numbers.now inputs.now number actor.now place args.now ≡ []) }
     ensures fault { IfErr result (λ f. StandsFirst (child_config_faults (check_to levels graphs.now) graphs.now graph.now numbers.now inputs.now number actor.now place args.now) (refusal_of f)) }
+    ensures memory { IfErr result TellsMemory }
 {
     let values = arg_values(alloc, actor, args, numbers)?;
     let early = match early_within(alloc, graphs, place, &values, levels) {
@@ -213,6 +216,7 @@ fn add_actor(
     ensures children { OnOk result (configured.new.children.items ≡ configured.old.children.items ++ config_children (check_to levels graphs.now) numbers.now actor.now.body) }
     ensures sound { OnOk result (config_faults (check_to levels graphs.now) graphs.now graph.now numbers.now inputs.now number actor.now.name actor.now.body ≡ []) }
     ensures fault { IfErr result (λ f. StandsFirst (config_faults (check_to levels graphs.now) graphs.now graph.now numbers.now inputs.now number actor.now.name actor.now.body) (refusal_of f)) }
+    ensures memory { IfErr result TellsMemory }
 {
     match &actor.body {
         Body::Kernel { .. } | Body::Child { .. } => Ok(()),
@@ -266,6 +270,7 @@ fn add_actors(
     ensures children { IfOk result (λ c. c.children.items ≡ flat_map (λ a. config_children (check_to levels graphs.now) numbers.now a.body) graph.now.actors) }
     ensures sound { OnOk result (of_each (λ n a. config_faults (check_to levels graphs.now) graphs.now graph.now numbers.now inputs.now n a.name a.body) graph.now.actors ≡ []) }
     ensures fault { IfErr result (λ f. StandsFirst (of_each (λ n a. config_faults (check_to levels graphs.now) graphs.now graph.now numbers.now inputs.now n a.name a.body) graph.now.actors) (refusal_of f)) }
+    ensures memory { IfErr result TellsMemory }
 {
     let mut configured = Configured {
         args: Vec::new(alloc),
@@ -304,6 +309,7 @@ fn check_graph(
     ensures known { IfOk result (λ e. e ≡ (check_by (check_to levels graphs.now) graphs.now (Some graph.now) inherited.now).early) }
     ensures sound { OnOk result ((check_by (check_to levels graphs.now) graphs.now (Some graph.now) inherited.now).faults ≡ []) }
     ensures fault { IfErr result (λ f. StandsFirst (check_by (check_to levels graphs.now) graphs.now (Some graph.now) inherited.now).faults (refusal_of f)) }
+    ensures memory { IfErr result TellsMemory }
 {
     let rated = check_rates(alloc, graph, inherited)?;
     let configured = add_actors(alloc, graphs, graph, &rated.inputs, &rated.numbers, levels)?;
@@ -325,6 +331,7 @@ pub(crate) fn early_within(
     ensures known { IfOk result (λ e. e ≡ (check_to levels graphs.now place inherited.now).early) }
     ensures sound { OnOk result ((check_to levels graphs.now place inherited.now).faults ≡ []) }
     ensures fault { IfErr result (λ f. StandsFirst (check_to levels graphs.now place inherited.now).faults (refusal_of f)) }
+    ensures memory { IfErr result TellsMemory }
 {
     check_graph(alloc, graphs, &graphs[place], inherited, levels - 1)
 }

@@ -28,10 +28,10 @@ pub enum EarlyFault {
 }
 
 impl From<AllocError> for EarlyFault {
-    ghost use Rattle.param_resolver.specs.Refusal.{refusal_of};
+    ghost use Rattle.param_resolver.specs.Refusal.{TellsMemory, refusal_of};
     ghost use Rattle.std.specs.Prelude.{◌≡◌, None};
 
-    ghost from_gives = { λ _ e. refusal_of e ≡ None };
+    ghost from_gives = { λ _ e. (refusal_of e ≡ None) × TellsMemory e };
 
     fn from(_refused: AllocError) -> EarlyFault {
         EarlyFault::Memory
@@ -39,10 +39,10 @@ impl From<AllocError> for EarlyFault {
 }
 
 impl<T: Drop> From<AllocFailed<T>> for EarlyFault {
-    ghost use Rattle.param_resolver.specs.Refusal.{refusal_of};
+    ghost use Rattle.param_resolver.specs.Refusal.{TellsMemory, refusal_of};
     ghost use Rattle.std.specs.Prelude.{◌≡◌, None};
 
-    ghost from_gives = { λ _ e. refusal_of e ≡ None };
+    ghost from_gives = { λ _ e. (refusal_of e ≡ None) × TellsMemory e };
 
     fn from(_refused: AllocFailed<T>) -> EarlyFault {
         EarlyFault::Memory
@@ -50,10 +50,10 @@ impl<T: Drop> From<AllocFailed<T>> for EarlyFault {
 }
 
 impl From<ResolveFault> for EarlyFault {
-    ghost use Rattle.param_resolver.specs.Refusal.{param_refusal_of, refusal_of};
+    ghost use Rattle.param_resolver.specs.Refusal.{TellsMemory, param_refusal_of, refusal_of};
     ghost use Rattle.std.specs.Prelude.{◌≡◌};
 
-    ghost from_gives = { λ f e. refusal_of e ≡ param_refusal_of f };
+    ghost from_gives = { λ f e. (refusal_of e ≡ param_refusal_of f) × TellsMemory e };
 
     fn from(fault: ResolveFault) -> EarlyFault {
         match fault {
@@ -64,10 +64,10 @@ impl From<ResolveFault> for EarlyFault {
 }
 
 impl From<PartFault> for EarlyFault {
-    ghost use Rattle.param_resolver.specs.Refusal.{part_refusal_of, refusal_of};
+    ghost use Rattle.param_resolver.specs.Refusal.{TellsMemory, part_refusal_of, refusal_of};
     ghost use Rattle.std.specs.Prelude.{◌≡◌};
 
-    ghost from_gives = { λ f e. refusal_of e ≡ part_refusal_of f };
+    ghost from_gives = { λ f e. (refusal_of e ≡ part_refusal_of f) × TellsMemory e };
 
     fn from(fault: PartFault) -> EarlyFault {
         match fault {
@@ -78,10 +78,10 @@ impl From<PartFault> for EarlyFault {
 }
 
 impl From<AllocError> for LevelFault {
-    ghost use Rattle.param_resolver.specs.Refusal.{level_refusal_of};
+    ghost use Rattle.param_resolver.specs.Refusal.{TellsLevelMemory, level_refusal_of};
     ghost use Rattle.std.specs.Prelude.{◌≡◌, None};
 
-    ghost from_gives = { λ _ e. level_refusal_of e ≡ None };
+    ghost from_gives = { λ _ e. (level_refusal_of e ≡ None) × TellsLevelMemory e };
 
     fn from(_refused: AllocError) -> LevelFault {
         LevelFault::Memory
@@ -89,10 +89,10 @@ impl From<AllocError> for LevelFault {
 }
 
 impl<T: Drop> From<AllocFailed<T>> for LevelFault {
-    ghost use Rattle.param_resolver.specs.Refusal.{level_refusal_of};
+    ghost use Rattle.param_resolver.specs.Refusal.{TellsLevelMemory, level_refusal_of};
     ghost use Rattle.std.specs.Prelude.{◌≡◌, None};
 
-    ghost from_gives = { λ _ e. level_refusal_of e ≡ None };
+    ghost from_gives = { λ _ e. (level_refusal_of e ≡ None) × TellsLevelMemory e };
 
     fn from(_refused: AllocFailed<T>) -> LevelFault {
         LevelFault::Memory
@@ -100,10 +100,10 @@ impl<T: Drop> From<AllocFailed<T>> for LevelFault {
 }
 
 impl From<PartFault> for LevelFault {
-    ghost use Rattle.param_resolver.specs.Refusal.{level_refusal_of, part_refusal_of};
+    ghost use Rattle.param_resolver.specs.Refusal.{TellsLevelMemory, level_refusal_of, part_refusal_of};
     ghost use Rattle.std.specs.Prelude.{◌≡◌};
 
-    ghost from_gives = { λ f e. level_refusal_of e ≡ part_refusal_of f };
+    ghost from_gives = { λ f e. (level_refusal_of e ≡ part_refusal_of f) × TellsLevelMemory e };
 
     fn from(fault: PartFault) -> LevelFault {
         match fault {

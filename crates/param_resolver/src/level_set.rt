@@ -8,7 +8,7 @@ ghost use Rattle.sdf_level.specs.Run.{is_into_actor};
 ghost use Rattle.param_resolver.specs.EarlyCheck.{early_of};
 ghost use Rattle.param_resolver.specs.LevelOf.{level_args, level_at, level_children, level_faults, level_outs, links_of as links_in, sources_of};
 ghost use Rattle.param_resolver.specs.Numbering.{acting, acting_places, level_inputs, link_origins};
-ghost use Rattle.param_resolver.specs.Refusal.{StandsFirst, level_refusal_of};
+ghost use Rattle.param_resolver.specs.Refusal.{StandsFirst, TellsLevelMemory, level_refusal_of};
 ghost use Rattle.param_resolver.specs.Resolvable.{AreResolvable, IsNestedWithin};
 ghost use Rattle.param_resolver.specs.Tables.{IsLinkable, level_ins};
 
@@ -119,6 +119,7 @@ fn level_in(
     ensures children { IfOk result (λ set. set.children ≡ level_children graphs.now graph.now values.now) }
     ensures sound { OnOk result (level_faults graphs.now graph.now values.now ≡ []) }
     ensures fault { IfErr result (λ fault. StandsFirst (level_faults graphs.now graph.now values.now) (level_refusal_of fault)) }
+    ensures memory { IfErr result TellsLevelMemory }
 {
     let acting = acting_of(alloc, graphs, graph, values)?;
     let wiring = wiring_of(alloc, graphs, graph, early, &acting)?;
@@ -146,7 +147,7 @@ fn level_in(
 /// - `Child`: the first fault of the early check of the graph that the actor names, whose inherited parameters have the
 ///   values of the arguments.
 ///
-/// And `Memory`: want of memory.
+/// And `Memory`: want of memory, also where it is met in the check of a graph that an actor names.
 pub fn level_of(
     alloc: Global,
     graphs: &Graphs,
@@ -168,6 +169,7 @@ pub fn level_of(
     ensures inputs { IfSome (slice_get graphs.now.graphs graph) (λ g. IfOk result (λ set. (b : ℕ) (actor : Actor) → slice_get (acting g) b ≡ Some actor → how_many (is_into_actor b) set.level.links ≡ level_inputs graphs.now.graphs actor)) }
     ensures sound { IfSome (slice_get graphs.now.graphs graph) (λ g. OnOk result (level_faults graphs.now.graphs g values.now ≡ [])) }
     ensures first_fault { IfSome (slice_get graphs.now.graphs graph) (λ g. IfErr result (λ fault. StandsFirst (level_faults graphs.now.graphs g values.now) (level_refusal_of fault))) }
+    ensures memory { IfErr result TellsLevelMemory }
 {
     let all = graphs.graphs.items();
     level_in(alloc, all, &all[graph as usize], early, values)

@@ -14,7 +14,7 @@ ghost use Rattle.param_resolver.specs.Resolvable.{IsBodyResolvable};
 ghost use Rattle.param_resolver.specs.Tables.{AreHeld, IsLinkable, IsSound, IsStateFew, actor_numbers, fifo_origins, held_by as held_in, input_numbers, is_child as is_child_body, level_ins, output_numbers, state_origins};
 
 use crate::acting::Acting;
-use crate::feeding::number_at;
+use crate::feeds::number_at;
 use crate::numbering::Numbers;
 use crate::origin::Origin;
 use pisdf_model::{

@@ -8,7 +8,7 @@ ghost use Rattle.param_resolver.specs.LevelOf.{sources_of};
 ghost use Rattle.param_resolver.specs.Numbering.{feeds_configuration, fires, source_inputs};
 ghost use Rattle.param_resolver.specs.Tables.{actor_numbers as numbers_of_actors, config_outputs as outputs_of, fed_inputs as inputs_fed, input_numbers as numbers_of_inputs, output_numbers as numbers_of_outputs};
 
-use crate::feeding::number_at;
+use crate::feeds::number_at;
 use crate::known::Early;
 use pisdf_model::{
     Actor, Body, End, Fifo, Graph, is_at_configuration, is_configuration, output_count,

@@ -15,8 +15,8 @@ fn no_name(alloc: Global) -> Name
     Name::new(String::new(alloc))
 }
 
-/// The name of the parameter at a place, or none.
-fn param_name(alloc: Global, graph: &Graph, place: u32) -> Result<Name, AllocError>
+/// The name of the parameter at a place, or one without letters where there is none. The error is want of memory.
+pub fn param_name(alloc: Global, graph: &Graph, place: u32) -> Result<Name, AllocError>
     ensures { IfOk result (λ name. name ≡ param_name graph.now place) }
 {
     match graph.params.items().get(place as usize) {
@@ -48,8 +48,8 @@ fn named_by(graph: &Graph, actor: u32) -> Option<u32>
     }
 }
 
-/// The graph that an actor names.
-fn child_at<'a>(graphs: &'a [Graph], graph: &Graph, actor: u32) -> Option<&'a Graph>
+/// The graph that the actor at a place names, if it names one that is there.
+pub fn child_at<'a>(graphs: &'a [Graph], graph: &Graph, actor: u32) -> Option<&'a Graph>
     ensures { option_copied result ≡ child_graph graphs.now graph.now actor }
 {
     match named_by(graph, actor) {

@@ -58,7 +58,7 @@ pub record Gone {S T : Type 0} (next : S → Result T Refusal → Type 0) (r : R
   pub is : r ≡ Ok one
   pub goes : next one (Ok given)
 
-gone : {S T : Type 0} (next : S → Result T Refusal → Type 0) (r : Result S Refusal) (given : T) → Then next r (Ok given) → Gone next r given
+pub gone : {S T : Type 0} (next : S → Result T Refusal → Type 0) (r : Result S Refusal) (given : T) → Then next r (Ok given) → Gone next r given
 gone next (Ok s) given f = record { one = s; is = refl; goes = f }
 gone next (Err refusal) given f = absurd (cc)
 
@@ -72,12 +72,12 @@ outputs_to : (n : ℕ) (graphs : List Graph) (place : ℕ) (inherited : List ℤ
 unfolding check_to
 outputs_to n graphs place inherited = outputs_by (check_to n graphs) graphs (slice_get graphs place) inherited
 
-outputs_many : (graphs : List Graph) (place : ℕ) (inherited : List ℤ) (exprs : List Tree) → length (early_of graphs place inherited).outputs ≡ output_count graphs (Child place exprs)
+pub outputs_many : (graphs : List Graph) (place : ℕ) (inherited : List ℤ) (exprs : List Tree) → length (early_of graphs place inherited).outputs ≡ output_count graphs (Child place exprs)
 outputs_many graphs place inherited exprs = outputs_to 7 graphs place inherited ∙ sym (length-map (outputs_of (slice_get graphs place)) (λ (x : Interface). x.name))
 
 -- ---- the arguments and faults of the actors of a level
 
-abbrev body_args : List ℤ → Body → List ℤ
+abbrev pub body_args : List ℤ → Body → List ℤ
 body_args values (Kernel kernel args ins outs) = arg_values values args
 body_args values (Config kernel args ins outs sets) = []
 body_args values (Child place args) = arg_values values args
@@ -103,7 +103,7 @@ args_here : (values : List ℤ) (y : Actor) (actors : List Actor) (x : Actor) (n
 args_here values y actors x zero is again = let same : y ≡ x = cc in ap (λ (z : Actor). body_args values z.body) same
 args_here values y actors x (suc n) is again = again n is
 
-args_at : (values : List ℤ) (actors : List Actor) (b : ℕ) (x : Actor) → slice_get (filter fires actors) b ≡ Some x → tokens_at (args_of values actors) b ≡ body_args values x.body
+pub args_at : (values : List ℤ) (actors : List Actor) (b : ℕ) (x : Actor) → slice_get (filter fires actors) b ≡ Some x → tokens_at (args_of values actors) b ≡ body_args values x.body
 args_at values [] b x is = absurd (cc)
 args_at values (y ∷ actors) b x is = ⊎_elim
     (λ (config : is_configuration y.body ≡ true).
@@ -128,7 +128,7 @@ none_each f n (y ∷ xs) none (suc i) x is =
     let P : ℕ → Type 0 = λ m. f m x ≡ [] in
     subst P e (none_each f (n + 1) xs (right_none (f n y) (from_number (n + 1) f xs) none) i x is)
 
-child_sound : (graphs : List Graph) (values : List ℤ) (a : ℕ) (name : List ℕ) (body : Body) (place : ℕ) (exprs : List Tree) → body ≡ Child place exprs → acting_faults graphs values a name body ≡ [] → early_faults graphs place (arg_values values exprs) ≡ []
+pub child_sound : (graphs : List Graph) (values : List ℤ) (a : ℕ) (name : List ℕ) (body : Body) (place : ℕ) (exprs : List Tree) → body ≡ Child place exprs → acting_faults graphs values a name body ≡ [] → early_faults graphs place (arg_values values exprs) ≡ []
 child_sound graphs values a name body place exprs is none =
     let P : Body → Type 0 = λ x. acting_faults graphs values a name x ≡ [] in
     unmapped (part.child a) (early_faults graphs place (arg_values values exprs)) (right_none (arg_faults values name exprs) (map (part.child a) (early_faults graphs place (arg_values values exprs))) (subst P is none))
@@ -141,7 +141,7 @@ pub record Levelled (graphs : List Graph) (place : ℕ) (g : Graph) : Type 0 whe
   pub makes : MakesLevels graphs place g
 
 -- a firing within so many graphs keeps the lengths
-abbrev KeepsTo : List Graph → Ends → Type 0
+abbrev pub KeepsTo : List Graph → Ends → Type 0
 KeepsTo graphs ends = (firing : Firing) (given : Given) →
     early_faults graphs firing.graph firing.inherited ≡ [] → lengths firing.state ≡ lengths (initial graphs firing.graph) → ends firing (Ok given) → HasSizes graphs firing given
 
@@ -190,7 +190,7 @@ module _ (signatures : List Counts) (graphs : List Graph) (fit : AllFit signatur
     level = level_in graphs g firing values
 
     -- what the actor reads on its link to itself is as long as its state
-    abbrev Fitting : ℕ → List (List ℤ) → Type 0
+    abbrev pub Fitting : ℕ → List (List ℤ) → Type 0
     Fitting b ins = (actor : Actor) → slice_get (acting g) b ≡ Some actor → has_state graphs actor ≡ true → length (tokens_at ins (input_count graphs actor.body)) ≡ state_size graphs actor.body
 
     fitting : (sources : List (List ℤ)) (f : ℕ → ℕ) (b : ℕ) (lines : List (List ℤ)) → HaveSizes f level.links lines → Fitting b (inputs sources b (f b) level.links lines)
@@ -265,7 +265,7 @@ module _ (signatures : List Counts) (graphs : List Graph) (fit : AllFit signatur
       body_outs (Config kernel exprs in_ports out_ports sets) same fires_so = absurd fires_so
       body_outs (ConfigChild child exprs sets) same fires_so = absurd fires_so
 
-    rates_of : (b k : ℕ) (trace : List TraceRow) (ins outs : List (List ℤ)) (o : Option Actor) → slice_get (acting g) b ≡ o → Fitting b ins → FiresActor graphs ends firing values (tokens_at (level_args g values) b) o k trace ins (Ok outs) → HaveRates b outs level.links
+    pub rates_of : (b k : ℕ) (trace : List TraceRow) (ins outs : List (List ℤ)) (o : Option Actor) → slice_get (acting g) b ≡ o → Fitting b ins → FiresActor graphs ends firing values (tokens_at (level_args g values) b) o k trace ins (Ok outs) → HaveRates b outs level.links
     rates_of b k trace ins outs None is fitted fires_so = absurd fires_so
     rates_of b k trace ins outs (Some actor) is fitted fires_so =
         rates_given graphs g values levelled.wired b actor is outs (body_outs b k trace ins outs actor is fitted actor.body refl fires_so)
@@ -340,7 +340,7 @@ module _ (signatures : List Counts) (graphs : List Graph) (fit : AllFit signatur
       let F : List ℤ → Type 0 = λ v. level_faults graphs g v ≡ [] in
       level_sizes rates.one (subst F free.1 free.0) actors.one (subst C actors.is f.1) schedule.one (subst S schedule.is rates.goes.1) given schedule.goes
 
-within_sizes : (signatures : List Counts) (graphs : List Graph) → AllFit signatures graphs → GiveLengths signatures → ((place : ℕ) (g : Graph) → slice_get graphs place ≡ Some g → Levelled graphs place g) → (n : ℕ) → KeepsTo graphs (MeansWithin n graphs)
+pub within_sizes : (signatures : List Counts) (graphs : List Graph) → AllFit signatures graphs → GiveLengths signatures → ((place : ℕ) (g : Graph) → slice_get graphs place ≡ Some g → Levelled graphs place g) → (n : ℕ) → KeepsTo graphs (MeansWithin n graphs)
 within_sizes signatures graphs fit give levelled zero firing given sound long f = absurd f
 within_sizes signatures graphs fit give levelled (suc n) firing given sound long f =
     graph_sizes signatures graphs fit give (MeansWithin n graphs) (within_sizes signatures graphs fit give levelled n) f.0 firing f.1 (levelled firing.graph f.0 f.1) sound long given f.2

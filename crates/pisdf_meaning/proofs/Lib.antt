@@ -5,6 +5,7 @@ pub mod PortByPort
 pub mod LeftOver
 pub mod FileOrder
 pub mod Beginning
+pub mod HeldTokens
 pub mod Lines
 pub mod SourceInputs
 pub mod SetOnce

@@ -1,6 +1,6 @@
 -- States in one line.
-use Rattle.std.proofs.Common.{◌≡◌, ◌≢◌, ℕ, ◌-◌, ◌<◌, ◌≤◌, nat_lt, get_or, Bool, true, false, ℤ, List, [], ◌++◌, length, map, refl, ap, sym, ◌∙◌, arith, length-append, append_assoc}
-use Rattle.std.proofs.lemmas.Bool.{lt-ltb, ltb-true, ltb-false}
+use Rattle.std.proofs.Common.{◌≡◌, ◌≢◌, ℕ, ◌-◌, nat_lt, get_or, true, false, ℤ, List, [], ◌++◌, length, map, refl, ap, sym, ◌∙◌, append_assoc}
+use Rattle.std.proofs.lemmas.Bool.{ltb-true, ltb-false}
 use Rattle.std.proofs.lemmas.List.Concat.{flat_map-append}
 use Rattle.std.proofs.lemmas.Option.{slice_get_past, slice_get_read}
 use Rattle.pisdf_model.specs.Hold.{actor_state, in_line, initial_to, kept_in}
@@ -36,18 +36,3 @@ module _ (graphs : List Graph) (levels place : ℕ) where
     pub line_put : (old mid new : List ℤ) → mid ≡ old ++ of_fifos fifos → new ≡ mid ++ of_actors graphs (levels - 1) actors → new ≡ old ++ in_line (initial_to graphs levels place)
     line_put old mid new e f =
         f ∙ ap (λ (l : List ℤ). l ++ of_actors graphs (levels - 1) actors) e ∙ append_assoc old (of_fifos fifos) (of_actors graphs (levels - 1) actors) ∙ ap (λ (l : List ℤ). old ++ l) (sym line_so)
-
-    pub line_held : true ≡ nat_lt 0 (length (of_fifos fifos)) → true ≡ nat_lt 0 (length (in_line (initial_to graphs levels place)))
-    line_held e =
-        let more : 0 < length (of_fifos fifos) = ltb-true 0 (length (of_fifos fifos)) (sym e) in
-        let both = length-append (of_fifos fifos) (of_actors graphs (levels - 1) actors) in
-        let all = ap (λ (l : List ℤ). length l) line_so in
-        sym (lt-ltb 0 (length (in_line (initial_to graphs levels place))) (omega arith))
-
-    pub line_of_actors : (b : Bool) → false ≡ nat_lt 0 (length (of_fifos fifos)) → b ≡ nat_lt 0 (length (of_actors graphs (levels - 1) actors)) → b ≡ nat_lt 0 (length (in_line (initial_to graphs levels place)))
-    line_of_actors b e f =
-        let none : length (of_fifos fifos) ≤ 0 = ltb-false 0 (length (of_fifos fifos)) (sym e) in
-        let both = length-append (of_fifos fifos) (of_actors graphs (levels - 1) actors) in
-        let all = ap (λ (l : List ℤ). length l) line_so in
-        let same : length (of_actors graphs (levels - 1) actors) ≡ length (in_line (initial_to graphs levels place)) = omega arith in
-        f ∙ ap (nat_lt 0) same

@@ -121,7 +121,7 @@ rates_each b outs of_part n (x ∷ xs) each =
     append_rates b outs (of_part n x) (from_number (n + 1) of_part xs) (rw zeroth at (each 0 x refl))
     (rates_each b outs of_part (n + 1) xs (λ j y is. let e : n + suc j ≡ (n + 1) + j = omega arith in rw e at (each (suc j) y is)))
 
-one_at : {X : Type 0} (P : X → Type 0) (xs : List X) → AllByRecursion P xs → (i : ℕ) (x : X) → slice_get xs i ≡ Some x → P x
+pub one_at : {X : Type 0} (P : X → Type 0) (xs : List X) → AllByRecursion P xs → (i : ℕ) (x : X) → slice_get xs i ≡ Some x → P x
 one_at P [] all i x is = absurd (cc)
 one_at P (y ∷ xs) all zero x is = let same : y ≡ x = cc in subst P same all.0
 one_at P (y ∷ xs) all (suc i) x is = one_at P xs all.1 i x is

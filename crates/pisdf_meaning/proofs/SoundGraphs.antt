@@ -65,7 +65,7 @@ module _ (graphs : Graphs) (well : WellFormed graphs) where
     each_wired [] each = tt
     each_wired (f ∷ fifos) each = (each 0 f refl, each_wired fifos (λ i x is. each (suc i) x is))
 
-    levelled : MakeLevels graphs.graphs → Levelled graphs.graphs place g
+    pub levelled : MakeLevels graphs.graphs → Levelled graphs.graphs place g
     levelled makes = record {
       wired = each_wired g.fifos one_wired;
       begins = initial_state graphs (flat_where_well_formed graphs well) place g here (slice_get_within graphs.graphs place g here);

@@ -207,7 +207,7 @@ module _ (graphs : List Graph) (g : Graph) (values : List ℤ) where
       pub leaves : Leaves graphs ends g firing c c.body (Ok one)
       pub others : LeaveAll graphs ends g firing rest (Ok more)
 
-    leaving : (c : Configuration) (rest : List Configuration) (all : List Configured) → LeaveAll graphs ends g firing (c ∷ rest) (Ok all) → Leaving c rest all
+    pub leaving : (c : Configuration) (rest : List Configuration) (all : List Configured) → LeaveAll graphs ends g firing (c ∷ rest) (Ok all) → Leaving c rest all
     leaving c rest all f = of_left f.0 f.1 f.2
       where
         of_others : (one : Configured) → Leaves graphs ends g firing c c.body (Ok one) → (others : Result (List Configured) Refusal) → LeaveAll graphs ends g firing rest others → Ok all ≡ with_first one others → Leaving c rest all

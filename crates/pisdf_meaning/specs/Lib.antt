@@ -15,3 +15,4 @@ pub mod Prepared
 pub mod Laws
 pub mod Sizes
 pub mod TopLevel
+pub mod Held

@@ -1,11 +1,10 @@
 // Refusals of firings for what is found of parameters, rates and arguments.
 ghost use Rattle.std.specs.Prelude.{◌≡◌, ℕ, ℤ, [], None, Some, List as Seq, map, slice_get, IfOk, IsSome, OnErr, OnOk, Err};
-ghost use Rattle.std.specs.Option.{option_copied, option_map};
+ghost use Rattle.std.specs.Option.{option_map};
 ghost use Rattle.param_resolver.specs.Assignment.{StandsAt};
 ghost use Rattle.param_resolver.specs.EarlyCheck.{as_refusal};
-ghost use Rattle.param_resolver.specs.Refusal.{Refusal as PartRefusal, StandsFirst, actor_name, child, child_graph, level_refusal_of, named_by, refusal_of};
+ghost use Rattle.param_resolver.specs.Refusal.{Refusal as PartRefusal, StandsFirst, actor_name, child, level_refusal_of, refusal_of};
 ghost use Rattle.param_resolver.specs.declared.fault.Why.{Why};
-ghost use Rattle.pisdf_model.specs.ParamOrder.{param_name};
 ghost use Rattle.pisdf_meaning.specs.Causes.{high_of, low_of, param_cause, part_cause, under, unless_refused};
 ghost use Rattle.pisdf_meaning.specs.Endings.{IfRefused};
 ghost use Rattle.pisdf_meaning.specs.declared.refusal.PlainFault.TheVariants.{Memory};
@@ -14,24 +13,14 @@ use crate::naming::{copy_name, refused};
 use crate::path::Path;
 use crate::refusal::{Cause, PlainFault};
 use param_expr::Name;
-use param_resolver::{EarlyFault, LevelFault, ResolveFault, Why};
-use pisdf_model::{Body, Graph, port_text};
+use param_resolver::{EarlyFault, LevelFault, ResolveFault, Why, child_at, param_name};
+use pisdf_model::{Graph, port_text};
 use std::alloc::{AllocError, Global};
 
 fn no_name(alloc: Global) -> Name
     ensures { result ≡ [] }
 {
     Name::new(String::new(alloc))
-}
-
-/// The name of the parameter at a place, or none.
-fn param_name(alloc: Global, graph: &Graph, place: u32) -> Result<Name, AllocError>
-    ensures { IfOk result (λ name. name ≡ param_name graph.now place) }
-{
-    match graph.params.items().get(place as usize) {
-        Some(param) => copy_name(alloc, &param.name),
-        None => Ok(no_name(alloc)),
-    }
 }
 
 /// The range of the parameter at a place, or zeros.
@@ -57,29 +46,6 @@ fn param_cause(alloc: Global, graph: &Graph, place: u32, why: Why) -> Result<Cau
         low,
         high,
     })
-}
-
-/// The place of the graph that an actor names.
-fn named_by(graph: &Graph, actor: u32) -> Option<u32>
-    ensures { result ≡ named_by (slice_get graph.now.actors actor) }
-{
-    match graph.actors.items().get(actor as usize) {
-        Some(actor) => match &actor.body {
-            Body::Child { graph, .. } | Body::ConfigChild { graph, .. } => Some(*graph),
-            Body::Kernel { .. } | Body::Config { .. } => None,
-        },
-        None => None,
-    }
-}
-
-/// The graph that an actor names.
-fn child_at<'a>(graphs: &'a [Graph], graph: &Graph, actor: u32) -> Option<&'a Graph>
-    ensures { option_copied result ≡ child_graph graphs.now graph.now actor }
-{
-    match named_by(graph, actor) {
-        Some(place) => graphs.get(place as usize),
-        None => None,
-    }
 }
 
 /// A cause at a part of the graph that the actor with this name names, as one of the graph above.

@@ -13,7 +13,7 @@ use crate::path;
 use crate::states::{begin, begin_within, in_line};
 use param_expr::Name;
 use param_resolver::Early;
-use pisdf_model::Graph;
+use pisdf_model::{Actor, Graph};
 use sdf_level::List;
 use std::alloc::{AllocError, Global};
 
@@ -36,29 +36,40 @@ fn child_state(
     }
 }
 
-/// The firing of the graph at a place by firing `turn` of an actor, whose child has so many inputs, and which keeps its
-/// child's state or does not.
+/// A firing of a hierarchical actor, whose arguments are worked out.
+#[derive(Drop)]
+pub(crate) struct ChildCall<'a> {
+    pub(crate) actor: &'a Actor,
+    /// The place of the graph that the actor names.
+    pub(crate) place: u32,
+    /// The number of the actor's firing.
+    pub(crate) turn: u32,
+    /// The values of the graph's inherited parameters.
+    pub(crate) args: &'a [i64],
+    /// What is known of the graph then.
+    pub(crate) early: &'a Early,
+}
+
+/// The firing of the graph that a hierarchical actor names, whose child has so many inputs, and which keeps its child's state
+/// or does not.
 pub(crate) fn child_firing(
     alloc: Global,
     graphs: &[Graph],
     firing: &Firing,
-    actor: &Name,
-    turn: u32,
-    args: &[i64],
+    call: &ChildCall<'_>,
     keeps: bool,
-    place: u32,
     inputs: usize,
     read: List<List<i64>>,
 ) -> Result<Firing, AllocError>
-    ensures { IfOk result (λ inner. inner ≡ child_firing graphs.now firing.now actor.now turn args.now keeps place inputs read) }
+    ensures { IfOk result (λ inner. inner ≡ child_firing graphs.now firing.now call.now.actor.now.name call.now.turn call.now.args.now keeps call.now.place inputs read) }
 {
-    let state = child_state(alloc, graphs, keeps, place, inputs, read.items())?;
+    let state = child_state(alloc, graphs, keeps, call.place, inputs, read.items())?;
     let mut given = read.into_items();
     given.truncate(inputs);
     Ok(Firing {
-        path: path::child(alloc, &firing.path, actor, turn)?,
-        graph: place,
-        inherited: copy_tokens(alloc, args)?,
+        path: path::child(alloc, &firing.path, &call.actor.name, call.turn)?,
+        graph: call.place,
+        inherited: copy_tokens(alloc, call.args)?,
         inputs: List::new(given),
         state,
     })

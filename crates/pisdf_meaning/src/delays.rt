@@ -9,8 +9,8 @@ use std::alloc::{AllocError, Global};
 
 /// The state with which the first iteration of a run begins: for each FIFO of the top graph the tokens of its delay, and
 /// none where they start anew at each firing; and then for each of its actors the state, in one line, with which the graph
-/// that it names begins. It takes as many steps as these tokens are, and as the graphs nested in the top one have parts,
-/// each counted once for every path of actors that leads to it.
+/// that it names begins. The time taken goes with the sizes of the graphs, and with the number of these tokens times the
+/// sizes of the graphs in whose states they stand.
 ///
 /// The error is want of memory.
 pub fn first_delays(alloc: Global, graphs: &Graphs) -> Result<Delays, AllocError>

@@ -4,43 +4,43 @@ use sdf_level::List;
 
 /// What a firing of a graph is given.
 #[derive(Drop)]
-pub(crate) struct Firing {
+pub struct Firing {
     /// Where the job stands.
-    pub(crate) path: Path,
+    pub path: Path,
     /// The place of the graph in its file.
-    pub(crate) graph: u32,
+    pub graph: u32,
     /// The values of the graph's inherited parameters, in file order.
-    pub(crate) inherited: List<i64>,
+    pub inherited: List<i64>,
     /// The tokens of each input interface.
-    pub(crate) inputs: List<List<i64>>,
+    pub inputs: List<List<i64>>,
     /// The state with which the firing begins: a list for each FIFO, then one for each actor.
-    pub(crate) state: List<List<i64>>,
+    pub state: List<List<i64>>,
 }
 
 /// What it gives.
 #[derive(Drop)]
-pub(crate) struct Given {
+pub struct Given {
     /// The tokens of each output interface.
-    pub(crate) outs: List<List<i64>>,
+    pub outs: List<List<i64>>,
     /// The state that it leaves.
-    pub(crate) state: List<List<i64>>,
+    pub state: List<List<i64>>,
     /// The values of the chosen parameters of the job and of those below it.
-    pub(crate) trace: List<TraceRow>,
+    pub trace: List<TraceRow>,
     /// The values of the graph's exports.
-    pub(crate) exports: List<i64>,
+    pub exports: List<i64>,
 }
 
 /// What a configuration actor leaves.
 #[derive(Drop)]
-pub(crate) struct Configured {
+pub struct Configured {
     /// The tokens of each output.
-    pub(crate) outs: List<List<i64>>,
+    pub outs: List<List<i64>>,
     /// The values of the parameters that it sets.
-    pub(crate) sets: List<i64>,
+    pub sets: List<i64>,
     /// The state of its graph, in one line; nothing, if it fires a kernel.
-    pub(crate) state: List<i64>,
+    pub state: List<i64>,
     /// The trace of its graph.
-    pub(crate) trace: List<TraceRow>,
+    pub trace: List<TraceRow>,
 }
 
 /// What one firing of an actor of a level gave.

@@ -2,18 +2,20 @@
 ghost use Rattle.std.specs.Prelude.{◌≡◌, ℕ, ◌++◌, List as Seq, [], drop, length, map, slice_index_or, IfOk, OnOk};
 ghost use Rattle.std.specs.List.{filter};
 ghost use Rattle.param_resolver.specs.Numbering.{is_kept};
+ghost use Rattle.pisdf_model.specs.declared.graph.Graph.{Graph as GraphView};
 ghost use Rattle.sdf_level.specs.Lists.{lists_of};
+ghost use Rattle.pisdf_meaning.specs.Held.{TellHoldsToAll};
 ghost use Rattle.pisdf_meaning.specs.Running.{HaveRows, Traces, actor_states, child_rows, chosen_row, chosen_rows, fifo_states, given_by, state_after, state_of_first, trace_of_first, value_at};
 ghost use Rattle.pisdf_meaning.specs.States.{goes_on, tokens_at};
 
 use crate::firing::{Configured, Firing, Given};
+use crate::holding::{has_state, holds_for};
 use crate::lists::copy_tokens;
 use crate::naming::copy_name;
 use crate::outcome::TraceRow;
 use crate::path::Path;
 use crate::rows::append_rows;
 use crate::sources::is_kept;
-use crate::states::has_state;
 use pisdf_model::{Actor, Graph, Life, Param, ParamKind, is_configuration};
 use sdf_level::List;
 use std::alloc::{AllocError, Global};
@@ -85,23 +87,23 @@ fn state_left(configured: &[Configured], number: usize) -> &[i64]
 }
 
 /// Adds the list of each actor: of a configuration actor the state that it left, of another with a state what is left on
-/// its link to itself.
+/// its link to itself. This many tokens stand in the state of each graph at first.
 fn push_actor_states(
     alloc: Global,
-    graphs: &[Graph],
+    holds: &[usize],
     actors: &[Actor],
     configured: &[Configured],
     left: &mut VecDeque<List<i64>>,
     state: &mut Vec<List<i64>>,
 ) -> Result<(), AllocError>
-    ensures { OnOk result (state.new.items ≡ state.old.items ++ actor_states graphs.now actors.now configured.now left.old.items) }
+    ensures { (graphs : Seq GraphView) → TellHoldsToAll graphs holds.now actors.now → OnOk result (state.new.items ≡ state.old.items ++ actor_states graphs actors.now configured.now left.old.items) }
 {
     let mut number = 0;
     for actor in actors {
         if is_configuration(&actor.body) {
             state.push(copy_tokens(alloc, state_left(configured, number))?)?;
             number += 1;
-        } else if has_state(graphs, actor) {
+        } else if has_state(holds, actor) {
             state.push(next_list(alloc, left))?;
         } else {
             state.push(List::new(Vec::new(alloc)))?;
@@ -123,14 +125,9 @@ fn state_after(
     let mut left = VecDeque::from_vec(left.into_items());
     let mut state = Vec::new(alloc);
     push_fifo_states(alloc, graph, &mut left, &mut state)?;
-    push_actor_states(
-        alloc,
-        graphs,
-        graph.actors.items(),
-        configured,
-        &mut left,
-        &mut state,
-    )?;
+    let actors = graph.actors.items();
+    let holds = holds_for(alloc, graphs, actors)?;
+    push_actor_states(alloc, &holds, actors, configured, &mut left, &mut state)?;
     Ok(List::new(state))
 }
 

@@ -23,8 +23,7 @@ ghost use Rattle.pisdf_meaning.specs.States.{tokens_at};
 ghost use Rattle.pisdf_meaning.specs.Turns.{HasRun, MeetsRefusal, TurnFires, TurnRefused};
 ghost use Rattle.pisdf_meaning.specs.declared.outcome.TraceRow.{TraceRow as Row};
 
-use crate::actors::is_configuration;
-use crate::children::{child_firing, child_left, child_made, config_firing};
+use crate::children::{ChildCall, child_firing, child_left, child_made, config_firing};
 use crate::firing::{Configured, Firing, Given, Made};
 use crate::firing_kernels::{fire_kernel_actor, leave_config};
 use crate::giving::given_by;
@@ -40,7 +39,7 @@ use kernel_gate::Gate;
 use level_lines::{put, read};
 use level_schedule::LevelSchedule;
 use param_resolver::Early;
-use pisdf_model::{Actor, Body, Graph, Graphs};
+use pisdf_model::{Actor, Body, Graph, Graphs, is_configuration};
 use sdf_level::{List, Turn};
 use std::alloc::Global;
 
@@ -126,7 +125,7 @@ fn leave_next<K: Gate>(
     ensures refused { IfErr result (IfRefused (λ refusal. Configures graphs.now.graphs (MeansWithin levels graphs.now.graphs) graph.now firing.now (Err refusal))) }
 {
     let actor = &graph.actors.items()[place];
-    if !is_configuration(actor) {
+    if !is_configuration(&actor.body) {
         return Ok(());
     }
     let number = configured.len();
@@ -171,46 +170,31 @@ pub(crate) fn configure<K: Gate>(
     Ok(configured)
 }
 
-/// Firing `turn` of a hierarchical actor, which fires the graph at a place with these arguments, of which this is known
-/// then.
+/// A firing of a hierarchical actor, which reads these tokens.
 #[cycle(firing)]
 fn fire_child<K: Gate>(
     alloc: Global,
     graphs: &Graphs,
     gate: &K,
     firing: &Firing,
-    actor: &Actor,
-    place: u32,
-    turn: u32,
-    args: &[i64],
-    early: &Early,
+    call: &ChildCall<'_>,
     read: List<List<i64>>,
     levels: usize,
 ) -> Result<Made, PlainFault>
     requires can { CanRun (unnamed (K.kernels gate.now)) graphs.now }
-    requires nested { NestsWithin levels graphs.now.graphs place }
-    requires child { input_count graphs.now.graphs actor.now.body ≡ length (inputs_of (slice_get graphs.now.graphs place)) }
-    requires early { early.now ≡ early_of graphs.now.graphs place args.now }
-    requires sound { early_faults graphs.now.graphs place args.now ≡ [] }
-    requires read { length read ≡ level_inputs graphs.now.graphs actor.now }
-    ensures fires { IfOk result (λ made. FiresChild graphs.now.graphs (MeansWithin levels graphs.now.graphs) firing.now args.now actor.now place turn made.trace read (Ok made.outs)) }
-    ensures refused { IfErr result (IfRefused (λ refusal. (trace : Seq Row) → FiresChild graphs.now.graphs (MeansWithin levels graphs.now.graphs) firing.now args.now actor.now place turn trace read (Err refusal))) }
+    requires nested { NestsWithin levels graphs.now.graphs call.now.place }
+    requires child { input_count graphs.now.graphs call.now.actor.now.body ≡ length (inputs_of (slice_get graphs.now.graphs call.now.place)) }
+    requires early { call.now.early.now ≡ early_of graphs.now.graphs call.now.place call.now.args.now }
+    requires sound { early_faults graphs.now.graphs call.now.place call.now.args.now ≡ [] }
+    requires read { length read ≡ level_inputs graphs.now.graphs call.now.actor.now }
+    ensures fires { IfOk result (λ made. FiresChild graphs.now.graphs (MeansWithin levels graphs.now.graphs) firing.now call.now.args.now call.now.actor.now call.now.place call.now.turn made.trace read (Ok made.outs)) }
+    ensures refused { IfErr result (IfRefused (λ refusal. (trace : Seq Row) → FiresChild graphs.now.graphs (MeansWithin levels graphs.now.graphs) firing.now call.now.args.now call.now.actor.now call.now.place call.now.turn trace read (Err refusal))) }
 {
-    let inputs = graphs.graphs.items()[place as usize].inputs.items().len();
+    let all = graphs.graphs.items();
+    let inputs = all[call.place as usize].inputs.items().len();
     let keeps = read.items().len() > inputs;
-    let inner = child_firing(
-        alloc,
-        graphs.graphs.items(),
-        firing,
-        &actor.name,
-        turn,
-        args,
-        keeps,
-        place,
-        inputs,
-        read,
-    )?;
-    let given = fire_graph(alloc, graphs, gate, early, &inner, levels)?;
+    let inner = child_firing(alloc, all, firing, call, keeps, inputs, read)?;
+    let given = fire_graph(alloc, graphs, gate, call.early, &inner, levels)?;
     Ok(child_made(alloc, keeps, given)?)
 }
 
@@ -252,9 +236,14 @@ fn fire_actor<K: Gate>(
         ),
         Body::Child { graph: child, .. } => {
             let early = child_known(parts.children.items(), number);
-            fire_child(
-                alloc, graphs, gate, firing, actor, *child, turn.turn, args, early, read, levels,
-            )
+            let call = ChildCall {
+                actor,
+                place: *child,
+                turn: turn.turn,
+                args,
+                early,
+            };
+            fire_child(alloc, graphs, gate, firing, &call, read, levels)
         }
         Body::Config { .. } | Body::ConfigChild { .. } => unreachable!(),
     }

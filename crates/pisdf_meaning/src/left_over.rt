@@ -4,10 +4,9 @@ ghost use Rattle.std.specs.List.{filter};
 ghost use Rattle.param_resolver.specs.Numbering.{fires};
 ghost use Rattle.pisdf_meaning.specs.Causes.{actors_left, left_of_actor};
 
-use crate::actors::is_configuration;
 use crate::naming::copy_name;
 use crate::refusal::Left;
-use pisdf_model::Actor;
+use pisdf_model::{Actor, is_configuration};
 use sdf_level::List;
 use std::alloc::{AllocError, Global};
 
@@ -39,7 +38,7 @@ pub(crate) fn actors_left(
     let mut left = Vec::new(alloc);
     let mut number = 0;
     for actor in actors {
-        if is_configuration(actor) {
+        if is_configuration(&actor.body) {
             continue;
         }
         if number >= counts.len() {

@@ -2,7 +2,6 @@
 //! Lee and Messerschmitt 1987).
 #![tactic(auto)]
 
-mod actors;
 mod causes;
 mod children;
 mod delays;
@@ -11,6 +10,7 @@ mod firing;
 mod firing_kernels;
 mod giving;
 mod graph;
+mod holding;
 mod iteration;
 mod kernels;
 mod laws;
@@ -32,6 +32,7 @@ mod sources;
 mod states;
 
 pub use delays::first_delays;
+pub use firing::{Configured, Firing, Given};
 pub use iteration::{plain_iteration, top_level};
 pub use laws::{one_meaning, sizes_kept};
 pub use needs::top_needs;

@@ -8,12 +8,11 @@ ghost use Rattle.pisdf_meaning.specs.Configuring.{configurations, configurations
 ghost use Rattle.pisdf_meaning.specs.Endings.{IfRefused};
 ghost use Rattle.pisdf_meaning.specs.Preparing.{chosen_next, chosen_values, first_sets, resolved, value_set, values_set};
 
-use crate::actors::is_configuration;
 use crate::causes::param_refused;
 use crate::firing::{Configured, Firing};
 use crate::refusal::PlainFault;
 use param_resolver::{Early, early_unfolds, graphs_resolvable, resolve};
-use pisdf_model::{Actor, Body, Graph, Graphs, ParamKind};
+use pisdf_model::{Actor, Body, Graph, Graphs, ParamKind, is_configuration};
 use sdf_level::List;
 use std::alloc::{AllocError, Global};
 
@@ -59,7 +58,7 @@ fn values_set(
     let mut sets = Vec::new(alloc);
     let mut number = 0;
     for actor in actors {
-        if !is_configuration(actor) {
+        if !is_configuration(&actor.body) {
             continue;
         }
         add_sets(

@@ -1,14 +1,16 @@
 // The state of a graph: the tokens that go on from one of its firings to the next, a list for each FIFO and then one for
 // each actor. And with what the links of its level begin.
-ghost use Rattle.std.specs.Prelude.{ℕ, ℤ, ◌≡◌, ◌+◌, ◌<◌, ◌++◌, nat_lt, List as Seq, length, map, IfOk, OnOk};
+ghost use Rattle.std.specs.Prelude.{ℕ, ℤ, ◌≡◌, ◌+◌, ◌<◌, ◌≤◌, ◌++◌, List as Seq, length, map, IfOk, OnOk};
 ghost use Rattle.pisdf_model.specs.Hold.{actor_state, in_line, initial, initial_to, kept_in};
 ghost use Rattle.pisdf_model.specs.declared.actor.Actor.{Actor};
-ghost use Rattle.param_resolver.specs.Numbering.{has_state};
+ghost use Rattle.pisdf_model.specs.declared.graph.Graph.{Graph as GraphView};
 ghost use Rattle.sdf_level.specs.Lists.{lists_of};
+ghost use Rattle.pisdf_meaning.specs.Held.{TellHolds, TellHoldsTo, TellHoldsToAll};
 ghost use Rattle.pisdf_meaning.specs.Running.{actor_starts, fifo_starts, link_starts};
 ghost use Rattle.pisdf_meaning.specs.States.{begins_with, cut, state_in, tokens_at};
 
 use crate::firing::Firing;
+use crate::holding::{has_state, holds_for, holds_tokens};
 use crate::lists::{copy_tokens, tokens_at};
 use crate::sources::is_kept;
 use pisdf_model::{Actor, Body, Fifo, Graph, Life, MAX_NESTING};
@@ -52,20 +54,26 @@ fn push_kept(fifos: &[Fifo], line: &mut Vec<i64>) -> Result<(), AllocError>
 #[cycle(beginning)]
 fn push_state(
     graphs: &[Graph],
+    holds: &[usize],
     place: usize,
     levels: usize,
     line: &mut Vec<i64>,
 ) -> Result<(), AllocError>
+    requires holds { TellHolds graphs.now holds.now }
+    requires few { levels ≤ 8 }
     ensures { OnOk result (line.new.items ≡ line.old.items ++ in_line (initial_to graphs.now levels place)) }
 {
     if levels == 0 {
+        return Ok(());
+    }
+    if !holds_tokens(holds, place) {
         return Ok(());
     }
     match graphs.get(place) {
         None => Ok(()),
         Some(graph) => {
             push_kept(graph.fifos.items(), line)?;
-            push_actor_states(graphs, graph.actors.items(), levels - 1, line)
+            push_actor_states(graphs, holds, graph.actors.items(), levels - 1, line)
         }
     }
 }
@@ -74,14 +82,17 @@ fn push_state(
 #[cycle(beginning)]
 fn push_actor_states(
     graphs: &[Graph],
+    holds: &[usize],
     actors: &[Actor],
     levels: usize,
     line: &mut Vec<i64>,
 ) -> Result<(), AllocError>
+    requires holds { TellHolds graphs.now holds.now }
+    requires few { levels ≤ 8 }
     ensures { OnOk result (line.new.items ≡ line.old.items ++ in_line (map (λ (a : Actor). actor_state (initial_to graphs.now levels) a.body) actors.now)) }
 {
     for actor in actors {
-        push_actor_state(graphs, &actor.body, levels, line)?;
+        push_actor_state(graphs, holds, &actor.body, levels, line)?;
     }
     Ok(())
 }
@@ -90,16 +101,19 @@ fn push_actor_states(
 #[cycle(beginning)]
 fn push_actor_state(
     graphs: &[Graph],
+    holds: &[usize],
     body: &Body,
     levels: usize,
     line: &mut Vec<i64>,
 ) -> Result<(), AllocError>
+    requires holds { TellHoldsTo graphs.now holds.now body.now }
+    requires few { levels ≤ 8 }
     ensures { OnOk result (line.new.items ≡ line.old.items ++ actor_state (initial_to graphs.now levels) body.now) }
 {
     match body {
         Body::Kernel { .. } | Body::Config { .. } => Ok(()),
         Body::Child { graph, .. } | Body::ConfigChild { graph, .. } => {
-            push_state(graphs, *graph as usize, levels, line)
+            push_state(graphs, holds, *graph as usize, levels, line)
         }
     }
 }
@@ -122,22 +136,25 @@ fn push_fifo_lists(
 fn push_actor_lists(
     alloc: Global,
     graphs: &[Graph],
+    holds: &[usize],
     actors: &[Actor],
     levels: usize,
     lists: &mut Vec<List<i64>>,
 ) -> Result<(), AllocError>
+    requires holds { TellHoldsToAll graphs.now holds.now actors.now }
+    requires few { levels ≤ 8 }
     ensures { OnOk result (lists.new.items ≡ lists.old.items ++ map (λ (a : Actor). actor_state (initial_to graphs.now levels) a.body) actors.now) }
 {
     for actor in actors {
         let mut line = Vec::new(alloc);
-        push_actor_state(graphs, &actor.body, levels, &mut line)?;
+        push_actor_state(graphs, holds, &actor.body, levels, &mut line)?;
         lists.push(List::new(line))?;
     }
     Ok(())
 }
 
-/// The state with which the graph at a place begins. It takes as many steps as the state has tokens, and as the graph and
-/// those nested in it have parts, each counted once for every path of actors that leads to it.
+/// The state with which the graph at a place begins. The time taken goes with the sizes of the graphs, and with the number of
+/// its tokens times the sizes of the graphs in whose states they stand: graphs without tokens in their states aren't entered.
 pub(crate) fn begin(
     alloc: Global,
     graphs: &[Graph],
@@ -151,7 +168,8 @@ pub(crate) fn begin(
         Some(graph) => {
             push_fifo_lists(alloc, graph.fifos.items(), &mut lists)?;
             let actors = graph.actors.items();
-            push_actor_lists(alloc, graphs, actors, MAX_NESTING - 1, &mut lists)?;
+            let holds = holds_for(alloc, graphs, actors)?;
+            push_actor_lists(alloc, graphs, &holds, actors, MAX_NESTING - 1, &mut lists)?;
             Ok(List::new(lists))
         }
     }
@@ -184,75 +202,6 @@ pub(crate) fn begin_within(
     cut(alloc, initial.items(), line)
 }
 
-// ---- whether a state holds tokens
-
-/// Whether a token of these FIFOs goes on.
-fn keep_tokens(fifos: &[Fifo]) -> bool
-    ensures { result ≡ nat_lt 0 (length (in_line (map kept_in fifos.now))) }
-{
-    for fifo in fifos {
-        if !kept_in(fifo).is_empty() {
-            return true;
-        }
-    }
-    false
-}
-
-/// Whether the state with which the graph at a place begins holds tokens, over `levels` graphs nested in each other.
-#[cycle(holding)]
-fn holds_tokens(graphs: &[Graph], place: usize, levels: usize) -> bool
-    ensures { result ≡ nat_lt 0 (length (in_line (initial_to graphs.now levels place))) }
-{
-    if levels == 0 {
-        return false;
-    }
-    match graphs.get(place) {
-        None => false,
-        Some(graph) => {
-            if keep_tokens(graph.fifos.items()) {
-                return true;
-            }
-            actors_hold_tokens(graphs, graph.actors.items(), levels - 1)
-        }
-    }
-}
-
-/// Whether the state of one of these actors does.
-#[cycle(holding)]
-fn actors_hold_tokens(graphs: &[Graph], actors: &[Actor], levels: usize) -> bool
-    ensures { result ≡ nat_lt 0 (length (in_line (map (λ (a : Actor). actor_state (initial_to graphs.now levels) a.body) actors.now))) }
-{
-    for actor in actors {
-        if body_holds_tokens(graphs, &actor.body, levels) {
-            return true;
-        }
-    }
-    false
-}
-
-/// Whether the state of an actor does.
-#[cycle(holding)]
-fn body_holds_tokens(graphs: &[Graph], body: &Body, levels: usize) -> bool
-    ensures { result ≡ nat_lt 0 (length (actor_state (initial_to graphs.now levels) body.now)) }
-{
-    match body {
-        Body::Kernel { .. } | Body::Config { .. } => false,
-        Body::Child { graph, .. } | Body::ConfigChild { graph, .. } => {
-            holds_tokens(graphs, *graph as usize, levels)
-        }
-    }
-}
-
-/// Whether tokens go on from one firing of an actor of the level to the next.
-pub(crate) fn has_state(graphs: &[Graph], actor: &Actor) -> bool
-    ensures { result ≡ has_state graphs.now actor.now }
-{
-    match &actor.body {
-        Body::Kernel { .. } | Body::Config { .. } | Body::ConfigChild { .. } => false,
-        Body::Child { graph, .. } => holds_tokens(graphs, *graph as usize, MAX_NESTING),
-    }
-}
-
 // ---- links
 
 /// With what a FIFO begins a firing of its graph, where these are the tokens that go on.
@@ -283,19 +232,20 @@ fn push_fifo_starts(
     Ok(())
 }
 
-/// Adds the line with which the link of each actor to itself begins that has one.
+/// Adds the line with which the link of each actor to itself begins that has one, where this many tokens stand in the state
+/// of each graph.
 fn push_actor_starts(
     alloc: Global,
-    graphs: &[Graph],
+    holds: &[usize],
     graph: &Graph,
     state: &[List<i64>],
     lines: &mut Vec<Vec<i64>>,
 ) -> Result<(), AllocError>
-    ensures { OnOk result (lists_of lines.new.items ≡ lists_of lines.old.items ++ actor_starts graphs.now graph.now state.now 0 graph.now.actors) }
+    ensures { (graphs : Seq GraphView) → TellHoldsToAll graphs holds.now graph.now.actors → OnOk result (lists_of lines.new.items ≡ lists_of lines.old.items ++ actor_starts graphs graph.now state.now 0 graph.now.actors) }
 {
     let fifos = graph.fifos.items().len();
     for (place, actor) in graph.actors.items().iter().enumerate() {
-        if has_state(graphs, actor) {
+        if has_state(holds, actor) {
             lines.push(Vec::from_slice(alloc, tokens_at(state, fifos + place))?)?;
         }
     }
@@ -314,6 +264,7 @@ pub(crate) fn link_starts(
     let state = firing.state.items();
     let mut lines = Vec::new(alloc);
     push_fifo_starts(alloc, graph, state, &mut lines)?;
-    push_actor_starts(alloc, graphs, graph, state, &mut lines)?;
+    let holds = holds_for(alloc, graphs, graph.actors.items())?;
+    push_actor_starts(alloc, &holds, graph, state, &mut lines)?;
     Ok(lines)
 }

@@ -4,3 +4,5 @@ pub mod Reading
 pub mod Rows
 pub mod Runs
 pub mod Working
+pub mod Jobs
+pub mod Telling

@@ -20,12 +20,14 @@ use Rattle.pisdf_meaning.specs.declared.outcome.Iteration.{Iteration}
 use Rattle.pisdf_meaning.specs.declared.refusal.Refusal.{Refusal}
 use Rattle.pisdf_program.specs.Calls.{GrowsPartly, GrowsByFirst, EndsRun, RanTo, HasBegun, text_of}
 use Rattle.pisdf_program.specs.Iterated.{Checks, Gives, IsRefused, HaveIterated}
-use Rattle.pisdf_program.specs.Result.{no_graph, top_of}
-use Rattle.pisdf_program.specs.Stepped.{EndsAt, refused_end}
+use Rattle.pisdf_program.specs.Top.{no_graph, top_of}
+use Rattle.pisdf_program.specs.Stepped.{EndsAt, StopsAt, refused_stop, run_end}
 use Rattle.pisdf_program.specs.Streams.{rest_of}
 use Rattle.pisdf_program.specs.Texts.{joined, texts_from, iteration_text}
 use Rattle.pisdf_program.specs.declared.run.RunEnd.{RunEnd}
 use Rattle.pisdf_program.specs.declared.run.RunEnd.TheVariants as end
+use Rattle.pisdf_program.specs.declared.stop.Stop.{Stop}
+use Rattle.pisdf_program.specs.declared.stop.Stop.TheVariants as stop
 
 -- ---- texts
 
@@ -81,7 +83,7 @@ rest_next done (need ∷ needs) (t ∷ streams) =
     let first : drop need (drop (done * need) t) ≡ drop (suc done * need) t = drop_more (done * need) need t ∙ ap (λ n. drop n t) (one_more_time done need) in
     let others = rest_next done needs streams in cc
 
-rest_first : (needs : List ℕ) (streams : List (List ℤ)) → rest_of 0 needs streams ≡ streams
+pub rest_first : (needs : List ℕ) (streams : List (List ℤ)) → rest_of 0 needs streams ≡ streams
 rest_first [] streams = refl
 rest_first (need ∷ needs) [] = refl
 rest_first (need ∷ needs) (t ∷ streams) =
@@ -97,7 +99,7 @@ State = List (List ℤ)
 abbrev found : Graphs → Graph → State → Result (Option run.Lack) Refusal
 found g top streams = run.after_early g top (run.first_lack 0 (run.top_needs g) streams)
 
-same_top : (g : Graphs) (a b : Graph) → slice_get g.graphs g.top ≡ Some a → slice_get g.graphs g.top ≡ Some b → a ≡ b
+pub same_top : (g : Graphs) (a b : Graph) → slice_get g.graphs g.top ≡ Some a → slice_get g.graphs g.top ≡ Some b → a ≡ b
 same_top g a b p q = let e : Some a ≡ Some b = sym p ∙ q in cc
 
 get_there : {X : Type 0} (xs : List X) (n : ℕ) → n < length xs → (x : X) × (slice_get xs n ≡ Some x)
@@ -110,13 +112,16 @@ pub top_there : (g : Graphs) → g.top < length g.graphs → (top : Graph) × (s
 top_there g lt = get_there g.graphs g.top lt
 
 -- an early check without a fault goes on to the streams
+pub finds : (g : Graphs) (top : Graph) (streams : State) (lack : Option run.Lack) → early_faults g.graphs g.top [] ≡ [] → run.first_lack 0 (run.top_needs g) streams ≡ lack → found g top streams ≡ Ok lack
+finds g top streams lack sound e = ap (λ f. unless_refused g.graphs top top.name f (run.first_lack 0 (run.top_needs g) streams)) sound ∙ ap (λ l. Ok l) e
+
 pub checks : (g : Graphs) (top : Graph) (streams : State) (lack : Option run.Lack) → slice_get g.graphs g.top ≡ Some top → early_faults g.graphs g.top [] ≡ []
     → run.first_lack 0 (run.top_needs g) streams ≡ lack → Checks g streams (Ok lack)
 checks g top streams lack is sound e =
     record {
       top = top;
       top_is = is;
-      finds = ap (λ f. unless_refused g.graphs top top.name f (run.first_lack 0 (run.top_needs g) streams)) sound ∙ ap (λ l. Ok l) e;
+      finds = finds g top streams lack sound e;
     }
 
 pub gives : (g : Graphs) (s next tokens ins : State) (needs : List ℕ) (k : ℕ) (i : Iteration) → needs ≡ run.top_needs g → early_faults g.graphs g.top [] ≡ []
@@ -134,6 +139,19 @@ refused_by_one g s tokens ins needs k refusal e sound none is h =
       checks = checks g h.top (rest_of k (run.top_needs g) tokens) None h.top_is sound (ap (λ n. run.first_lack 0 n (rest_of k n tokens)) (sym e) ∙ sym none);
       ends = subst (λ x. run.IterationEnds g x s (Err refusal)) (is ∙ ap (λ n. run.taken n (rest_of k n tokens)) e) h;
     }
+
+-- the same of what is answered
+pub refused_or_starved : (g : Graphs) (s tokens ins : State) (needs : List ℕ) (k : ℕ) (fault : PlainFault) → needs ≡ run.top_needs g → early_faults g.graphs g.top [] ≡ []
+    → None ≡ run.first_lack 0 needs (rest_of k needs tokens) → ins ≡ run.taken needs (rest_of k needs tokens) → IfRefused (λ refusal. run.IterationEnds g ins s (Err refusal)) fault
+    → StopsAt g s (rest_of k (run.top_needs g) tokens) (refused_stop fault)
+refused_or_starved g s tokens ins needs k (plain.Refused refusal) e sound none is h = refused_by_one g s tokens ins needs k refusal e sound none is h
+refused_or_starved g s tokens ins needs k plain.Memory e sound none is h = tt
+
+-- an iteration that isn't done ends the run, and nothing is put
+pub ends_by : (g : Graphs) (k : ℕ) (s rest : State) (had : Option (List ℕ)) (f : ℕ) (stop : Stop) → StopsAt g s rest stop → EndsAt g k s rest had had f f (run_end stop)
+ends_by g k s rest had f (stop.Short stream held needs) h = (h, grows_none had)
+ends_by g k s rest had f (stop.Refused refusal) h = (h, grows_none had)
+ends_by g k s rest had f stop.Memory h = grows_none had
 
 pub lacks : (g : Graphs) (tokens : State) (needs : List ℕ) (k : ℕ) (lack : run.Lack) → g.top < length g.graphs → needs ≡ run.top_needs g → early_faults g.graphs g.top [] ≡ []
     → Some lack ≡ run.first_lack 0 needs (rest_of k needs tokens) → Checks g (rest_of k (run.top_needs g) tokens) (Ok (Some lack))
@@ -342,7 +360,7 @@ refused_first g streams n had refusal lt h =
 -- the early check of the first iteration may refuse a run that has one
 pub unchecked : (g : Graphs) (streams : State) (n : ℕ) (had : Option (List ℕ)) (before now : ℕ) (fault : PlainFault) → 0 < n → g.top < length g.graphs
     → IfRefused (λ refusal. (top : Graph) (lack : Option run.Lack) → slice_get g.graphs g.top ≡ Some top → run.after_early g top lack ≡ Err refusal) fault
-    → EndsRun g streams n had had before now (refused_end fault)
+    → EndsRun g streams n had had before now (run_end (refused_stop fault))
 unchecked g streams n had before now (plain.Refused refusal) lt there h =
     let top = top_there g there in
     refused_first g streams n had refusal lt record { top = top.0; top_is = top.1; finds = h top.0 (run.first_lack 0 (run.top_needs g) streams) top.1 }

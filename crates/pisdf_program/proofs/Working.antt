@@ -2,7 +2,7 @@
 use Rattle.std.proofs.Common.{◌≡◌, ◌≢◌, inl, inr, ℕ, ◌+◌, ◌-◌, ◌≤◌, ℤ, List, [], ◌∷◌, ◌++◌, length, length-append, take, true, false, Option, Some, None, Result, Ok, Err, String, Global, string_bytes, refl, sym, ap, ◌∙◌, subst, arith}
 use Rattle.std.specs.Prelude.{◌==◌, IfErr, if◌then◌else◌}
 use Rattle.std.proofs.lemmas.Bool.Decides.{nat_tests}
-use Rattle.std.proofs.lemmas.List.{take-append-le}
+use Rattle.std.proofs.lemmas.List.{append-nil, take-append-le}
 use Rattle.std.proofs.Math.Seq.{take-length, take-append_seam}
 use Rattle.outer_world.specs.Faults.{Rose}
 use Rattle.outer_world.specs.Sink.{Grows}
@@ -10,15 +10,20 @@ use Rattle.pisdf_model.specs.declared.graph.Graphs.{Graphs}
 use Rattle.pisdf_model.specs.declared.graph.Interface.{Interface}
 use Rattle.pisdf_meaning.specs.Run as run
 use Rattle.pisdf_meaning.specs.declared.outcome.Iteration.{Iteration}
+use Rattle.pisdf_meaning.specs.declared.refusal.Refusal.{Refusal}
 use Rattle.pisdf_program.specs.Calls.{GrowsPartly, GrowsByFirst, EndsRun, RanTo, HasBegun, text_of}
 use Rattle.pisdf_program.specs.Iterated.{HaveIterated}
-use Rattle.pisdf_program.specs.Loaded.{is_answer, FaultsOnly}
-use Rattle.pisdf_program.specs.Result.{Outcome, refused, read_graphs, read_streams, outcome_of, status_of, line_of_end, top_of, RunsStreams, RunsTokens, RunsGraphs, RunsFile, RunsAlone, ComesTo, Upgrades, upgrade_graphs, AreTold, AreToldAlone, IsTold, IsToldAfter, Knows}
+use Rattle.pisdf_program.specs.Loaded.{is_answer, FaultsOnly, NoFault, StopsReading}
+use Rattle.pisdf_program.specs.Result.{Outcome, refused, told, read_graphs, read_streams, outcome_of, short_of, status_of, line_of_end, input_in, ReadsTokens, ReadsFiles, GoesOn, FromFiles, Runs, RunsFile, RunsAlone, TellsStop, ComesTo, Upgrades, upgrade_graphs, AreTold, AreToldAlone, IsTold, IsToldAfter, Knows}
+use Rattle.pisdf_program.specs.Top.{top_of}
 use Rattle.pisdf_program.specs.Texts.{iteration_text, joined, texts_from, line_of, memory_line, read_line}
 use Rattle.pisdf_program.specs.Words.{Command, Run, Plain, command_of}
-use Rattle.pisdf_program.specs.Worked.{Reports, Decided, Stopped, Works, IsThere, PutsLine, Concludes, CountRose, RoseAt, file_in, Completes, MayTell, Ended}
+use Rattle.pisdf_program.specs.Worked.{FilesRose, ReadsNothing, StopsWith, file_among, Reports, Decided, Stopped, Works, IsThere, PutsLine, Concludes, CountRose, RoseAt, file_in, Completes, MayTell, Ended}
 use Rattle.pisdf_program.specs.declared.run.RunEnd.{RunEnd}
 use Rattle.pisdf_program.specs.declared.run.RunEnd.TheVariants as end
+use Rattle.pisdf_program.specs.declared.load.Input.{Input}
+use Rattle.pisdf_program.specs.declared.stop.Stop.{Stop}
+use Rattle.pisdf_program.specs.declared.stop.Stop.TheVariants as stop
 use Rattle.pisdf_program.specs.declared.status.Status.{Status}
 use Rattle.pisdf_program.specs.declared.status.Status.TheVariants.{Done, Usage, GraphRefused, TokensRefused, RunRefused, ReadFault, WriteFault, WantOfMemory, NotYet}
 use Rattle.pisdf_program.specs.declared.status.Which.{Which}
@@ -52,83 +57,90 @@ refused_as : (o : Outcome) (s : Status) (w : File) → o ≡ refused s → (o.st
 refused_as o s w e =
     (ap (λ (p : Outcome). p.status) e, ap (λ (p : Outcome). p.line) e, grows_as w w [] (joined o.texts) (ap (λ (p : Outcome). joined p.texts) (sym e)) (grows_none w))
 
-pub stops : (expected : Expected) (w : File) (f : ℕ) (which : Which) (before now : ℕ) (s : Status) → FaultsOnly which before now s
-    → ((o : Outcome) → expected o → is_answer s ≡ true → o ≡ refused s) → Stopped expected w w f f s
-stops expected w f which before now Done ok h = absurd ok
-stops expected w f which before now Usage ok h = absurd ok
-stops expected w f which before now (GraphRefused cause) ok h = λ o e. refused_as o (GraphRefused cause) w (h o e refl)
-stops expected w f which before now (TokensRefused cause) ok h = λ o e. refused_as o (TokensRefused cause) w (h o e refl)
-stops expected w f which before now (RunRefused refusal) ok h = λ o e. refused_as o (RunRefused refusal) w (h o e refl)
-stops expected w f which before now (ReadFault x) ok h = grows_none w
-stops expected w f which before now WriteFault ok h = absurd ok
-stops expected w f which before now WantOfMemory ok h = λ o e. (0, grows_none w)
-stops expected w f which before now (NotYet later) ok h = λ o e. refused_as o (NotYet later) w (h o e refl)
+pub stops : (expected : Expected) (w : File) (f : ℕ) (s : Status) → StopsReading s → ((o : Outcome) → expected o → is_answer s ≡ true → o ≡ refused s) → Stopped expected w w f f s
+stops expected w f Done ok h = absurd ok
+stops expected w f Usage ok h = absurd ok
+stops expected w f (GraphRefused cause) ok h = λ o e. refused_as o (GraphRefused cause) w (h o e refl)
+stops expected w f (TokensRefused cause) ok h = λ o e. refused_as o (TokensRefused cause) w (h o e refl)
+stops expected w f (RunRefused refusal) ok h = absurd ok
+stops expected w f (ReadFault x) ok h = grows_none w
+stops expected w f WriteFault ok h = absurd ok
+stops expected w f WantOfMemory ok h = λ o e. (0, grows_none w)
+stops expected w f (NotYet later) ok h = absurd ok
 
 -- a command whose words decide its status
 pub refused_by : (s : Status) (w : File) (o : Outcome) → o ≡ refused s → (o.status ≡ s) × (o.line ≡ line_of s) × Grows w w (joined o.texts)
 refused_by s w o e = refused_as o s w e
 
--- ---- the graph file
+-- ---- the two files
 
-run_of_file : (file tokens : File) (n : ℕ) (o : Outcome) → RunsFile file n tokens o → (told : List ℕ) × (file ≡ Some told) × RunsGraphs (read_graphs told) n tokens o
-run_of_file None tokens n o h = absurd h
-run_of_file (Some bytes) tokens n o h = (bytes, refl, h)
+abbrev Next : Type 1
+Next = Input → Outcome → Type 0
 
-pub graph_stops : (file tokens : File) (n : ℕ) (w : File) (f : ℕ) (which : Which) (before now : ℕ) (s : Status) → FaultsOnly which before now s
-    → ((told : List ℕ) → file ≡ Some told → is_answer s ≡ true → read_graphs told ≡ Err s) → Stopped (RunsFile file n tokens) w w f f s
-graph_stops file tokens n w f which before now s ok h =
-    stops (RunsFile file n tokens) w f which before now s ok (λ o e a.
-    let t = run_of_file file tokens n o e in
-    subst (λ r. RunsGraphs r n tokens o) (h t.0 t.1 a) t.2)
+-- a status is what reading them gives, where it is an answer
+abbrev pub Refuses : File → File → Status → Type 0
+Refuses graph tokens s = (read : Result Input Status) → ReadsFiles graph tokens read → is_answer s ≡ true → read ≡ Err s
 
-no_graph_there : (file tokens : File) (n : ℕ) (s : Status) → ((told : List ℕ) → file ≡ Some told → read_graphs told ≡ Err s) → AreTold file tokens → (o : Outcome) × RunsFile file n tokens o
-no_graph_there None tokens n s h t = absurd t
-no_graph_there (Some bytes) tokens n s h t = (refused s, subst (λ r. RunsGraphs r n tokens (refused s)) (sym (h bytes refl)) refl)
+-- this is what reading them gives
+abbrev pub Gives : File → File → Input → Type 0
+Gives graph tokens input = (read : Result Input Status) → ReadsFiles graph tokens read → read ≡ Ok input
 
-pub graph_there : (file tokens : File) (n : ℕ) (s : Status) → ((told : List ℕ) → file ≡ Some told → is_answer s ≡ true → read_graphs told ≡ Err s)
-    → IsThere (AreTold file tokens) (RunsFile file n tokens) (Err s)
-graph_there file tokens n s h = λ t a. no_graph_there file tokens n s (λ told e. h told e a) t
+pub files_stop : (next : Next) (graph tokens w : File) (f : ℕ) (s : Status) → StopsReading s → Refuses graph tokens s → Stopped (FromFiles next graph tokens) w w f f s
+files_stop next graph tokens w f s ok h = stops (FromFiles next graph tokens) w f s ok (λ o e a. subst (λ r. GoesOn next r o) (h e.0 e.1 a) e.2)
 
--- ---- the token file
+tokens_read : (g : Result Graphs Status) (tokens : File) → IsToldAfter g tokens → (read : Result Input Status) × ReadsTokens g tokens read
+tokens_read (Err s) tokens t = (Err s, refl)
+tokens_read (Ok g) None t = absurd t
+tokens_read (Ok g) (Some bytes) t = (input_in g (read_streams g bytes), refl)
 
-run_of_tokens : (g : Graphs) (tokens : File) (n : ℕ) (o : Outcome) → RunsTokens g n tokens o → (told : List ℕ) × (tokens ≡ Some told) × RunsStreams g n (read_streams g told) o
-run_of_tokens g None n o h = absurd h
-run_of_tokens g (Some bytes) n o h = (bytes, refl, h)
+files_read : (graph tokens : File) → AreTold graph tokens → (read : Result Input Status) × ReadsFiles graph tokens read
+files_read None tokens t = absurd t
+files_read (Some bytes) tokens t = tokens_read (read_graphs bytes) tokens t
 
--- what a graph file's graphs and the token file give
-with_graph : (file tokens : File) (n : ℕ) (g : Graphs) (o : Outcome) → ((told : List ℕ) → file ≡ Some told → read_graphs told ≡ Ok g) → RunsFile file n tokens o
-    → (told : List ℕ) × (tokens ≡ Some told) × RunsStreams g n (read_streams g told) o
-with_graph file tokens n g o h e =
-    let t = run_of_file file tokens n o e in
-    run_of_tokens g tokens n o (subst (λ r. RunsGraphs r n tokens o) (h t.0 t.1) t.2)
+pub files_there : (next : Next) (graph tokens : File) (s : Status) → Refuses graph tokens s → IsThere (AreTold graph tokens) (FromFiles next graph tokens) (Err s)
+files_there next graph tokens s h = λ t a.
+    let read = files_read graph tokens t in
+    (refused s, (read.0, read.1, subst (λ r. GoesOn next r (refused s)) (sym (h read.0 read.1 a)) refl))
 
-pub streams_stop : (file tokens : File) (n : ℕ) (g : Graphs) (w : File) (f : ℕ) (which : Which) (before now : ℕ) (s : Status) → FaultsOnly which before now s
-    → ((told : List ℕ) → file ≡ Some told → read_graphs told ≡ Ok g) → ((told : List ℕ) → tokens ≡ Some told → is_answer s ≡ true → read_streams g told ≡ Err s)
-    → Stopped (RunsFile file n tokens) w w f f s
-streams_stop file tokens n g w f which before now s ok hg h =
-    stops (RunsFile file n tokens) w f which before now s ok (λ o e a.
-    let t = with_graph file tokens n g o hg e in
-    subst (λ r. RunsStreams g n r o) (h t.0 t.1 a) t.2)
+pub goes_on : (next : Next) (graph tokens : File) (input : Input) → Gives graph tokens input → (o : Outcome) → FromFiles next graph tokens o → next input o
+goes_on next graph tokens input h o e = subst (λ r. GoesOn next r o) (h e.0 e.1) e.2
 
--- where both files are told
-both_told : (file tokens : File) (g : Graphs) → ((told : List ℕ) → file ≡ Some told → read_graphs told ≡ Ok g) → AreTold file tokens
-    → (bytes : List ℕ) × (file ≡ Some bytes) × (told : List ℕ) × (tokens ≡ Some told)
-both_told None tokens g h t = absurd t
-both_told (Some bytes) None g h t = absurd (subst (λ r. IsToldAfter r None) (h bytes refl) t)
-both_told (Some bytes) (Some told) g h t = (bytes, refl, told, refl)
+pub comes_from : (next : Next) (graph tokens : File) (input : Input) → Gives graph tokens input → AreTold graph tokens → (o : Outcome) → next input o → FromFiles next graph tokens o
+comes_from next graph tokens input h t o e =
+    let read = files_read graph tokens t in
+    (read.0, read.1, subst (λ r. GoesOn next r o) (sym (h read.0 read.1)) e)
 
-runs_there : (file tokens : File) (n : ℕ) (g : Graphs) (bytes told : List ℕ) (o : Outcome) → file ≡ Some bytes → tokens ≡ Some told → read_graphs bytes ≡ Ok g → RunsStreams g n (read_streams g told) o → RunsFile file n tokens o
-runs_there file tokens n g bytes told o is is' reads h =
-    let here : RunsGraphs (Ok g) n (Some told) o = h in
-    subst (λ f. RunsFile f n tokens o) (sym is) (subst (λ t. RunsGraphs (read_graphs bytes) n t o) (sym is') (subst (λ r. RunsGraphs r n (Some told) o) (sym reads) here))
+-- ---- reading one after the other
 
-pub streams_there : (file tokens : File) (n : ℕ) (g : Graphs) (s : Status) → ((told : List ℕ) → file ≡ Some told → read_graphs told ≡ Ok g)
-    → ((told : List ℕ) → tokens ≡ Some told → is_answer s ≡ true → read_streams g told ≡ Err s) → IsThere (AreTold file tokens) (RunsFile file n tokens) (Err s)
-streams_there file tokens n g s hg h = λ t a.
-    let both = both_told file tokens g hg t in
-    let bytes = both.0 in
-    let told = both.2 in
-    (refused s, runs_there file tokens n g bytes told (refused s) both.1 both.3 (hg bytes both.1) (subst (λ r. RunsStreams g n r (refused s)) (sym (h told both.3 a)) refl))
+graph_reads : (graph tokens : File) (g : Result Graphs Status) → ((told : List ℕ) → graph ≡ Some told → read_graphs told ≡ g) → (read : Result Input Status) → ReadsFiles graph tokens read → ReadsTokens g tokens read
+graph_reads None tokens g h read r = absurd r
+graph_reads (Some bytes) tokens g h read r = subst (λ x. ReadsTokens x tokens read) (h bytes refl) r
+
+pub graph_refuses : (graph tokens : File) (s : Status) → ((told : List ℕ) → graph ≡ Some told → is_answer s ≡ true → read_graphs told ≡ Err s) → Refuses graph tokens s
+graph_refuses graph tokens s h = λ read r a. graph_reads graph tokens (Err s) (λ told e. h told e a) read r
+
+tokens_give : (g : Graphs) (tokens : File) (streams : Result (List (List ℤ)) Status) → ((told : List ℕ) → tokens ≡ Some told → read_streams g told ≡ streams) → (read : Result Input Status) → ReadsTokens (Ok g) tokens read → read ≡ input_in g streams
+tokens_give g None streams h read r = absurd r
+tokens_give g (Some bytes) streams h read r = r ∙ ap (input_in g) (h bytes refl)
+
+pub tokens_refuse : (graph tokens : File) (g : Graphs) (s : Status) → ((told : List ℕ) → graph ≡ Some told → read_graphs told ≡ Ok g)
+    → ((told : List ℕ) → tokens ≡ Some told → is_answer s ≡ true → read_streams g told ≡ Err s) → Refuses graph tokens s
+tokens_refuse graph tokens g s hg h = λ read r a. tokens_give g tokens (Err s) (λ told e. h told e a) read (graph_reads graph tokens (Ok g) hg read r)
+
+pub both_give : (graph tokens : File) (input : Input) → ((told : List ℕ) → graph ≡ Some told → read_graphs told ≡ Ok input.graphs)
+    → ((told : List ℕ) → tokens ≡ Some told → read_streams input.graphs told ≡ Ok input.streams) → Gives graph tokens input
+both_give graph tokens input hg hs = λ read r. tokens_give input.graphs tokens (Ok input.streams) hs read (graph_reads graph tokens (Ok input.graphs) hg read r)
+
+pub stops_reading : (which : Which) (before now : ℕ) (s : Status) → FaultsOnly which before now s → StopsReading s
+stops_reading which before now Done h = h
+stops_reading which before now Usage h = h
+stops_reading which before now (GraphRefused cause) h = tt
+stops_reading which before now (TokensRefused cause) h = tt
+stops_reading which before now (RunRefused refusal) h = h
+stops_reading which before now (ReadFault w) h = tt
+stops_reading which before now WriteFault h = h
+stops_reading which before now WantOfMemory h = tt
+stops_reading which before now (NotYet later) h = h
 
 -- ---- a run that went through its iterations
 
@@ -136,33 +148,25 @@ streams_there file tokens n g s hg h = λ t a.
 abbrev pub Decides : Expected → Graphs → List (List ℤ) → ℕ → Type 0
 Decides expected g streams n = (o : Outcome) → expected o → (r : run.Run) × run.IsRun g streams n r × (o ≡ outcome_of g r)
 
-pub run_decides : (file tokens : File) (n : ℕ) (g : Graphs) (streams : List (List ℤ)) → ((told : List ℕ) → file ≡ Some told → read_graphs told ≡ Ok g)
-    → ((told : List ℕ) → tokens ≡ Some told → read_streams g told ≡ Ok streams) → Decides (RunsFile file n tokens) g streams n
-run_decides file tokens n g streams hg hs = λ o e.
-    let t = with_graph file tokens n g o hg e in
-    subst (λ r. RunsStreams g n r o) (hs t.0 t.1) t.2
+pub run_decides : (graph tokens : File) (n : ℕ) (input : Input) → Gives graph tokens input → Decides (RunsFile graph n tokens) input.graphs input.streams n
+run_decides graph tokens n input h = goes_on (Runs n) graph tokens input h
 
-run_there : (file tokens : File) (n : ℕ) (g : Graphs) (streams : List (List ℤ)) (r : run.Run) → ((told : List ℕ) → file ≡ Some told → read_graphs told ≡ Ok g)
-    → ((told : List ℕ) → tokens ≡ Some told → read_streams g told ≡ Ok streams) → run.IsRun g streams n r → AreTold file tokens → (o : Outcome) × RunsFile file n tokens o
-run_there file tokens n g streams r hg hs is t =
-    let both = both_told file tokens g hg t in
-    let bytes = both.0 in
-    let told = both.2 in
-    (outcome_of g r, runs_there file tokens n g bytes told (outcome_of g r) both.1 both.3 (hg bytes both.1) (subst (λ x. RunsStreams g n x (outcome_of g r)) (sym (hs told both.3)) (r, is, refl)))
+module _ (graph tokens : File) (n : ℕ) (input : Input) (h : Gives graph tokens input) where
+  run_there : (r : run.Run) → run.IsRun input.graphs input.streams n r → AreTold graph tokens → (o : Outcome) × RunsFile graph n tokens o
+  run_there r is t = (outcome_of input.graphs r, comes_from (Runs n) graph tokens input h t (outcome_of input.graphs r) (r, is, refl))
 
-pub ended_there : (file tokens : File) (n : ℕ) (g : Graphs) (streams : List (List ℤ)) (had has : File) (b now : ℕ) (e : RunEnd) (result : Result (String Global) Status)
-    → ((told : List ℕ) → file ≡ Some told → read_graphs told ≡ Ok g) → ((told : List ℕ) → tokens ≡ Some told → read_streams g told ≡ Ok streams)
-    → EndsRun g streams n had has b now e → Reports g e result → IsThere (AreTold file tokens) (RunsFile file n tokens) result
-ended_there file tokens n g streams had has b now (end.Done left) (Ok text) hg hs ends rep = λ t. run_there file tokens n g streams ends.0 hg hs ends.1 t
-ended_there file tokens n g streams had has b now (end.Done left) (Err s) hg hs ends rep = λ t a. run_there file tokens n g streams ends.0 hg hs ends.1 t
-ended_there file tokens n g streams had has b now (end.Short stream held needs) (Ok text) hg hs ends rep = absurd rep
-ended_there file tokens n g streams had has b now (end.Short stream held needs) (Err s) hg hs ends rep = λ t a. run_there file tokens n g streams ends.0 hg hs ends.1 t
-ended_there file tokens n g streams had has b now (end.Refused refusal) (Ok text) hg hs ends rep = absurd rep
-ended_there file tokens n g streams had has b now (end.Refused refusal) (Err s) hg hs ends rep = λ t a. run_there file tokens n g streams ends.0 hg hs ends.1 t
-ended_there file tokens n g streams had has b now end.WriteFault (Ok text) hg hs ends rep = absurd rep
-ended_there file tokens n g streams had has b now end.WriteFault (Err s) hg hs ends rep = λ t a. absurd (not_answer s WriteFault rep refl a)
-ended_there file tokens n g streams had has b now end.Memory (Ok text) hg hs ends rep = absurd rep
-ended_there file tokens n g streams had has b now end.Memory (Err s) hg hs ends rep = λ t a. absurd (not_answer s WantOfMemory rep refl a)
+  pub ended_there : (had has : File) (b now : ℕ) (e : RunEnd) (result : Result (String Global) Status) → EndsRun input.graphs input.streams n had has b now e → Reports input.graphs e result
+      → IsThere (AreTold graph tokens) (RunsFile graph n tokens) result
+  ended_there had has b now (end.Done left) (Ok text) ends rep = λ t. run_there ends.0 ends.1 t
+  ended_there had has b now (end.Done left) (Err s) ends rep = λ t a. run_there ends.0 ends.1 t
+  ended_there had has b now (end.Short stream held needs) (Ok text) ends rep = absurd rep
+  ended_there had has b now (end.Short stream held needs) (Err s) ends rep = λ t a. run_there ends.0 ends.1 t
+  ended_there had has b now (end.Refused refusal) (Ok text) ends rep = absurd rep
+  ended_there had has b now (end.Refused refusal) (Err s) ends rep = λ t a. run_there ends.0 ends.1 t
+  ended_there had has b now end.WriteFault (Ok text) ends rep = absurd rep
+  ended_there had has b now end.WriteFault (Err s) ends rep = λ t a. absurd (not_answer s WriteFault rep refl a)
+  ended_there had has b now end.Memory (Ok text) ends rep = absurd rep
+  ended_there had has b now end.Memory (Err s) ends rep = λ t a. absurd (not_answer s WantOfMemory rep refl a)
 
 all_first : (had has : File) (texts : List (List ℕ)) → Grows had has (joined texts) → GrowsByFirst had has texts
 all_first had has texts grows =
@@ -253,6 +257,111 @@ works_run one expected g streams k had has b n end.WriteFault (Err s) h (rose, b
 works_run one expected g streams k had has b n end.Memory (Ok text) h ends rep = absurd rep
 works_run one expected g streams k had has b n end.Memory (Err s) h ends rep = starved_run expected had has b n s (begun one expected g streams k had has h ends) rep
 
+-- ---- statuses that tell nothing of reading files
+
+abbrev Worked : Type 0
+Worked = Result (String Global) Status
+
+abbrev stopped_by : Status → Worked
+stopped_by s = Err s
+
+no_usage : (s t : Status) → s ≡ t → t ≢ Usage → stopped_by s ≢ Err Usage
+no_usage s t is non = λ e. let same : s ≡ Usage = cc in non (sym is ∙ same)
+
+pub unread_as : (s t : Status) → s ≡ t → ReadsNothing t → ReadsNothing s
+unread_as s t is h = subst ReadsNothing (sym is) h
+
+pub unread_short : (g : Graphs) (lack : run.Lack) → ReadsNothing (short_of g lack)
+unread_short g lack = (λ w e. absurd cc, λ e. absurd cc)
+
+pub unread_refused : (refusal : Refusal) → ReadsNothing (RunRefused refusal)
+unread_refused refusal = (λ w e. absurd cc, λ e. absurd cc)
+
+pub unread_memory : ReadsNothing WantOfMemory
+unread_memory = (λ w e. absurd cc, λ e. absurd cc)
+
+pub unread_write : ReadsNothing WriteFault
+unread_write = (λ w e. absurd cc, λ e. absurd cc)
+
+pub unread_refusal : (s : Status) → NoFault s → ReadsNothing s
+unread_refusal Done h = absurd h
+unread_refusal Usage h = absurd h
+unread_refusal (GraphRefused cause) h = (λ w e. absurd cc, λ e. absurd cc)
+unread_refusal (TokensRefused cause) h = (λ w e. absurd cc, λ e. absurd cc)
+unread_refusal (RunRefused refusal) h = absurd h
+unread_refusal (ReadFault w) h = absurd h
+unread_refusal WriteFault h = absurd h
+unread_refusal WantOfMemory h = unread_memory
+unread_refusal (NotYet later) h = absurd h
+
+pub unread_report : (g : Graphs) (e : RunEnd) (r : Worked) → Reports g e r → IfErr r ReadsNothing
+unread_report g e (Ok text) h = tt
+unread_report g (end.Done left) (Err s) h = unread_as s WantOfMemory h unread_memory
+unread_report g (end.Short stream held needs) (Err s) (inl h) = unread_as s _ h (unread_short g record { stream = stream; has = held; needs = needs })
+unread_report g (end.Short stream held needs) (Err s) (inr h) = unread_as s WantOfMemory h unread_memory
+unread_report g (end.Refused refusal) (Err s) h = unread_as s (RunRefused refusal) h (unread_refused refusal)
+unread_report g end.WriteFault (Err s) h = unread_as s WriteFault h unread_write
+unread_report g end.Memory (Err s) h = unread_as s WantOfMemory h unread_memory
+
+pub rose_unread : (graph tokens : List ℕ) (before now : List ℕ → ℕ) (r : Worked) → IfErr r ReadsNothing → IfErr r (FilesRose graph tokens before now)
+rose_unread graph tokens before now (Ok text) h = tt
+rose_unread graph tokens before now (Err s) h = λ w e. absurd (h.0 w e)
+
+pub count_unread : (cmd : Option Command) (before now : List ℕ → ℕ) (r : Worked) → IfErr r ReadsNothing → IfErr r (CountRose cmd before now)
+count_unread cmd before now (Ok text) h = tt
+count_unread cmd before now (Err s) h = λ w e. absurd (h.0 w e)
+
+pub usage_unread : (r : Worked) → IfErr r ReadsNothing → r ≢ Err Usage
+usage_unread (Ok text) h = λ e. absurd cc
+usage_unread (Err s) h = λ e. let same : s ≡ Usage = cc in h.1 same
+
+pub usage_stops : (s : Status) → StopsReading s → stopped_by s ≢ Err Usage
+usage_stops s h = λ e. let same : s ≡ Usage = cc in subst StopsReading same h
+
+-- ---- fewer outcomes
+
+-- what was done for some outcomes was done for fewer
+pub works_for : (wide narrow : Expected) (had has : File) (b n : ℕ) (r : Result (String Global) Status) → ((o : Outcome) → narrow o → wide o) → Works wide had has b n r → Works narrow had has b n r
+works_for wide narrow had has b n (Ok text) fewer h = λ o e. h o (fewer o e)
+works_for wide narrow had has b n (Err Done) fewer h = h
+works_for wide narrow had has b n (Err Usage) fewer h = λ o e. h o (fewer o e)
+works_for wide narrow had has b n (Err (GraphRefused cause)) fewer h = λ o e. h o (fewer o e)
+works_for wide narrow had has b n (Err (TokensRefused cause)) fewer h = λ o e. h o (fewer o e)
+works_for wide narrow had has b n (Err (RunRefused refusal)) fewer h = λ o e. h o (fewer o e)
+works_for wide narrow had has b n (Err (ReadFault which)) fewer h = h
+works_for wide narrow had has b n (Err WriteFault) fewer h = (h.0, λ o e. h.1 o (fewer o e))
+works_for wide narrow had has b n (Err WantOfMemory) fewer h = λ o e. h o (fewer o e)
+works_for wide narrow had has b n (Err (NotYet later)) fewer h = λ o e. h o (fewer o e)
+
+-- one text was put, whole or in part
+pub told_whole : (expected : Expected) (had has : File) (text line : List ℕ) → ((o : Outcome) → expected o → o ≡ told text) → line ≡ [] → Grows had has text → Decided expected had has line Done
+told_whole expected had has text line same none grows = λ o e. (
+  ap (λ (p : Outcome). p.status) (same o e),
+  ap (λ (p : Outcome). p.line) (same o e) ∙ sym none,
+  grows_as had has _ _ (sym (append-nil text) ∙ ap (λ (p : Outcome). joined p.texts) (sym (same o e))) grows,
+)
+
+pub told_partly : (expected : Expected) (had has : File) (text : List ℕ) → ((o : Outcome) → expected o → o ≡ told text) → GrowsPartly had has text → (o : Outcome) → expected o → GrowsPartly had has (joined o.texts)
+told_partly expected had has text same partly = λ o e. grows_partly_as had has _ _ (sym (append-nil text) ∙ ap (λ (p : Outcome). joined p.texts) (sym (same o e))) partly
+
+-- nothing was put, and the status is this one
+pub stop_works : (g : Graphs) (w : File) (f : ℕ) (stop : Stop) (s : Status) → StopsWith g stop s → Stopped (TellsStop g stop) w w f f s
+stop_works g w f (stop.Short stream has needs) s (inl is) = subst (Stopped (TellsStop g (stop.Short stream has needs)) w w f f) (sym is) (λ o e. refused_as o (short_of g record { stream = stream; has = has; needs = needs }) w e)
+stop_works g w f (stop.Short stream has needs) s (inr is) = subst (Stopped (TellsStop g (stop.Short stream has needs)) w w f f) (sym is) (λ o e. (0, grows_none w))
+stop_works g w f (stop.Refused refusal) s is = subst (Stopped (TellsStop g (stop.Refused refusal)) w w f f) (sym is) (λ o e. refused_as o (RunRefused refusal) w e)
+stop_works g w f stop.Memory s is = subst (Stopped (TellsStop g stop.Memory) w w f f) (sym is) (λ o e. (0, grows_none w))
+
+pub stop_there : (g : Graphs) (stop : Stop) (s : Status) → is_answer s ≡ true → (o : Outcome) × TellsStop g stop o
+stop_there g (stop.Short stream has needs) s a = (refused (short_of g record { stream = stream; has = has; needs = needs }), refl)
+stop_there g (stop.Refused refusal) s a = (refused (RunRefused refusal), refl)
+stop_there g stop.Memory s a = (refused s, tt)
+
+pub stop_unread : (g : Graphs) (stop : Stop) (s : Status) → StopsWith g stop s → ReadsNothing s
+stop_unread g (stop.Short stream has needs) s (inl is) = unread_as s _ is (unread_short g record { stream = stream; has = has; needs = needs })
+stop_unread g (stop.Short stream has needs) s (inr is) = unread_as s WantOfMemory is unread_memory
+stop_unread g (stop.Refused refusal) s is = unread_as s (RunRefused refusal) is (unread_refused refusal)
+stop_unread g stop.Memory s is = unread_as s WantOfMemory is unread_memory
+
 -- ---- the whole call
 
 abbrev First : Expected → Option (List ℕ) → Option (List ℕ) → Type 0
@@ -337,47 +446,18 @@ ended expected oh on eh en ob onow eb enow s (Err WriteFault) w (inr (non, rest)
 
 -- ---- the counts of the files
 
-pub rose_graph : (graph tokens : List ℕ) (n : ℕ) (before now : List ℕ → ℕ) (s : Status) → FaultsOnly which_file.Graph (before graph) (now graph) s
-    → CountRose (Some (Plain graph tokens n)) before now s
-rose_graph graph tokens n before now s h = λ w e.
+pub rose_graph : (graph tokens : List ℕ) (before now : List ℕ → ℕ) (s : Status) → FaultsOnly which_file.Graph (before graph) (now graph) s → FilesRose graph tokens before now s
+rose_graph graph tokens before now s h = λ w e.
     let f = subst (FaultsOnly which_file.Graph (before graph) (now graph)) e h in
-    subst (λ (v : Which). RoseAt before now (file_in v (Plain graph tokens n))) (sym f.0) f.1
+    subst (λ (v : Which). Rose (before (file_among graph tokens v)) (now (file_among graph tokens v))) (sym f.0) f.1
 
-pub rose_tokens : (graph tokens : List ℕ) (n : ℕ) (before mid now : List ℕ → ℕ) (s : Status) → before tokens ≤ mid tokens → FaultsOnly which_file.Tokens (mid tokens) (now tokens) s
-    → CountRose (Some (Plain graph tokens n)) before now s
-rose_tokens graph tokens n before mid now s le h = λ w e.
+pub rose_tokens : (graph tokens : List ℕ) (before mid now : List ℕ → ℕ) (s : Status) → before tokens ≤ mid tokens → FaultsOnly which_file.Tokens (mid tokens) (now tokens) s → FilesRose graph tokens before now s
+rose_tokens graph tokens before mid now s le h = λ w e.
     let f = subst (FaultsOnly which_file.Tokens (mid tokens) (now tokens)) e h in
-    subst (λ (v : Which). RoseAt before now (file_in v (Plain graph tokens n))) (sym f.0) (rose_since (before tokens) (mid tokens) (now tokens) le f.1)
+    subst (λ (v : Which). Rose (before (file_among graph tokens v)) (now (file_among graph tokens v))) (sym f.0) (rose_since (before tokens) (mid tokens) (now tokens) le f.1)
 
 none_rose : (cmd : Option Command) (before now : List ℕ → ℕ) (s t : Status) → s ≡ t → ((w : Which) → t ≢ ReadFault w) → CountRose cmd before now s
 none_rose cmd before now s t is non = λ w e. absurd (non w (sym is ∙ e))
-
-pub rose_report : (cmd : Option Command) (before now : List ℕ → ℕ) (g : Graphs) (e : RunEnd) (r : Result (String Global) Status) → Reports g e r → IfErr r (CountRose cmd before now)
-rose_report cmd before now g e (Ok text) h = tt
-rose_report cmd before now g (end.Done left) (Err s) h = none_rose cmd before now s WantOfMemory h (λ w n. absurd cc)
-rose_report cmd before now g (end.Short stream held needs) (Err s) (inl h) = none_rose cmd before now s _ h (λ w n. absurd cc)
-rose_report cmd before now g (end.Short stream held needs) (Err s) (inr h) = none_rose cmd before now s WantOfMemory h (λ w n. absurd cc)
-rose_report cmd before now g (end.Refused refusal) (Err s) h = none_rose cmd before now s (RunRefused refusal) h (λ w n. absurd cc)
-rose_report cmd before now g end.WriteFault (Err s) h = none_rose cmd before now s WriteFault h (λ w n. absurd cc)
-rose_report cmd before now g end.Memory (Err s) h = none_rose cmd before now s WantOfMemory h (λ w n. absurd cc)
-
-abbrev stopped_by : Status → Result (String Global) Status
-stopped_by s = Err s
-
-no_usage : (s t : Status) → s ≡ t → t ≢ Usage → stopped_by s ≢ Err Usage
-no_usage s t is non = λ e. let same : s ≡ Usage = cc in non (sym is ∙ same)
-
-pub usage_load : (which : Which) (b n : ℕ) (s : Status) → FaultsOnly which b n s → stopped_by s ≢ Err Usage
-usage_load which b n s h = λ e. let same : s ≡ Usage = cc in subst (FaultsOnly which b n) same h
-
-pub usage_report : (g : Graphs) (e : RunEnd) (r : Result (String Global) Status) → Reports g e r → r ≢ Err Usage
-usage_report g e (Ok text) h = λ n. absurd cc
-usage_report g (end.Done left) (Err s) h = no_usage s WantOfMemory h (λ n. absurd cc)
-usage_report g (end.Short stream held needs) (Err s) (inl h) = no_usage s _ h (λ n. absurd cc)
-usage_report g (end.Short stream held needs) (Err s) (inr h) = no_usage s WantOfMemory h (λ n. absurd cc)
-usage_report g (end.Refused refusal) (Err s) h = no_usage s (RunRefused refusal) h (λ n. absurd cc)
-usage_report g end.WriteFault (Err s) h = no_usage s WriteFault h (λ n. absurd cc)
-usage_report g end.Memory (Err s) h = no_usage s WantOfMemory h (λ n. absurd cc)
 
 -- ---- the command in the words
 
@@ -416,18 +496,14 @@ told_alone graph tokens n k files one h =
     let t : (k == 1) ≡ true = grind (arith, nat_tests) in
     subst (λ b. AreToldAlone b (files graph) (files tokens)) t h
 
-pub rose_alone : (graph tokens : List ℕ) (n k : ℕ) (before now : List ℕ → ℕ) (s : Status) → k ≡ 1 → CountRose (Some (Plain graph tokens n)) before now s → CountRose (Some (Run graph tokens n k)) before now s
-rose_alone graph tokens n k before now s one h = λ w e. at_file w (h w e)
+pub rose_alone : (graph tokens : List ℕ) (n k : ℕ) (before now : List ℕ → ℕ) (s : Status) → k ≡ 1 → FilesRose graph tokens before now s → CountRose (Some (Run graph tokens n k)) before now s
+rose_alone graph tokens n k before now s one h = λ w e. subst (λ b. RoseAt before now (if b then Some (file_among graph tokens w) else None)) (sym same) (h w e)
   where
     same : (k == 1) ≡ true
     same = grind (arith, nat_tests, one)
 
-    at_file : (w : Which) → RoseAt before now (file_in w (Plain graph tokens n)) → RoseAt before now (file_in w (Run graph tokens n k))
-    at_file which_file.Graph r = subst (λ b. RoseAt before now (if b then Some graph else None)) (sym same) r
-    at_file which_file.Tokens r = subst (λ b. RoseAt before now (if b then Some tokens else None)) (sym same) r
-
 pub rose_alone_as : (b : Option Command) (graph tokens : List ℕ) (n k : ℕ) (before now : List ℕ → ℕ) (r : Result (String Global) Status) → k ≡ 1 → Some (Run graph tokens n k) ≡ b
-    → IfErr r (CountRose (Some (Plain graph tokens n)) before now) → IfErr r (CountRose b before now)
+    → IfErr r (FilesRose graph tokens before now) → IfErr r (CountRose b before now)
 rose_alone_as b graph tokens n k before now (Ok text) one e h = tt
 rose_alone_as b graph tokens n k before now (Err s) one e h = subst (λ (c : Option Command). CountRose c before now s) e (rose_alone graph tokens n k before now s one h)
 

@@ -6,7 +6,7 @@ use Rattle.pisdf_meaning.specs.Run as run
 use Rattle.pisdf_meaning.specs.declared.outcome.Iteration.{Iteration}
 use Rattle.pisdf_model.specs.declared.graph.Graphs.{Graphs}
 use Rattle.pisdf_program.specs.Iterated.{HaveIterated}
-use Rattle.pisdf_program.specs.Result.{top_of}
+use Rattle.pisdf_program.specs.Top.{top_of}
 use Rattle.pisdf_program.specs.Texts.{joined, texts_from}
 use Rattle.pisdf_program.specs.declared.run.RunEnd.{RunEnd}
 use Rattle.pisdf_program.specs.declared.run.RunEnd.TheVariants as here

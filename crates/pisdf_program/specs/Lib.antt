@@ -5,6 +5,9 @@ pub mod WordsSeen
 pub mod Worked
 pub mod LackSeen
 pub mod Streams
+pub mod Top
+pub mod Job
+pub mod LeftAmong
 pub mod Calls
 pub mod Iterated
 pub mod Stepped

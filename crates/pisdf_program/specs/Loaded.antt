@@ -35,11 +35,11 @@ FaultsOnly which before now Done = ⊥
 FaultsOnly which before now Usage = ⊥
 FaultsOnly which before now (GraphRefused cause) = Unit {0}
 FaultsOnly which before now (TokensRefused cause) = Unit {0}
-FaultsOnly which before now (RunRefused refusal) = Unit {0}
+FaultsOnly which before now (RunRefused refusal) = ⊥
 FaultsOnly which before now (ReadFault w) = (w ≡ which) × Rose before now
 FaultsOnly which before now WriteFault = ⊥
 FaultsOnly which before now WantOfMemory = Unit {0}
-FaultsOnly which before now (NotYet later) = Unit {0}
+FaultsOnly which before now (NotYet later) = ⊥
 
 -- a status of reading bytes, which is no fault
 abbrev pub NoFault : Status → Type 0
@@ -47,11 +47,23 @@ NoFault Done = ⊥
 NoFault Usage = ⊥
 NoFault (GraphRefused cause) = Unit {0}
 NoFault (TokensRefused cause) = Unit {0}
-NoFault (RunRefused refusal) = Unit {0}
+NoFault (RunRefused refusal) = ⊥
 NoFault (ReadFault w) = ⊥
 NoFault WriteFault = ⊥
 NoFault WantOfMemory = Unit {0}
-NoFault (NotYet later) = Unit {0}
+NoFault (NotYet later) = ⊥
+
+-- a status where the files of a run can't be read
+abbrev pub StopsReading : Status → Type 0
+StopsReading Done = ⊥
+StopsReading Usage = ⊥
+StopsReading (GraphRefused cause) = Unit {0}
+StopsReading (TokensRefused cause) = Unit {0}
+StopsReading (RunRefused refusal) = ⊥
+StopsReading (ReadFault which) = Unit {0}
+StopsReading WriteFault = ⊥
+StopsReading WantOfMemory = Unit {0}
+StopsReading (NotYet later) = ⊥
 
 -- graphs that were read: in range, without a fault, such that they can be written, and fitting the kernels of the table
 pub record AreGood (graphs : Graphs) : Type 0 where

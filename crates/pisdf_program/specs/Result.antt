@@ -7,7 +7,6 @@ use Rattle.serde_json.specs.Written.{compact_text}
 use Rattle.kernel_gate.specs.Table.{the_signatures}
 use Rattle.token_text.specs.Streams.{read_of}
 use Rattle.token_text.specs.declared.fault.TokenFault.{TokenFault}
-use Rattle.pisdf_model.specs.declared.graph.Interface.{Interface}
 use Rattle.pisdf_model.specs.declared.graph.Graph.{Graph}
 use Rattle.pisdf_model.specs.declared.graph.Graphs.{Graphs}
 use Rattle.graph_format.specs.Canonical.{canonical}
@@ -17,8 +16,16 @@ use Rattle.graph_format.specs.declared.graph_fault.GraphFault.{GraphFault}
 use Rattle.graph_format.specs.declared.graph_fault.GraphFault.TheVariants.{NotJson}
 use Rattle.graph_writer.specs.Upgraded.{upgraded}
 use Rattle.pisdf_meaning.specs.Run as run
-use Rattle.pisdf_program.specs.Words.{Command, command_of, Run, Plain, Plan, Journal, Soak, Upgrade}
+use Rattle.job_report.specs.Names.{names_of}
+use Rattle.job_report.specs.Told.{Tells}
+use Rattle.job_report.specs.declared.text.JobText.{JobText}
+use Rattle.pisdf_program.specs.Job.{EndsJob, JobEnd}
+use Rattle.pisdf_program.specs.Top.{input_names, top_of}
+use Rattle.pisdf_program.specs.Words.{Command, command_of, Run, Plain, Job, Journal, Soak, Upgrade}
 use Rattle.pisdf_program.specs.Texts.{texts_from, left_lines, line_of}
+use Rattle.pisdf_program.specs.declared.stop.Stop.{Stop}
+use Rattle.pisdf_program.specs.declared.stop.Stop.TheVariants as stop
+use Rattle.pisdf_program.specs.declared.load.Input.{Input}
 use Rattle.pisdf_program.specs.declared.status.Status.{Status}
 use Rattle.pisdf_program.specs.declared.status.Status.TheVariants.{Done, Usage, GraphRefused, TokensRefused, RunRefused, NotYet}
 use Rattle.pisdf_program.specs.declared.status.GraphCause.TheVariants as graph
@@ -59,20 +66,34 @@ abbrev pub streams_in : Result (List (List ℤ)) TokenFault → Result (List (Li
 streams_in (Ok streams) = Ok streams
 streams_in (Err fault) = Err (TokensRefused (tokens.Fault fault))
 
-abbrev pub no_graph : Graph
-no_graph = record { name = []; params = []; inputs = []; outputs = []; actors = []; fifos = []; exports = [] }
-
--- the top graph
-abbrev pub top_of : Graphs → Graph
-top_of graphs = slice_index_or graphs.graphs graphs.top no_graph
-
--- the names of its inputs
-abbrev pub input_names : Graphs → List (List ℕ)
-input_names graphs = map (λ (i : Interface). i.name) (top_of graphs).inputs
-
 -- the stream of each input in the bytes of a file, or the refusal
 unfoldable pub read_streams : Graphs → List ℕ → Result (List (List ℤ)) Status
 read_streams graphs bytes = if nat_lt 67108864 (length bytes) then Err (TokensRefused tokens.TooLong) else streams_in (read_of bytes (input_names graphs))
+
+-- ---- the two files together
+
+abbrev pub input_in : Graphs → Result (List (List ℤ)) Status → Result Input Status
+input_in graphs (Ok streams) = Ok record { graphs = graphs; streams = streams }
+input_in graphs (Err status) = Err status
+
+-- the token file comes after the graph file; nothing is said of a file that isn't told
+abbrev pub ReadsTokens : Result Graphs Status → Option (List ℕ) → Result Input Status → Type 0
+ReadsTokens (Ok graphs) None read = ⊥
+ReadsTokens (Ok graphs) (Some bytes) read = read ≡ input_in graphs (read_streams graphs bytes)
+ReadsTokens (Err status) tokens read = read ≡ Err status
+
+-- what the two files hold, or the refusal
+abbrev pub ReadsFiles : Option (List ℕ) → Option (List ℕ) → Result Input Status → Type 0
+ReadsFiles None tokens read = ⊥
+ReadsFiles (Some bytes) tokens read = ReadsTokens (read_graphs bytes) tokens read
+
+-- a command goes on with what they hold
+abbrev pub GoesOn : (Input → Outcome → Type 0) → Result Input Status → Outcome → Type 0
+GoesOn next (Ok input) o = next input o
+GoesOn next (Err status) o = o ≡ refused status
+
+abbrev pub FromFiles : (Input → Outcome → Type 0) → Option (List ℕ) → Option (List ℕ) → Outcome → Type 0
+FromFiles next graph tokens o = (read : Result Input Status) × ReadsFiles graph tokens read × GoesOn next read o
 
 -- ---- the iterations
 
@@ -100,23 +121,32 @@ outcome_of graphs r = record {
   status = status_of graphs r.end;
 }
 
--- what one thread gets from the streams in a token file, or the refusal
-abbrev pub RunsStreams : Graphs → ℕ → Result (List (List ℤ)) Status → Outcome → Type 0
-RunsStreams graphs iterations (Ok streams) o = (r : run.Run) × run.IsRun graphs streams iterations r × (o ≡ outcome_of graphs r)
-RunsStreams graphs iterations (Err status) o = o ≡ refused status
-
--- the token file comes after the graph file; nothing is said of a file that isn't told
-abbrev pub RunsTokens : Graphs → ℕ → Option (List ℕ) → Outcome → Type 0
-RunsTokens graphs iterations None o = ⊥
-RunsTokens graphs iterations (Some bytes) o = RunsStreams graphs iterations (read_streams graphs bytes) o
-
-abbrev pub RunsGraphs : Result Graphs Status → ℕ → Option (List ℕ) → Outcome → Type 0
-RunsGraphs (Ok graphs) iterations tokens o = RunsTokens graphs iterations tokens o
-RunsGraphs (Err status) iterations tokens o = o ≡ refused status
+-- what one thread gets from so many iterations
+abbrev pub Runs : ℕ → Input → Outcome → Type 0
+Runs iterations input o = (r : run.Run) × run.IsRun input.graphs input.streams iterations r × (o ≡ outcome_of input.graphs r)
 
 abbrev pub RunsFile : Option (List ℕ) → ℕ → Option (List ℕ) → Outcome → Type 0
-RunsFile None iterations tokens o = ⊥
-RunsFile (Some bytes) iterations tokens o = RunsGraphs (read_graphs bytes) iterations tokens o
+RunsFile graph iterations tokens o = FromFiles (Runs iterations) graph tokens o
+
+-- ---- what is told of the compiled job
+
+abbrev pub told : List ℕ → Outcome
+told text = record { texts = text ∷ []; line = []; status = Done }
+
+-- what is told where an iteration isn't done; want of memory says nothing
+abbrev pub TellsStop : Graphs → Stop → Outcome → Type 0
+TellsStop graphs (stop.Short stream has needs) o = o ≡ refused (short_of graphs record { stream = stream; has = has; needs = needs })
+TellsStop graphs (stop.Refused refusal) o = o ≡ refused (RunRefused refusal)
+TellsStop graphs stop.Memory o = Unit {0}
+
+-- what is told of the job, or why there is none
+abbrev pub TellsEnd : JobText → Graphs → JobEnd → Outcome → Type 0
+TellsEnd what graphs (Ok job) o = (text : List ℕ) × Tells what (names_of graphs.graphs (top_of graphs)) job text × (o ≡ told text)
+TellsEnd what graphs (Err stop) o = TellsStop graphs stop o
+
+-- the job of the first iteration for so many workers, of whose actors none fires but the configuration actors
+abbrev pub TellsJob : JobText → ℕ → Input → Outcome → Type 0
+TellsJob what workers input o = (end : JobEnd) × EndsJob input.graphs input.streams workers end × TellsEnd what input.graphs end o
 
 -- ---- graph files written anew
 
@@ -148,7 +178,7 @@ abbrev pub ComesTo : Option Command → (List ℕ → Option (List ℕ)) → Out
 ComesTo None files o = o ≡ refused Usage
 ComesTo (Some (Run graph tokens iterations workers)) files o = RunsAlone (workers == 1) (files graph) iterations (files tokens) o
 ComesTo (Some (Plain graph tokens iterations)) files o = RunsFile (files graph) iterations (files tokens) o
-ComesTo (Some (Plan graph tokens workers)) files o = o ≡ refused (NotYet later.Command)
+ComesTo (Some (Job what graph tokens workers)) files o = FromFiles (TellsJob what workers) (files graph) (files tokens) o
 ComesTo (Some (Journal graph tokens iterations workers)) files o = o ≡ refused (NotYet later.Command)
 ComesTo (Some (Soak number workers)) files o = o ≡ refused (NotYet later.Command)
 ComesTo (Some (Upgrade graph)) files o = Upgrades (files graph) o
@@ -180,7 +210,7 @@ abbrev pub Knows : Option Command → (List ℕ → Option (List ℕ)) → Type 
 Knows None files = Unit {0}
 Knows (Some (Run graph tokens iterations workers)) files = AreToldAlone (workers == 1) (files graph) (files tokens)
 Knows (Some (Plain graph tokens iterations)) files = AreTold (files graph) (files tokens)
-Knows (Some (Plan graph tokens workers)) files = Unit {0}
+Knows (Some (Job what graph tokens workers)) files = AreTold (files graph) (files tokens)
 Knows (Some (Journal graph tokens iterations workers)) files = Unit {0}
 Knows (Some (Soak number workers)) files = Unit {0}
 Knows (Some (Upgrade graph)) files = IsTold (files graph)

@@ -8,15 +8,29 @@ use Rattle.pisdf_meaning.specs.declared.refusal.PlainFault.{PlainFault}
 use Rattle.pisdf_meaning.specs.declared.refusal.PlainFault.TheVariants as plain
 use Rattle.pisdf_program.specs.Calls.{GrowsPartly}
 use Rattle.pisdf_program.specs.Iterated.{Checks, Gives, IsRefused}
-use Rattle.pisdf_program.specs.Result.{top_of}
+use Rattle.pisdf_program.specs.Top.{top_of}
 use Rattle.pisdf_program.specs.Texts.{iteration_text}
 use Rattle.pisdf_program.specs.declared.run.RunEnd.{RunEnd}
 use Rattle.pisdf_program.specs.declared.run.RunEnd.TheVariants as end
+use Rattle.pisdf_program.specs.declared.stop.Stop.{Stop}
+use Rattle.pisdf_program.specs.declared.stop.Stop.TheVariants as stop
 
--- the end of a run where one thread gets nothing from an iteration
-abbrev pub refused_end : PlainFault → RunEnd
-refused_end (plain.Refused refusal) = end.Refused refusal
-refused_end plain.Memory = end.Memory
+-- why an iteration isn't done from which one thread gets nothing
+abbrev pub refused_stop : PlainFault → Stop
+refused_stop (plain.Refused refusal) = stop.Refused refusal
+refused_stop plain.Memory = stop.Memory
+
+-- the end of a run whose iteration isn't done
+abbrev pub run_end : Stop → RunEnd
+run_end (stop.Short stream held needs) = end.Short stream held needs
+run_end (stop.Refused refusal) = end.Refused refusal
+run_end stop.Memory = end.Memory
+
+-- an iteration from this state and these streams isn't done
+abbrev pub StopsAt : Graphs → List (List ℤ) → List (List ℤ) → Stop → Type 0
+StopsAt graphs state streams (stop.Short stream held needs) = Checks graphs streams (Ok (Some record { stream = stream; has = held; needs = needs }))
+StopsAt graphs state streams (stop.Refused refusal) = IsRefused graphs state streams refusal
+StopsAt graphs state streams stop.Memory = Unit {0}
 
 -- iteration `number` ended the run
 abbrev pub EndsAt : Graphs → ℕ → List (List ℤ) → List (List ℤ) → Option (List ℕ) → Option (List ℕ) → ℕ → ℕ → RunEnd → Type 0

@@ -1,13 +1,15 @@
 -- The words of a command.
 use Rattle.std.specs.Prelude.{ℕ, List, [], ◌∷◌, Option, Some, None, option_and_then, option_map, codes, if◌then◌else◌}
 use Rattle.std.specs.Str.{bytes_eq}
+use Rattle.job_report.specs.declared.text.JobText.{JobText}
+use Rattle.job_report.specs.declared.text.JobText.TheVariants as told
 use Rattle.pisdf_program.specs.Number.{number_within}
 
 -- a command with the names of its files and its numbers
 pub data Command : Type 0 where
   Run : (graph tokens : List ℕ) (iterations workers : ℕ) → Command
   Plain : (graph tokens : List ℕ) (iterations : ℕ) → Command
-  Plan : (graph tokens : List ℕ) (workers : ℕ) → Command
+  Job : (what : JobText) (graph tokens : List ℕ) (workers : ℕ) → Command
   Journal : (graph tokens : List ℕ) (iterations workers : ℕ) → Command
   Soak : (number workers : ℕ) → Command
   Upgrade : (graph : List ℕ) → Command
@@ -38,9 +40,9 @@ plain_row (graph ∷ tokens ∷ iterations ∷ []) = option_map (λ i. Plain gra
 plain_row _ = None
 
 -- GRAPH TOKENS WORKERS
-abbrev pub plan_row : List (List ℕ) → Option Command
-plan_row (graph ∷ tokens ∷ workers ∷ []) = option_map (λ w. Plan graph tokens w) (workers_of workers)
-plan_row _ = None
+abbrev pub job_row : JobText → List (List ℕ) → Option Command
+job_row what (graph ∷ tokens ∷ workers ∷ []) = option_map (λ w. Job what graph tokens w) (workers_of workers)
+job_row what _ = None
 
 -- GRAPH TOKENS ITERATIONS WORKERS
 abbrev pub journal_row : List (List ℕ) → Option Command
@@ -64,7 +66,8 @@ abbrev pub row_of : List ℕ → List (List ℕ) → Option Command
 row_of name words =
     if bytes_eq name (codes "run") then run_row words
     else if bytes_eq name (codes "plain") then plain_row words
-    else if bytes_eq name (codes "plan") then plan_row words
+    else if bytes_eq name (codes "plan") then job_row told.Plan words
+    else if bytes_eq name (codes "schedule") then job_row told.Schedule words
     else if bytes_eq name (codes "journal") then journal_row words
     else if bytes_eq name (codes "soak") then soak_row words
     else if bytes_eq name (codes "upgrade") then upgrade_row words

@@ -6,9 +6,12 @@ use Rattle.outer_world.specs.Sink.{Grows}
 use Rattle.pisdf_model.specs.declared.graph.Graphs.{Graphs}
 use Rattle.pisdf_program.specs.Calls.{GrowsPartly, GrowsByFirst}
 use Rattle.pisdf_program.specs.Loaded.{is_answer}
-use Rattle.pisdf_program.specs.Result.{Outcome, short_of, top_of}
+use Rattle.pisdf_program.specs.Result.{Outcome, short_of}
+use Rattle.pisdf_program.specs.Top.{top_of}
 use Rattle.pisdf_program.specs.Texts.{joined, left_lines, line_of, memory_line, read_line}
-use Rattle.pisdf_program.specs.Words.{Command, Run, Plain, Upgrade}
+use Rattle.pisdf_program.specs.Words.{Command, Run, Plain, Job, Journal, Soak, Upgrade}
+use Rattle.pisdf_program.specs.declared.stop.Stop.{Stop}
+use Rattle.pisdf_program.specs.declared.stop.Stop.TheVariants as stop
 use Rattle.pisdf_program.specs.declared.run.RunEnd.{RunEnd}
 use Rattle.pisdf_program.specs.declared.run.RunEnd.TheVariants as end
 use Rattle.pisdf_program.specs.declared.status.Status.{Status}
@@ -119,27 +122,50 @@ pub record Ended (expected : Outcome → Type 0) (out_had out_has err_had err_ha
 
 -- ---- the files of a command
 
--- the name of one of the files that a command of this stage may load, in its words
-abbrev pub file_in : Which → Command → Option (List ℕ)
-file_in Graph (Run graph tokens iterations workers) = if workers == 1 then Some graph else None
-file_in Tokens (Run graph tokens iterations workers) = if workers == 1 then Some tokens else None
-file_in Graph (Plain graph tokens iterations) = Some graph
-file_in Tokens (Plain graph tokens iterations) = Some tokens
-file_in Graph (Upgrade graph) = Some graph
-file_in which _ = None
+-- of the names of a graph file and a token file the one that is asked for
+abbrev pub file_among : List ℕ → List ℕ → Which → List ℕ
+file_among graph tokens Graph = graph
+file_among graph tokens Tokens = tokens
 
-abbrev pub file_of : Which → Option Command → Option (List ℕ)
-file_of which None = None
-file_of which (Some command) = file_in which command
+abbrev pub graph_alone : List ℕ → Which → Option (List ℕ)
+graph_alone graph Graph = Some graph
+graph_alone graph Tokens = None
+
+-- the name of one of the files that a command of this stage may load, in its words
+abbrev pub file_in : Command → Which → Option (List ℕ)
+file_in (Run graph tokens iterations workers) which = if workers == 1 then Some (file_among graph tokens which) else None
+file_in (Plain graph tokens iterations) which = Some (file_among graph tokens which)
+file_in (Job what graph tokens workers) which = Some (file_among graph tokens which)
+file_in (Journal graph tokens iterations workers) which = None
+file_in (Soak number workers) which = None
+file_in (Upgrade graph) which = graph_alone graph which
+
+abbrev pub file_of : Option Command → Which → Option (List ℕ)
+file_of None which = None
+file_of (Some command) which = file_in command which
 
 -- the count of a name rose
 abbrev pub RoseAt : (List ℕ → ℕ) → (List ℕ → ℕ) → Option (List ℕ) → Type 0
 RoseAt before now None = ⊥
 RoseAt before now (Some name) = Rose (before name) (now name)
 
+-- a status of a command that has read its files, or has none
+abbrev pub ReadsNothing : Status → Type 0
+ReadsNothing status = ((which : Which) → status ≢ ReadFault which) × (status ≢ Usage)
+
+-- the status of a command whose iteration isn't done
+abbrev pub StopsWith : Graphs → Stop → Status → Type 0
+StopsWith graphs (stop.Short stream has needs) status = (status ≡ short_of graphs record { stream = stream; has = has; needs = needs }) ⊎ (status ≡ WantOfMemory)
+StopsWith graphs (stop.Refused refusal) status = status ≡ RunRefused refusal
+StopsWith graphs stop.Memory status = status ≡ WantOfMemory
+
+-- where a status is a fault of reading one of two files, the count of that file's name rose
+abbrev pub FilesRose : List ℕ → List ℕ → (List ℕ → ℕ) → (List ℕ → ℕ) → Status → Type 0
+FilesRose graph tokens before now status = (which : Which) → status ≡ ReadFault which → Rose (before (file_among graph tokens which)) (now (file_among graph tokens which))
+
 -- where a status is a fault of reading a file, the count of that file's name in the command's words rose
 abbrev pub CountRose : Option Command → (List ℕ → ℕ) → (List ℕ → ℕ) → Status → Type 0
-CountRose command before now status = (which : Which) → status ≡ ReadFault which → RoseAt before now (file_of which command)
+CountRose command before now status = (which : Which) → status ≡ ReadFault which → RoseAt before now (file_of command which)
 
 -- ---- completeness
 
@@ -150,4 +176,4 @@ Completes expected command before now out_before out_now err_before err_now stat
     → (status ≡ o.status)
     ⊎ (status ≡ WantOfMemory)
     ⊎ ((status ≡ WriteFault) × (Rose out_before out_now ⊎ Rose err_before err_now))
-    ⊎ ((which : Which) × (status ≡ ReadFault which) × RoseAt before now (file_of which command))
+    ⊎ ((which : Which) × (status ≡ ReadFault which) × RoseAt before now (file_of command which))

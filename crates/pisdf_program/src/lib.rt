@@ -1,7 +1,9 @@
 //! The commands of the program, over files by name and two sinks of bytes: `run GRAPH TOKENS ITERATIONS WORKERS`,
-//! `plain GRAPH TOKENS ITERATIONS` and `upgrade GRAPH`.
+//! `plain GRAPH TOKENS ITERATIONS`, `plan GRAPH TOKENS WORKERS`, `schedule GRAPH TOKENS WORKERS` and `upgrade GRAPH`.
 #![tactic(auto)]
 
+mod job;
+mod job_command;
 mod limits;
 mod line;
 mod load;
@@ -10,6 +12,7 @@ mod program;
 mod put;
 mod run;
 mod status;
+mod stop;
 mod streams;
 mod texts;
 mod upgrade;

@@ -1,8 +1,12 @@
 // Loading the two files of a run.
-ghost use Rattle.std.specs.Prelude.{◌≡◌, ◌<◌, ◌≤◌, ◌↔◌, ℕ, List as Seq, Some, length, map, IfOk, IfErr, IsTrue};
+ghost use Rattle.std.specs.Prelude.{◌≡◌, ◌<◌, ◌≤◌, ◌↔◌, ℕ, List as Seq, Some, length, map, IfOk, IfErr, IsTrue, Result as Read};
 ghost use Rattle.token_text.specs.Streams.{read_of};
-ghost use Rattle.pisdf_program.specs.Loaded.{AreGood, FaultsOnly, NoFault, Settles};
-ghost use Rattle.pisdf_program.specs.Result.{graphs_in_json, input_names, json_of, read_graphs, read_streams, streams_in, top_of};
+ghost use Rattle.pisdf_program.specs.Loaded.{AreGood, FaultsOnly, NoFault, Settles, StopsReading};
+ghost use Rattle.pisdf_program.specs.Result.{ReadsFiles, graphs_in_json, json_of, read_graphs, read_streams, streams_in};
+ghost use Rattle.pisdf_program.specs.Top.{input_names, top_of};
+ghost use Rattle.pisdf_program.specs.Worked.{FilesRose};
+ghost use Rattle.pisdf_program.specs.declared.load.Input.{Input as Files};
+ghost use Rattle.pisdf_program.specs.declared.status.Status.{Status as Answer};
 ghost use Rattle.kernel_gate.specs.Signed.{signature_view};
 ghost use Rattle.kernel_gate.specs.Table.{the_signatures};
 
@@ -43,6 +47,23 @@ fn parse_graphs(alloc: Global, bytes: &[u8], signatures: &[Signature]) -> Result
     }
 }
 
+/// The graphs in the bytes of a file, unless there are too many of these.
+pub(crate) fn graphs_in(
+    alloc: Global,
+    bytes: &[u8],
+    signatures: &[Signature],
+) -> Result<Graphs, Status>
+    requires { map signature_view signatures.now ≡ the_signatures }
+    ensures settles { Settles (read_graphs bytes.now) result }
+    ensures good { IfOk result AreGood }
+    ensures faults { IfErr result NoFault }
+{
+    if bytes.len() > limits::GRAPH_BYTES {
+        return Err(Status::GraphRefused(GraphCause::TooLong));
+    }
+    parse_graphs(alloc, bytes, signatures)
+}
+
 /// Loads a graph file, and reads the graphs in it.
 pub(crate) fn load_graphs<S: Shelf>(
     alloc: Global,
@@ -58,7 +79,7 @@ pub(crate) fn load_graphs<S: Shelf>(
     ensures never_falls { (other : Seq ℕ) → S.faults shelf.old other ≤ S.faults shelf.new other }
 {
     match shelf.load(name, limits::GRAPH_BYTES) {
-        Ok(bytes) => parse_graphs(alloc, bytes.as_slice(), signatures),
+        Ok(bytes) => graphs_in(alloc, bytes.as_slice(), signatures),
         Err(LoadFault::Failed) => Err(Status::ReadFault(Which::Graph)),
         Err(LoadFault::TooLong) => Err(Status::GraphRefused(GraphCause::TooLong)),
         Err(LoadFault::Memory) => Err(Status::WantOfMemory),
@@ -112,5 +133,38 @@ pub(crate) fn load_streams<S: Shelf>(
         Err(LoadFault::Failed) => Err(Status::ReadFault(Which::Tokens)),
         Err(LoadFault::TooLong) => Err(Status::TokensRefused(TokenCause::TooLong)),
         Err(LoadFault::Memory) => Err(Status::WantOfMemory),
+    }
+}
+
+/// What the two files of a run hold.
+#[derive(Drop)]
+pub(crate) struct Input {
+    pub(crate) graphs: Graphs,
+    /// A stream of tokens for each input of the top graph.
+    pub(crate) streams: List<List<i64>>,
+}
+
+/// Loads the graph file, and then the token file, and reads them.
+pub(crate) fn load_input<S: Shelf>(
+    alloc: Global,
+    shelf: &mut S,
+    graph: &str,
+    tokens: &str,
+    signatures: &[Signature],
+) -> Result<Input, Status>
+    requires { map signature_view signatures.now ≡ the_signatures }
+    ensures settles { (told : Read Files Answer) → ReadsFiles (S.holds shelf.old graph.now) (S.holds shelf.old tokens.now) told → Settles told result }
+    ensures good { IfOk result (λ input. AreGood input.graphs) }
+    ensures fit { IfOk result (λ input. length input.streams ≡ length (top_of input.graphs).inputs) }
+    ensures stops { IfErr result StopsReading }
+    ensures rose { IfErr result (FilesRose graph.now tokens.now (S.faults shelf.old) (S.faults shelf.new)) }
+{
+    let graphs = match load_graphs(alloc, shelf, graph, signatures) {
+        Ok(graphs) => graphs,
+        Err(status) => return Err(status),
+    };
+    match load_streams(alloc, shelf, tokens, &graphs) {
+        Ok(streams) => Ok(Input { graphs, streams }),
+        Err(status) => Err(status),
     }
 }

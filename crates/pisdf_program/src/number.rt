@@ -14,6 +14,7 @@ pub(crate) fn number_within(digits: usize, low: u32, high: u32, text: &str) -> O
     requires { high < 2 ^ 17 }
     ensures number { result ≡ number_within digits low high text.now }
     ensures within { IfSome result (λ n. n ≤ high) }
+    ensures least { IfSome result (λ n. low ≤ n) }
 {
     if text.is_empty() || text.len() > digits {
         return None;

@@ -1,34 +1,25 @@
 // The top call.
-ghost use Rattle.std.specs.Prelude.{◌≡◌, ◌≢◌, ◌⊎◌, ◌↔◌, ◌<◌, ◌≤◌, true, map, IfErr, IfOk, IsTrue, length, string_bytes};
+ghost use Rattle.std.specs.Prelude.{◌≡◌, ◌≢◌, ◌⊎◌, ◌↔◌, ◌<◌, ◌≤◌, true, map, IfErr, IsTrue, length, string_bytes};
 ghost use Rattle.kernel_gate.specs.Table.{the_signatures};
 ghost use Rattle.pisdf_program.specs.Loaded.{is_answer};
-ghost use Rattle.pisdf_program.specs.Result.{AreTold, Knows, Outcome, ResultOf, RunsFile, name_at};
+ghost use Rattle.pisdf_program.specs.Result.{AreTold, Knows, Outcome, ResultOf, RunsFile};
 ghost use Rattle.pisdf_program.specs.Words as table;
-ghost use Rattle.pisdf_program.specs.Worked.{Completes, Concludes, CountRose, Ended, IsThere, PutsLine, Reports, TellsUnlessCut, Works};
+ghost use Rattle.pisdf_program.specs.Worked.{Completes, Concludes, CountRose, Ended, FilesRose, IsThere, PutsLine, Reports, TellsUnlessCut, Works};
 
+use crate::job_command::tell_job;
 use crate::line::{MEMORY, left_lines, line_of};
-use crate::load::{load_graphs, load_streams};
+use crate::load::load_input;
 use crate::put::put_text;
 use crate::run::{RunEnd, run_all, top_of};
-use crate::status::{Later, Status, TokenCause};
+use crate::status::{Later, Status};
+use crate::stop::short_status;
 use crate::upgrade::upgrade;
 use crate::words::{Command, read_words};
 use kernel_gate::Gate;
 use outer_world::{Shelf, Sink};
-use param_expr::Name;
 use pisdf_meaning::one_meaning;
-use pisdf_model::{Graphs, Interface};
-use std::alloc::{AllocError, Global};
-
-/// The name of an input by its number.
-fn name_at(alloc: Global, inputs: &[Interface], stream: usize) -> Result<Name, AllocError>
-    ensures { IfOk result (λ n. n ≡ name_at (map (λ i. i.name) inputs.now) stream) }
-{
-    if stream < inputs.len() {
-        return inputs[stream].name.clone();
-    }
-    Ok(Name::new(String::new(alloc)))
-}
+use pisdf_model::Graphs;
+use std::alloc::Global;
 
 /// The lines for the streams with tokens left after a run that is done, or the status that it ended with.
 fn report(alloc: Global, graphs: &Graphs, end: RunEnd) -> Result<String, Status>
@@ -41,10 +32,9 @@ fn report(alloc: Global, graphs: &Graphs, end: RunEnd) -> Result<String, Status>
             Ok(lines) => Ok(lines),
             Err(_) => Err(Status::WantOfMemory),
         },
-        RunEnd::Short { stream, has, needs } => match name_at(alloc, inputs, stream) {
-            Ok(stream) => Err(Status::TokensRefused(TokenCause::Short { stream, has, needs })),
-            Err(_) => Err(Status::WantOfMemory),
-        },
+        RunEnd::Short { stream, has, needs } => Err(short_status(
+            alloc, graphs, stream, has, needs,
+        )),
         RunEnd::Refused(refusal) => Err(Status::RunRefused(refusal)),
         RunEnd::WriteFault => Err(Status::WriteFault),
         RunEnd::Memory => Err(Status::WantOfMemory),
@@ -66,20 +56,17 @@ fn run<S: Shelf, O: Sink, K: Gate>(
     requires few { iterations ≤ 65536 }
     ensures works { Works (RunsFile (S.holds shelf.old graph.now) iterations (S.holds shelf.old tokens.now)) (O.written out.old) (O.written out.new) (O.faults out.old) (O.faults out.new) result }
     ensures there { IsThere (AreTold (S.holds shelf.old graph.now) (S.holds shelf.old tokens.now)) (RunsFile (S.holds shelf.old graph.now) iterations (S.holds shelf.old tokens.now)) result }
-    ensures read { IfErr result (CountRose (Some (table.Plain graph.now tokens.now iterations)) (S.faults shelf.old) (S.faults shelf.new)) }
+    ensures read { IfErr result (FilesRose graph.now tokens.now (S.faults shelf.old) (S.faults shelf.new)) }
     ensures usage { result ≢ Err Status.Usage }
 {
     one_meaning();
-    let graphs = match load_graphs(alloc, shelf, graph, gate.signatures()) {
-        Ok(graphs) => graphs,
+    let input = match load_input(alloc, shelf, graph, tokens, gate.signatures()) {
+        Ok(input) => input,
         Err(status) => return Err(status),
     };
-    let streams = match load_streams(alloc, shelf, tokens, &graphs) {
-        Ok(streams) => streams,
-        Err(status) => return Err(status),
-    };
-    let end = run_all(alloc, &graphs, streams.items(), iterations, gate, out);
-    report(alloc, &graphs, end)
+    let graphs = &input.graphs;
+    let end = run_all(alloc, graphs, input.streams.items(), iterations, gate, out);
+    report(alloc, graphs, end)
 }
 
 /// Does what the words ask for, up to what is put to standard error.
@@ -117,7 +104,12 @@ fn work<S: Shelf, O: Sink, K: Gate>(
             tokens,
             iterations,
         } => run(alloc, graph, tokens, iterations, shelf, out, gate),
-        Command::Plan { .. } => Err(Status::NotYet(Later::Command)),
+        Command::Job {
+            what,
+            graph,
+            tokens,
+            workers,
+        } => tell_job(alloc, what, graph, tokens, workers, shelf, out, gate),
         Command::Journal { .. } => Err(Status::NotYet(Later::Command)),
         Command::Soak { .. } => Err(Status::NotYet(Later::Command)),
         Command::Upgrade { graph } => upgrade(alloc, graph, shelf, out, gate),

@@ -1,20 +1,22 @@
 // A run over its iterations, by one thread.
-ghost use Rattle.std.specs.Prelude.{◌≡◌, ◌<◌, ◌≤◌, [], length, map, IfOk};
+ghost use Rattle.std.specs.Prelude.{◌≡◌, ◌<◌, ◌≤◌, [], length, map, IfErr, IfOk};
 ghost use Rattle.kernel_gate.specs.Table.{the_signatures};
 ghost use Rattle.param_resolver.specs.EarlyCheck.{early_faults};
 ghost use Rattle.pisdf_meaning.specs.Run.{top_needs};
 ghost use Rattle.pisdf_program.specs.Calls.{EndsRun};
 ghost use Rattle.pisdf_program.specs.Loaded.{AreGood};
-ghost use Rattle.pisdf_program.specs.Result.{top_of};
-ghost use Rattle.pisdf_program.specs.Stepped.{Steps, refused_end};
+ghost use Rattle.pisdf_program.specs.Top.{top_of};
+ghost use Rattle.pisdf_program.specs.Iterated.{Gives};
+ghost use Rattle.pisdf_program.specs.Stepped.{Steps, StopsAt, run_end};
 ghost use Rattle.pisdf_program.specs.Streams.{rest_of};
 
 use crate::put::put_text;
-use crate::streams::{Lack, Streams};
+use crate::stop::{Stop, refused, short};
+use crate::streams::Streams;
 use crate::texts::iteration_text;
 use kernel_gate::Gate;
 use outer_world::Sink;
-use pisdf_meaning::{Delays, PlainFault, Refusal, first_delays, plain_iteration, top_needs};
+use pisdf_meaning::{Delays, Iteration, Refusal, first_delays, plain_iteration, top_needs};
 use pisdf_model::{Graph, Graphs};
 use sdf_level::List;
 use std::alloc::{AllocError, Global};
@@ -32,24 +34,14 @@ pub(crate) enum RunEnd {
     Memory,
 }
 
-/// The end of a run that lacks tokens.
-fn short(lack: Lack) -> RunEnd
-    ensures { result ≡ RunEnd.Short lack.stream lack.has lack.needs }
+/// The end of a run whose iteration isn't done.
+fn stopped(stop: Stop) -> RunEnd
+    ensures { result ≡ run_end stop }
 {
-    RunEnd::Short {
-        stream: lack.stream,
-        has: lack.has,
-        needs: lack.needs,
-    }
-}
-
-/// The end of a run where one thread gets nothing from an iteration.
-fn refused(fault: PlainFault) -> RunEnd
-    ensures { result ≡ refused_end fault }
-{
-    match fault {
-        PlainFault::Refused(refusal) => RunEnd::Refused(refusal),
-        PlainFault::Memory => RunEnd::Memory,
+    match stop {
+        Stop::Short { stream, has, needs } => RunEnd::Short { stream, has, needs },
+        Stop::Refused(refusal) => RunEnd::Refused(refusal),
+        Stop::Memory => RunEnd::Memory,
     }
 }
 
@@ -59,6 +51,37 @@ pub(crate) fn top_of(graphs: &Graphs) -> &Graph
     ensures { result.now ≡ top_of graphs.now }
 {
     &graphs.graphs.items()[graphs.top as usize]
+}
+
+/// Makes one iteration, which leaves its state for the next, or answers why it isn't done.
+pub(crate) fn next_iteration<K: Gate>(
+    alloc: Global,
+    graphs: &Graphs,
+    streams: &Streams<'_>,
+    number: u32,
+    delays: &mut Delays,
+    gate: &K,
+) -> Result<Iteration, Stop>
+    requires good { AreGood graphs.now }
+    requires kernels { K.kernels gate.now ≡ the_signatures }
+    requires few { number ≤ 65536 }
+    requires needs { streams.now.needs.now ≡ top_needs graphs.now }
+    requires fit { length streams.now.needs.now ≡ length streams.now.tokens.now }
+    requires sound { early_faults graphs.now.graphs graphs.now.top [] ≡ [] }
+    ensures gives { IfOk result (λ i. Gives graphs.now delays.old.lists (rest_of number (top_needs graphs.now) streams.now.tokens.now) i delays.new.lists) }
+    ensures stops { IfErr result (StopsAt graphs.now delays.old.lists (rest_of number (top_needs graphs.now) streams.now.tokens.now)) }
+{
+    match streams.first_lack(number) {
+        Some(lack) => return Err(short(lack)),
+        None => {}
+    }
+    let Ok(ins) = streams.taken(alloc, number) else {
+        return Err(Stop::Memory);
+    };
+    match plain_iteration(alloc, graphs, delays, ins.as_slice(), gate) {
+        Ok(iteration) => Ok(iteration),
+        Err(fault) => Err(refused(fault)),
+    }
 }
 
 /// Makes and puts one iteration, which leaves its state for the next, or answers how the run ends with it.
@@ -80,16 +103,9 @@ fn step<O: Sink, K: Gate>(
     ensures steps { Steps graphs.now number delays.old.lists delays.new.lists (rest_of number (top_needs graphs.now) streams.now.tokens.now) (O.written out.old) (O.written out.new) (O.faults out.old) (O.faults out.new) result }
     ensures never_falls { O.faults out.old ≤ O.faults out.new }
 {
-    match streams.first_lack(number) {
-        Some(lack) => return Err(short(lack)),
-        None => {}
-    }
-    let Ok(ins) = streams.taken(alloc, number) else {
-        return Err(RunEnd::Memory);
-    };
-    let iteration = match plain_iteration(alloc, graphs, delays, ins.as_slice(), gate) {
+    let iteration = match next_iteration(alloc, graphs, streams, number, delays, gate) {
         Ok(iteration) => iteration,
-        Err(fault) => return Err(refused(fault)),
+        Err(stop) => return Err(stopped(stop)),
     };
     let top = top_of(graphs);
     let Ok(text) = iteration_text(alloc, number, top.outputs.items(), &iteration) else {
@@ -170,7 +186,7 @@ pub(crate) fn run_all<O: Sink, K: Gate>(
     }
     let needs = match top_needs(alloc, graphs) {
         Ok(needs) => needs,
-        Err(fault) => return refused(fault),
+        Err(fault) => return stopped(refused(fault)),
     };
     let feed = Streams {
         needs: needs.items(),

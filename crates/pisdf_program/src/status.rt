@@ -55,7 +55,7 @@ pub enum Which {
 /// What the program doesn't do yet.
 #[derive(Clone, Copy, Debug, PartialEq, Eq)]
 pub enum Later {
-    /// A command other than `run`, `plain` and `upgrade`.
+    /// The commands `journal` and `soak`.
     Command,
     /// More than one worker.
     Workers,

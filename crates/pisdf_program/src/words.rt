@@ -1,9 +1,10 @@
 ghost use Rattle.std.specs.Prelude.{◌≡◌, ◌≤◌, IfSome, map, option_map, string_bytes};
-ghost use Rattle.pisdf_program.specs.Words.{command_of, run_row, plain_row, plan_row, journal_row, soak_row, upgrade_row, iterations_of, workers_of, generated_of};
-ghost use Rattle.pisdf_program.specs.WordsSeen.{IsFew, seen};
+ghost use Rattle.pisdf_program.specs.Words.{command_of, run_row, plain_row, job_row, journal_row, soak_row, upgrade_row, iterations_of, workers_of, generated_of};
+ghost use Rattle.pisdf_program.specs.WordsSeen.{IsWithin, seen};
 
 use crate::limits;
 use crate::number::number_within;
+use job_report::JobText;
 
 /// What the words ask for.
 #[derive(Clone, Copy)]
@@ -19,7 +20,9 @@ pub(crate) enum Command<'w> {
         tokens: &'w str,
         iterations: u32,
     },
-    Plan {
+    /// To tell of the compiled job of the top graph.
+    Job {
+        what: JobText,
         graph: &'w str,
         tokens: &'w str,
         workers: u32,
@@ -47,20 +50,22 @@ fn iterations_of(word: &str) -> Option<u32>
 }
 
 fn workers_of(word: &str) -> Option<u32>
-    ensures { result ≡ workers_of word.now }
+    ensures number { result ≡ workers_of word.now }
+    ensures some { IfSome result (λ n. 1 ≤ n) }
 {
     number_within(limits::WORKER_DIGITS, 1, limits::WORKERS, word)
 }
 
 fn generated_of(word: &str) -> Option<u32>
-    ensures { result ≡ generated_of word.now }
+    ensures number { result ≡ generated_of word.now }
+    ensures few { IfSome result (λ n. n ≤ 65535) }
 {
     number_within(limits::GENERATED_DIGITS, 0, limits::GENERATED, word)
 }
 
 fn run_row(words: &[String]) -> Option<Command<'_>>
     ensures row { option_map seen result ≡ run_row (map string_bytes words.now) }
-    ensures few { IfSome result IsFew }
+    ensures within { IfSome result IsWithin }
 {
     match words {
         [graph, tokens, iterations, workers] => Some(Command::Run {
@@ -75,7 +80,7 @@ fn run_row(words: &[String]) -> Option<Command<'_>>
 
 fn plain_row(words: &[String]) -> Option<Command<'_>>
     ensures row { option_map seen result ≡ plain_row (map string_bytes words.now) }
-    ensures few { IfSome result IsFew }
+    ensures within { IfSome result IsWithin }
 {
     match words {
         [graph, tokens, iterations] => Some(Command::Plain {
@@ -87,12 +92,13 @@ fn plain_row(words: &[String]) -> Option<Command<'_>>
     }
 }
 
-fn plan_row(words: &[String]) -> Option<Command<'_>>
-    ensures row { option_map seen result ≡ plan_row (map string_bytes words.now) }
-    ensures few { IfSome result IsFew }
+fn job_row(what: JobText, words: &[String]) -> Option<Command<'_>>
+    ensures row { option_map seen result ≡ job_row what (map string_bytes words.now) }
+    ensures within { IfSome result IsWithin }
 {
     match words {
-        [graph, tokens, workers] => Some(Command::Plan {
+        [graph, tokens, workers] => Some(Command::Job {
+            what,
             graph: graph.as_str(),
             tokens: tokens.as_str(),
             workers: workers_of(workers.as_str())?,
@@ -103,7 +109,7 @@ fn plan_row(words: &[String]) -> Option<Command<'_>>
 
 fn journal_row(words: &[String]) -> Option<Command<'_>>
     ensures row { option_map seen result ≡ journal_row (map string_bytes words.now) }
-    ensures few { IfSome result IsFew }
+    ensures within { IfSome result IsWithin }
 {
     match words {
         [graph, tokens, iterations, workers] => Some(Command::Journal {
@@ -118,7 +124,7 @@ fn journal_row(words: &[String]) -> Option<Command<'_>>
 
 fn soak_row(words: &[String]) -> Option<Command<'_>>
     ensures row { option_map seen result ≡ soak_row (map string_bytes words.now) }
-    ensures few { IfSome result IsFew }
+    ensures within { IfSome result IsWithin }
 {
     match words {
         [number, workers] => Some(Command::Soak {
@@ -131,7 +137,7 @@ fn soak_row(words: &[String]) -> Option<Command<'_>>
 
 fn upgrade_row(words: &[String]) -> Option<Command<'_>>
     ensures row { option_map seen result ≡ upgrade_row (map string_bytes words.now) }
-    ensures few { IfSome result IsFew }
+    ensures within { IfSome result IsWithin }
 {
     match words {
         [graph] => Some(Command::Upgrade {
@@ -144,13 +150,14 @@ fn upgrade_row(words: &[String]) -> Option<Command<'_>>
 /// What the words ask for, where some row of the table of commands reads them.
 pub(crate) fn read_words(words: &[String]) -> Option<Command<'_>>
     ensures command { option_map seen result ≡ command_of (map string_bytes words.now) }
-    ensures few { IfSome result IsFew }
+    ensures within { IfSome result IsWithin }
 {
     let (name, rest) = words.split_first()?;
     match name.as_str() {
         "run" => run_row(rest),
         "plain" => plain_row(rest),
-        "plan" => plan_row(rest),
+        "plan" => job_row(JobText::Plan, rest),
+        "schedule" => job_row(JobText::Schedule, rest),
         "journal" => journal_row(rest),
         "soak" => soak_row(rest),
         "upgrade" => upgrade_row(rest),

@@ -1,12 +1,13 @@
 -- One buffer after another gets its offset.
-use Rattle.std.proofs.Common.{◌≡◌, ◌≢◌, ℕ, suc, ◌+◌, ◌^◌, ◌<◌, ◌≤◌, ◌⊎◌, inl, inr, ⊎_elim, List, [], ◌∷◌, length, get_or, set, take, slice_index, sum, sum_by, All, Any, IsPermutation, refl, sym, ◌∙◌, arith}
+use Rattle.std.proofs.Common.{◌≡◌, ◌≢◌, ℕ, suc, ◌+◌, ◌-◌, ◌*◌, ◌^◌, ◌<◌, ◌≤◌, ◌⊎◌, inl, inr, ⊎_elim, List, [], ◌∷◌, length, get_or, set, take, slice_index, sum, sum_by, All, Any, IsPermutation, refl, sym, ◌∙◌, arith}
 use Rattle.std.proofs.lemmas.Bool.{cases_lt}
 use Rattle.std.proofs.lemmas.List.{get_or-set_same, get_or-set_other, length-set}
 use Rattle.std.proofs.lemmas.List.Elements.{All-cons, All-weaker}
 use Rattle.std.proofs.lemmas.List.Sorted.{All-permutation, Contains-permutation}
 use Rattle.std.proofs.lemmas.List.Sums.{sum_by_more, sum_by-take-le}
-use Rattle.placement_checker.specs.Placed.{end_of, Valid, StandsEarlier, Fits, Tight}
-use Rattle.placement.specs.Placing.{IsPlacingOrder, Rise, IsOpenTo, Blocks}
+use Rattle.placement_checker.specs.Placed.{end_of, Relates, Valid, StandsEarlier, Fits, Tight}
+use Rattle.placement_checker.specs.Rows.{RowHas, IsRowOf}
+use Rattle.placement.specs.Placing.{IsPlacingOrder, Rise, IsOpenTo, Blocks, IsLast}
 use Rattle.placement.specs.declared.gap.Placed.{Placed}
 
 -- an element with this property stands in the same list in another order too
@@ -17,6 +18,19 @@ any_moved P xs ys moved any =
 
 any_behind : {A : Type 0} (P : A → Type 0) (x : A) (xs : List A) → Any P xs → Any P (x ∷ xs)
 any_behind P x xs any = (suc any.0, any.1, let h = any.2 in omega arith, any.3, any.4)
+
+-- a buffer that was just placed is the last one
+pub last_of : (row : List ℕ) (placed next_placed : List Placed) (next : Placed) (size reach : ℕ) → next.end ≡ next.offset + size → 1 ≤ size → IsPermutation (next ∷ placed) next_placed → ((lower : ℕ) → lower < next.offset → Any (Blocks (RowHas row) size lower) placed) → All (λ (p : Placed). p.offset < next.offset → p.end ≤ reach) placed → IsLast row next_placed (record { buffer = next; reach = reach })
+last_of row placed next_placed next size reach ends filled moved blocked reached = record {
+  there = any_moved (λ (p : Placed). p ≡ next) (next ∷ placed) next_placed moved (0, next, omega arith, refl, refl);
+  filled = omega arith;
+  blocked = λ lower below.
+      let large : next.end - next.offset ≡ size = omega arith in
+      rw large (any_moved (Blocks (RowHas row) size lower) (next ∷ placed) next_placed moved (any_behind (Blocks (RowHas row) size lower) next placed (blocked lower below)));
+  reached =
+      All-permutation (λ (p : Placed). p.offset < next.offset → p.end ≤ reach) (next ∷ placed) next_placed moved
+      (All-cons (λ (p : Placed). p.offset < next.offset → p.end ≤ reach) next placed (λ below. absurd (omega arith)) reached);
+}
 
 module _ (sizes : List ℕ) where
   never_earlier : (e : ℕ) → StandsEarlier sizes e e → ⊥
@@ -134,28 +148,42 @@ module _ (sizes : List ℕ) where
             let low = so_far.low in
             omega arith
 
-        pub open_to : (range : ℕ) → length sizes ≤ range → IsOpenTo range (slice_index order i) (slice_index sizes (slice_index order i)) placed
-        open_to range wide = record {
+        number_in : (k : ℕ) (d : Placed) → k < length placed → (get_or placed k d).number < length sizes
+        number_in k d below =
+            let p = so_far.known k d below in
+            let there = o.inside p.place (let b = p.before in omega arith) in
+            rw p.is at there
+
+        another : (k : ℕ) (d : Placed) → k < length placed → (get_or placed k d).number ≢ slice_index order i
+        another k d below same = let p = so_far.known k d below in apart p.place i p.before inside (p.is ∙ same)
+
+        pub open_to : (words : ℕ) → length sizes ≤ 64 * words → IsOpenTo words (slice_index sizes (slice_index order i)) placed
+        open_to words wide = record {
           rising = so_far.rising;
           filled = λ k d below.
               let p = so_far.known k d below in
-              let number_in = o.inside p.place (let b = p.before in omega arith) in
-              let own : (get_or placed k d).number < length sizes = rw p.is at number_in in
-              let one = filled (get_or placed k d).number 0 own in
+              let one = filled (get_or placed k d).number 0 (number_in k d below) in
               let b = p.begins in let e = p.ends in omega arith;
-          known = λ k d below.
-              let p = so_far.known k d below in
-              let number_in = o.inside p.place (let b = p.before in omega arith) in
-              let own : (get_or placed k d).number < length sizes = rw p.is at number_in in omega arith;
-          others = λ k d below same.
-              let p = so_far.known k d below in
-              apart p.place i p.before inside (p.is ∙ same);
+          told = λ k d below. let own = number_in k d below in omega arith;
           room = λ k d below.
               let p = so_far.known k d below in
               let top = so_far.above p.place p.before in
               let end = rw p.is at top in
               let e = p.ends in let r = room in omega arith;
         }
+
+        -- what the row of the next buffer has is what excludes it
+        module _ (range : ℕ) (wide : length sizes ≤ range) (row : List ℕ) (row_is : IsRowOf X range (slice_index order i) row) (size offset : ℕ) where
+          pub free_by_row : All (λ (p : Placed). Blocks (RowHas row) size offset p → ⊥) placed → All (λ (p : Placed). Blocks (Relates X (slice_index order i)) size offset p → ⊥) placed
+          free_by_row free = λ k d below blocks.
+              let own = number_in k d below in
+              free k d below ((row_is (get_or placed k d).number (omega arith) (another k d below)).1 blocks.0, blocks.1, blocks.2)
+
+          pub blocked_by_row : Any (Blocks (RowHas row) size offset) placed → Any (Blocks (Relates X (slice_index order i)) size offset) placed
+          blocked_by_row some =
+              let own = rw some.3 at (number_in some.0 some.1 some.2) in
+              let other = rw some.3 at (another some.0 some.1 some.2) in
+              (some.0, some.1, some.2, some.3, ((row_is some.1.number (omega arith) other).0 some.4.0, some.4.1, some.4.2))
 
         pub offset_low : (offset : ℕ) → (offset ≡ 0) ⊎ Any (λ (p : Placed). p.end ≡ offset) placed → offset ≤ height
         offset_low offset bound = ⊎_elim
@@ -172,8 +200,8 @@ module _ (sizes : List ℕ) where
 
         -- the next buffer gets this offset, and the height rises where it has to
         module _ (offset new_height : ℕ) (next_placed : List Placed)
-            (free : All (λ (p : Placed). Blocks X (slice_index order i) (slice_index sizes (slice_index order i)) offset p → ⊥) placed)
-            (least : (lower : ℕ) → lower < offset → Any (Blocks X (slice_index order i) (slice_index sizes (slice_index order i)) lower) placed)
+            (free : All (λ (p : Placed). Blocks (Relates X (slice_index order i)) (slice_index sizes (slice_index order i)) offset p → ⊥) placed)
+            (least : (lower : ℕ) → lower < offset → Any (Blocks (Relates X (slice_index order i)) (slice_index sizes (slice_index order i)) lower) placed)
             (bound : (offset ≡ 0) ⊎ Any (λ (p : Placed). p.end ≡ offset) placed)
             (moved : IsPermutation {X = Placed} (record { number = slice_index order i; offset = offset; end = offset + slice_index sizes (slice_index order i) } ∷ placed) next_placed)
             (rising : Rise next_placed)

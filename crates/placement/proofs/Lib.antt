@@ -1,3 +1,4 @@
 pub mod Sweep
 pub mod Ranking
 pub mod Fitting
+pub mod Beginning

@@ -1,48 +1,47 @@
 -- The least offset as one placed buffer after another is passed.
-use Rattle.std.proofs.Common.{◌≡◌, ℕ, ◌+◌, ◌^◌, ◌<◌, ◌≤◌, ◌⊎◌, inl, inr, ⊎_elim, List, length, get_or, All, Any, refl, arith}
+use Rattle.std.proofs.Common.{◌≡◌, ℕ, ◌+◌, ◌^◌, ◌<◌, ◌≤◌, ◌⊎◌, inr, ⊎_elim, List, length, get_or, All, Any, refl, arith}
 use Rattle.std.proofs.lemmas.Bool.{cases_lt}
 use Rattle.std.proofs.lemmas.List.{get_or_default}
-use Rattle.placement_checker.specs.Placed.{Relates}
-use Rattle.placement.specs.Placing.{IsOpenTo, Blocks}
+use Rattle.placement.specs.Placing.{IsOpenTo, IsStart, Blocks}
 use Rattle.placement.specs.declared.gap.Placed.{Placed}
 
-module _ (X : ℕ → ℕ → Type 0) (number size : ℕ) (placed : List Placed) where
-  -- those passed that exclude the buffer end at or below the offset, and at each lower one some placed buffer is in the way
+module _ (Others : ℕ → Type 0) (size : ℕ) (placed : List Placed) where
+  -- the others among those passed end at or below the offset, and at each lower one some of the others is in the way
   pub record OffsetSoFar (i offset : ℕ) : Type 0 where
-    pub passed : (k : ℕ) (d : Placed) → k < i → Relates X number (get_or placed k d).number → (get_or placed k d).end ≤ offset
-    pub blocked : (lower : ℕ) → lower < offset → Any (Blocks X number size lower) placed
+    pub passed : (k : ℕ) (d : Placed) → k < i → Others (get_or placed k d).number → (get_or placed k d).end ≤ offset
+    pub blocked : (lower : ℕ) → lower < offset → Any (Blocks Others size lower) placed
     pub bound : (offset ≡ 0) ⊎ Any (λ (p : Placed). p.end ≡ offset) placed
 
-  pub at_first : OffsetSoFar 0 0
-  at_first = record {
-    passed = λ k d below related. absurd (omega arith);
-    blocked = λ lower below. absurd (omega arith);
-    bound = inl refl;
+  pub at_start : (from offset : ℕ) → IsStart Others size placed from offset → OffsetSoFar from offset
+  at_start from offset start = record {
+    passed = λ k d below other. start.passed k d below;
+    blocked = start.blocked;
+    bound = start.bound;
   }
 
-  pub has_room : (range i offset : ℕ) → IsOpenTo range number size placed → size < 2 ^ 32 → OffsetSoFar i offset → offset + size < 2 ^ 32
-  has_room range i offset open_ small so_far = ⊎_elim
+  pub has_room : (words i offset : ℕ) → IsOpenTo words size placed → size < 2 ^ 32 → OffsetSoFar i offset → offset + size < 2 ^ 32
+  has_room words i offset open_ small so_far = ⊎_elim
       (λ (none : offset ≡ 0). omega arith)
       (λ (some : Any (λ (p : Placed). p.end ≡ offset) placed). let room = open_.room some.0 some.1 some.2 in let at_end = rw some.3 at room in let here = some.4 in omega arith)
       so_far.bound
 
   -- the buffer at i begins behind the gap
-  pub free_before : (range i offset : ℕ) (d : Placed) → IsOpenTo range number size placed → OffsetSoFar i offset → offset + size ≤ (get_or placed i d).offset → All (λ (p : Placed). Blocks X number size offset p → ⊥) placed
-  free_before range i offset d open_ so_far gap = λ k e inside blocks. ⊎_elim
+  pub free_before : (words i offset : ℕ) (d : Placed) → IsOpenTo words size placed → OffsetSoFar i offset → offset + size ≤ (get_or placed i d).offset → All (λ (p : Placed). Blocks Others size offset p → ⊥) placed
+  free_before words i offset d open_ so_far gap = λ k e inside blocks. ⊎_elim
       (λ (before : k < i). let low = so_far.passed k e before blocks.0 in let high = blocks.2 in omega arith)
       (λ (behind : i ≤ k).
       let rises = open_.rising i k d behind inside in
       let same = get_or_default placed k d e inside in
       let late : (get_or placed i d).offset ≤ (get_or placed k e).offset = rw same at rises in
-      let reach = blocks.1 in omega arith)
+      let reaches = blocks.1 in omega arith)
       (cases_lt k i)
 
-  pub free_at_end : (i offset : ℕ) → length placed ≤ i → OffsetSoFar i offset → All (λ (p : Placed). Blocks X number size offset p → ⊥) placed
+  pub free_at_end : (i offset : ℕ) → length placed ≤ i → OffsetSoFar i offset → All (λ (p : Placed). Blocks Others size offset p → ⊥) placed
   free_at_end i offset all so_far = λ k e inside blocks. let low = so_far.passed k e (omega arith) blocks.0 in let high = blocks.2 in omega arith
 
   module _ (i offset : ℕ) (d : Placed) (inside : i < length placed) (so_far : OffsetSoFar i offset) where
     -- the buffer at i isn't in the way
-    pub passed_by : (Relates X number (get_or placed i d).number → (get_or placed i d).end ≤ offset) → OffsetSoFar (i + 1) offset
+    pub passed_by : (Others (get_or placed i d).number → (get_or placed i d).end ≤ offset) → OffsetSoFar (i + 1) offset
     passed_by harmless = record {
       passed = λ k e below related. ⊎_elim
           (λ (before : k < i). so_far.passed k e before related)
@@ -55,7 +54,7 @@ module _ (X : ℕ → ℕ → Type 0) (number size : ℕ) (placed : List Placed)
       bound = so_far.bound;
     }
 
-    pub passed_over : 1 ≤ size → Relates X number (get_or placed i d).number → (get_or placed i d).offset < offset + size → offset < (get_or placed i d).end → OffsetSoFar (i + 1) (get_or placed i d).end
+    pub passed_over : 1 ≤ size → Others (get_or placed i d).number → (get_or placed i d).offset < offset + size → offset < (get_or placed i d).end → OffsetSoFar (i + 1) (get_or placed i d).end
     passed_over filled related begins ends = record {
       passed = λ k e below relates. ⊎_elim
           (λ (before : k < i). let low = so_far.passed k e before relates in omega arith)

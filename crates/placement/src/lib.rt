@@ -4,5 +4,6 @@
 mod gap;
 mod order;
 mod placing;
+mod start;
 
 pub use placing::{Placement, place};

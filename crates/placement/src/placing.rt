@@ -3,9 +3,11 @@ ghost use Rattle.placement_checker.specs.Placed.{Valid, Tight};
 
 use crate::gap::{Placed, enter, least_offset};
 use crate::order::placing_order;
+use crate::start::{Last, reach_of, start_of};
 use placement_checker::Exclusion;
 use sdf_level::List;
 use std::alloc::{AllocError, Global};
+use std::mem;
 
 /// Where each buffer lies in one run of cells.
 #[derive(Debug, Drop)]
@@ -40,21 +42,27 @@ pub fn place<X: Exclusion>(
     let order = placing_order(alloc, sizes)?;
     let mut offsets = vec![in alloc; 0u32; sizes.len()]?;
     let mut placed = Vec::with_capacity(alloc, sizes.len())?;
+    let mut row = vec![in alloc; 0u64; range.div_ceil(64)]?;
+    let mut last_row = vec![in alloc; 0u64; range.div_ceil(64)]?;
+    let mut last = None;
     let mut height = 0;
     for &number in &order {
         let size = sizes[number as usize];
-        let offset = least_offset(&placed, exclusion, number, size);
+        exclusion.write_row(number, &mut row);
+        let (from, start) = start_of(&placed, &row, last, &last_row, size);
+        let offset = least_offset(&placed, &row, size, from, start);
+        let reach = reach_of(&placed, from, start, offset);
         let end = offset + size;
-        enter(
-            &mut placed,
-            Placed {
-                number,
-                offset,
-                end,
-            },
-        )?;
+        let buffer = Placed {
+            number,
+            offset,
+            end,
+        };
+        enter(&mut placed, buffer)?;
         offsets[number as usize] = offset;
         height = height.max(end);
+        last = Some(Last { buffer, reach });
+        mem::swap(&mut row, &mut last_row);
     }
     Ok(Placement {
         offsets: List::new(offsets),

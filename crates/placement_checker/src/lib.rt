@@ -3,6 +3,7 @@
 
 mod checker;
 mod exclusion;
+mod row;
 
 pub use checker::{Clash, check};
 pub use exclusion::Exclusion;

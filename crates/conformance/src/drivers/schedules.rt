@@ -11,7 +11,7 @@ use std::alloc::Global;
 use std::fmt::Write;
 
 /// The word for what a job counts.
-fn word_of(what: What) -> &'static str {
+pub fn word_of(what: What) -> &'static str {
     match what {
         What::Firings => "firings",
         What::Links => "links",
@@ -68,7 +68,7 @@ fn push_node(text: &mut String, node: Node) -> Result<(), Trouble> {
 }
 
 /// The nodes in their order.
-fn text_of_nodes(alloc: Global, nodes: &[Node]) -> Result<String, Trouble> {
+pub fn text_of_nodes(alloc: Global, nodes: &[Node]) -> Result<String, Trouble> {
     let mut text = String::new(alloc);
     for node in nodes {
         push_node(&mut text, *node)?;
@@ -77,7 +77,7 @@ fn text_of_nodes(alloc: Global, nodes: &[Node]) -> Result<String, Trouble> {
 }
 
 /// The edges: of each its tail and the port there, its head and the port there, and its size.
-fn rows_of_edges(alloc: Global, edges: &[Edge]) -> Result<Value, Trouble> {
+pub fn rows_of_edges(alloc: Global, edges: &[Edge]) -> Result<Value, Trouble> {
     let mut values = Vec::new(alloc);
     for edge in edges {
         let parts = [

@@ -1,6 +1,10 @@
-use Rattle.std.proofs.Common.{◌≡◌, take, map}
-use Rattle.memory_exclusion.proofs.Ranking.{ranked_of}
+use Rattle.std.proofs.Common.{◌≡◌, ℕ, ◌<◌, length, get_or, slice_index}
+use Rattle.memory_exclusion.specs.Paths.{tail_of}
 use Rattle.memory_exclusion.proofs.closure.by_rank.Given as goal
 
-abbrev pub invariant-loop-edge : goal.invariant-loop-edge
-invariant-loop-edge l = l.ranked.items ≡ map (ranked_of l.ranks) (take l.edge-index l.edges)
+-- the edges so far, in the order of their numbers
+abbrev pub invariant-loop-e : goal.invariant-loop-e
+invariant-loop-e l = record {
+  long : length l.order.items ≡ l.e;
+  each : (e : ℕ) → e < l.e → get_or l.order.items e (0, 0) ≡ (slice_index l.ranks (tail_of l.edges e), e);
+}

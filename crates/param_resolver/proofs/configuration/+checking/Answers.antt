@@ -16,7 +16,7 @@ use Rattle.param_resolver.proofs.configuration.+checking.Goals as goal
 pub add_child-returns-in-Err-clause-fault : goal.add_child-returns-in-Err-clause-fault
 add_child-returns-in-Err-clause-fault t c =
     child_stands (check_to c.args.levels c.args.graphs.now) c.args.graphs.now c.args.graph.now c.args.numbers.now c.args.inputs.now c.args.number c.args.actor.now c.args.place c.args.args.now c.deref.result.now
-    c.in_ok-values.ensures.sound (c.deref.ensures.value ∙ c.in_ok-values.ensures.values) (refusal_of c.above.result) (c.above.ensures _ c.in-Err.ensures.fault)
+    c.in_ok-values.ensures.sound (c.deref.ensures.value ∙ c.in_ok-values.ensures.values) (refusal_of c.above.result) (c.above.ensures.stands _ c.in-Err.ensures.fault)
 
 pub add_child-returns-in_err-inputs_fed-clause-fault : goal.add_child-returns-in_err-inputs_fed-clause-fault
 add_child-returns-in_err-inputs_fed-clause-fault t c =

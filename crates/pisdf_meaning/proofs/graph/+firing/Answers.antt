@@ -89,11 +89,11 @@ fire_actor-returns-in-Child-clause-refused g t c =
 pub fire_child-returns-in_err-given-clause-refused : goal.fire_child-returns-in_err-given-clause-refused
 fire_child-returns-in_err-given-clause-refused g t c =
     passed_on _ c.from_residual-in_err-given.result c.in_err-given.field-0.0 c.from_residual-in_err-given.ensures.1
-    (refused-map _ _ (λ refusal means. child_refused_so c.args.levels c.args.graphs.now.graphs c.items-3.result.now c.args.firing.now c.args.actor.now c.args.place c.args.turn c.args.args.now c.args.read c.items-2.result.now c.index-items-place.result c.items-inputs.result.now c.in_ok-inner.inner c.items-3.ensures c.items-2.ensures (element_of c.items.result.now c.args.graphs.now.graphs c.args.place c.index-items-place.result c.items.ensures (nests_there c.args.levels c.args.graphs.now.graphs c.args.place c.requires.nested) c.index-items-place.is) (c.items-inputs.ensures ∙ ap (λ (x : Graph). x.inputs) (sym c.index-items-place.is)) c.requires.child c.requires.read c.in_ok-inner.ensures refusal means) c.in_err-given.field-0.0 c.in_err-given.ensures.means)
+    (refused-map _ _ (λ refusal means. child_refused_so c.args.levels c.args.graphs.now.graphs c.items-all.result.now c.args.firing.now c.args.call.now.actor.now c.args.call.now.place c.args.call.now.turn c.args.call.now.args.now c.args.read c.items.result.now c.index-all-call.result c.items-inputs.result.now c.in_ok-inner.inner c.items-all.ensures c.items.ensures (element_of c.items-all.result.now c.args.graphs.now.graphs c.args.call.now.place c.index-all-call.result c.items-all.ensures (nests_there c.args.levels c.args.graphs.now.graphs c.args.call.now.place c.requires.nested) c.index-all-call.is) (c.items-inputs.ensures ∙ ap (λ (x : Graph). x.inputs) (sym c.index-all-call.is)) c.requires.child c.requires.read c.in_ok-inner.ensures refusal means) c.in_err-given.field-0.0 c.in_err-given.ensures.means)
 
 pub fire_child-returns-clause-fires : goal.fire_child-returns-clause-fires
 fire_child-returns-clause-fires g t c =
-    child_made_so c.args.levels c.args.graphs.now.graphs c.items-3.result.now c.args.firing.now c.args.actor.now c.args.place c.args.turn c.args.args.now c.args.read c.items-2.result.now c.index-items-place.result c.items-inputs.result.now c.in_ok-inner.inner c.items-3.ensures c.items-2.ensures (element_of c.items.result.now c.args.graphs.now.graphs c.args.place c.index-items-place.result c.items.ensures (nests_there c.args.levels c.args.graphs.now.graphs c.args.place c.requires.nested) c.index-items-place.is) (c.items-inputs.ensures ∙ ap (λ (x : Graph). x.inputs) (sym c.index-items-place.is)) c.requires.child c.requires.read c.in_ok-inner.ensures c.in_ok-given.given c.in_ok-child_made.field-0.trace c.in_ok-child_made.field-0.outs c.in_ok-given.ensures.means c.in_ok-child_made.ensures.trace c.in_ok-child_made.ensures.outs
+    child_made_so c.args.levels c.args.graphs.now.graphs c.items-all.result.now c.args.firing.now c.args.call.now.actor.now c.args.call.now.place c.args.call.now.turn c.args.call.now.args.now c.args.read c.items.result.now c.index-all-call.result c.items-inputs.result.now c.in_ok-inner.inner c.items-all.ensures c.items.ensures (element_of c.items-all.result.now c.args.graphs.now.graphs c.args.call.now.place c.index-all-call.result c.items-all.ensures (nests_there c.args.levels c.args.graphs.now.graphs c.args.call.now.place c.requires.nested) c.index-all-call.is) (c.items-inputs.ensures ∙ ap (λ (x : Graph). x.inputs) (sym c.index-all-call.is)) c.requires.child c.requires.read c.in_ok-inner.ensures c.in_ok-given.given c.in_ok-child_made.field-0.trace c.in_ok-child_made.field-0.outs c.in_ok-given.ensures.means c.in_ok-child_made.ensures.trace c.in_ok-child_made.ensures.outs
 
 pub fire_graph-fire_here-requires : goal.fire_graph-fire_here-requires
 fire_graph-fire_here-requires g t c κs within =

@@ -3,6 +3,7 @@ use Rattle.pisdf_model.specs.declared.graph.Graph.{Graph}
 use Rattle.pisdf_model.specs.declared.graph.Interface.{Interface}
 use Rattle.pisdf_meaning.specs.Run.{Done}
 use Rattle.pisdf_program.specs.Calls.{EndsRun, RanTo}
+use Rattle.pisdf_program.specs.Stepped.{run_end}
 use Rattle.pisdf_program.proofs.Runs.{nothing_run, top_is, top_there, unchecked}
 use Rattle.pisdf_program.proofs.run.run_all.Goals as goal
 
@@ -16,7 +17,7 @@ pub returns-in-Err-top_needs-clause-ends : goal.returns-in-Err-top_needs-clause-
 returns-in-Err-top_needs-clause-ends g c =
     let had = g.O.Sink.written c.args.out.now in
     let faults = g.O.Sink.faults c.args.out.now in
-    subst (λ e. EndsRun c.args.graphs.now c.args.streams.now c.args.iterations had had faults faults e) (sym c.refused.ensures)
+    subst (λ e. EndsRun c.args.graphs.now c.args.streams.now c.args.iterations had had faults faults e) (sym (c.stopped.ensures ∙ ap run_end c.refused.ensures))
     (unchecked c.args.graphs.now c.args.streams.now c.args.iterations had faults faults c.in-Err-top_needs.fault (omega (arith, c.if-iterations-eq0.false)) c.requires.good.in_range.top c.in-Err-top_needs.ensures.refused)
 
 pub run_some-requires-clause-fit : goal.run_some-requires-clause-fit

@@ -1,5 +1,6 @@
+use Rattle.placement_checker.specs.Rows.{RowHas}
 use Rattle.placement.proofs.Sweep.{OffsetSoFar}
 use Rattle.placement.proofs.gap.least_offset.Given as goal
 
-abbrev pub invariant-loop-p : goal.invariant-loop-p
-invariant-loop-p g l = OffsetSoFar (g.X.Exclusion.excludes l.exclusion) l.number l.size l.placed l.p-index l.offset
+abbrev pub invariant-loop-k : goal.invariant-loop-k
+invariant-loop-k l = OffsetSoFar (RowHas l.row) l.size l.placed l.k l.offset

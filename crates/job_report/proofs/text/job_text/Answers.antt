@@ -1,0 +1,10 @@
+use Rattle.std.proofs.Common.{ℕ, List, IfOk, string_bytes, ◌≡◌, sym, subst}
+use Rattle.job_report.specs.Told.{Tells}
+use Rattle.job_report.specs.declared.text.JobText.{JobText}
+use Rattle.job_report.proofs.OneReport.{schedule_only}
+use Rattle.job_report.proofs.text.job_text.Goals as goal
+
+pub returns-in_ok-report_on-in-Schedule-clause-only : goal.returns-in_ok-report_on-in-Schedule-clause-only
+returns-in_ok-report_on-in-Schedule-clause-only c =
+    subst (λ (what : JobText). IfOk c.schedule_text.result (λ text. (other : List ℕ) → Tells what c.args.names.now c.args.job.now other → other ≡ string_bytes text)) (sym c.in-Schedule.is)
+    (schedule_only c.args.names.now c.args.job.now c.in_ok-report_on-in-Schedule.field-0 c.schedule_text.result c.in_ok-report_on-in-Schedule.ensures.only c.schedule_text.ensures)

@@ -1,0 +1,5 @@
+pub mod Names
+pub mod Rows
+pub mod Plan
+pub mod Schedule
+pub mod Told

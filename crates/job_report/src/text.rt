@@ -1,0 +1,36 @@
+ghost use Rattle.std.specs.Prelude.{◌≡◌, ◌≤◌, ℕ, List as Seq, IfOk, string_bytes};
+ghost use Rattle.job_report.specs.Told.{Tells};
+
+use crate::names::JobNames;
+use crate::plan::plan_text;
+use crate::report::report_on;
+use crate::schedule::schedule_text;
+use job_compiler::Compiled;
+use std::alloc::{AllocError, Global};
+
+/// What is told of a job.
+#[derive(Clone, Copy, Debug, PartialEq, Eq)]
+pub enum JobText {
+    /// How it is to run: firings, nodes and buffers.
+    Plan,
+    /// Its list schedule (Graham 1969), beside what bounds the length of every schedule.
+    Schedule,
+}
+
+/// The text that tells this of a job for one worker at least, the parts of whose level have these names. There is no other.
+/// The only error is want of memory.
+pub fn job_text(
+    alloc: Global,
+    what: JobText,
+    names: &JobNames,
+    job: &Compiled,
+) -> Result<String, AllocError>
+    requires { 1 ≤ job.now.workers }
+    ensures tells { IfOk result (λ text. Tells what names.now job.now (string_bytes text)) }
+    ensures only { IfOk result (λ text. (other : Seq ℕ) → Tells what names.now job.now other → other ≡ string_bytes text) }
+{
+    match what {
+        JobText::Plan => plan_text(alloc, names, job),
+        JobText::Schedule => schedule_text(alloc, &report_on(alloc, job)?),
+    }
+}

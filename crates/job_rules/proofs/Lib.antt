@@ -1,0 +1,16 @@
+pub mod Examples
+pub mod Parts
+pub mod Growing
+pub mod Nested
+pub mod Lawfully
+pub mod Numbers
+pub mod Configured
+pub mod Compiled
+pub mod Sources
+pub mod Rates
+pub mod OfActors
+pub mod Called
+pub mod Answered
+pub mod Settled
+pub mod Settling
+pub mod Calls

@@ -1,0 +1,5 @@
+use Rattle.job_rules.proofs.Lawfully.{lawful}
+use Rattle.job_rules.proofs.laws.rules_are_lawful.Goals as goal
+
+pub returns : goal.returns
+returns c = λ graphs range well. lawful graphs range well c.ready_stays.ensures.ready c.ready_stays.ensures.inputs

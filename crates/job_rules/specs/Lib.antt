@@ -1,0 +1,4 @@
+pub mod Words
+pub mod Doing
+pub mod Items
+pub mod Meant

@@ -1,0 +1,104 @@
+use Rattle.std.proofs.Common.{◌≡◌, ◌⊎◌, ◌++◌, length, map, set, take, drop, sym, ap, ap₂, ◌∙◌, subst}
+use Rattle.std.specs.Prelude.{IsOk, if◌then◌else◌}
+use Rattle.std.proofs.lemmas.List.{map-set}
+use Rattle.split_block.specs.View.{lease_place, cells_of}
+use Rattle.cell_pool.specs.View.{PoolView}
+use Rattle.job_compiler.specs.Compilation.{Compilation}
+use Rattle.job_flow.specs.Graphs.{node_at}
+use Rattle.one_job.specs.Marks.{Claimed, mark_at}
+use Rattle.one_job.specs.Ports.{reads_stored, writes_stored, with_left, with_out}
+use Rattle.one_job.specs.Taking.{with_leases}
+use Rattle.one_job.specs.View.{JobView, IsFiring}
+use Rattle.one_job.specs.Calls.{finished_with}
+use Rattle.one_job.specs.Staged.{mark_of}
+use Rattle.one_job.specs.Kept.{view_of, parts_of, Keeps}
+use Rattle.one_job.proofs.JobDone.{can_give_both, back_is, ports_part, finish_keeps, mark_stage, length-with_out, length-with_left, lent_back}
+use Rattle.one_job.proofs.JobEnds.{once_of}
+use Rattle.one_job.proofs.job.Job.finish.Goals as goal
+
+pub return_leases-read-requires : goal.return_leases-read-requires
+return_leases-read-requires c =
+    let i = c.self.inside in
+    let n = c.args.node in
+    let nodes_are = c.items.ensures ∙ (ap (λ g. g.nodes) c.graph.ensures.value ∙ ap (λ (k : Compilation). k.graph.nodes) c.deref.ensures) in
+    let claimed : mark_at (view_of i).marks n ≡ Claimed c.args.frame.places = subst (λ (v : JobView). mark_at v.marks n ≡ Claimed c.args.frame.places) (sym c.self.view_is) c.requires.claimed in
+    let back = c.take_back-inputs.ensures in
+    let reads = c.reads_stored.ensures ∙ ap (λ ns. reads_stored (node_at ns n)) nodes_are in
+    let both = can_give_both (view_of i) (parts_of i) i.pool i.outs.items i.left.items c.self.invariant n c.args.frame claimed c.into_items.result.items c.take_back-inputs.result.outputs
+    (back.inputs.places ∙ ap (map lease_place) (sym c.into_items.ensures)) back.outputs.places back.outputs.cells c.args.answer in
+    record { one = λ is. both.ins_one (sym reads ∙ is); due = λ is. both.ins_due (sym reads ∙ is) }
+
+pub return_leases-kept-requires : goal.return_leases-kept-requires
+return_leases-kept-requires c =
+    let i = c.self.inside in
+    let n = c.args.node in
+    let nodes_are = c.items.ensures ∙ (ap (λ g. g.nodes) c.graph.ensures.value ∙ ap (λ (k : Compilation). k.graph.nodes) c.deref.ensures) in
+    let claimed : mark_at (view_of i).marks n ≡ Claimed c.args.frame.places = subst (λ (v : JobView). mark_at v.marks n ≡ Claimed c.args.frame.places) (sym c.self.view_is) c.requires.claimed in
+    let back = c.take_back-inputs.ensures in
+    let reads = c.reads_stored.ensures ∙ ap (λ ns. reads_stored (node_at ns n)) nodes_are in
+    let writes = c.writes_stored.ensures ∙ ap (λ ns. writes_stored (node_at ns n)) nodes_are in
+    let both = can_give_both (view_of i) (parts_of i) i.pool i.outs.items i.left.items c.self.invariant n c.args.frame claimed c.into_items.result.items c.into_items-2.result.items
+    (back.inputs.places ∙ ap (map lease_place) (sym c.into_items.ensures)) (back.outputs.places ∙ ap (map lease_place) (sym c.into_items-2.ensures)) (back.outputs.cells ∙ ap (map cells_of) (sym c.into_items-2.ensures)) c.args.answer in
+    let middle = c.return_leases-read.ensures.pool ∙ (ap (λ b. if b then i.pool else with_leases c.into_items.result.items i.pool) reads ∙ back_is (reads_stored (node_at (view_of i).compilation.graph.nodes n)) c.into_items.result.items i.pool) in
+    record { one = λ is. both.outs_one (sym writes ∙ is); due = λ is. subst (Rattle.one_job.specs.Taking.AreDue c.into_items-2.result.items) (sym middle) (both.outs_due (sym writes ∙ is)) }
+
+abbrev later : (c : goal.After-drop-read) → JobView
+later c = record (view_of c.self.inside) { marks = set (view_of c.self.inside).marks c.args.node (finished_with c.args.frame c.args.answer) }
+
+abbrev which : (c : goal.After-drop-read) → Rattle.sdf_level.specs.declared.node.Node.Node
+which c = node_at (view_of c.self.inside).compilation.graph.nodes c.args.node
+
+kept_all : (c : goal.After-drop-read) → Keeps (later c) (parts_of c.self.inside)
+    (with_leases (ports_part (writes_stored (which c)) c.into_items-2.result.items) (with_leases (ports_part (reads_stored (which c)) c.into_items.result.items) c.self.inside.pool))
+    (with_out (which c) c.return_leases-kept.result.items c.self.inside.outs.items) (with_left (which c) c.return_leases-kept.result.items c.self.inside.left.items)
+kept_all c =
+    let i = c.self.inside in
+    let n = c.args.node in
+    let nodes_are = c.items.ensures ∙ (ap (λ g. g.nodes) c.graph.ensures.value ∙ ap (λ (k : Compilation). k.graph.nodes) c.deref.ensures) in
+    let claimed : mark_at (view_of i).marks n ≡ Claimed c.args.frame.places = subst (λ (v : JobView). mark_at v.marks n ≡ Claimed c.args.frame.places) (sym c.self.view_is) c.requires.claimed in
+    let back = c.take_back-inputs.ensures in
+    let writes = c.writes_stored.ensures ∙ ap (λ ns. writes_stored (node_at ns n)) nodes_are in
+    let sound : IsFiring (which c) ⊎ IsOk c.args.answer = subst (λ (v : JobView). IsFiring (node_at v.compilation.graph.nodes n) ⊎ IsOk c.args.answer) (sym c.self.view_is) c.requires.sound in
+    finish_keeps (view_of i) (parts_of i) i.pool i.outs.items i.left.items c.self.invariant n c.args.frame claimed c.into_items.result.items c.into_items-2.result.items
+    (back.inputs.places ∙ ap (map lease_place) (sym c.into_items.ensures)) (back.outputs.places ∙ ap (map lease_place) (sym c.into_items-2.ensures)) (back.outputs.cells ∙ ap (map cells_of) (sym c.into_items-2.ensures)) c.args.answer
+    sound (once_of c.graphs_numbered.ensures.once (view_of i).compilation c.self.invariant.compiled n (can_give_both (view_of i) (parts_of i) i.pool i.outs.items i.left.items c.self.invariant n c.args.frame claimed c.into_items.result.items c.into_items-2.result.items
+    (back.inputs.places ∙ ap (map lease_place) (sym c.into_items.ensures)) (back.outputs.places ∙ ap (map lease_place) (sym c.into_items-2.ensures)) (back.outputs.cells ∙ ap (map cells_of) (sym c.into_items-2.ensures)) c.args.answer).there) c.return_leases-kept.result.items (λ tokens is one. c.return_leases-kept.ensures.tokens tokens (writes ∙ is) one)
+
+-- the pool then
+pool_is : (c : goal.After-drop-read) → c.return_leases-kept.new.pool ≡ with_leases (ports_part (writes_stored (which c)) c.into_items-2.result.items) (with_leases (ports_part (reads_stored (which c)) c.into_items.result.items) c.self.inside.pool)
+pool_is c =
+    let i = c.self.inside in
+    let n = c.args.node in
+    let nodes_are = c.items.ensures ∙ (ap (λ g. g.nodes) c.graph.ensures.value ∙ ap (λ (k : Compilation). k.graph.nodes) c.deref.ensures) in
+    let reads = c.reads_stored.ensures ∙ ap (λ ns. reads_stored (node_at ns n)) nodes_are in
+    let writes = c.writes_stored.ensures ∙ ap (λ ns. writes_stored (node_at ns n)) nodes_are in
+    let middle = c.return_leases-read.ensures.pool ∙ (ap (λ b. if b then i.pool else with_leases c.into_items.result.items i.pool) reads ∙ back_is (reads_stored (which c)) c.into_items.result.items i.pool) in
+    c.return_leases-kept.ensures.pool ∙ (ap₂ (λ b q. if b then q else with_leases c.into_items-2.result.items q) writes middle ∙ back_is (writes_stored (which c)) c.into_items-2.result.items (with_leases (ports_part (reads_stored (which c)) c.into_items.result.items) i.pool))
+
+now_is : (c : goal.After-drop-read) → record (view_of c.self.inside) { block = c.return_leases-kept.new.pool.block; marks = map mark_of (set c.self.inside.stages.items c.args.node c.ended_stage-stage.result) } ≡ later c
+now_is c =
+    let i = c.self.inside in
+    let n = c.args.node in
+    let block_is = ap (λ (q : PoolView). q.block) (pool_is c) ∙ ((kept_all c).cells.block) in
+    let mark_is = ap mark_of c.ended_stage-stage.ensures ∙ mark_stage c.told_of.result c.args.frame c.args.answer c.told_of.ensures in
+    let marks_is = map-set mark_of i.stages.items n c.ended_stage-stage.result ∙ ap (set (map mark_of i.stages.items) n) mark_is in
+    λ k. record (view_of i) { block = block_is k; marks = marks_is k }
+
+pub invariant_of-self : goal.invariant_of-self
+invariant_of-self c =
+    let i = c.self.inside in
+    let n = c.args.node in
+    let nodes_are = c.items.ensures ∙ (ap (λ g. g.nodes) c.graph.ensures.value ∙ ap (λ (k : Compilation). k.graph.nodes) c.deref.ensures) in
+    let node_is = ap (λ ns. node_at ns n) nodes_are in
+    let new_outs : c.keep_tokens.new.outs ≡ with_out (which c) c.return_leases-kept.result.items i.outs.items = c.keep_tokens.ensures.outs ∙ ap₂ (λ w l. with_out w c.return_leases-kept.result.items l) node_is c.deref_mut-2.ensures.value in
+    let new_left : c.keep_tokens.new.left ≡ with_left (which c) c.return_leases-kept.result.items i.left.items = c.keep_tokens.ensures.left ∙ ap₂ (λ w l. with_left w c.return_leases-kept.result.items l) node_is c.deref_mut.ensures.value in
+    let outs_are = lent_back i.outs c.keep_tokens.new.outs (ap length new_outs ∙ length-with_out (which c) c.return_leases-kept.result.items i.outs.items) ∙ new_outs in
+    let left_are = lent_back i.left c.keep_tokens.new.left (ap length new_left ∙ length-with_left (which c) c.return_leases-kept.result.items i.left.items) ∙ new_left in
+    subst (λ v. Keeps v (parts_of i) c.return_leases-kept.new.pool (take i.outs.len (c.keep_tokens.new.outs ++ drop (length c.keep_tokens.new.outs) i.outs.items)) (take i.left.len (c.keep_tokens.new.left ++ drop (length c.keep_tokens.new.left) i.left.items))) (sym (now_is c))
+    (subst (λ q. Keeps (later c) (parts_of i) q (take i.outs.len (c.keep_tokens.new.outs ++ drop (length c.keep_tokens.new.outs) i.outs.items)) (take i.left.len (c.keep_tokens.new.left ++ drop (length c.keep_tokens.new.left) i.left.items))) (sym (pool_is c))
+    (subst (λ l. Keeps (later c) (parts_of i) (with_leases (ports_part (writes_stored (which c)) c.into_items-2.result.items) (with_leases (ports_part (reads_stored (which c)) c.into_items.result.items) i.pool)) l (take i.left.len (c.keep_tokens.new.left ++ drop (length c.keep_tokens.new.left) i.left.items))) (sym outs_are)
+    (subst (λ l. Keeps (later c) (parts_of i) (with_leases (ports_part (writes_stored (which c)) c.into_items-2.result.items) (with_leases (ports_part (reads_stored (which c)) c.into_items.result.items) i.pool)) (with_out (which c) c.return_leases-kept.result.items i.outs.items) l) (sym left_are)
+    (kept_all c))))
+
+pub returns : goal.returns
+returns c = now_is c ∙ ap (λ (v : JobView). record v { marks = set v.marks c.args.node (finished_with c.args.frame c.args.answer) }) c.self.view_is

@@ -1,0 +1,114 @@
+-- The fields of a job.
+use Rattle.std.specs.Prelude.{◌≡◌, ℕ, ℤ, ◌+◌, ◌<◌, ◌≤◌, true, All, List, [], ◌∷◌, length, map, slice_index_or, Option, if◌then◌else◌, vec_capacity, Vec}
+use Rattle.std.specs.Arc.{arc_value}
+use Rattle.std.specs.Global.{Global}
+use Rattle.split_block.specs.View.{LeaseView}
+use Rattle.cell_pool.specs.View.{PoolView}
+use Rattle.kernel_gate.specs.Value.{Places}
+use Rattle.sdf_level.specs.declared.node.Node.{Node}
+use Rattle.job_compiler.specs.Compilation.{IsCompiled}
+use Rattle.job_flow.specs.Graphs.{node_at}
+use Rattle.job_flow.specs.Frames.{lens}
+use Rattle.job_flow.specs.Outcomes.{ended}
+use Rattle.one_job.specs.Marks.{Claimed, mark_at, IsFree, phase, values}
+use Rattle.one_job.specs.Places.{buffer_at}
+use Rattle.one_job.specs.Live.{InOrder, IsLent, AreOut, HoldFull}
+use Rattle.one_job.specs.Ports.{reads_stored, writes_stored, row_of, AreWired, LieBehind}
+use Rattle.one_job.specs.Opening.{stored_in}
+use Rattle.one_job.specs.Rooms.{IsEmpty}
+use Rattle.one_job.specs.View.{JobView, graph_of, HasGiven, args_of}
+use Rattle.one_job.specs.Staged.{mark_of}
+use Rattle.one_job.specs.declared.job.Job.TheInside.{Inside}
+
+abbrev pub view_of : Inside → JobView
+view_of i = record {
+  compilation = arc_value i.compiled;
+  kinds = i.kinds;
+  args = i.args_given.value;
+  sources = i.sources.value;
+  stored = i.stored.value;
+  block = i.pool.block;
+  marks = map mark_of i.stages.items;
+}
+
+-- what a node is handed out with, by the node's number
+pub record Parts : Type 0 where
+  -- the edges at its ports
+  pub entering : List (List (Option ℕ))
+  pub leaving : List (List (Option ℕ))
+  -- empty lists with room for its leases
+  pub in_rooms : List (Vec LeaseView Global)
+  pub out_rooms : List (Vec LeaseView Global)
+  pub args : List (List ℤ)
+  -- the tokens that it reads or writes beside the buffers
+  pub tokens_in : List (List ℤ)
+  pub tokens_out : List (List ℤ)
+
+abbrev pub parts_of : Inside → Parts
+parts_of i = record {
+  entering = i.entering.items;
+  leaving = i.leaving.items;
+  in_rooms = i.in_rooms.items;
+  out_rooms = i.out_rooms.items;
+  args = i.args.items;
+  tokens_in = i.tokens_in.items;
+  tokens_out = i.tokens_out.items;
+}
+
+abbrev pub list_at : List (List ℤ) → ℕ → List ℤ
+list_at lists n = slice_index_or lists n []
+
+-- the tokens that a Source or an Init reads
+abbrev pub stored_at : JobView → Node → List ℤ
+stored_at j which = stored_in j.sources j.stored which
+
+-- one for each node
+pub record AreParts (count : ℕ) (p : Parts) : Type 0 where
+  pub in_rooms : length p.in_rooms ≡ count
+  pub out_rooms : length p.out_rooms ≡ count
+  pub args : length p.args ≡ count
+  pub tokens_in : length p.tokens_in ≡ count
+  pub tokens_out : length p.tokens_out ≡ count
+  -- there is no lease in a room
+  pub in_empty : All IsEmpty p.in_rooms
+  pub out_empty : All IsEmpty p.out_rooms
+
+-- what a free node needs for its claim
+pub record HasParts (j : JobView) (p : Parts) (n : ℕ) : Type 0 where
+  pub in_room : (room : Vec LeaseView Global) → slice_index_or p.in_rooms n room ≡ room → (if reads_stored (node_at j.compilation.graph.nodes n) then 1 else 0) + length (row_of p.entering n) ≤ vec_capacity room
+  pub out_room : (room : Vec LeaseView Global) → slice_index_or p.out_rooms n room ≡ room → (if writes_stored (node_at j.compilation.graph.nodes n) then 1 else 0) + length (row_of p.leaving n) ≤ vec_capacity room
+  pub args : list_at p.args n ≡ args_of j n
+  pub tokens_in : list_at p.tokens_in n ≡ stored_at j (node_at j.compilation.graph.nodes n)
+  pub tokens_out : writes_stored (node_at j.compilation.graph.nodes n) ≡ true → lens (graph_of j) n ≡ length (list_at p.tokens_out n) ∷ []
+
+-- the leases of a claimed node
+pub record LieRight (j : JobView) (p : Parts) (n : ℕ) (places : Places) : Type 0 where
+  pub inputs : LieBehind (buffer_at j.compilation.graph.edges j.compilation.placement.offsets) j.block (reads_stored (node_at j.compilation.graph.nodes n)) (row_of p.entering n) places.inputs
+  pub outputs : LieBehind (buffer_at j.compilation.graph.edges j.compilation.placement.offsets) j.block (writes_stored (node_at j.compilation.graph.nodes n)) (row_of p.leaving n) places.outputs
+
+-- the pool has the job's cells
+pub record IsPoolOf (j : JobView) (pool : PoolView) : Type 0 where
+  pub block : pool.block ≡ j.block
+  pub pooled : j.block.pooled ≡ true
+  pub len : j.block.len ≡ j.compilation.placement.height
+  pub long : length pool.cells ≡ j.compilation.placement.height
+  pub most : pool.most ≡ 4294967295
+  pub small : j.compilation.placement.height ≤ 4294967295
+
+pub record Keeps (j : JobView) (p : Parts) (pool : PoolView) (outs left : List (List ℤ)) : Type 0 where
+  pub compiled : IsCompiled j.compilation
+  pub given : HasGiven j
+  pub one_each : length j.marks ≡ length j.compilation.graph.nodes
+  pub wired : AreWired (graph_of j) p.entering p.leaving
+  pub order : InOrder j.compilation.graph.edges j.marks
+  pub cells : IsPoolOf j pool
+  pub out : AreOut (buffer_at j.compilation.graph.edges j.compilation.placement.offsets) (length j.compilation.graph.edges) (IsLent j.compilation.graph.edges j.marks) pool.out
+  pub full : HoldFull j.compilation.graph.edges j.compilation.placement.offsets j.marks pool.cells
+  pub parts : AreParts (length j.compilation.graph.nodes) p
+  pub free : (n : ℕ) → n < length j.compilation.graph.nodes → phase j.marks n ≡ IsFree → HasParts j p n
+  pub claimed : (n : ℕ) (places : Places) → mark_at j.marks n ≡ Claimed places → LieRight j p n places
+  pub outs_are : outs ≡ (ended (graph_of j) (values j.marks)).outs
+  pub left_are : left ≡ (ended (graph_of j) (values j.marks)).left
+
+abbrev pub IsJob : Inside → Type 0
+IsJob i = Keeps (view_of i) (parts_of i) i.pool i.outs.items i.left.items

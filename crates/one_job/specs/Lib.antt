@@ -1,0 +1,13 @@
+pub mod Marks
+pub mod Places
+pub mod Taking
+pub mod Live
+pub mod Ports
+pub mod Staged
+pub mod Wiring
+pub mod Opening
+pub mod Faults
+pub mod View
+pub mod Calls
+pub mod Rooms
+pub mod Kept

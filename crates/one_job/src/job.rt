@@ -1,0 +1,235 @@
+// A job and its events.
+ghost use Rattle.std.specs.Prelude.{◌≡◌, ◌≢◌, ◌⊎◌, ◌↔◌, ◌<◌, ℕ, [], map, slice_set, true, false, IsTrue, IsOk};
+ghost use Rattle.split_block.specs.Places.{Apart, AllApart, has, window};
+ghost use Rattle.kernel_gate.specs.Value.{lengths};
+ghost use Rattle.job_flow.specs.Graphs.{node_at};
+ghost use Rattle.job_flow.specs.Frames.{inputs, lens, on_edge};
+ghost use Rattle.job_flow.specs.Events.{IsQuiet};
+
+use crate::leases::{return_leases, take_leases};
+use crate::nodes::{keep_tokens, kind_of, reads_stored, writes_stored};
+use crate::picking::{Progress, is_quiet};
+use crate::rooms::spend_rooms;
+use crate::stage::{Stage, ended_stage, first_fault};
+use crate::told::told_of;
+use cell_pool::Pool;
+use job_compiler::Compiled;
+use kernel_gate::{Frame, KernelFault, Lent};
+use sdf_level::List;
+use single_rate::graphs_numbered;
+use split_block::Lease;
+use std::alloc::Global;
+use std::marker::Model;
+use std::mem;
+use std::snapshot::Snapshot;
+use std::sync::Arc;
+
+/// One firing of a graph: the nodes of its single-rate graph, each of which is claimed once and finished once. It is neither
+/// `Drop` nor `Clone`: its cells are given up by `outcome` or `end`.
+pub struct Job {
+    pub(crate) compiled: Arc<Compiled>,
+    pub(crate) kinds: List<Option<u32>>,
+    pub(crate) args_given: Snapshot<List<List<i64>>>,
+    pub(crate) sources: Snapshot<List<List<i64>>>,
+    pub(crate) stored: Snapshot<List<List<i64>>>,
+    pub(crate) stages: Vec<Stage>,
+    pub(crate) entering: Vec<List<Option<u32>>>,
+    pub(crate) leaving: Vec<List<Option<u32>>>,
+    pub(crate) in_rooms: Vec<Vec<Lease>>,
+    pub(crate) out_rooms: Vec<Vec<Lease>>,
+    pub(crate) args: Vec<List<i64>>,
+    pub(crate) tokens_in: Vec<List<i64>>,
+    pub(crate) tokens_out: Vec<List<i64>>,
+    pub(crate) pool: Pool,
+    pub(crate) outs: Vec<List<i64>>,
+    pub(crate) left: Vec<List<i64>>,
+    pub(crate) alloc: Global,
+}
+
+/// How a job ended.
+#[derive(Debug, Drop)]
+pub enum JobEnd {
+    /// No node failed. The tokens that each sink keeps, and those that are left on each link.
+    Done {
+        outs: List<List<i64>>,
+        stored: List<List<i64>>,
+    },
+    /// The first node that failed, in the order of one thread, and its code.
+    Fault {
+        node: u32,
+        code: u8,
+    },
+}
+
+impl Model for Job {
+    ghost use Rattle.one_job.specs.View.{JobView};
+
+    ghost Value = { JobView };
+
+    ghost use Rattle.one_job.specs.Kept.{view_of, IsJob};
+
+    ghost view = { view_of };
+
+    ghost invariant = { IsJob };
+}
+
+impl Job {
+    ghost use Rattle.one_job.specs.Marks.{Claimed, IsClaimed, mark_at, phase, values};
+    ghost use Rattle.one_job.specs.View.{JobView, IsEnabled, IsFiring, graph_of, kind_of, args_of};
+    ghost use Rattle.one_job.specs.Calls.{LieAtBuffers, finished_with, end_of};
+
+    /// Claims a node. Its frame has the node's kind, or 0, the arguments of its actor, or none, no sets, and for each port a
+    /// lease: the inputs hold the tokens that the node reads, and the outputs any tokens. It takes no memory.
+    pub fn claim(&mut self, node: u32) -> Frame
+        requires { IsEnabled self.old node }
+        ensures kind { (result.kind ≡ kind_of self.old node) × (result.args ≡ args_of self.old node) × (result.sets ≡ []) }
+        ensures inputs { result.inputs ≡ inputs (graph_of self.old) (values self.old.marks) node }
+        ensures outputs { lengths result.outputs ≡ lens (graph_of self.old) node }
+        ensures leases { LieAtBuffers self.old node result.places }
+        ensures claimed { self.new ≡ record self.old { marks = slice_set self.old.marks node (Claimed result.places) } }
+    {
+        let n = node as usize;
+        let kind = self.compiled.graph().nodes.items()[n];
+        let edges = self.compiled.graph().edges.items();
+        let offsets = self.compiled.placement().offsets.items();
+        let inputs = take_leases(
+            &mut self.pool,
+            edges,
+            offsets,
+            self.entering[n].items(),
+            reads_stored(kind),
+            mem::replace(&mut self.tokens_in[n], List::new(Vec::new(self.alloc))),
+            mem::replace(&mut self.in_rooms[n], Vec::new(self.alloc)),
+            self.alloc,
+        );
+        let outputs = take_leases(
+            &mut self.pool,
+            edges,
+            offsets,
+            self.leaving[n].items(),
+            writes_stored(kind),
+            mem::replace(&mut self.tokens_out[n], List::new(Vec::new(self.alloc))),
+            mem::replace(&mut self.out_rooms[n], Vec::new(self.alloc)),
+            self.alloc,
+        );
+        let frame = Frame::lend(
+            kind_of(kind, self.kinds.items()),
+            mem::replace(&mut self.args[n], List::new(Vec::new(self.alloc))),
+            List::new(inputs),
+            List::new(outputs),
+            List::new(Vec::new(self.alloc)),
+        );
+        self.stages[n] = Stage::Claimed(told_of(&frame));
+        frame
+    }
+
+    /// Finishes a claimed node: its frame comes back with what it wrote, or with the code of its kernel. A job of its own
+    /// that was refused is finished with code 0. It takes no memory.
+    pub fn finish(&mut self, node: u32, frame: Frame, answer: Result<(), KernelFault>)
+        requires claimed { mark_at self.old.marks node ≡ Claimed frame.places }
+        requires sound { IsFiring (node_at self.old.compilation.graph.nodes node) ⊎ IsOk answer }
+        ensures { self.new ≡ record self.old { marks = slice_set self.old.marks node (finished_with frame answer) } }
+    {
+        graphs_numbered();
+        let n = node as usize;
+        let stage = ended_stage(told_of(&frame), answer);
+        let Lent {
+            args: _,
+            inputs,
+            outputs,
+            sets: _,
+        } = frame.take_back();
+        let kind = self.compiled.graph().nodes.items()[n];
+        let _read = return_leases(
+            &mut self.pool,
+            reads_stored(kind),
+            inputs.into_items(),
+            self.alloc,
+        );
+        let kept = return_leases(
+            &mut self.pool,
+            writes_stored(kind),
+            outputs.into_items(),
+            self.alloc,
+        );
+        keep_tokens(kind, kept, &mut self.left, &mut self.outs);
+        self.stages[n] = stage;
+    }
+
+    /// Whether there is nothing left to do: no node may be claimed, and none is claimed.
+    pub fn quiet(&self) -> bool
+        ensures { IsTrue result ↔ IsQuiet (graph_of self.now) (values self.now.marks) }
+    {
+        is_quiet(&Progress {
+            edges: self.compiled.graph().edges.items(),
+            entering: &self.entering,
+            stages: &self.stages,
+        })
+    }
+
+    /// How the job ended: with the fault that stands first in the order of one thread, else with the tokens that the sinks
+    /// keep and those that are left on the links.
+    pub fn outcome(self) -> JobEnd
+        requires { IsQuiet (graph_of self) (values self.marks) }
+        ensures { result ≡ end_of self }
+    {
+        let fault = first_fault(&self.stages);
+        let Job {
+            compiled: _,
+            kinds: _,
+            args_given: _,
+            sources: _,
+            stored: _,
+            stages: _,
+            entering: _,
+            leaving: _,
+            in_rooms,
+            out_rooms,
+            args: _,
+            tokens_in: _,
+            tokens_out: _,
+            pool,
+            outs,
+            left,
+            alloc: _,
+        } = self;
+        drop(pool.close());
+        spend_rooms(in_rooms);
+        spend_rooms(out_rooms);
+        match fault {
+            Some((node, code)) => JobEnd::Fault { node, code },
+            None => JobEnd::Done {
+                outs: List::new(outs),
+                stored: List::new(left),
+            },
+        }
+    }
+
+    /// Gives up the job, which no worker runs a node of.
+    pub fn end(self)
+        requires { (n : ℕ) → phase self.marks n ≢ IsClaimed }
+    {
+        let Job {
+            compiled: _,
+            kinds: _,
+            args_given: _,
+            sources: _,
+            stored: _,
+            stages: _,
+            entering: _,
+            leaving: _,
+            in_rooms,
+            out_rooms,
+            args: _,
+            tokens_in: _,
+            tokens_out: _,
+            pool,
+            outs: _,
+            left: _,
+            alloc: _,
+        } = self;
+        drop(pool.close());
+        spend_rooms(in_rooms);
+        spend_rooms(out_rooms);
+    }
+}

@@ -1,0 +1,128 @@
+// The leases of a node's ports, out of the pool and back.
+ghost use Rattle.std.specs.Prelude.{ℤ, List as Seq, ◌≡◌, ◌+◌, ◌<◌, ◌≤◌, ◌∷◌, [], true, false, length, map, vec_capacity, if◌then◌else◌};
+ghost use Rattle.split_block.specs.View.{IsWhole, lease_place};
+ghost use Rattle.split_block.specs.Places.{window};
+ghost use Rattle.one_job.specs.Places.{buffer_at};
+ghost use Rattle.one_job.specs.Taking.{taken, IsOpen, CanTake, TakesBehind, TakesAll, IsDue, AreDue, IsOne, with_lease, with_leases};
+
+use cell_pool::Pool;
+use sdf_level::{Edge, List};
+use split_block::Lease;
+use std::alloc::Global;
+
+/// The cells of an edge's buffer.
+fn take_buffer(pool: &mut Pool, edges: &[Edge], offsets: &[u32], edge: u32) -> Lease
+    requires inside { edge < length edges.now }
+    requires placed { length offsets.now ≡ length edges.now }
+    requires open { IsOpen (buffer_at edges.now offsets.now edge) pool.old.block.len pool.old.most pool.old.out }
+    ensures lease { let p = buffer_at edges.now offsets.now edge in
+        result ≡ record { block = pool.old.block; start = p.start; cells = window p.start p.len pool.old.cells } }
+    ensures pool { pool.new ≡ record pool.old { out = buffer_at edges.now offsets.now edge ∷ pool.old.out } }
+{
+    pool.take(offsets[edge as usize], edges[edge as usize].size)
+}
+
+/// Takes the cells of each port's edge, or an empty lease where it has none, behind the leases that are there.
+fn take_ports(
+    pool: &mut Pool,
+    edges: &[Edge],
+    offsets: &[u32],
+    ports: &[Option<u32>],
+    mut leases: Vec<Lease>,
+    alloc: Global,
+) -> Vec<Lease>
+    requires placed { length offsets.now ≡ length edges.now }
+    requires can { CanTake (buffer_at edges.now offsets.now) (length edges.now) pool.old.block.len pool.old.most ports.now pool.old.out }
+    requires room { length leases.items + length ports.now ≤ vec_capacity leases }
+    ensures leases { TakesBehind (buffer_at edges.now offsets.now) pool.old ports.now leases.items result.items }
+    ensures pool { pool.new ≡ record pool.old { out = taken (buffer_at edges.now offsets.now) ports.now pool.old.out } }
+{
+    for port in ports {
+        let lease = match port {
+            Some(edge) => take_buffer(pool, edges, offsets, *edge),
+            None => Lease::from_vec(Vec::new(alloc)),
+        };
+        leases.push_reserved(lease);
+    }
+    leases
+}
+
+/// The leases of a node's inputs or outputs: its stored tokens in a block of their own, where it has such, and what its ports
+/// take out of the pool.
+pub(crate) fn take_leases(
+    pool: &mut Pool,
+    edges: &[Edge],
+    offsets: &[u32],
+    ports: &[Option<u32>],
+    stored: bool,
+    tokens: List<i64>,
+    mut room: Vec<Lease>,
+    alloc: Global,
+) -> Vec<Lease>
+    requires placed { length offsets.now ≡ length edges.now }
+    requires can { CanTake (buffer_at edges.now offsets.now) (length edges.now) pool.old.block.len pool.old.most ports.now pool.old.out }
+    requires empty { room.items ≡ [] }
+    requires room { (if stored then 1 else 0) + length ports.now ≤ vec_capacity room }
+    ensures leases { TakesAll (buffer_at edges.now offsets.now) pool.old ports.now stored tokens result.items }
+    ensures pool { pool.new ≡ record pool.old { out = taken (buffer_at edges.now offsets.now) ports.now pool.old.out } }
+{
+    if stored {
+        room.push_reserved(Lease::from_vec(tokens.into_items()));
+    }
+    take_ports(pool, edges, offsets, ports, room, alloc)
+}
+
+/// Takes one lease back.
+fn give_one(pool: &mut Pool, lease: Lease)
+    requires { IsDue lease pool.old }
+    ensures { pool.new ≡ with_lease lease pool.old }
+{
+    if lease.as_slice().is_empty() {
+        drop(lease.into_vec());
+    } else {
+        pool.give(lease);
+    }
+}
+
+/// Takes leases back.
+fn give_all(pool: &mut Pool, mut leases: Vec<Lease>)
+    requires { AreDue leases.items pool.old }
+    ensures { pool.new ≡ with_leases leases.items pool.old }
+{
+    while let Some(lease) = leases.pop() {
+        give_one(pool, lease);
+    }
+    leases.destroy_empty();
+}
+
+/// The tokens of the one lease, which is a block of its own.
+fn only_tokens(mut leases: Vec<Lease>, alloc: Global) -> Vec<i64>
+    requires { IsOne leases.items }
+    ensures { (tokens : Seq ℤ) → map (λ l. l.cells) leases.items ≡ tokens ∷ [] → result.items ≡ tokens }
+{
+    let tokens = match leases.pop() {
+        Some(lease) => lease.into_vec(),
+        None => Vec::new(alloc),
+    };
+    leases.destroy_empty();
+    tokens
+}
+
+/// Takes back the leases of a node's inputs or outputs. Its stored tokens, where it has such, come back as a list.
+pub(crate) fn return_leases(
+    pool: &mut Pool,
+    stored: bool,
+    leases: Vec<Lease>,
+    alloc: Global,
+) -> Vec<i64>
+    requires one { stored ≡ true → IsOne leases.items }
+    requires due { stored ≡ false → AreDue leases.items pool.old }
+    ensures pool { pool.new ≡ (if stored then pool.old else with_leases leases.items pool.old) }
+    ensures tokens { (tokens : Seq ℤ) → stored ≡ true → map (λ l. l.cells) leases.items ≡ tokens ∷ [] → result.items ≡ tokens }
+{
+    if stored {
+        return only_tokens(leases, alloc);
+    }
+    give_all(pool, leases);
+    Vec::new(alloc)
+}

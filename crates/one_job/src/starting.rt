@@ -1,0 +1,119 @@
+// A job at its start.
+ghost use Rattle.std.specs.Prelude.{◌≡◌, length, map, replicate, IfOk};
+ghost use Rattle.std.specs.Arc.{arc_value};
+ghost use Rattle.sdf_level.specs.LevelRun.{HaveDelays};
+ghost use Rattle.one_job.specs.Marks.{Free};
+ghost use Rattle.one_job.specs.View.{job_graph};
+ghost use Rattle.one_job.specs.Ports.{AreWired};
+
+use crate::job::Job;
+use crate::opening::{
+    Space, empty_lists, free_stages, make_space, node_args, sizes, stored_reads, stored_writes,
+    tokens_read, tokens_written,
+};
+use crate::wiring::{counts_in, counts_out, end_counts, heads, rows, tails};
+use job_compiler::Compiled;
+use job_flow::edges_have_ports;
+use sdf_level::List;
+use single_rate::graphs_numbered;
+use std::alloc::{AllocError, Global};
+use std::snapshot::Snapshot;
+use std::sync::Arc;
+
+/// For each node the edges at its ports.
+#[derive(Drop)]
+struct Wiring {
+    entering: Vec<List<Option<u32>>>,
+    leaving: Vec<List<Option<u32>>>,
+}
+
+/// The edges at the ports of all nodes.
+fn wire(
+    alloc: Global,
+    compiled: &Compiled,
+    sources: &[List<i64>],
+    stored: &[List<i64>],
+) -> Result<Wiring, AllocError>
+    requires sources { map length sources.now ≡ compiled.now.level.sources }
+    requires stored { HaveDelays compiled.now.level.links stored.now }
+    ensures { IfOk result (λ w. AreWired (job_graph compiled.now sources.now stored.now) w.entering.items w.leaving.items) }
+{
+    edges_have_ports::<i64>();
+    graphs_numbered();
+    let nodes = compiled.graph().nodes.items();
+    let edges = compiled.graph().edges.items();
+    let links = compiled.level().links.items();
+
+    let heads = heads(alloc, edges)?;
+    let tails = tails(alloc, edges)?;
+    let into = end_counts(alloc, nodes.len(), &heads)?;
+    let from = end_counts(alloc, nodes.len(), &tails)?;
+    let ins = counts_in(alloc, nodes, links, &into)?;
+    let outs = counts_out(alloc, nodes, links, &from)?;
+    Ok(Wiring {
+        entering: rows(alloc, &ins, &heads)?,
+        leaving: rows(alloc, &outs, &tails)?,
+    })
+}
+
+/// A job of a compiled level, in which each node is free. `kinds` has for each actor the place of its kernel, or none where
+/// its firings are jobs of their own; `args` has each actor's arguments, `sources` the tokens of each source, and `stored`
+/// those that each link holds at the start. All memory of the job is taken here.
+///
+/// # Errors
+///
+/// Want of memory.
+pub fn start(
+    alloc: Global,
+    compiled: Arc<Compiled>,
+    kinds: List<Option<u32>>,
+    args: List<List<i64>>,
+    sources: List<List<i64>>,
+    stored: List<List<i64>>,
+) -> Result<Job, AllocError>
+    requires kinds { length kinds ≡ (arc_value compiled).level.actors }
+    requires args { length args ≡ (arc_value compiled).level.actors }
+    requires sources { map length sources ≡ (arc_value compiled).level.sources }
+    requires stored { HaveDelays (arc_value compiled).level.links stored }
+    ensures compilation { IfOk result (λ j. j.compilation ≡ arc_value compiled) }
+    ensures given { IfOk result (λ j. (j.kinds ≡ kinds) × (j.args ≡ args) × (j.sources ≡ sources) × (j.stored ≡ stored)) }
+    ensures free { IfOk result (λ j. j.marks ≡ replicate (length (arc_value compiled).graph.nodes) Free) }
+{
+    edges_have_ports::<i64>();
+    let nodes = compiled.graph().nodes.items();
+    let edges = compiled.graph().edges.items();
+    let level = compiled.level();
+    let Wiring { entering, leaving } = wire(alloc, &compiled, sources.items(), stored.items())?;
+    let node_args = node_args(alloc, nodes, args.items())?;
+    let tokens_in = tokens_read(alloc, nodes, sources.items(), stored.items())?;
+    let tokens_out = tokens_written(alloc, nodes, edges, &entering)?;
+    let stages = free_stages(alloc, nodes.len())?;
+    let outs = empty_lists(alloc, level.sinks.items().len())?;
+    let left = empty_lists(alloc, level.links.items().len())?;
+    let in_sizes = sizes(alloc, &stored_reads(alloc, nodes)?, &entering)?;
+    let out_sizes = sizes(alloc, &stored_writes(alloc, nodes)?, &leaving)?;
+    let Space {
+        in_rooms,
+        out_rooms,
+        pool,
+    } = make_space(alloc, compiled.placement().height, &in_sizes, &out_sizes)?;
+    Ok(Job {
+        compiled,
+        kinds,
+        args_given: Snapshot::of(&args),
+        sources: Snapshot::of(&sources),
+        stored: Snapshot::of(&stored),
+        stages,
+        entering,
+        leaving,
+        in_rooms,
+        out_rooms,
+        args: node_args,
+        tokens_in,
+        tokens_out,
+        pool,
+        outs,
+        left,
+        alloc,
+    })
+}

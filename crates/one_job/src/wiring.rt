@@ -1,0 +1,210 @@
+// The edges at the ports of each node.
+ghost use Rattle.std.specs.Prelude.{◌≡◌, ◌<◌, ◌^◌, ◌≤◌, ℕ, None, All, map, length, replicate, slice_index, IfOk};
+ghost use Rattle.sdf_level.specs.Kept.{how_many};
+ghost use Rattle.sdf_level.specs.Run.{is_into_actor};
+ghost use Rattle.sdf_level.specs.LevelRun.{HaveDelays};
+ghost use Rattle.single_rate.specs.Names.{is_from_actor};
+ghost use Rattle.one_job.specs.Wiring.{head_of, tail_of, AreEndCounts, in_count, out_count, HaveRows, AreRows, rows_of, AreCounts};
+
+use sdf_level::{Edge, Head, Link, List, Node, Tail};
+use std::alloc::{AllocError, Global};
+
+/// How many links lead into an actor.
+fn links_into(links: &[Link], actor: u32) -> usize
+    ensures { result ≡ how_many (is_into_actor actor) links.now }
+{
+    let mut count = 0;
+    for link in links {
+        if let Head::Port {
+            actor: other,
+            port: _,
+            rate: _,
+        } = link.head
+            && other == actor
+        {
+            count += 1;
+        }
+    }
+    count
+}
+
+/// How many links lead out of an actor.
+fn links_from(links: &[Link], actor: u32) -> usize
+    ensures { result ≡ how_many (is_from_actor actor) links.now }
+{
+    let mut count = 0;
+    for link in links {
+        if let Tail::Port {
+            actor: other,
+            port: _,
+            rate: _,
+        } = link.tail
+            && other == actor
+        {
+            count += 1;
+        }
+    }
+    count
+}
+
+/// The head of each edge: its node and port.
+pub(crate) fn heads(alloc: Global, edges: &[Edge]) -> Result<Vec<(u32, u32)>, AllocError>
+    ensures { IfOk result (λ v. v.items ≡ map head_of edges.now) }
+{
+    edges
+        .iter()
+        .map(|edge| (edge.head, edge.head_port))
+        .collect(alloc)
+}
+
+/// The tail of each edge: its node and port.
+pub(crate) fn tails(alloc: Global, edges: &[Edge]) -> Result<Vec<(u32, u32)>, AllocError>
+    ensures { IfOk result (λ v. v.items ≡ map tail_of edges.now) }
+{
+    edges
+        .iter()
+        .map(|edge| (edge.tail, edge.tail_port))
+        .collect(alloc)
+}
+
+/// For each node the number of ends there.
+pub(crate) fn end_counts(
+    alloc: Global,
+    nodes: usize,
+    ends: &[(u32, u32)],
+) -> Result<Vec<usize>, AllocError>
+    requires { All (λ end. end.0 < nodes) ends.now }
+    ensures { IfOk result (λ v. AreEndCounts nodes ends.now v.items) }
+{
+    let mut counts = vec![in alloc; 0usize; nodes]?;
+    for end in ends {
+        counts[end.0 as usize] += 1;
+    }
+    Ok(counts)
+}
+
+/// How many ports of a node read from edges, so many of which enter it.
+fn ports_in(node: Node, links: &[Link], edges: usize) -> usize
+    ensures { result ≡ in_count links.now node edges }
+{
+    match node {
+        Node::Source(_) => 0,
+        Node::Init(_) => 0,
+        Node::Firing { actor, turn: _ } => links_into(links, actor),
+        Node::End(_) => 1,
+        Node::Sink(_) => 1,
+        Node::Broadcast(_) => 1,
+        Node::Fork { link: _, turn: _ } => 1,
+        Node::Join { link: _, turn: _ } => edges,
+        Node::Round(_) => edges,
+    }
+}
+
+/// How many ports of a node write to edges, so many of which leave it.
+fn ports_out(node: Node, links: &[Link], edges: usize) -> usize
+    ensures { result ≡ out_count links.now node edges }
+{
+    match node {
+        Node::Source(_) => 1,
+        Node::Init(_) => 1,
+        Node::Firing { actor, turn: _ } => links_from(links, actor),
+        Node::End(_) => 0,
+        Node::Sink(_) => 0,
+        Node::Broadcast(_) => edges,
+        Node::Fork { link: _, turn: _ } => edges,
+        Node::Join { link: _, turn: _ } => edges,
+        Node::Round(_) => edges,
+    }
+}
+
+/// For each node the number of its ports that read from edges.
+pub(crate) fn counts_in(
+    alloc: Global,
+    nodes: &[Node],
+    links: &[Link],
+    edges: &[usize],
+) -> Result<Vec<usize>, AllocError>
+    requires { length edges.now ≡ length nodes.now }
+    ensures { IfOk result (λ v. AreCounts (in_count links.now) nodes.now edges.now v.items) }
+{
+    let mut counts = Vec::with_capacity(alloc, nodes.len())?;
+    for n in 0..nodes.len() {
+        counts.push(ports_in(nodes[n], links, edges[n]))?;
+    }
+    Ok(counts)
+}
+
+/// For each node the number of its ports that write to edges.
+pub(crate) fn counts_out(
+    alloc: Global,
+    nodes: &[Node],
+    links: &[Link],
+    edges: &[usize],
+) -> Result<Vec<usize>, AllocError>
+    requires { length edges.now ≡ length nodes.now }
+    ensures { IfOk result (λ v. AreCounts (out_count links.now) nodes.now edges.now v.items) }
+{
+    let mut counts = Vec::with_capacity(alloc, nodes.len())?;
+    for n in 0..nodes.len() {
+        counts.push(ports_out(nodes[n], links, edges[n]))?;
+    }
+    Ok(counts)
+}
+
+/// For each node a row of ports, to which no edge is known yet.
+fn no_edges(alloc: Global, counts: &[usize]) -> Result<Vec<Vec<Option<u32>>>, AllocError>
+    ensures { IfOk result (λ v. rows_of v.items ≡ map (λ count. replicate count None) counts.now) }
+{
+    let mut rows = Vec::with_capacity(alloc, counts.len())?;
+    for count in counts {
+        rows.push(vec![in alloc; None; *count]?)?;
+    }
+    Ok(rows)
+}
+
+/// Enters the ends in rows.
+fn enter(
+    alloc: Global,
+    counts: &[usize],
+    ends: &[(u32, u32)],
+) -> Result<Vec<Vec<Option<u32>>>, AllocError>
+    requires rows { HaveRows counts.now ends.now }
+    requires few { length ends.now < 2 ^ 32 }
+    ensures { IfOk result (λ v. AreRows counts.now ends.now (length ends.now) (rows_of v.items)) }
+{
+    let mut rows = no_edges(alloc, counts)?;
+    for e in 0..ends.len() {
+        let (node, port) = ends[e];
+        let row = &mut rows[node as usize];
+        row[port as usize] = Some(e as u32);
+    }
+    Ok(rows)
+}
+
+/// The same rows as lists.
+fn as_lists(
+    alloc: Global,
+    entered: Vec<Vec<Option<u32>>>,
+) -> Result<Vec<List<Option<u32>>>, AllocError>
+    ensures { IfOk result (λ v. v.items ≡ rows_of entered.items) }
+{
+    let mut lists = Vec::with_capacity(alloc, entered.len())?;
+    for row in entered {
+        lists.push(List::new(row))?;
+    }
+    Ok(lists)
+}
+
+/// For each node a row of ports, in which the ends are entered.
+pub(crate) fn rows(
+    alloc: Global,
+    counts: &[usize],
+    ends: &[(u32, u32)],
+) -> Result<Vec<List<Option<u32>>>, AllocError>
+    requires rows { HaveRows counts.now ends.now }
+    requires few { length ends.now < 2 ^ 32 }
+    ensures { IfOk result (λ v. AreRows counts.now ends.now (length ends.now) v.items) }
+{
+    let entered = enter(alloc, counts, ends)?;
+    as_lists(alloc, entered)
+}

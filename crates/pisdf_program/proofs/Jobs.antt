@@ -1,0 +1,259 @@
+-- The way to the compiled job: there is one end.
+use Rattle.std.proofs.Common.{◌≡◌, ◌≢◌, ◌⊎◌, inl, inr, ⊎_elim, ℕ, ◌≤◌, ℤ, List, [], ◌∷◌, ◌++◌, length, drop, min, Option, Some, None, Result, Ok, Err, String, Global, refl, sym, ap, ◌∙◌, subst, arith, slice_get}
+use Rattle.std.proofs.Math.ListN.{drop_of_length-le}
+use Rattle.std.specs.List.{filter, flat_map}
+use Rattle.std.specs.Prelude.{zero, suc, true, false, not, if◌then◌else◌}
+use Rattle.job_compiler.specs.Compilation.{Compilation, IsCompiled}
+use Rattle.job_compiler.specs.Refusals.{IsRefused, of_unscheduled}
+use Rattle.job_compiler.specs.declared.fault.CompileFault.{CompileFault}
+use Rattle.job_compiler.specs.declared.fault.CompileFault.TheVariants as compile
+use Rattle.job_report.specs.Names.{actor_name, actor_names}
+use Rattle.level_schedule.specs.Schedules.{IsUnscheduled}
+use Rattle.level_schedule.specs.declared.unscheduled.Unscheduled.{Unscheduled}
+use Rattle.level_schedule.specs.declared.unscheduled.Unscheduled.TheVariants as unscheduled
+use Rattle.outer_world.specs.Sink.{Grows}
+use Rattle.param_resolver.specs.Numbering.{acting, fires}
+use Rattle.param_resolver.specs.declared.level_set.LevelSet.{LevelSet}
+use Rattle.pisdf_meaning.specs.Causes.{actors_left, left_of_actor, schedule_cause}
+use Rattle.pisdf_meaning.specs.Endings.{IfRefused}
+use Rattle.pisdf_meaning.specs.Run as run
+use Rattle.pisdf_meaning.specs.TopLevel.{IsTopLevel, TopLevelRefused}
+use Rattle.pisdf_meaning.specs.declared.refusal.Left.{Left}
+use Rattle.pisdf_meaning.specs.declared.refusal.PlainFault.{PlainFault}
+use Rattle.pisdf_meaning.specs.declared.refusal.PlainFault.TheVariants as plain
+use Rattle.pisdf_meaning.specs.declared.refusal.Refusal.{Refusal}
+use Rattle.pisdf_model.specs.Hold.{initial}
+use Rattle.pisdf_model.specs.InterfaceWires.{is_configuration}
+use Rattle.pisdf_model.specs.declared.actor.Actor.{Actor}
+use Rattle.pisdf_model.specs.declared.graph.Graph.{Graph}
+use Rattle.pisdf_model.specs.declared.graph.Graphs.{Graphs}
+use Rattle.sdf_level.specs.View.{LevelView}
+use Rattle.pisdf_program.specs.Iterated.{Checks}
+use Rattle.pisdf_program.specs.Job.{Compiles, EndsJob, FindsLevel, FindsNoLevel, IsJobOf, JobEnd, at_top, first_inputs}
+use Rattle.pisdf_program.specs.LeftAmong.{IsLeftTo, left_among, left_with, schedule_fault}
+use Rattle.pisdf_program.specs.declared.stop.Stop.{Stop}
+use Rattle.pisdf_program.specs.declared.stop.Stop.TheVariants as stop
+use Rattle.pisdf_program.specs.Stepped.{refused_stop}
+use Rattle.pisdf_program.proofs.Runs.{same_top}
+
+abbrev refused : Stop → JobEnd
+refused end = Err end
+
+abbrev ready : Compilation → JobEnd
+ready job = Ok job
+
+-- ---- the actors with firings left
+
+no_counts : (names : List (List ℕ)) → left_among names [] ≡ []
+no_counts [] = refl
+no_counts (n ∷ names) = refl
+
+shorter : (a b i : ℕ) → min a b ≤ i → (a ≤ i) ⊎ (b ≤ i)
+shorter a b i h = search (arith)
+
+-- past the names or the counts there is none
+pub none_left : (i : ℕ) (names : List (List ℕ)) (counts : List ℕ) → min (length names) (length counts) ≤ i → left_among (drop i names) (drop i counts) ≡ []
+none_left i names counts h =
+    elim (shorter (length names) (length counts) i h) [
+      | inl a ↦ ap (λ n. left_among n (drop i counts)) (drop_of_length-le names a)
+      | inr b ↦ ap (left_among (drop i names)) (drop_of_length-le counts b) ∙ no_counts (drop i names)
+    ]
+
+left_is : (actor : Actor) (n : ℕ) → left_with actor.name n ≡ left_of_actor actor n
+left_is actor n = elim n as (λ k. left_with actor.name k ≡ left_of_actor actor k) [ zero ↦ refl | suc k ↦ refl ]
+
+left_nothing : (actors : List Actor) → actors_left actors [] ≡ []
+left_nothing [] = refl
+left_nothing (a ∷ actors) = refl
+
+one_more : (a : Actor) (actors : List Actor) (names : List (List ℕ)) (counts : List ℕ) → ((cs : List ℕ) → left_among names cs ≡ actors_left actors cs) → left_among (a.name ∷ names) counts ≡ actors_left (a ∷ actors) counts
+one_more a actors names [] same = refl
+one_more a actors names (n ∷ counts) same = ap (λ l. l ++ left_among names counts) (left_is a n) ∙ ap (λ l. left_of_actor a n ++ l) (same counts)
+
+-- by the names of the actors of the level
+pub left_by_names : (actors : List Actor) (counts : List ℕ) → left_among (flat_map (λ (a : Actor). actor_name a) actors) counts ≡ actors_left (filter fires actors) counts
+left_by_names [] counts = refl
+left_by_names (a ∷ actors) counts =
+    (elim (is_configuration a.body) as (λ b. left_among ((if b then [] else a.name ∷ []) ++ flat_map (λ (x : Actor). actor_name x) actors) counts ≡ actors_left (if not b then a ∷ filter fires actors else filter fires actors) counts) [
+      | true ↦ left_by_names actors counts
+      | false ↦ one_more a (filter fires actors) (flat_map (λ (x : Actor). actor_name x) actors) counts (left_by_names actors)
+    ])
+
+-- ---- a level that is compiled or refused
+
+-- the fault of compiling that a fault of a schedule is
+same_fault : (level : LevelView) (fault : Unscheduled) → IsUnscheduled level fault → IsRefused level (of_unscheduled fault)
+same_fault level unscheduled.Rates h = h
+same_fault level (unscheduled.Limit what value) h = h
+same_fault level (unscheduled.Deadlock left) h = h
+same_fault level unscheduled.Memory h = h
+
+back : (level : LevelView) (fault : CompileFault) → IsRefused level fault → IsUnscheduled level (schedule_fault fault)
+back level compile.Rates h = h
+back level (compile.Limit what value) h = h
+back level (compile.Deadlock left) h = h
+back level compile.Memory h = h
+
+again : (fault : Unscheduled) → schedule_fault (of_unscheduled fault) ≡ fault
+again unscheduled.Rates = refl
+again (unscheduled.Limit what value) = refl
+again (unscheduled.Deadlock left) = refl
+again unscheduled.Memory = refl
+
+abbrev Made : Type 0
+Made = Result Compilation CompileFault
+
+abbrev made : Compilation → Made
+made job = Ok job
+
+abbrev unmade : CompileFault → Made
+unmade fault = Err fault
+
+-- no compilation and no fault of the level are left out
+abbrev pub Compilers : ℕ → LevelView → Made → Type 0
+Compilers workers level r =
+    ((c : Compilation) → IsCompiled c → c.level ≡ level → c.workers ≡ workers → (r ≡ Ok c) ⊎ (r ≡ Err compile.Memory))
+    × ((fault : CompileFault) → IsRefused level fault → (r ≡ Err fault) ⊎ (r ≡ Err compile.Memory))
+
+module _ (top : Graph) (workers : ℕ) (level : LevelView) where
+  -- where this is the fault, the level is refused for it
+  pub fault_compiles : (fault : CompileFault) (end : Stop) → IsRefused level fault → IsLeftTo top fault end → Compiles top workers level (Err end) ⊎ (end ≡ stop.Memory)
+  fault_compiles compile.Rates end r (inl is) = inl (subst (λ e. Compiles top workers level (Err e)) (sym is) (unscheduled.Rates, r, refl))
+  fault_compiles (compile.Limit what value) end r (inl is) = inl (subst (λ e. Compiles top workers level (Err e)) (sym is) (unscheduled.Limit what value, r, refl))
+  fault_compiles (compile.Deadlock left) end r (inl is) = inl (subst (λ e. Compiles top workers level (Err e)) (sym is) (unscheduled.Deadlock left, r, refl))
+  fault_compiles compile.Rates end r (inr is) = inr is
+  fault_compiles (compile.Limit what value) end r (inr is) = inr is
+  fault_compiles (compile.Deadlock left) end r (inr is) = inr is
+  fault_compiles compile.Memory end r is = inr is
+
+  pub fault_ends : (fault : CompileFault) (end : Stop) → IsRefused level fault ⊎ (fault ≡ compile.Memory) → IsLeftTo top fault end → Compiles top workers level (Err end) ⊎ (refused end ≡ refused stop.Memory)
+  fault_ends fault end (inl r) h =
+      ⊎_elim (λ (c : Compiles top workers level (Err end)). inl c) (λ (m : end ≡ stop.Memory). inr (ap refused m)) (fault_compiles fault end r h)
+  fault_ends fault end (inr m) h = inr (ap refused (subst (λ (f : CompileFault). IsLeftTo top f end) m h))
+
+  -- no other end than the job
+  pub job_only : (job : Compilation) → Compilers workers level (made job) → (end : JobEnd) → Compiles top workers level end → ready job ≡ end
+  job_only job only (Ok other) h = ⊎_elim (λ (e : made job ≡ made other). let same : job ≡ other = cc in ap ready same) (λ (e : made job ≡ unmade compile.Memory). absurd cc) (only.0 other h.compiled h.level_is h.workers_is)
+  job_only job only (Err (stop.Short stream has needs)) h = absurd h
+  job_only job only (Err (stop.Refused refusal)) (fault, r, is) = absurd (⊎_elim (λ (e : made job ≡ unmade (of_unscheduled fault)). cc) (λ (e : made job ≡ unmade compile.Memory). cc) (only.1 (of_unscheduled fault) (same_fault level fault r)))
+  job_only job only (Err stop.Memory) h = absurd h
+
+  at_cause : (fault : CompileFault) (end : Stop) → IsLeftTo top fault end → (end ≡ stop.Refused (at_top top (schedule_cause (acting top) (schedule_fault fault)))) ⊎ (end ≡ stop.Memory)
+  at_cause compile.Rates end h = h
+  at_cause (compile.Limit what value) end h = h
+  at_cause (compile.Deadlock left) end h = h
+  at_cause compile.Memory end h = inr h
+
+  memory_left : (fault : CompileFault) (end : Stop) → fault ≡ compile.Memory → IsLeftTo top fault end → end ≡ stop.Memory
+  memory_left fault end is h = subst (λ f. IsLeftTo top f end) is h
+
+  same_cause : (fault : CompileFault) (other : Unscheduled) (refusal : Refusal) (end : Stop) → fault ≡ of_unscheduled other → refusal ≡ at_top top (schedule_cause (acting top) other) → IsLeftTo top fault end
+      → (end ≡ stop.Refused refusal) ⊎ (end ≡ stop.Memory)
+  same_cause fault other refusal end is told h =
+      let cause : schedule_fault fault ≡ other = ap schedule_fault is ∙ again other in
+      ⊎_elim
+      (λ (e : end ≡ stop.Refused (at_top top (schedule_cause (acting top) (schedule_fault fault)))). inl (e ∙ ap (λ f. stop.Refused (at_top top (schedule_cause (acting top) f))) cause ∙ ap (λ r. stop.Refused r) (sym told)))
+      (λ (e : end ≡ stop.Memory). inr e)
+      (at_cause fault end h)
+
+  -- no other end than the refusal
+  pub fault_only : (fault : CompileFault) (left : Stop) → Compilers workers level (unmade fault) → IsLeftTo top fault left → (end : JobEnd) → Compiles top workers level end → (refused left ≡ end) ⊎ (refused left ≡ Err stop.Memory)
+  fault_only fault left only is (Ok other) h =
+      ⊎_elim (λ (e : unmade fault ≡ made other). absurd cc) (λ (e : unmade fault ≡ unmade compile.Memory). inr (ap refused (memory_left fault left (let same : fault ≡ compile.Memory = cc in same) is))) (only.0 other h.compiled h.level_is h.workers_is)
+  fault_only fault left only is (Err (stop.Short stream has needs)) h = absurd h
+  fault_only fault left only is (Err (stop.Refused refusal)) (other, r, told) =
+      ⊎_elim
+      (λ (e : unmade fault ≡ unmade (of_unscheduled other)). ⊎_elim (λ (x : left ≡ stop.Refused refusal). inl (ap refused x)) (λ (x : left ≡ stop.Memory). inr (ap refused x))
+      (same_cause fault other refusal left (let same : fault ≡ of_unscheduled other = cc in same) told is))
+      (λ (e : unmade fault ≡ unmade compile.Memory). inr (ap refused (memory_left fault left (let same : fault ≡ compile.Memory = cc in same) is)))
+      (only.1 (of_unscheduled other) (same_fault level other r))
+  fault_only fault left only is (Err stop.Memory) h = absurd h
+
+abbrev Lead : Type 0
+Lead = Result LevelSet PlainFault
+
+abbrev found_level : LevelSet → Lead
+found_level set = Ok set
+
+abbrev no_level : PlainFault → Lead
+no_level fault = Err fault
+
+-- ---- the whole way
+
+module _ (g : Graphs) (streams : List (List ℤ)) (workers : ℕ) where
+  abbrev Found : Type 0
+  Found = Result (Option run.Lack) Refusal
+
+  checks_only : (a b : Found) → Checks g streams a → Checks g streams b → a ≡ b
+  checks_only a b x y =
+      let top = same_top g x.top y.top x.top_is y.top_is in
+      sym x.finds ∙ ap (λ t. run.after_early g t (run.first_lack 0 (run.top_needs g) streams)) top ∙ y.finds
+
+  -- an early check that refuses is the end
+  pub unchecked_only : (refusal : Refusal) → Checks g streams (Err refusal) → (end : JobEnd) → EndsJob g streams workers end → refused (stop.Refused refusal) ≡ end
+  unchecked_only refusal h (Ok job) (set, found, c) = absurd (let e = checks_only _ _ h found.checks in cc)
+  unchecked_only refusal h (Err (stop.Short stream has needs)) x = absurd (let e = checks_only _ _ h x in cc)
+  unchecked_only refusal h (Err (stop.Refused other)) (inl x) = let e = checks_only _ _ h x in cc
+  unchecked_only refusal h (Err (stop.Refused other)) (inr (inl x)) = absurd (let e = checks_only _ _ h x.checks in cc)
+  unchecked_only refusal h (Err (stop.Refused other)) (inr (inr (set, found, c))) = absurd (let e = checks_only _ _ h found.checks in cc)
+  unchecked_only refusal h (Err stop.Memory) x = absurd x
+
+  -- and so is a lack of tokens
+  pub short_only : (lack : run.Lack) → Checks g streams (Ok (Some lack)) → (end : JobEnd) → EndsJob g streams workers end → refused (stop.Short lack.stream lack.has lack.needs) ≡ end
+  short_only lack h (Ok job) (set, found, c) = absurd (let e = checks_only _ _ h found.checks in cc)
+  short_only lack h (Err (stop.Short stream has needs)) x = let e = checks_only _ _ h x in cc
+  short_only lack h (Err (stop.Refused other)) (inl x) = absurd (let e = checks_only _ _ h x in cc)
+  short_only lack h (Err (stop.Refused other)) (inr (inl x)) = absurd (let e = checks_only _ _ h x.checks in cc)
+  short_only lack h (Err (stop.Refused other)) (inr (inr (set, found, c))) = absurd (let e = checks_only _ _ h found.checks in cc)
+  short_only lack h (Err stop.Memory) x = absurd x
+
+  module _ (lead : Result LevelSet PlainFault)
+      (only_level : (set : LevelSet) → IsTopLevel g (first_inputs g streams) (initial g.graphs g.top) set → (lead ≡ Ok set) ⊎ (lead ≡ Err plain.Memory))
+      (only_refused : (refusal : Refusal) → TopLevelRefused g (first_inputs g streams) (initial g.graphs g.top) refusal → (lead ≡ Err (plain.Refused refusal)) ⊎ (lead ≡ Err plain.Memory))
+      (h : Checks g streams (Ok None)) where
+    -- the refusal on the way to the level
+    pub unlevelled_only : (refusal : Refusal) → lead ≡ Err (plain.Refused refusal) → (end : JobEnd) → EndsJob g streams workers end → refused (stop.Refused refusal) ≡ end
+    unlevelled_only refusal is (Ok job) (set, found, c) = absurd (⊎_elim (λ (e : lead ≡ found_level set). cc) (λ (e : lead ≡ no_level plain.Memory). cc) (only_level set found.level))
+    unlevelled_only refusal is (Err (stop.Short stream has needs)) x = absurd (let e = checks_only _ _ h x in cc)
+    unlevelled_only refusal is (Err (stop.Refused other)) (inl x) = absurd (let e = checks_only _ _ h x in cc)
+    unlevelled_only refusal is (Err (stop.Refused other)) (inr (inl x)) = ⊎_elim (λ (e : lead ≡ no_level (plain.Refused other)). let same : refusal ≡ other = cc in ap (λ r. refused (stop.Refused r)) same) (λ (e : lead ≡ no_level plain.Memory). absurd cc) (only_refused other x.refused)
+    unlevelled_only refusal is (Err (stop.Refused other)) (inr (inr (set, found, c))) = absurd (⊎_elim (λ (e : lead ≡ found_level set). cc) (λ (e : lead ≡ no_level plain.Memory). cc) (only_level set found.level))
+    unlevelled_only refusal is (Err stop.Memory) x = absurd x
+
+    pub unlevelled_alike : (fault : PlainFault) → lead ≡ Err fault → (end : JobEnd) → EndsJob g streams workers end → (refused (refused_stop fault) ≡ end) ⊎ (refused (refused_stop fault) ≡ refused stop.Memory)
+    unlevelled_alike (plain.Refused refusal) is end x = inl (unlevelled_only refusal is end x)
+    unlevelled_alike plain.Memory is end x = inr refl
+
+    -- what the level comes to
+    module _ (set : LevelSet) (is : lead ≡ Ok set) (top : Graph) (top_is : slice_get g.graphs g.top ≡ Some top) (made : JobEnd)
+        (only : (end : JobEnd) → Compiles top workers set.level end → (made ≡ end) ⊎ (made ≡ Err stop.Memory)) where
+      compiled_alike : (other : LevelSet) (found : FindsLevel g streams other) (end : JobEnd) → Compiles found.checks.top workers other.level end → (made ≡ end) ⊎ (made ≡ Err stop.Memory)
+      compiled_alike other found end c =
+          let same : other ≡ set = ⊎_elim (λ (e : lead ≡ found_level other). let s : other ≡ set = cc in s) (λ (e : lead ≡ no_level plain.Memory). absurd cc) (only_level other found.level) in
+          let tops = same_top g found.checks.top top found.checks.top_is top_is in
+          only end (subst (λ (t : Graph). Compiles t workers set.level end) tops (subst (λ (s : LevelSet). Compiles found.checks.top workers s.level end) same c))
+
+      pub level_only : (end : JobEnd) → EndsJob g streams workers end → (made ≡ end) ⊎ (made ≡ Err stop.Memory)
+      level_only (Ok job) (other, found, c) = compiled_alike other found (Ok job) c
+      level_only (Err (stop.Short stream has needs)) x = absurd (let e = checks_only _ _ h x in cc)
+      level_only (Err (stop.Refused refusal)) (inl x) = absurd (let e = checks_only _ _ h x in cc)
+      level_only (Err (stop.Refused refusal)) (inr (inl x)) = absurd (⊎_elim (λ (e : lead ≡ no_level (plain.Refused refusal)). cc) (λ (e : lead ≡ no_level plain.Memory). cc) (only_refused refusal x.refused))
+      level_only (Err (stop.Refused refusal)) (inr (inr (other, found, c))) = compiled_alike other found (Err (stop.Refused refusal)) c
+      level_only (Err stop.Memory) x = absurd x
+
+  -- the refusal is an end of the way
+  pub unlevelled_ends : (fault : PlainFault) → Checks g streams (Ok None) → IfRefused (TopLevelRefused g (first_inputs g streams) (initial g.graphs g.top)) fault
+      → EndsJob g streams workers (Err (refused_stop fault)) ⊎ (refused (refused_stop fault) ≡ refused stop.Memory)
+  unlevelled_ends (plain.Refused refusal) checks h = inl (inr (inl record { checks = checks; refused = h }))
+  unlevelled_ends plain.Memory checks h = inr refl
+
+  -- what holds for the inputs and the state of a call holds for those of the first iteration
+  pub as_first : (P : List (List ℤ) → List (List ℤ) → Type 0) (ins state : List (List ℤ)) → ins ≡ first_inputs g streams → state ≡ initial g.graphs g.top → P ins state → P (first_inputs g streams) (initial g.graphs g.top)
+  as_first P ins state is first p = subst (λ s. P (first_inputs g streams) s) first (subst (λ i. P i state) is p)
+
+  -- the end is one of the way
+  pub level_ends : (set : LevelSet) (found : FindsLevel g streams set) (end : JobEnd) → Compiles found.checks.top workers set.level end → EndsJob g streams workers end
+  level_ends set found (Ok job) c = (set, found, c)
+  level_ends set found (Err (stop.Short stream has needs)) c = absurd c
+  level_ends set found (Err (stop.Refused refusal)) c = inr (inr (set, found, c))
+  level_ends set found (Err stop.Memory) c = absurd c

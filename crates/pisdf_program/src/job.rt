@@ -1,0 +1,161 @@
+// The way to the compiled job of the top graph.
+ghost use Rattle.std.specs.Prelude.{◌≡◌, ◌⊎◌, ◌≤◌, ◌++◌, [], Err, length, IfOk, OnOk};
+ghost use Rattle.job_report.specs.Names.{actor_names};
+ghost use Rattle.kernel_gate.specs.Table.{the_signatures};
+ghost use Rattle.param_resolver.specs.EarlyCheck.{early_faults};
+ghost use Rattle.param_resolver.specs.Numbering.{acting};
+ghost use Rattle.pisdf_meaning.specs.Causes.{actors_left};
+ghost use Rattle.pisdf_meaning.specs.Run.{top_needs};
+ghost use Rattle.pisdf_program.specs.Job.{Compiles, EndsJob, JobEnd, at_top};
+ghost use Rattle.pisdf_program.specs.LeftAmong.{IsLeftTo, left_among, left_with};
+ghost use Rattle.pisdf_program.specs.Loaded.{AreGood};
+ghost use Rattle.pisdf_program.specs.Top.{top_of};
+
+use crate::load::Input;
+use crate::run::top_of;
+use crate::stop::{Stop, refused, short};
+use crate::streams::Streams;
+use job_compiler::{CompileFault, Compiled, compile};
+use kernel_gate::Gate;
+use param_expr::Name;
+use pisdf_meaning::{Cause, Left, Path, Refusal, first_delays, top_level, top_needs};
+use pisdf_model::{Graph, Graphs};
+use sdf_level::{Level, List};
+use std::alloc::{AllocError, Global};
+
+/// Adds an actor with its count of firings left, if any is.
+fn add_left(left: &mut Vec<Left>, actor: &Name, count: u32) -> Result<(), AllocError>
+    ensures { OnOk result (left.new.items ≡ left.old.items ++ left_with actor.now count) }
+{
+    if count > 0 {
+        left.push(Left {
+            name: actor.clone()?,
+            count,
+        })?;
+    }
+    Ok(())
+}
+
+/// The actors with firings left, by these names and counts.
+fn left_among(alloc: Global, actors: &[Name], counts: &[u32]) -> Result<List<Left>, AllocError>
+    ensures { IfOk result (λ left. left ≡ left_among actors.now counts.now) }
+{
+    let mut left = Vec::new(alloc);
+    let number = actors.len().min(counts.len());
+    for actor in 0..number {
+        add_left(&mut left, &actors[actor], counts[actor])?;
+    }
+    Ok(List::new(left))
+}
+
+/// A refusal at the path of the top graph.
+fn refused_at(alloc: Global, top: &Graph, cause: Cause) -> Stop
+    ensures { (result ≡ Stop.Refused (at_top top.now cause)) ⊎ (result ≡ Stop.Memory) }
+{
+    let Ok(name) = top.name.clone() else {
+        return Stop::Memory;
+    };
+    match Path::new(alloc, name) {
+        Ok(path) => Stop::Refused(Refusal { path, cause }),
+        Err(_) => Stop::Memory,
+    }
+}
+
+/// Why there is no job, where the level of the top graph, whose actors have these names, can't be compiled.
+fn uncompiled(alloc: Global, top: &Graph, actors: &[Name], fault: CompileFault) -> Stop
+    requires { actors.now ≡ actor_names top.now }
+    ensures { IsLeftTo top.now fault result }
+{
+    match fault {
+        CompileFault::Rates => refused_at(alloc, top, Cause::Rates),
+        CompileFault::Limit { what, value } => refused_at(alloc, top, Cause::Limit { what, value }),
+        CompileFault::Deadlock { left } => match left_among(alloc, actors, left.items()) {
+            Ok(left) => refused_at(alloc, top, Cause::Deadlock { left }),
+            Err(_) => Stop::Memory,
+        },
+        CompileFault::Memory => Stop::Memory,
+    }
+}
+
+/// Compiles the level of the top graph, whose actors have these names.
+fn compile_level(
+    alloc: Global,
+    top: &Graph,
+    actors: &[Name],
+    level: &Level,
+    workers: u32,
+) -> Result<Compiled, Stop>
+    requires workers { 1 ≤ workers }
+    requires actors { actors.now ≡ actor_names top.now }
+    ensures compiles { Compiles top.now workers level.now result ⊎ (result ≡ Err Stop.Memory) }
+    ensures only { (end : JobEnd) → Compiles top.now workers level.now end → (result ≡ end) ⊎ (result ≡ Err Stop.Memory) }
+{
+    match compile(alloc, level, workers) {
+        Ok(job) => Ok(job),
+        Err(fault) => Err(uncompiled(alloc, top, actors, fault)),
+    }
+}
+
+/// The way from the streams of the first iteration, whose early check finds nothing, to its job.
+fn lead_to_job<K: Gate>(
+    alloc: Global,
+    graphs: &Graphs,
+    actors: &[Name],
+    streams: &Streams<'_>,
+    workers: u32,
+    gate: &K,
+) -> Result<Compiled, Stop>
+    requires good { AreGood graphs.now }
+    requires kernels { K.kernels gate.now ≡ the_signatures }
+    requires workers { 1 ≤ workers }
+    requires actors { actors.now ≡ actor_names (top_of graphs.now) }
+    requires needs { streams.now.needs.now ≡ top_needs graphs.now }
+    requires fit { length streams.now.needs.now ≡ length streams.now.tokens.now }
+    requires sound { early_faults graphs.now.graphs graphs.now.top [] ≡ [] }
+    ensures ends { EndsJob graphs.now streams.now.tokens.now workers result ⊎ (result ≡ Err Stop.Memory) }
+    ensures only { (end : JobEnd) → EndsJob graphs.now streams.now.tokens.now workers end → (result ≡ end) ⊎ (result ≡ Err Stop.Memory) }
+{
+    match streams.first_lack(0) {
+        Some(lack) => return Err(short(lack)),
+        None => {}
+    }
+    let Ok(ins) = streams.taken(alloc, 0) else {
+        return Err(Stop::Memory);
+    };
+    let Ok(delays) = first_delays(alloc, graphs) else {
+        return Err(Stop::Memory);
+    };
+    match top_level(alloc, graphs, &delays, ins.as_slice(), gate) {
+        Ok(set) => compile_level(alloc, top_of(graphs), actors, &set.level, workers),
+        Err(fault) => Err(refused(fault)),
+    }
+}
+
+/// The compiled job of the top graph in the first iteration, whose actors have these names, or how an iteration of a run
+/// ends before its level is run. Of the top graph's actors the configuration actors alone fire.
+pub(crate) fn first_job<K: Gate>(
+    alloc: Global,
+    input: &Input,
+    actors: &[Name],
+    workers: u32,
+    gate: &K,
+) -> Result<Compiled, Stop>
+    requires good { AreGood input.now.graphs }
+    requires kernels { K.kernels gate.now ≡ the_signatures }
+    requires workers { 1 ≤ workers }
+    requires actors { actors.now ≡ actor_names (top_of input.now.graphs) }
+    requires fit { length input.now.streams ≡ length (top_of input.now.graphs).inputs }
+    ensures ends { EndsJob input.now.graphs input.now.streams workers result ⊎ (result ≡ Err Stop.Memory) }
+    ensures only { (end : JobEnd) → EndsJob input.now.graphs input.now.streams workers end → (result ≡ end) ⊎ (result ≡ Err Stop.Memory) }
+{
+    let graphs = &input.graphs;
+    let needs = match top_needs(alloc, graphs) {
+        Ok(needs) => needs,
+        Err(fault) => return Err(refused(fault)),
+    };
+    let streams = Streams {
+        needs: needs.items(),
+        tokens: input.streams.items(),
+    };
+    lead_to_job(alloc, graphs, actors, &streams, workers, gate)
+}

@@ -1,0 +1,19 @@
+// One row of bits, 64 bits to a word.
+ghost use Rattle.std.specs.Prelude.{ℕ, ◌≡◌, ◌≢◌, ◌/◌, ◌<◌, ◌↔◌, length, IsTrue};
+ghost use Rattle.placement_checker.specs.Rows.{RowHas};
+
+const BITS: usize = u64::BITS as usize;
+
+/// Sets or clears one bit.
+pub(crate) fn put_bit(row: &mut [u64], bit: usize, on: bool)
+    requires { bit / 64 < length row.old }
+    ensures long { length row.new ≡ length row.old }
+    ensures put { RowHas row.new bit ↔ IsTrue on }
+    ensures others { (other : ℕ) → other ≢ bit → (RowHas row.new other ↔ RowHas row.old other) }
+{
+    if on {
+        row[bit / BITS] |= 1 << (bit % BITS);
+    } else {
+        row[bit / BITS] &= !(1 << (bit % BITS));
+    }
+}
