@@ -11,7 +11,7 @@ use Rattle.nested_jobs.specs.Journals as steps
 use Rattle.nested_jobs.specs.Journals.{start, after, state, Legal}
 use Rattle.nested_jobs.specs.Kept.{InJob, Nested}
 use Rattle.nested_jobs.specs.Meanings.{Lawful, Meant}
-use Rattle.nested_jobs.specs.Pick.{Few, KeepPick, KeepsPick, Prefers, outer}
+use Rattle.nested_jobs.specs.Pick.{Few, ArePreferredFrom, IsPreferred, Prefers, outer}
 use Rattle.nested_jobs.proofs.Counting.{journal_few}
 use Rattle.nested_jobs.proofs.Finding.{ready_enabled}
 use Rattle.nested_jobs.proofs.Nesting.{after_nested, start_nested}
@@ -90,12 +90,12 @@ module _ (key : Key) (law : Lawful (rules key) (rank key.graphs.graphs)) where
       go (Open c) is = inl (c, is)
       go (Done a) is = inr (prefers s.marks keeps w i p pick (ap is_open is))
 
-  step_keeps : (s : BoardState) (step : Step) → Nested (rules key) (top_job key) s.marks → IsPicked key s step → KeepsPick (rules key) s step
+  step_keeps : (s : BoardState) (step : Step) → Nested (rules key) (top_job key) s.marks → IsPicked key s step → IsPreferred (rules key) s step
   step_keeps s (steps.Claim w []) keeps picked = tt
   step_keeps s (steps.Claim w (i ∷ p)) keeps picked = picked_keeps s w i p keeps picked
   step_keeps s (steps.Finish w answer) keeps picked = tt
 
-  steps_keep : (s : BoardState) (taken : List Step) → Nested (rules key) (top_job key) s.marks → ArePickedFrom key s taken → KeepPick (rules key) s taken
+  steps_keep : (s : BoardState) (taken : List Step) → Nested (rules key) (top_job key) s.marks → ArePickedFrom key s taken → ArePreferredFrom (rules key) s taken
   steps_keep s [] keeps picked = tt
   steps_keep s (step ∷ taken) keeps picked = (step_keeps s step keeps picked.0, steps_keep (after (rules key) s step) taken (after_nested (rules key) ranks law (top_job key) s step keeps) picked.1)
 

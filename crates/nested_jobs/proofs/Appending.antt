@@ -2,7 +2,7 @@
 use Rattle.std.proofs.Common.{◌≡◌, ℕ, List, [], ◌∷◌, ◌++◌, refl}
 use Rattle.nested_jobs.specs.Rules.{Rules}
 use Rattle.nested_jobs.specs.Journals.{Entry, State, after, state_from, Allowed, LegalFrom, Answered, AnsweredFrom}
-use Rattle.nested_jobs.specs.Pick.{KeepsPick, KeepPick}
+use Rattle.nested_jobs.specs.Pick.{IsPreferred, ArePreferredFrom}
 
 module _ {J W A : Type 0} (rs : Rules J W A) where
   pub state-snoc : (s : State J A) (es : List (Entry A)) (e : Entry A) → state_from rs s (es ++ e ∷ []) ≡ after rs (state_from rs s es) e
@@ -18,6 +18,6 @@ module _ {J W A : Type 0} (rs : Rules J W A) where
   answered-snoc answers s [] e h ok = (ok, tt)
   answered-snoc answers s (x ∷ es) e h ok = (h.0, answered-snoc answers (after rs s x) es e h.1 ok)
 
-  pub pick-snoc : (s : State J A) (es : List (Entry A)) (e : Entry A) → KeepPick rs s es → KeepsPick rs (state_from rs s es) e → KeepPick rs s (es ++ e ∷ [])
+  pub pick-snoc : (s : State J A) (es : List (Entry A)) (e : Entry A) → ArePreferredFrom rs s es → IsPreferred rs (state_from rs s es) e → ArePreferredFrom rs s (es ++ e ∷ [])
   pick-snoc s [] e h ok = (ok, tt)
   pick-snoc s (x ∷ es) e h ok = (h.0, pick-snoc (after rs s x) es e h.1 ok)

@@ -9,7 +9,7 @@ use Rattle.nested_jobs.specs.Steps.{task_at, opens, begins, opened, claimed, end
 use Rattle.nested_jobs.specs.Journals.{Entry, Claim, Finish, State, start_mark, start, finish_of, after, state_from, state, Allowed, LegalFrom, Legal}
 use Rattle.nested_jobs.specs.Meanings.{Lawful}
 use Rattle.nested_jobs.specs.Kept.{Nested, OpenUnsettled, Keeps}
-use Rattle.nested_jobs.specs.Pick.{outer_by, outer, Prefers, KeepsPick, KeepPick, NotIn, Distinct, AreOpen, Few}
+use Rattle.nested_jobs.specs.Pick.{outer_by, outer, Prefers, IsPreferred, ArePreferredFrom, NotIn, Distinct, AreOpen, Few}
 use Rattle.nested_jobs.proofs.Places.{same_tail, put_at}
 use Rattle.nested_jobs.proofs.Turns.{closed_keeps}
 use Rattle.nested_jobs.proofs.Running.{start_keeps, after_keeps}
@@ -218,7 +218,7 @@ module _ {J W A : Type 0} (rs : Rules J W A) (rank : J → ℕ) (law : Lawful rs
         shallow low [] o = tt
         shallow low (q ∷ qs) o = (o.0, ⊎_elim (λ u. u) (λ u. let l = u.1 in let lq = o.0 in absurd (omega arith)) (new q o.1.0 o.1.1), shallow low qs o.2)
 
-    pub after_few : (answers : W → A → Type 0) (e : Entry A) → Allowed rs answers workers s e → KeepsPick rs s e → Few workers s.marks → Few workers (after rs s e).marks
+    pub after_few : (answers : W → A → Type 0) (e : Entry A) → Allowed rs answers workers s e → IsPreferred rs s e → Few workers s.marks → Few workers (after rs s e).marks
     after_few answers (Claim w []) ok care few = few
     after_few answers (Claim w (i ∷ p)) ok care few =
         ⊎_elim
@@ -244,9 +244,9 @@ module _ {J W A : Type 0} (rs : Rules J W A) (rank : J → ℕ) (law : Lawful rs
         at_top [] j e = refl
         at_top (i ∷ p) j e = absurd (cc)
 
-    from_few : (answers : W → A → Type 0) (s : State J A) (es : List (Entry A)) → Keeps rs top workers s → LegalFrom rs answers workers s es → KeepPick rs s es → Few workers s.marks → Few workers (state_from rs s es).marks
+    from_few : (answers : W → A → Type 0) (s : State J A) (es : List (Entry A)) → Keeps rs top workers s → LegalFrom rs answers workers s es → ArePreferredFrom rs s es → Few workers s.marks → Few workers (state_from rs s es).marks
     from_few answers s [] h ok care few = few
     from_few answers s (e ∷ es) h ok care few = from_few answers (after rs s e) es (after_keeps rs rank law top workers answers s e h ok.0) ok.1 care.1 (after_few workers s h answers e ok.0 care.0 few)
 
-    pub journal_few : (answers : W → A → Type 0) (es : List (Entry A)) → 0 < workers → Legal rs answers workers top es → KeepPick rs (start top) es → Few workers (state rs top es).marks
+    pub journal_few : (answers : W → A → Type 0) (es : List (Entry A)) → 0 < workers → Legal rs answers workers top es → ArePreferredFrom rs (start top) es → Few workers (state rs top es).marks
     journal_few answers es lt legal care = from_few answers (start top) es (start_keeps rs rank law top workers) legal care (start_few lt)

@@ -10,3 +10,6 @@ pub mod Counting
 pub mod OneStep
 pub mod Appending
 pub mod Examples
+pub mod Listing
+pub mod Depths
+pub mod Closing

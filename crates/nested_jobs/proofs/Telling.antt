@@ -14,7 +14,7 @@ use Rattle.nested_jobs.proofs.Ending.{ended_done}
 
 module _ {J W A : Type 0} (rs : Rules J W A) (rank : J → ℕ) (law : Lawful rs rank) (top : J) (m : Meanings J W A) (meant : Meant rs m) (is_fit : m.fit top) (depth : ℕ) (enough : rank top < depth) where
   -- the levels left below the items of a job at this place
-  abbrev below : Place → ℕ
+  abbrev pub below : Place → ℕ
   below p = depth - suc (length p)
 
   pub record Tells (n : Marks J A) : Type 0 where
@@ -71,7 +71,7 @@ module _ {J W A : Type 0} (rs : Rules J W A) (rank : J → ℕ) (law : Lawful rs
         whole = λ b e f. absurd (cc);
       })
 
-  ends_tell : (n : Marks J A) (i : ℕ) (p : Place) (v : A) → Tells n → n (i ∷ p) ≡ Busy → ((work : W) → task_of rs n (i ∷ p) ≡ Some (Work work) → m.answers work v) → Tells (put n (i ∷ p) (Done v))
+  pub ends_tell : (n : Marks J A) (i : ℕ) (p : Place) (v : A) → Tells n → n (i ∷ p) ≡ Busy → ((work : W) → task_of rs n (i ∷ p) ≡ Some (Work work) → m.answers work v) → Tells (put n (i ∷ p) (Done v))
   ends_tell n i p v h busy may =
       let w = of_busy rs rank law top n i p h.nested busy in
       write_tells n (i ∷ p) (Done v) h (ap answer_of busy) (ends_nested rs rank law top n i p v h.nested busy)
@@ -90,7 +90,7 @@ module _ {J W A : Type 0} (rs : Rules J W A) (rank : J → ℕ) (law : Lawful rs
       })
 
   -- a quiet job is settled
-  quiet_settled : (n : Marks J A) (j : J) (p : Place) → Tells n → n p ≡ Open j → is_quiet rs n j p ≡ true → Settled rs m (below p) j (values n p)
+  pub quiet_settled : (n : Marks J A) (j : J) (p : Place) → Tells n → n p ≡ Open j → is_quiet rs n j p ≡ true → Settled rs m (below p) j (values n p)
   quiet_settled n j p h o quiet = record { sound = h.sound p j o; whole = λ i t r. go i t r (n (i ∷ p)) refl }
     where
       settled : (i : ℕ) (t : Task J W) → rs.rule j (values n p) i ≡ Some t → is_settled (n (i ∷ p)) (rs.rule j (values n p) i) ≡ true
@@ -109,7 +109,7 @@ module _ {J W A : Type 0} (rs : Rules J W A) (rank : J → ℕ) (law : Lawful rs
       let same : suc (below p) ≡ depth - length p = omega arith in
       subst (λ (z : ℕ). m.means z j (rs.outcome j (values n p))) same (meant.settles (below p) j (values n p) (h.fits p j o) (quiet_settled n j p h o quiet))
 
-  closes_tell : ClosesKeep rs Tells
+  pub closes_tell : ClosesKeep rs Tells
   closes_tell n p j h o quiet =
       let v : A = rs.outcome j (values n p) in
       let means = outcome_means n j p h o quiet in
@@ -161,7 +161,7 @@ module _ {J W A : Type 0} (rs : Rules J W A) (rank : J → ℕ) (law : Lawful rs
   journal_tells es ok = from_tells (start top) es start_tells ok
 
 module _ {J W A : Type 0} (rs : Rules J W A) (answers : W → A → Type 0) (workers : ℕ) where
-  allowed_answered : (s : State J A) (e : Entry A) → Allowed rs answers workers s e → Answered rs answers s e
+  pub allowed_answered : (s : State J A) (e : Entry A) → Allowed rs answers workers s e → Answered rs answers s e
   allowed_answered s (Claim w a) ok = tt
   allowed_answered s (Finish w v) ok = λ p work e is.
       let here : Some ok.place ≡ Some p = sym ok.runs ∙ e in

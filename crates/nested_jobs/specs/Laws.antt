@@ -1,11 +1,12 @@
 -- Laws of journals, over any jobs, work and answers, and any rules and relations.
-use Rattle.std.specs.Prelude.{◌≡◌, ◌⊎◌, ◌↔◌, ℕ, suc, ◌+◌, ◌-◌, ◌<◌, ◌≤◌, false, Some, None, List, [], ◌++◌, length}
+use Rattle.std.specs.Prelude.{◌≡◌, ◌⊎◌, ◌↔◌, ℕ, suc, ◌+◌, ◌-◌, ◌*◌, ◌<◌, ◌≤◌, false, Some, None, List, [], ◌++◌, length}
 use Rattle.nested_jobs.specs.Rules.{Place, Task, Rules}
-use Rattle.nested_jobs.specs.Marks.{Open, Done, values}
-use Rattle.nested_jobs.specs.Steps.{IsEnabled, is_quiet}
+use Rattle.nested_jobs.specs.Marks.{Open, Done, Marks, values}
+use Rattle.nested_jobs.specs.Steps.{IsEnabled, is_quiet, closed}
 use Rattle.nested_jobs.specs.Journals.{Entry, State, start, after, state, task_of, Allowed, Legal, Runs, IsEnded, AnsweredFrom}
-use Rattle.nested_jobs.specs.Meanings.{Sound, Lawful, Meant, Tellings, among, told}
-use Rattle.nested_jobs.specs.Pick.{KeepPick, Few}
+use Rattle.nested_jobs.specs.Meanings.{Meanings, Sound, Settled, Lawful, Meant, Tellings, among, told}
+use Rattle.nested_jobs.specs.Kept.{Nested}
+use Rattle.nested_jobs.specs.Pick.{ArePreferredFrom, AreAllOpen, Distinct, Few, IsIn}
 
 -- every legal journal that has ended, whatever its order, leaves the top job done with an answer that it may have
 abbrev pub EndedJournalsTell : Type 0 → Type 0 → Type 0 → Type 0 → Type 0 → Type 0 → Type 0
@@ -70,7 +71,7 @@ QuietJobsAreClosed J W A R =
 abbrev pub FewJobsAreOpen : Type 0 → Type 0 → Type 0 → Type 0 → Type 0
 FewJobsAreOpen J W A R =
     (rs : Rules J W A) (rank : J → ℕ) (answered : R → W × A) (workers : ℕ) (top : J) (journal : List (Entry A)) →
-    Lawful rs rank → 0 < workers → Legal rs (among answered) workers top journal → KeepPick rs (start top) journal →
+    Lawful rs rank → 0 < workers → Legal rs (among answered) workers top journal → ArePreferredFrom rs (start top) journal →
     Few workers (state rs top journal).marks
 
 -- in every state of every journal, legal or not, an open job lies no deeper than its rank falls short of the top job's
@@ -86,3 +87,35 @@ TasksStay J W A R =
     Lawful rs rank → Legal rs (among answered) workers top journal → Allowed rs (among answered) workers (state rs top journal) e →
     (state rs top journal).running w ≡ Some a → (after rs (state rs top journal) e).running w ≡ Some a →
     task_of rs (state rs top journal).marks a ≡ Some t → task_of rs (after rs (state rs top journal) e).marks a ≡ Some t
+
+-- in every state of every journal, legal or not, the enabled items are among finitely many
+abbrev pub EnabledItemsAreListed : Type 0 → Type 0 → Type 0 → Type 0
+EnabledItemsAreListed J W A =
+    (rs : Rules J W A) (rank : J → ℕ) (top : J) (journal : List (Entry A)) →
+    Lawful rs rank → (list : List Place) × ((a : Place) → IsEnabled rs (state rs top journal).marks a → IsIn a list)
+
+-- where at most so many jobs are open at each depth, and none at this depth or deeper, at most so many times the depth are open
+abbrev pub FewAreOpenInAll : Type 0 → Type 0 → Type 0
+FewAreOpenInAll J A =
+    (m : Marks J A) (most depth : ℕ) (ps : List Place) →
+    Few most m → ((p : Place) (j : J) → m p ≡ Open j → length p < depth) → Distinct ps → AreAllOpen m ps → length ps ≤ depth * most
+
+-- what a job answers that is closed, of which nothing more would have come
+pub record ClosesAs {J W A : Type 0} (rs : Rules J W A) (ms : Meanings J W A) (n : ℕ) (m : Marks J A) (p : Place) (j : J) (a : A) : Type 0 where
+  pub settled : Settled rs ms n j (values m p)
+  pub outcome_is : a ≡ rs.outcome j (values m p)
+
+-- a job that is open before a step of a legal journal and done after it was settled, and its answer is its outcome
+abbrev pub ClosedJobsAreSettled : Type 0 → Type 0 → Type 0 → Type 0 → Type 0 → Type 0 → Type 0
+ClosedJobsAreSettled J W A R M F =
+    (rs : Rules J W A) (rank : J → ℕ) (t : Tellings J W A R M F) (depth workers : ℕ) (top : J) (journal : List (Entry A)) (e : Entry A) (p : Place) (j : J) (a : A) →
+    Lawful rs rank → Meant rs (told t) → (told t).fit top → rank top < depth →
+    Legal rs (told t).answers workers top journal → Allowed rs (told t).answers workers (state rs top journal) e →
+    (state rs top journal).marks p ≡ Open j → (after rs (state rs top journal) e).marks p ≡ Done a →
+    ClosesAs rs (told t) (depth - suc (length p)) (after rs (state rs top journal) e).marks p j a
+
+-- closings from the deepest job up stop at the first job that isn't quiet: those round it aren't either
+abbrev pub ClosingsStop : Type 0 → Type 0 → Type 0 → Type 0
+ClosingsStop J W A =
+    (rs : Rules J W A) (rank : J → ℕ) (top : J) (m : Marks J A) (p : Place) (j : J) →
+    Lawful rs rank → Nested rs top m → m p ≡ Open j → is_quiet rs m j p ≡ false → closed rs m p ≡ m

@@ -22,15 +22,20 @@ pub record Prefers {J W A : Type 0} (rs : Rules J W A) (m : Marks J A) (p : Plac
   pub no_deeper : (q : Place) (c : J) → m q ≡ Open c → length (outer m p) < length q → (i : ℕ) (d : J) → m (i ∷ q) ≡ Free → rs.rule c (values m q) i ≢ Some (Call d)
 
 -- a claim of an item whose job isn't open, which opens jobs, keeps the two rules
-abbrev pub KeepsPick : {J W A : Type 0} → Rules J W A → State J A → Entry A → Type 0
-KeepsPick {J} {W} {A} rs s (Claim w []) = Unit {0}
-KeepsPick {J} {W} {A} rs s (Claim w (i ∷ p)) = ((c : J) × (s.marks p ≡ Open c)) ⊎ Prefers rs s.marks p
-KeepsPick {J} {W} {A} rs s (Finish w answer) = Unit {0}
+abbrev pub IsPreferred : {J W A : Type 0} → Rules J W A → State J A → Entry A → Type 0
+IsPreferred {J} {W} {A} rs s (Claim w []) = Unit {0}
+IsPreferred {J} {W} {A} rs s (Claim w (i ∷ p)) = ((c : J) × (s.marks p ≡ Open c)) ⊎ Prefers rs s.marks p
+IsPreferred {J} {W} {A} rs s (Finish w answer) = Unit {0}
 
 -- each entry does, in the state that those before it leave
-abbrev pub KeepPick : {J W A : Type 0} → Rules J W A → State J A → List (Entry A) → Type 0
-KeepPick rs s [] = Unit {0}
-KeepPick rs s (e ∷ es) = KeepsPick rs s e × KeepPick rs (after rs s e) es
+abbrev pub ArePreferredFrom : {J W A : Type 0} → Rules J W A → State J A → List (Entry A) → Type 0
+ArePreferredFrom rs s [] = Unit {0}
+ArePreferredFrom rs s (e ∷ es) = IsPreferred rs s e × ArePreferredFrom rs (after rs s e) es
+
+-- this place is one of the others
+abbrev pub IsIn : Place → List Place → Type 0
+IsIn p [] = ⊥
+IsIn p (q ∷ qs) = (q ≡ p) ⊎ IsIn p qs
 
 -- this place isn't one of the others
 abbrev pub NotIn : Place → List Place → Type 0
@@ -49,3 +54,8 @@ AreOpen {J} {A} m e (p ∷ ps) = (length p ≡ e) × ((j : J) × (m p ≡ Open j
 -- at most so many jobs are open at each depth
 abbrev pub Few : {J A : Type 0} → ℕ → Marks J A → Type 0
 Few most m = (e : ℕ) (ps : List Place) → Distinct ps → AreOpen m e ps → length ps ≤ most
+
+-- jobs are open at each of these places
+abbrev pub AreAllOpen : {J A : Type 0} → Marks J A → List Place → Type 0
+AreAllOpen {J} {A} m [] = Unit {0}
+AreAllOpen {J} {A} m (p ∷ ps) = ((j : J) × (m p ≡ Open j)) × AreAllOpen m ps

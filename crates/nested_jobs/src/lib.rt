@@ -4,4 +4,7 @@
 
 mod laws;
 
-pub use laws::{answers_sound, ended_journals_tell, few_jobs_are_open, never_stuck, tasks_stay};
+pub use laws::{
+    answers_sound, closed_jobs_settled, enabled_items_listed, ended_journals_tell,
+    few_jobs_are_open, never_stuck, tasks_stay,
+};
