@@ -1,2 +1,10 @@
 pub mod Examples
+pub mod Ordering
+pub mod ActorPlaces
+pub mod Mapped
+pub mod Known
+pub mod Steps
+pub mod Standing
+pub mod Choosing
+pub mod Answering
 pub mod Picked

@@ -117,11 +117,15 @@ abbrev pub steps_to : Key → Marks Firing Answer → Place → List (ℕ × ℕ
 steps_to key m [] = []
 steps_to key m (i ∷ p) = steps_to key m p ++ step_in key m p i (m p)
 
--- the home and the priority of a node are those of the list schedule on the key's workers; a configuration actor and the
--- compilation are at home everywhere
+-- the list schedule of the nodes of a job that is compiled, on the key's workers
+abbrev pub IsMappingOf : Key → Graph → Firing → Prepared → Mapping → Type 0
+IsMappingOf key g firing p mapping = IsMapped record { nodes = nodes_in key.graphs.graphs g firing p; edges = edges_in key.graphs.graphs g firing p; ranks = [] } key.workers mapping
+
+-- the home and the priority of a node are those of the list schedule; a configuration actor and the compilation are at home
+-- everywhere
 pub record NodeStands (key : Key) (g : Graph) (firing : Firing) (p : Prepared) (w n : ℕ) (standing : Standing) : Type 0 where
   pub mapping : Mapping
-  pub mapped : IsMapped record { nodes = nodes_in key.graphs.graphs g firing p; edges = edges_in key.graphs.graphs g firing p; ranks = [] } key.workers mapping
+  pub mapped : IsMappingOf key g firing p mapping
   pub away_is : standing.away ≡ not (slice_index mapping.home n == w)
   pub urgency_is : standing.urgency ≡ Some (slice_index mapping.priority n)
 
@@ -158,3 +162,9 @@ pub record GoesBefore (key : Key) (m : Marks Firing Answer) (w i : ℕ) (p : Pla
 pub record IsPick (key : Key) (m : Marks Firing Answer) (w i : ℕ) (p : Place) : Type 0 where
   pub enabled : IsEnabled (rules key) m (i ∷ p)
   pub first : (j : ℕ) (q : Place) → IsEnabled (rules key) m (j ∷ q) → j ∷ q ≢ i ∷ p → GoesBefore key m w i p j q
+
+-- the open jobs that are compiled have list schedules
+abbrev pub AreMapped : Key → Marks Firing Answer → Type 0
+AreMapped key m =
+    (q : Place) (firing : Firing) (p : Prepared) → m q ≡ Open firing → prepared_in (graph_of key.graphs.graphs firing) (values m q) ≡ Some p →
+    (mapping : Mapping) × IsMappingOf key (graph_of key.graphs.graphs firing) firing p mapping

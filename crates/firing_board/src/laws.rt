@@ -1,7 +1,12 @@
-// Laws of journals, for whoever holds a board. The function does nothing; its contract is the laws.
+// Laws of journals, for whoever holds a board. The functions do nothing; their contracts are the laws.
+ghost use Rattle.firing_board.specs.JobLaws.{JobsHaveLaws};
+ghost use Rattle.firing_board.specs.Laws.{AnswersAreOne, NoneWaitsAlone, OpenJobsAreFew, OpenJobsAreShallow, PicksAreOne, PicksExist, WorkersAreAnswered, WorkersDontMatter};
 ghost use Rattle.firing_board.specs.Legal.{EndedJournalsTell, FewJobsAreOpen};
 
+use job_flow::{edges_have_ports, frames_told, ready_stays};
 use job_rules::{jobs_mean_firings, rules_are_lawful};
+use pisdf_meaning::{Refusal, one_meaning, runnable};
+use single_rate::graphs_numbered;
 
 /// Every legal journal that has ended, of any number of workers and in any order of their steps, tells what one thread gets of
 /// the top graph: its outputs, the state that it leaves and its trace, or the first refusal. And in the state of every legal
@@ -12,4 +17,48 @@ pub fn journals_tell_one_thread()
 {
     rules_are_lawful();
     jobs_mean_firings();
+}
+
+/// The laws of the jobs of a board, in one.
+fn job_laws()
+    ensures { JobsHaveLaws }
+{
+    rules_are_lawful();
+    jobs_mean_firings();
+    runnable();
+    graphs_numbered();
+    ready_stays::<i64, Refusal, ()>();
+    frames_told::<i64, Refusal, u64>();
+    edges_have_ports::<i64>();
+}
+
+/// In the state of every legal journal where an item is enabled, exactly one is picked for each worker. So a worker that asks
+/// is handed that item, or has to wait for what others run, or the journal has ended, and no two of these; a worker that is
+/// alone never waits. The open jobs that are compiled have to have list schedules.
+pub fn workers_are_answered()
+    ensures picked { PicksExist }
+    ensures once { PicksAreOne }
+    ensures answered { WorkersAreAnswered }
+    ensures one_answer { AnswersAreOne }
+    ensures alone { NoneWaitsAlone }
+{
+    job_laws();
+}
+
+/// In the state of every legal journal no job is open at depth 8 or deeper, and at most 8 times as many as there are workers
+/// are open in all.
+pub fn few_jobs_are_open()
+    ensures shallow { OpenJobsAreShallow }
+    ensures few { OpenJobsAreFew }
+{
+    job_laws();
+    journals_tell_one_thread();
+}
+
+/// Legal journals of keys that differ in the number of workers alone end alike, once they have ended.
+pub fn workers_dont_matter()
+    ensures { WorkersDontMatter }
+{
+    one_meaning();
+    journals_tell_one_thread();
 }

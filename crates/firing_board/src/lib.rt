@@ -6,4 +6,6 @@ mod entry;
 mod laws;
 
 pub use entry::{Entry, Item};
-pub use laws::journals_tell_one_thread;
+pub use laws::{
+    few_jobs_are_open, journals_tell_one_thread, workers_are_answered, workers_dont_matter,
+};

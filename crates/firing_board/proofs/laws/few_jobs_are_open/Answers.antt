@@ -1,0 +1,9 @@
+use Rattle.firing_board.proofs.Answering.{few_jobs, shallow}
+use Rattle.firing_board.proofs.Known.{board_laws}
+use Rattle.firing_board.proofs.laws.few_jobs_are_open.Goals as goal
+
+pub returns-clause-shallow : goal.returns-clause-shallow
+returns-clause-shallow c = λ key taken p firing is legal o. shallow key is (board_laws key (c.job_laws.ensures key is)) taken legal p firing o
+
+pub returns-clause-few : goal.returns-clause-few
+returns-clause-few c = λ key taken ps is legal apart o. few_jobs key is (board_laws key (c.job_laws.ensures key is)) taken legal ps (c.journals_tell_one_thread.ensures.few key taken is legal) apart o
