@@ -38,21 +38,22 @@ fn child_state(
 
 /// A firing of a hierarchical actor, whose arguments are worked out.
 #[derive(Drop)]
-pub(crate) struct ChildCall<'a> {
-    pub(crate) actor: &'a Actor,
+pub struct ChildCall<'a> {
+    /// The actor.
+    pub actor: &'a Actor,
     /// The place of the graph that the actor names.
-    pub(crate) place: u32,
+    pub place: u32,
     /// The number of the actor's firing.
-    pub(crate) turn: u32,
+    pub turn: u32,
     /// The values of the graph's inherited parameters.
-    pub(crate) args: &'a [i64],
+    pub args: &'a [i64],
     /// What is known of the graph then.
-    pub(crate) early: &'a Early,
+    pub early: &'a Early,
 }
 
 /// The firing of the graph that a hierarchical actor names, whose child has so many inputs, and which keeps its child's state
 /// or does not.
-pub(crate) fn child_firing(
+pub fn child_firing(
     alloc: Global,
     graphs: &[Graph],
     firing: &Firing,
@@ -92,7 +93,7 @@ pub(crate) fn child_made(alloc: Global, keeps: bool, given: Given) -> Result<Mad
 
 /// The firing of the graph at a place by the hierarchical configuration actor of this number, which stands at a place of
 /// its graph and has so many inputs.
-pub(crate) fn config_firing(
+pub fn config_firing(
     alloc: Global,
     graphs: &[Graph],
     graph: &Graph,

@@ -9,7 +9,7 @@ use sdf_level::List;
 use std::alloc::{AllocError, Global};
 
 /// The tokens of the input interfaces that feed the configuration actor at a place, port by port.
-pub(crate) fn fed_to(
+pub fn fed_to(
     alloc: Global,
     graph: &Graph,
     inputs: &[List<i64>],

@@ -26,7 +26,7 @@ fn name_graphs(actors: &[Actor]) -> bool
 
 /// How many tokens the state of each graph begins with, counted to one more than `MAX_HOLD`. They aren't counted where none
 /// of these actors names a graph. The time taken goes with the sizes of the graphs.
-pub(crate) fn holds_for(
+pub fn holds_for(
     alloc: Global,
     graphs: &[Graph],
     actors: &[Actor],
@@ -51,7 +51,7 @@ pub(crate) fn holds_tokens(holds: &[usize], place: usize) -> bool
 }
 
 /// Whether tokens go on from one firing of an actor of the level to the next, where this many stand in each graph.
-pub(crate) fn has_state(holds: &[usize], actor: &Actor) -> bool
+pub fn has_state(holds: &[usize], actor: &Actor) -> bool
     ensures { (graphs : Seq GraphView) → TellHoldsTo graphs holds.now actor.now.body → result ≡ has_state graphs actor.now }
 {
     match &actor.body {

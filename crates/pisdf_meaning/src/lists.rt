@@ -6,14 +6,14 @@ use sdf_level::List;
 use std::alloc::{AllocError, Global};
 
 /// An equal list.
-pub(crate) fn copy_tokens(alloc: Global, tokens: &[i64]) -> Result<List<i64>, AllocError>
+pub fn copy_tokens(alloc: Global, tokens: &[i64]) -> Result<List<i64>, AllocError>
     ensures { IfOk result (λ copy. copy ≡ tokens.now) }
 {
     Ok(List::new(Vec::from_slice(alloc, tokens)?))
 }
 
 /// Equal lists.
-pub(crate) fn copy_lists(alloc: Global, lists: &[List<i64>]) -> Result<List<List<i64>>, AllocError>
+pub fn copy_lists(alloc: Global, lists: &[List<i64>]) -> Result<List<List<i64>>, AllocError>
     ensures { IfOk result (λ copies. copies ≡ lists.now) }
 {
     let mut copies = Vec::with_capacity(alloc, lists.len())?;

@@ -8,14 +8,14 @@ use param_expr::Name;
 use std::alloc::{AllocError, Global};
 
 /// A name with the same text.
-pub(crate) fn copy_name(alloc: Global, name: &Name) -> Result<Name, AllocError>
+pub fn copy_name(alloc: Global, name: &Name) -> Result<Name, AllocError>
     ensures { IfOk result (λ n. n ≡ name.now) }
 {
     Ok(Name::new(String::from_str(alloc, name.text())?))
 }
 
 /// A refusal of the job with this path.
-pub(crate) fn refused(path: &Path, cause: Cause) -> PlainFault
+pub fn refused(path: &Path, cause: Cause) -> PlainFault
     ensures { IfRefused (λ refusal. refusal ≡ record { path = path.now; cause = cause }) result }
 {
     match path.copy() {

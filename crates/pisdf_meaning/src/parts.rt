@@ -31,7 +31,7 @@ pub(crate) struct Prepared {
 
 /// The level of a graph whose parameters have these values, or the refusal of its firing for the first rate or argument
 /// that has none.
-pub(crate) fn parts_of(
+pub fn parts_of(
     alloc: Global,
     graphs: &Graphs,
     graph: &Graph,

@@ -116,7 +116,7 @@ fn chosen_values(
 }
 
 /// The values of all parameters of a graph, or the refusal of its firing for the first that has none within its range.
-pub(crate) fn resolved(
+pub fn resolved(
     alloc: Global,
     graphs: &Graphs,
     graph: &Graph,

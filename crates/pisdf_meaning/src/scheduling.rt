@@ -16,7 +16,7 @@ use sdf_level::Level;
 use std::alloc::{AllocError, Global};
 
 /// The cause where a graph's level has no schedule.
-fn schedule_cause(alloc: Global, graph: &Graph, fault: Unscheduled) -> Result<Cause, AllocError>
+pub fn schedule_cause(alloc: Global, graph: &Graph, fault: Unscheduled) -> Result<Cause, AllocError>
     ensures { IfOk result (λ cause. cause ≡ schedule_cause (acting graph.now) fault) }
 {
     match fault {

@@ -14,7 +14,7 @@ use sdf_level::List;
 use std::alloc::{AllocError, Global};
 
 /// Whether a FIFO becomes a link of the level: it doesn't lead into a configuration actor.
-pub(crate) fn is_kept(graph: &Graph, fifo: &Fifo) -> bool
+pub fn is_kept(graph: &Graph, fifo: &Fifo) -> bool
     ensures { result ≡ is_kept graph.now fifo.now }
 {
     !is_at_configuration(graph, &fifo.head)
@@ -79,7 +79,7 @@ fn push_copies(
 
 /// The tokens of each source of a graph's level: those of the inputs that feed no configuration actor, then what the
 /// configuration actors left on their outputs.
-pub(crate) fn source_tokens(
+pub fn source_tokens(
     alloc: Global,
     graph: &Graph,
     firing: &Firing,

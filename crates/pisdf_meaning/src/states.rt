@@ -253,7 +253,7 @@ fn push_actor_starts(
 }
 
 /// With what the links of a graph's level begin: those of FIFOs, then those of actors to themselves.
-pub(crate) fn link_starts(
+pub fn link_starts(
     alloc: Global,
     graphs: &[Graph],
     graph: &Graph,
