@@ -1,7 +1,8 @@
 // The calls, each with the driver that makes it.
 use crate::drivers::{
     bounds, compilations, expressions, frames, kernels, leases, lines, made_levels, models,
-    orderings, placements, program, reading, resolving, schedules, solving, tokens, world,
+    orderings, placements, program, reading, resolving, schedules, solving, tokens, top_levels,
+    world,
 };
 use crate::trouble::Trouble;
 use serde_json::Value;
@@ -48,6 +49,8 @@ pub enum Call {
     OrderWorkers,
     Compile,
     Keep,
+    TopLevel,
+    MakePath,
 }
 
 /// The answer of a call on the inputs of a row.
@@ -91,5 +94,7 @@ pub fn answer(call: Call, alloc: Global, row: &Value) -> Result<Value, Trouble> 
         Call::OrderWorkers => orderings::orders_and_offsets(alloc, row),
         Call::Compile => compilations::compilation(alloc, row),
         Call::Keep => compilations::kept_by(alloc, row),
+        Call::TopLevel => top_levels::top_level_made(alloc, row),
+        Call::MakePath => top_levels::path_made(alloc, row),
     }
 }

@@ -23,4 +23,5 @@ mod shown;
 mod signatures;
 pub mod solving;
 pub mod tokens;
+pub mod top_levels;
 pub mod world;

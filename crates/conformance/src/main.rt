@@ -17,7 +17,7 @@ use crate::table::{Table, run_table};
 use std::io;
 
 /// The tables, in the order of their lines in the output.
-const TABLES: [Table; 41] = [
+const TABLES: [Table; 43] = [
     Table {
         file: "names.jsonl",
         call: Call::IsName,
@@ -181,6 +181,14 @@ const TABLES: [Table; 41] = [
     Table {
         file: "keepings.jsonl",
         call: Call::Keep,
+    },
+    Table {
+        file: "top_levels.jsonl",
+        call: Call::TopLevel,
+    },
+    Table {
+        file: "paths.jsonl",
+        call: Call::MakePath,
     },
 ];
 

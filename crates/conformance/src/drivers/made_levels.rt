@@ -72,7 +72,7 @@ fn answer_of_children(alloc: Global, children: &[Option<Early>]) -> Result<Value
 
 /// A level: how many actors it has, its sources, its sinks, its links and what they come from, and for each actor its
 /// place, its arguments, its output rates, and what is known of the graph that it names.
-fn answer_of_level(alloc: Global, set: &LevelSet) -> Result<Value, Trouble> {
+pub(crate) fn answer_of_level(alloc: Global, set: &LevelSet) -> Result<Value, Trouble> {
     let level = &set.level;
     let values = vec![in alloc;
         Value::from(level.actors),
