@@ -7,7 +7,7 @@ mod job;
 mod leases;
 mod nodes;
 mod opening;
-mod picking;
+mod ready;
 mod rooms;
 mod stage;
 mod starting;
