@@ -23,3 +23,4 @@ pub mod Pending
 pub mod ReadySteps
 pub mod Picked
 pub mod FinishReady
+pub mod BuffersKept

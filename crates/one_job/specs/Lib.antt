@@ -11,5 +11,6 @@ pub mod View
 pub mod Pick
 pub mod Ready
 pub mod Calls
+pub mod LiveLaws
 pub mod Rooms
 pub mod Kept

@@ -85,6 +85,7 @@ impl Job {
     ghost use Rattle.one_job.specs.Marks.{Claimed, IsClaimed, mark_at, phase, values};
     ghost use Rattle.one_job.specs.View.{JobView, IsEnabled, IsFiring, graph_of, kind_of, args_of};
     ghost use Rattle.one_job.specs.Pick.{IsFirst, IsOffered, is_child as is_job};
+    ghost use Rattle.one_job.specs.LiveLaws.{KeepsBuffers};
     ghost use Rattle.one_job.specs.Calls.{LieAtBuffers, finished_with, end_of};
 
     /// The node that a worker claims next: of the nodes that may be claimed and aren't jobs of their own one whose home is the
@@ -142,6 +143,15 @@ impl Job {
         ensures { result ≡ slice_index self.now.compilation.mapping.priority node }
     {
         self.compiled.mapping().priority.items()[node as usize]
+    }
+
+    /// What the job was compiled to. In every state what is claimed was claimed in the order of the edges, and has the leases
+    /// of its buffers.
+    pub fn compiled(&self) -> &Compiled
+        ensures value { result.now ≡ self.now.compilation }
+        ensures buffers { KeepsBuffers self.now }
+    {
+        &self.compiled
     }
 
     /// Claims a node. Its frame has the node's kind, or 0, the arguments of its actor, or none, no sets, and for each port a

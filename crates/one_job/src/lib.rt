@@ -4,6 +4,7 @@
 
 mod choosing;
 mod job;
+mod laws;
 mod leases;
 mod nodes;
 mod opening;
@@ -15,4 +16,5 @@ mod told;
 mod wiring;
 
 pub use job::{Job, JobEnd};
+pub use laws::live_buffers_are_apart;
 pub use starting::start;

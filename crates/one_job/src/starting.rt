@@ -48,13 +48,14 @@ fn wire(
     let nodes = compiled.graph().nodes.items();
     let edges = compiled.graph().edges.items();
     let links = compiled.level().links.items();
+    let actors = compiled.level().actors as usize;
 
     let heads = heads(alloc, edges)?;
     let tails = tails(alloc, edges)?;
     let into = end_counts(alloc, nodes.len(), &heads)?;
     let from = end_counts(alloc, nodes.len(), &tails)?;
-    let ins = counts_in(alloc, nodes, links, &into)?;
-    let outs = counts_out(alloc, nodes, links, &from)?;
+    let ins = counts_in(alloc, nodes, links, actors, &into)?;
+    let outs = counts_out(alloc, nodes, links, actors, &from)?;
     Ok(Wiring {
         entering: rows(alloc, &ins, &heads)?,
         leaving: rows(alloc, &outs, &tails)?,
