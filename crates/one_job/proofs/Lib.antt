@@ -24,3 +24,4 @@ pub mod ReadySteps
 pub mod Picked
 pub mod FinishReady
 pub mod BuffersKept
+pub mod ImagesHold

@@ -12,5 +12,6 @@ pub mod Pick
 pub mod Ready
 pub mod Calls
 pub mod LiveLaws
+pub mod Images
 pub mod Rooms
 pub mod Kept

@@ -1,4 +1,5 @@
-// Laws of the buffers of jobs, for whoever proves something above them. The function does nothing; its contract is the laws.
+// Laws of the buffers of jobs, for whoever proves something above them. The functions do nothing; their contracts are the laws.
+ghost use Rattle.one_job.specs.Images.{ImagesHoldTokens};
 ghost use Rattle.one_job.specs.LiveLaws.{LiveBuffersAreApart, BuffersAreWithin, LentBuffersAreLive, FullBuffersAreLive};
 
 /// A buffer is live from the claim of the node that writes it to the finish of the node that reads it. Two buffers that are
@@ -9,4 +10,11 @@ pub fn live_buffers_are_apart()
     ensures within { BuffersAreWithin }
     ensures lent { LentBuffersAreLive }
     ensures full { FullBuffersAreLive }
+{}
+
+/// After any claims and finishes, each of which was allowed, the cells at the buffer of a node that is finished without a
+/// fault hold what it gave there, as long as the node that reads the buffer isn't finished. The cells are those of a block in
+/// which each finish wrote the node's outputs at the offsets of their edges, one after the other.
+pub fn full_buffers_hold_tokens()
+    ensures { ImagesHoldTokens }
 {}

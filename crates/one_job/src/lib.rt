@@ -16,5 +16,5 @@ mod told;
 mod wiring;
 
 pub use job::{Job, JobEnd};
-pub use laws::live_buffers_are_apart;
+pub use laws::{full_buffers_hold_tokens, live_buffers_are_apart};
 pub use starting::start;
