@@ -1,7 +1,6 @@
 -- The first of the nodes on offer, found by going over them.
-use Rattle.std.proofs.Common.{◌≡◌, ℕ, ◌+◌, ◌<◌, ◌≤◌, ◌⊎◌, inl, inr, ⊎_elim, List, slice_index, refl, subst, sym, arith}
+use Rattle.std.proofs.Common.{◌≡◌, ℕ, ◌<◌, ◌≤◌, ◌⊎◌, inl, inr, ⊎_elim, List, slice_index, refl, subst, sym, arith}
 use Rattle.std.specs.Prelude.{Option, Some, None}
-use Rattle.std.proofs.lemmas.Bool.{cases_lt, cases_eq}
 use Rattle.worker_mapping.specs.Schedule.{GoesFirst}
 use Rattle.worker_mapping.specs.declared.mapping.Mapping.{Mapping}
 use Rattle.one_job.specs.Pick.{away, GoesBefore, IsFirst}
@@ -64,24 +63,3 @@ first_more mapping worker Old New (Some b) next r more there less is found = (
       (λ (after : GoesBefore mapping worker next n). before_trans mapping worker r next n (found.1 next (inr refl)) after)
       (less n offered),
 )
-
--- those on offer below a number
-abbrev pub Below : (ℕ → Type 0) → ℕ → ℕ → Type 0
-Below Offered i n = (n < i) × Offered n
-
-module _ (mapping : Mapping) (worker : ℕ) (Offered : ℕ → Type 0) (i : ℕ) where
-  pub first_skip : (best : Option ℕ) → (Offered i → ⊥) → IsFirst mapping worker (Below Offered i) best → IsFirst mapping worker (Below Offered (i + 1)) best
-  first_skip best not_here is = first_same mapping worker (Below Offered i) (Below Offered (i + 1)) best
-      (λ n old. (let up = old.0 in omega arith, old.1))
-      (λ n new. (⊎_elim (λ (same : n ≡ i). absurd (not_here (subst Offered same new.1))) (λ (differs : n ≡ i → ⊥). ⊎_elim (λ (below : n < i). below) (λ (from : i ≤ n). let up = new.0 in absurd (differs (omega arith))) (cases_lt n i)) (cases_eq n i), new.1))
-      is
-
-  pub first_step : (best : Option ℕ) (r : ℕ) → Offered i → IsFirst mapping worker (Below Offered i) best → IsFirst mapping worker (λ n. (best ≡ Some n) ⊎ (n ≡ i)) (Some r) → IsFirst mapping worker (Below Offered (i + 1)) (Some r)
-  first_step best r here is found = first_more mapping worker (Below Offered i) (Below Offered (i + 1)) best i r
-      (λ n old. (let up = old.0 in omega arith, old.1))
-      (omega arith, here)
-      (λ n new. ⊎_elim
-      (λ (same : n ≡ i). inr (subst (GoesBefore mapping worker i) (sym same) (before_itself mapping worker i)))
-      (λ (differs : n ≡ i → ⊥). ⊎_elim (λ (below : n < i). inl (below, new.1)) (λ (from : i ≤ n). let up = new.0 in absurd (differs (omega arith))) (cases_lt n i))
-      (cases_eq n i))
-      is found

@@ -16,5 +16,12 @@ pub mod RowSteps
 pub mod JobWires
 pub mod StartWires
 pub mod JobStart
-pub mod Quiet
 pub mod Firsts
+pub mod Releasing
+pub mod Heads
+pub mod Pending
+pub mod ReadySteps
+pub mod Picked
+pub mod FinishReady
+pub mod BuffersKept
+pub mod ImagesHold

@@ -18,6 +18,7 @@ use Rattle.one_job.specs.Opening.{stored_in}
 use Rattle.one_job.specs.Rooms.{IsEmpty}
 use Rattle.one_job.specs.View.{JobView, graph_of, HasGiven, args_of}
 use Rattle.one_job.specs.Staged.{mark_of}
+use Rattle.one_job.specs.Ready.{KeepsReady}
 use Rattle.one_job.specs.declared.job.Job.TheInside.{Inside}
 
 abbrev pub view_of : Inside → JobView
@@ -111,4 +112,4 @@ pub record Keeps (j : JobView) (p : Parts) (pool : PoolView) (outs left : List (
   pub left_are : left ≡ (ended (graph_of j) (values j.marks)).left
 
 abbrev pub IsJob : Inside → Type 0
-IsJob i = Keeps (view_of i) (parts_of i) i.pool i.outs.items i.left.items
+IsJob i = Keeps (view_of i) (parts_of i) i.pool i.outs.items i.left.items × KeepsReady (view_of i) i.waiting.items i.claimed i.ready

@@ -9,6 +9,9 @@ pub mod Opening
 pub mod Faults
 pub mod View
 pub mod Pick
+pub mod Ready
 pub mod Calls
+pub mod LiveLaws
+pub mod Images
 pub mod Rooms
 pub mod Kept

@@ -1,5 +1,5 @@
 -- The ends of edges, as nodes with ports, and the rows in which they are entered.
-use Rattle.std.specs.Prelude.{◌≡◌, ℕ, ◌+◌, ◌<◌, ◌==◌, List, [], ◌∷◌, length, map, slice_index, slice_index_or, Option, Some, None, Vec, if◌then◌else◌}
+use Rattle.std.specs.Prelude.{◌≡◌, ℕ, ◌+◌, ◌<◌, ◌==◌, Bool, List, [], ◌∷◌, length, map, slice_index, slice_index_or, Option, Some, None, Vec, if◌then◌else◌}
 use Rattle.std.specs.Global.{Global}
 use Rattle.sdf_level.specs.Kept.{how_many}
 use Rattle.sdf_level.specs.Run.{is_into_actor}
@@ -74,3 +74,7 @@ rows_of rows = map (λ (row : Vec (Option ℕ) Global). row.items) rows
 pub record AreCounts (count : Node → ℕ → ℕ) (nodes : List Node) (edges counts : List ℕ) : Type 0 where
   pub one_each : length counts ≡ length nodes
   pub each : (n : ℕ) → n < length nodes → slice_index counts n ≡ count (slice_index_or nodes n (node.Source 0)) (slice_index edges n)
+
+-- for each of some actors how many links pass the test for it
+pub record AreLinkCounts (test : ℕ → Link → Bool) (links : List Link) (counts : List ℕ) : Type 0 where
+  pub each : (a : ℕ) → a < length counts → slice_index counts a ≡ how_many (test a) links

@@ -1,14 +1,25 @@
 // Which of the nodes that may be claimed comes first.
-ghost use Rattle.std.specs.Prelude.{◌≡◌, ◌<◌, ◌^◌, ◌⊎◌, ℕ, Some, None, IsTrue, IsFalse, length, slice_index_or};
-ghost use Rattle.one_job.specs.Places.{edge_at};
+ghost use Rattle.std.specs.Prelude.{◌≡◌, ◌+◌, ◌*◌, ◌<◌, ◌≤◌, ◌⊎◌, ℕ, Some, IsTrue, IsFalse, length, slice_index};
 ghost use Rattle.one_job.specs.Pick.{GoesBefore, IsFirst};
-ghost use Rattle.one_job.specs.Ports.{row_of};
-ghost use Rattle.one_job.specs.Staged.{MayRun};
+ghost use Rattle.one_job.specs.Ready.{bit, AreRanked, IsPut};
 
-use crate::nodes::is_child;
-use crate::picking::{Progress, is_enabled};
-use sdf_level::Node;
+use ready_heap::GroupedHeaps;
 use worker_mapping::Mapping;
+
+/// How many homes have groups: a group is twice its home, and one more for the nodes that are jobs of their own.
+fn homes_of(ready: &GroupedHeaps) -> usize
+    ensures all { (n home : ℕ) → n < length ready.now.groups → 2 * home ≤ slice_index ready.now.groups n → home < result }
+    ensures small { 2 * result ≤ 18446744073709551616 }
+{
+    let groups = ready.groups();
+    groups / 2 + groups % 2
+}
+
+fn bit_of(child: bool) -> usize
+    ensures { result ≡ bit child }
+{
+    if child { 1 } else { 0 }
+}
 
 /// Whether node `one` goes before node `other`.
 fn goes_before(mapping: &Mapping, worker: u32, one: u32, other: u32) -> bool
@@ -48,52 +59,21 @@ fn first_of(mapping: &Mapping, worker: u32, best: Option<u32>, next: u32) -> u32
     }
 }
 
-/// Whether a node may be claimed and is a job of its own, or isn't.
-fn is_offered(
-    at: &Progress<'_>,
-    nodes: &[Node],
-    kinds: &[Option<u32>],
-    child: bool,
-    n: usize,
-) -> bool
-    requires stage { n < length at.now.stages.now }
-    requires node { n < length nodes.now }
-    requires row { n < length at.now.entering.now }
-    requires edges { (k e : ℕ) → slice_index_or (row_of at.now.entering.now n) k None ≡ Some e → e < length at.now.edges.now }
-    requires tails { (k e : ℕ) → slice_index_or (row_of at.now.entering.now n) k None ≡ Some e → (edge_at at.now.edges.now e).tail < length at.now.stages.now }
-    ensures yes { IsTrue result → MayRun at.now.edges.now at.now.stages.now at.now.entering.now nodes.now kinds.now child n }
-    ensures no { IsFalse result → MayRun at.now.edges.now at.now.stages.now at.now.entering.now nodes.now kinds.now child n → ⊥ }
-{
-    let is_of_sort = is_child(nodes[n], kinds) == child;
-    if !is_of_sort {
-        return false;
-    }
-    is_enabled(at, n)
-}
-
-/// The first of the nodes that may be claimed and are jobs of their own, or of those that aren't.
-pub(crate) fn first_enabled(
-    at: &Progress<'_>,
-    nodes: &[Node],
-    kinds: &[Option<u32>],
+/// The first of the nodes that are in and are jobs of their own, or of those that aren't: of the heads of their heaps, one a
+/// home.
+pub(crate) fn first_head(
+    ready: &GroupedHeaps,
     mapping: &Mapping,
     worker: u32,
     child: bool,
 ) -> Option<u32>
-    requires few { length at.now.stages.now < 2 ^ 32 }
-    requires nodes { length nodes.now ≡ length at.now.stages.now }
-    requires homes { length mapping.now.home ≡ length at.now.stages.now }
-    requires priorities { length mapping.now.priority ≡ length at.now.stages.now }
-    requires rows { length at.now.entering.now ≡ length at.now.stages.now }
-    requires edges { (n k e : ℕ) → n < length at.now.stages.now → slice_index_or (row_of at.now.entering.now n) k None ≡ Some e → e < length at.now.edges.now }
-    requires tails { (n k e : ℕ) → n < length at.now.stages.now → slice_index_or (row_of at.now.entering.now n) k None ≡ Some e → (edge_at at.now.edges.now e).tail < length at.now.stages.now }
-    ensures { IsFirst mapping.now worker (MayRun at.now.edges.now at.now.stages.now at.now.entering.now nodes.now kinds.now child) result }
+    requires { AreRanked mapping.now ready.now }
+    ensures { IsFirst mapping.now worker (IsPut mapping.now ready.now child) result }
 {
     let mut best = None;
-    for n in 0..at.stages.len() {
-        let offered = is_offered(at, nodes, kinds, child, n);
-        if offered {
-            best = Some(first_of(mapping, worker, best, n as u32));
+    for home in 0..homes_of(ready) {
+        if let Some(head) = ready.least(2 * home + bit_of(child)) {
+            best = Some(first_of(mapping, worker, best, head));
         }
     }
     best

@@ -6,16 +6,17 @@ ghost use Rattle.job_flow.specs.Graphs.{node_at};
 ghost use Rattle.job_flow.specs.Frames.{inputs, lens, on_edge};
 ghost use Rattle.job_flow.specs.Events.{IsQuiet};
 
-use crate::choosing::first_enabled;
+use crate::choosing::first_head;
 use crate::leases::{return_leases, take_leases};
 use crate::nodes::{is_child, keep_tokens, kind_of, reads_stored, writes_stored};
-use crate::picking::{Progress, is_quiet};
+use crate::ready::{is_quiet, release, released};
 use crate::rooms::spend_rooms;
 use crate::stage::{Stage, ended_stage, first_fault};
 use crate::told::told_of;
 use cell_pool::Pool;
 use job_compiler::Compiled;
 use kernel_gate::{Frame, KernelFault, Lent};
+use ready_heap::GroupedHeaps;
 use sdf_level::{List, Node};
 use single_rate::graphs_numbered;
 use split_block::Lease;
@@ -34,6 +35,12 @@ pub struct Job {
     pub(crate) sources: Snapshot<List<List<i64>>>,
     pub(crate) stored: Snapshot<List<List<i64>>>,
     pub(crate) stages: Vec<Stage>,
+    /// How many edges into each node have a tail that isn't finished without a fault.
+    pub(crate) waiting: Vec<usize>,
+    /// The nodes that may be claimed.
+    pub(crate) ready: GroupedHeaps,
+    /// How many nodes are claimed.
+    pub(crate) claimed: usize,
     pub(crate) entering: Vec<List<Option<u32>>>,
     pub(crate) leaving: Vec<List<Option<u32>>>,
     pub(crate) in_rooms: Vec<Vec<Lease>>,
@@ -78,6 +85,7 @@ impl Job {
     ghost use Rattle.one_job.specs.Marks.{Claimed, IsClaimed, mark_at, phase, values};
     ghost use Rattle.one_job.specs.View.{JobView, IsEnabled, IsFiring, graph_of, kind_of, args_of};
     ghost use Rattle.one_job.specs.Pick.{IsFirst, IsOffered, is_child as is_job};
+    ghost use Rattle.one_job.specs.LiveLaws.{KeepsBuffers};
     ghost use Rattle.one_job.specs.Calls.{LieAtBuffers, finished_with, end_of};
 
     /// The node that a worker claims next: of the nodes that may be claimed and aren't jobs of their own one whose home is the
@@ -99,18 +107,7 @@ impl Job {
     fn first(&self, worker: u32, child: bool) -> Option<u32>
         ensures { IsFirst self.now.compilation.mapping worker (IsOffered self.now child) result }
     {
-        first_enabled(
-            &Progress {
-                edges: self.compiled.graph().edges.items(),
-                entering: &self.entering,
-                stages: &self.stages,
-            },
-            self.compiled.graph().nodes.items(),
-            self.kinds.items(),
-            self.compiled.mapping(),
-            worker,
-            child,
-        )
+        first_head(&self.ready, self.compiled.mapping(), worker, child)
     }
 
     /// What a node is.
@@ -146,6 +143,15 @@ impl Job {
         ensures { result ≡ slice_index self.now.compilation.mapping.priority node }
     {
         self.compiled.mapping().priority.items()[node as usize]
+    }
+
+    /// What the job was compiled to. In every state what is claimed was claimed in the order of the edges, and has the leases
+    /// of its buffers.
+    pub fn compiled(&self) -> &Compiled
+        ensures value { result.now ≡ self.now.compilation }
+        ensures buffers { KeepsBuffers self.now }
+    {
+        &self.compiled
     }
 
     /// Claims a node. Its frame has the node's kind, or 0, the arguments of its actor, or none, no sets, and for each port a
@@ -190,6 +196,8 @@ impl Job {
             List::new(Vec::new(self.alloc)),
         );
         self.stages[n] = Stage::Claimed(told_of(&frame));
+        self.ready.remove(node);
+        self.claimed += 1;
         frame
     }
 
@@ -202,6 +210,7 @@ impl Job {
     {
         graphs_numbered();
         let n = node as usize;
+        let is_done = answer.is_ok();
         let stage = ended_stage(told_of(&frame), answer);
         let Lent {
             args: _,
@@ -224,17 +233,20 @@ impl Job {
         );
         keep_tokens(kind, kept, &mut self.left, &mut self.outs);
         self.stages[n] = stage;
+        self.claimed -= 1;
+        release(
+            self.compiled.graph().edges.items(),
+            released(is_done, self.leaving[n].items()),
+            &mut self.waiting,
+            &mut self.ready,
+        );
     }
 
     /// Whether there is nothing left to do: no node may be claimed, and none is claimed.
     pub fn quiet(&self) -> bool
         ensures { IsTrue result ↔ IsQuiet (graph_of self.now) (values self.now.marks) }
     {
-        is_quiet(&Progress {
-            edges: self.compiled.graph().edges.items(),
-            entering: &self.entering,
-            stages: &self.stages,
-        })
+        is_quiet(self.claimed, &self.ready)
     }
 
     /// How the job ended: with the fault that stands first in the order of one thread, else with the tokens that the sinks
@@ -251,6 +263,9 @@ impl Job {
             sources: _,
             stored: _,
             stages: _,
+            waiting: _,
+            ready: _,
+            claimed: _,
             entering: _,
             leaving: _,
             in_rooms,
@@ -286,6 +301,9 @@ impl Job {
             sources: _,
             stored: _,
             stages: _,
+            waiting: _,
+            ready: _,
+            claimed: _,
             entering: _,
             leaving: _,
             in_rooms,

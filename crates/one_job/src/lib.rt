@@ -4,10 +4,11 @@
 
 mod choosing;
 mod job;
+mod laws;
 mod leases;
 mod nodes;
 mod opening;
-mod picking;
+mod ready;
 mod rooms;
 mod stage;
 mod starting;
@@ -15,4 +16,5 @@ mod told;
 mod wiring;
 
 pub use job::{Job, JobEnd};
+pub use laws::{full_buffers_hold_tokens, live_buffers_are_apart};
 pub use starting::start;

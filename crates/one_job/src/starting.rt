@@ -5,12 +5,14 @@ ghost use Rattle.sdf_level.specs.LevelRun.{HaveDelays};
 ghost use Rattle.one_job.specs.Marks.{Free};
 ghost use Rattle.one_job.specs.View.{job_graph};
 ghost use Rattle.one_job.specs.Ports.{AreWired};
+ghost use Rattle.one_job.specs.Wiring.{head_of, AreEndCounts};
 
 use crate::job::Job;
 use crate::opening::{
     Space, empty_lists, free_stages, make_space, node_args, sizes, stored_reads, stored_writes,
     tokens_read, tokens_written,
 };
+use crate::ready::start_ready;
 use crate::wiring::{counts_in, counts_out, end_counts, heads, rows, tails};
 use job_compiler::Compiled;
 use job_flow::edges_have_ports;
@@ -25,6 +27,8 @@ use std::sync::Arc;
 struct Wiring {
     entering: Vec<List<Option<u32>>>,
     leaving: Vec<List<Option<u32>>>,
+    /// For each node how many edges enter it.
+    into: Vec<usize>,
 }
 
 /// The edges at the ports of all nodes.
@@ -36,23 +40,26 @@ fn wire(
 ) -> Result<Wiring, AllocError>
     requires sources { map length sources.now ≡ compiled.now.level.sources }
     requires stored { HaveDelays compiled.now.level.links stored.now }
-    ensures { IfOk result (λ w. AreWired (job_graph compiled.now sources.now stored.now) w.entering.items w.leaving.items) }
+    ensures wired { IfOk result (λ w. AreWired (job_graph compiled.now sources.now stored.now) w.entering.items w.leaving.items) }
+    ensures into { IfOk result (λ w. AreEndCounts (length compiled.now.graph.nodes) (map head_of compiled.now.graph.edges) w.into.items) }
 {
     edges_have_ports::<i64>();
     graphs_numbered();
     let nodes = compiled.graph().nodes.items();
     let edges = compiled.graph().edges.items();
     let links = compiled.level().links.items();
+    let actors = compiled.level().actors as usize;
 
     let heads = heads(alloc, edges)?;
     let tails = tails(alloc, edges)?;
     let into = end_counts(alloc, nodes.len(), &heads)?;
     let from = end_counts(alloc, nodes.len(), &tails)?;
-    let ins = counts_in(alloc, nodes, links, &into)?;
-    let outs = counts_out(alloc, nodes, links, &from)?;
+    let ins = counts_in(alloc, nodes, links, actors, &into)?;
+    let outs = counts_out(alloc, nodes, links, actors, &from)?;
     Ok(Wiring {
         entering: rows(alloc, &ins, &heads)?,
         leaving: rows(alloc, &outs, &tails)?,
+        into,
     })
 }
 
@@ -83,7 +90,11 @@ pub fn start(
     let nodes = compiled.graph().nodes.items();
     let edges = compiled.graph().edges.items();
     let level = compiled.level();
-    let Wiring { entering, leaving } = wire(alloc, &compiled, sources.items(), stored.items())?;
+    let Wiring {
+        entering,
+        leaving,
+        into,
+    } = wire(alloc, &compiled, sources.items(), stored.items())?;
     let node_args = node_args(alloc, nodes, args.items())?;
     let tokens_in = tokens_read(alloc, nodes, sources.items(), stored.items())?;
     let tokens_out = tokens_written(alloc, nodes, edges, &entering)?;
@@ -92,6 +103,7 @@ pub fn start(
     let left = empty_lists(alloc, level.links.items().len())?;
     let in_sizes = sizes(alloc, &stored_reads(alloc, nodes)?, &entering)?;
     let out_sizes = sizes(alloc, &stored_writes(alloc, nodes)?, &leaving)?;
+    let ready = start_ready(alloc, compiled.mapping(), nodes, kinds.items(), &into)?;
     let Space {
         in_rooms,
         out_rooms,
@@ -104,6 +116,9 @@ pub fn start(
         sources: Snapshot::of(&sources),
         stored: Snapshot::of(&stored),
         stages,
+        waiting: into,
+        ready,
+        claimed: 0,
         entering,
         leaving,
         in_rooms,

@@ -1,10 +1,10 @@
 // The edges at the ports of each node.
-ghost use Rattle.std.specs.Prelude.{◌≡◌, ◌<◌, ◌^◌, ◌≤◌, ℕ, None, All, map, length, replicate, slice_index, IfOk};
+ghost use Rattle.std.specs.Prelude.{◌≡◌, ◌+◌, ◌<◌, ◌^◌, ◌≤◌, slice_set, ℕ, None, All, map, length, replicate, slice_index, IfOk};
 ghost use Rattle.sdf_level.specs.Kept.{how_many};
 ghost use Rattle.sdf_level.specs.Run.{is_into_actor};
 ghost use Rattle.sdf_level.specs.LevelRun.{HaveDelays};
 ghost use Rattle.single_rate.specs.Names.{is_from_actor};
-ghost use Rattle.one_job.specs.Wiring.{head_of, tail_of, AreEndCounts, in_count, out_count, HaveRows, AreRows, rows_of, AreCounts};
+ghost use Rattle.one_job.specs.Wiring.{head_of, tail_of, AreEndCounts, in_count, out_count, HaveRows, AreRows, rows_of, AreCounts, AreLinkCounts};
 
 use sdf_level::{Edge, Head, Link, List, Node, Tail};
 use std::alloc::{AllocError, Global};
@@ -47,6 +47,54 @@ fn links_from(links: &[Link], actor: u32) -> usize
     count
 }
 
+/// Counts one more link at an actor, if it is one of those that are counted.
+fn count_at(counts: &mut [usize], actor: u32)
+    requires { slice_index counts.old actor < 2 ^ 63 }
+    ensures { counts.new ≡ slice_set counts.old actor (slice_index counts.old actor + 1) }
+{
+    if (actor as usize) < counts.len() {
+        counts[actor as usize] += 1;
+    }
+}
+
+/// For each of so many actors the number of links that lead into it.
+fn links_by_head(alloc: Global, links: &[Link], actors: usize) -> Result<Vec<usize>, AllocError>
+    requires { length links.now < 2 ^ 63 }
+    ensures { IfOk result (λ v. AreLinkCounts is_into_actor links.now v.items) }
+{
+    let mut counts = vec![in alloc; 0usize; actors]?;
+    for link in links {
+        if let Head::Port {
+            actor,
+            port: _,
+            rate: _,
+        } = link.head
+        {
+            count_at(&mut counts, actor);
+        }
+    }
+    Ok(counts)
+}
+
+/// For each of so many actors the number of links that lead out of it.
+fn links_by_tail(alloc: Global, links: &[Link], actors: usize) -> Result<Vec<usize>, AllocError>
+    requires { length links.now < 2 ^ 63 }
+    ensures { IfOk result (λ v. AreLinkCounts is_from_actor links.now v.items) }
+{
+    let mut counts = vec![in alloc; 0usize; actors]?;
+    for link in links {
+        if let Tail::Port {
+            actor,
+            port: _,
+            rate: _,
+        } = link.tail
+        {
+            count_at(&mut counts, actor);
+        }
+    }
+    Ok(counts)
+}
+
 /// The head of each edge: its node and port.
 pub(crate) fn heads(alloc: Global, edges: &[Edge]) -> Result<Vec<(u32, u32)>, AllocError>
     ensures { IfOk result (λ v. v.items ≡ map head_of edges.now) }
@@ -84,13 +132,17 @@ pub(crate) fn end_counts(
 }
 
 /// How many ports of a node read from edges, so many of which enter it.
-fn ports_in(node: Node, links: &[Link], edges: usize) -> usize
+fn ports_in(node: Node, links: &[Link], by_head: &[usize], edges: usize) -> usize
+    requires { AreLinkCounts is_into_actor links.now by_head.now }
     ensures { result ≡ in_count links.now node edges }
 {
     match node {
         Node::Source(_) => 0,
         Node::Init(_) => 0,
-        Node::Firing { actor, turn: _ } => links_into(links, actor),
+        Node::Firing { actor, turn: _ } => match by_head.get(actor as usize) {
+            Some(count) => *count,
+            None => links_into(links, actor),
+        },
         Node::End(_) => 1,
         Node::Sink(_) => 1,
         Node::Broadcast(_) => 1,
@@ -101,13 +153,17 @@ fn ports_in(node: Node, links: &[Link], edges: usize) -> usize
 }
 
 /// How many ports of a node write to edges, so many of which leave it.
-fn ports_out(node: Node, links: &[Link], edges: usize) -> usize
+fn ports_out(node: Node, links: &[Link], by_tail: &[usize], edges: usize) -> usize
+    requires { AreLinkCounts is_from_actor links.now by_tail.now }
     ensures { result ≡ out_count links.now node edges }
 {
     match node {
         Node::Source(_) => 1,
         Node::Init(_) => 1,
-        Node::Firing { actor, turn: _ } => links_from(links, actor),
+        Node::Firing { actor, turn: _ } => match by_tail.get(actor as usize) {
+            Some(count) => *count,
+            None => links_from(links, actor),
+        },
         Node::End(_) => 0,
         Node::Sink(_) => 0,
         Node::Broadcast(_) => edges,
@@ -122,14 +178,17 @@ pub(crate) fn counts_in(
     alloc: Global,
     nodes: &[Node],
     links: &[Link],
+    actors: usize,
     edges: &[usize],
 ) -> Result<Vec<usize>, AllocError>
-    requires { length edges.now ≡ length nodes.now }
+    requires edges { length edges.now ≡ length nodes.now }
+    requires few { length links.now < 2 ^ 63 }
     ensures { IfOk result (λ v. AreCounts (in_count links.now) nodes.now edges.now v.items) }
 {
+    let by_head = links_by_head(alloc, links, actors)?;
     let mut counts = Vec::with_capacity(alloc, nodes.len())?;
     for n in 0..nodes.len() {
-        counts.push(ports_in(nodes[n], links, edges[n]))?;
+        counts.push(ports_in(nodes[n], links, &by_head, edges[n]))?;
     }
     Ok(counts)
 }
@@ -139,14 +198,17 @@ pub(crate) fn counts_out(
     alloc: Global,
     nodes: &[Node],
     links: &[Link],
+    actors: usize,
     edges: &[usize],
 ) -> Result<Vec<usize>, AllocError>
-    requires { length edges.now ≡ length nodes.now }
+    requires edges { length edges.now ≡ length nodes.now }
+    requires few { length links.now < 2 ^ 63 }
     ensures { IfOk result (λ v. AreCounts (out_count links.now) nodes.now edges.now v.items) }
 {
+    let by_tail = links_by_tail(alloc, links, actors)?;
     let mut counts = Vec::with_capacity(alloc, nodes.len())?;
     for n in 0..nodes.len() {
-        counts.push(ports_out(nodes[n], links, edges[n]))?;
+        counts.push(ports_out(nodes[n], links, &by_tail, edges[n]))?;
     }
     Ok(counts)
 }

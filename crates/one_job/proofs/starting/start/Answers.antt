@@ -10,6 +10,11 @@ use Rattle.one_job.specs.Rooms.{HaveRoom}
 use Rattle.one_job.specs.View.{job_graph, args_at}
 use Rattle.one_job.proofs.JobStart.{parts_of_free, keeps_at_start}
 use Rattle.one_job.specs.Kept.{Parts, HasParts, Keeps}
+use Rattle.one_job.specs.Ready.{AreGroups, AreKeys, AreStarted, KeepsReady}
+use Rattle.one_job.specs.Wiring.{head_of, AreEndCounts}
+use Rattle.worker_mapping.specs.declared.mapping.Mapping.{Mapping}
+use Rattle.job_compiler.specs.Compilation.{Compilation}
+use Rattle.one_job.proofs.ReadySteps.{start_ready_keeps}
 use Rattle.one_job.specs.View.{JobView, HasGiven, graph_of}
 use Rattle.std.proofs.lemmas.List.{length-map, length-replicate}
 use Rattle.std.proofs.Common.{arith, ◌<◌, ◌≤◌}
@@ -37,7 +42,7 @@ args_are : (c : goal.After-of-3) → c.items-3.result.now ≡ c.args.args
 args_are c = c.items-3.ensures
 
 wired_is : (c : goal.After-of-3) → AreWired (job_graph c.deref-4.result.now c.items.result.now c.items-2.result.now) c.in_ok-entering.field-0.entering.items c.in_ok-entering.field-0.leaving.items
-wired_is c = c.in_ok-entering.ensures
+wired_is c = c.in_ok-entering.ensures.wired
 
 compiled_is : (c : goal.After-of-3) → c.deref-4.result.now ≡ arc_value c.args.compiled
 compiled_is c = c.deref-4.ensures
@@ -81,13 +86,13 @@ out_sizes_are c = subst (λ rows. AreSizes (map writes_stored c.items-nodes.resu
     (subst (λ own. AreSizes own c.deref-9.result.now c.in_ok-out_sizes.out_sizes.items) (c.deref-8.ensures.value ∙ c.in_ok-stored_writes.ensures) c.in_ok-out_sizes.ensures)
 
 in_room : (c : goal.After-of-3) → HaveRoom c.in_ok-in_sizes.in_sizes.items c.in_ok-in_rooms.field-0.in_rooms.items
-in_room c = subst (λ sizes. HaveRoom sizes c.in_ok-in_rooms.field-0.in_rooms.items) c.deref-11.ensures.value c.in_ok-in_rooms.ensures.in_rooms.1
+in_room c = subst (λ sizes. HaveRoom sizes c.in_ok-in_rooms.field-0.in_rooms.items) c.deref-13.ensures.value c.in_ok-in_rooms.ensures.in_rooms.1
 
 out_room : (c : goal.After-of-3) → HaveRoom c.in_ok-out_sizes.out_sizes.items c.in_ok-in_rooms.field-0.out_rooms.items
-out_room c = subst (λ sizes. HaveRoom sizes c.in_ok-in_rooms.field-0.out_rooms.items) c.deref-12.ensures.value c.in_ok-in_rooms.ensures.out_rooms.1
+out_room c = subst (λ sizes. HaveRoom sizes c.in_ok-in_rooms.field-0.out_rooms.items) c.deref-14.ensures.value c.in_ok-in_rooms.ensures.out_rooms.1
 
 height_is : (c : goal.After-of-3) → c.placement.result.now.height ≡ (arc_value c.args.compiled).placement.height
-height_is c = ap (λ x. x.height) (c.placement.ensures.value ∙ ap (λ x. x.placement) c.deref-10.ensures)
+height_is c = ap (λ x. x.height) (c.placement.ensures.value ∙ ap (λ x. x.placement) c.deref-12.ensures)
 
 cells_are : (c : goal.After-of-3) → c.in_ok-in_rooms.field-0.pool.cells ≡ replicate c.placement.result.now.height (Rattle.std.proofs.Common.pos 0)
 cells_are c = c.in_ok-in_rooms.ensures.cells
@@ -186,8 +191,25 @@ sources_of_job c = c.of-2.ensures
 stored_of_job : (c : goal.After-of-3) → c.of-3.result.value ≡ c.args.stored
 stored_of_job c = c.of-3.ensures
 
+keeps_ready : (c : goal.After-of-3) → KeepsReady (view c) c.in_ok-entering.field-0.into.items 0 c.in_ok-ready.ready
+keeps_ready c =
+    let comp = arc_value c.args.compiled in
+    let ready = c.in_ok-ready.ready in
+    let into = c.in_ok-entering.field-0.into.items in
+    let mapping_is : c.mapping.result.now ≡ comp.mapping = c.mapping.ensures.value ∙ ap (λ x. x.mapping) c.deref-10.ensures in
+    let groups : AreGroups comp.mapping.home comp.graph.nodes c.args.kinds ready.groups =
+    subst (λ (t : Type 0). t) (λ t. AreGroups (mapping_is t).home (nodes_are c t) (c.items-8.ensures t) ready.groups) c.in_ok-ready.ensures.groups in
+    let keys : AreKeys comp.mapping.priority ready.keys = subst (λ (m : Mapping). AreKeys m.priority ready.keys) mapping_is c.in_ok-ready.ensures.keys in
+    let counts : AreEndCounts (length comp.graph.nodes) (map head_of comp.graph.edges) into =
+    subst (λ (x : Compilation). AreEndCounts (length x.graph.nodes) (map head_of x.graph.edges) into) (compiled_is c) c.in_ok-entering.ensures.into in
+    let started : AreStarted ready.groups ready.keys into (length into) ready =
+    subst (λ (xs : List ℕ). AreStarted ready.groups ready.keys xs (length xs) ready) c.deref-11.ensures.value c.in_ok-ready.ensures.started in
+    start_ready_keeps (view c) into ready (marks_are c ∙ ap (λ k. replicate k Free) (ap length (nodes_are c))) groups keys counts started
+
 pub invariant_of-result : goal.invariant_of-result
-invariant_of-result c =
-    subst (λ x. Keeps (view_with c x c.of-2.result.value c.of-3.result.value) (parts c) c.in_ok-in_rooms.field-0.pool c.in_ok-outs.outs.items c.in_ok-left.left.items) (sym (args_of_job c))
-    (subst (λ x. Keeps (view_with c c.args.args x c.of-3.result.value) (parts c) c.in_ok-in_rooms.field-0.pool c.in_ok-outs.outs.items c.in_ok-left.left.items) (sym (sources_of_job c))
-    (subst (λ x. Keeps (view_with c c.args.args c.args.sources x) (parts c) c.in_ok-in_rooms.field-0.pool c.in_ok-outs.outs.items c.in_ok-left.left.items) (sym (stored_of_job c)) (keeps c)))
+invariant_of-result c = (
+  subst (λ x. Keeps (view_with c x c.of-2.result.value c.of-3.result.value) (parts c) c.in_ok-in_rooms.field-0.pool c.in_ok-outs.outs.items c.in_ok-left.left.items) (sym (args_of_job c))
+      (subst (λ x. Keeps (view_with c c.args.args x c.of-3.result.value) (parts c) c.in_ok-in_rooms.field-0.pool c.in_ok-outs.outs.items c.in_ok-left.left.items) (sym (sources_of_job c))
+      (subst (λ x. Keeps (view_with c c.args.args c.args.sources x) (parts c) c.in_ok-in_rooms.field-0.pool c.in_ok-outs.outs.items c.in_ok-left.left.items) (sym (stored_of_job c)) (keeps c))),
+  subst (λ (t : Type 0). t) (λ t. KeepsReady (view_with c (sym (args_of_job c) t) (sym (sources_of_job c) t) (sym (stored_of_job c) t)) c.in_ok-entering.field-0.into.items 0 c.in_ok-ready.ready) (keeps_ready c),
+)

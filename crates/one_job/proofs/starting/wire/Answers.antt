@@ -67,8 +67,8 @@ rows-requires-2-clause-rows c =
     let outs_are = counts_as out_count c.items-links.result.now comp.level.links c.items-nodes.result.now comp.graph.nodes c.deref-4.result.now c.in_ok-from.from.items c.in_ok-outs.outs.items c.in_ok-outs.outs.items links_are nodes_are c.deref-4.ensures.value refl c.in_ok-outs.ensures in
     have_as c.deref-7.result.now c.in_ok-outs.outs.items c.deref-8.result.now (map tail_of comp.graph.edges) c.deref-7.ensures.value (c.deref-8.ensures.value ∙ tails_are) (have_outs law used at_nodes comp is c.args.sources.now c.args.stored.now c.requires.sources c.requires.stored c.in_ok-into.into.items c.in_ok-ins.ins.items into_are ins_are c.in_ok-from.from.items c.in_ok-outs.outs.items from_are outs_are)
 
-pub returns : goal.returns
-returns c =
+pub returns-clause-wired : goal.returns-clause-wired
+returns-clause-wired c =
     let comp = c.args.compiled.now in
     let nodes_are : c.items-nodes.result.now ≡ comp.graph.nodes = c.items-nodes.ensures ∙ ap (λ g. g.nodes) c.graph.ensures.value in
     let edges_are : c.items-edges.result.now ≡ comp.graph.edges = c.items-edges.ensures ∙ ap (λ g. g.edges) c.graph-2.ensures.value in
@@ -86,3 +86,11 @@ returns c =
     let in_rows = rows_as c.deref-5.result.now c.in_ok-ins.ins.items c.deref-6.result.now (map head_of comp.graph.edges) c.in_ok-rows.field-0.items c.deref-5.ensures.value (c.deref-6.ensures.value ∙ heads_are) c.in_ok-rows.ensures in
     let out_rows = rows_as c.deref-7.result.now c.in_ok-outs.outs.items c.deref-8.result.now (map tail_of comp.graph.edges) c.in_ok-rows-2.field-0.items c.deref-7.ensures.value (c.deref-8.ensures.value ∙ tails_are) c.in_ok-rows-2.ensures in
     wired_of law used at_nodes comp is c.args.sources.now c.args.stored.now c.requires.sources c.requires.stored c.in_ok-into.into.items c.in_ok-ins.ins.items into_are ins_are c.in_ok-from.from.items c.in_ok-outs.outs.items from_are outs_are c.in_ok-rows.field-0.items c.in_ok-rows-2.field-0.items in_rows out_rows
+
+pub returns-clause-into : goal.returns-clause-into
+returns-clause-into c =
+    let comp = c.args.compiled.now in
+    let nodes_are : c.items-nodes.result.now ≡ comp.graph.nodes = c.items-nodes.ensures ∙ ap (λ g. g.nodes) c.graph.ensures.value in
+    let edges_are : c.items-edges.result.now ≡ comp.graph.edges = c.items-edges.ensures ∙ ap (λ g. g.edges) c.graph-2.ensures.value in
+    let heads_are : c.in_ok-heads.heads.items ≡ map head_of comp.graph.edges = c.in_ok-heads.ensures ∙ ap (map head_of) edges_are in
+    ends_as (length c.items-nodes.result.now) (length comp.graph.nodes) c.deref.result.now (map head_of comp.graph.edges) c.in_ok-into.into.items c.in_ok-into.into.items (ap length nodes_are) (c.deref.ensures.value ∙ heads_are) refl c.in_ok-into.ensures

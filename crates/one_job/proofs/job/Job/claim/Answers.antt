@@ -1,4 +1,4 @@
-use Rattle.std.proofs.Common.{◌≡◌, ◌<◌, [], length, map, set, get_or, refl, sym, ap, ◌∙◌, subst, arith}
+use Rattle.std.proofs.Common.{◌≡◌, ◌+◌, ◌<◌, [], length, map, set, get_or, refl, sym, ap, ◌∙◌, subst, arith}
 use Rattle.std.specs.Global.{Global}
 use Rattle.std.specs.Prelude.{Vec, vec_len}
 use Rattle.std.proofs.lemmas.List.{get_or_read, map-set}
@@ -16,16 +16,24 @@ use Rattle.one_job.specs.Staged.{mark_of}
 use Rattle.one_job.specs.View.{JobView, IsEnabled, graph_of}
 use Rattle.one_job.specs.Calls.{LieAtBuffers}
 use Rattle.one_job.specs.Kept.{view_of, parts_of, Keeps}
+use Rattle.one_job.specs.Ready.{KeepsReady}
+use Rattle.one_job.proofs.ReadySteps.{claim_ready, claims_few}
 use Rattle.one_job.proofs.JobClaim.{HasRead, HasTakenAll, can_take_ins, can_take_outs, ins_taken, outs_also_taken, last_canonical, claim_keeps, inputs_hold, outputs_fit, lie_at_buffers}
 use Rattle.one_job.proofs.job.Job.claim.Goals as goal
+
+pub overflow_add-self : goal.overflow_add-self
+overflow_add-self c =
+    let i = c.self.inside in
+    let keeps = c.self.invariant.0 in
+    omega (arith, claims_few (view_of i).marks (length (view_of i).marks), c.self.invariant.1.claims_are, keeps.one_each, keeps.compiled.expanded.sound.small.few_nodes)
 
 pub take_leases-inputs-requires-clause-can : goal.take_leases-inputs-requires-clause-can
 take_leases-inputs-requires-clause-can c =
     let i = c.self.inside in
     let n = c.args.node in
     let enabled : IsEnabled (view_of i) n = subst (λ v. IsEnabled v n) (sym c.self.view_is) c.requires in
-    let row_inside : n < length i.entering.items = omega (arith, c.self.invariant.wired.rows_in, enabled.ready.there) in
-    can_take_ins (view_of i) (parts_of i) i.pool i.outs.items i.left.items c.self.invariant n enabled
+    let row_inside : n < length i.entering.items = omega (arith, c.self.invariant.0.wired.rows_in, enabled.ready.there) in
+    can_take_ins (view_of i) (parts_of i) i.pool i.outs.items i.left.items c.self.invariant.0 n enabled
     c.items-edges.result.now c.items-offsets.result.now c.items-2.result.now (get_or i.leaving.items n [])
     (record {
       edges_are = c.items-edges.ensures ∙ (ap (λ g. g.edges) c.graph-2.ensures.value ∙ ap (λ (k : Compilation). k.graph.edges) c.deref-2.ensures);
@@ -39,9 +47,9 @@ take_leases-outputs-requires-clause-can c =
     let i = c.self.inside in
     let n = c.args.node in
     let enabled : IsEnabled (view_of i) n = subst (λ v. IsEnabled v n) (sym c.self.view_is) c.requires in
-    let row_inside : n < length i.entering.items = omega (arith, c.self.invariant.wired.rows_in, enabled.ready.there) in
-    let row_out_inside : n < length i.leaving.items = omega (arith, c.self.invariant.wired.rows_out, enabled.ready.there) in
-    can_take_outs (view_of i) (parts_of i) i.pool i.outs.items i.left.items c.self.invariant n enabled
+    let row_inside : n < length i.entering.items = omega (arith, c.self.invariant.0.wired.rows_in, enabled.ready.there) in
+    let row_out_inside : n < length i.leaving.items = omega (arith, c.self.invariant.0.wired.rows_out, enabled.ready.there) in
+    can_take_outs (view_of i) (parts_of i) i.pool i.outs.items i.left.items c.self.invariant.0 n enabled
     c.items-edges.result.now c.items-offsets.result.now c.items-2.result.now c.items-3.result.now
     (record {
       edges_are = c.items-edges.ensures ∙ (ap (λ g. g.edges) c.graph-2.ensures.value ∙ ap (λ (k : Compilation). k.graph.edges) c.deref-2.ensures);
@@ -52,16 +60,16 @@ take_leases-outputs-requires-clause-can c =
     c.take_leases-inputs.new.pool c.take_leases-inputs.ensures.pool
 
 -- the node may be claimed
-enabled_at : (c : goal.After-self-6-1) → IsEnabled (view_of c.self.inside) c.args.node
+enabled_at : (c : goal.After-self-7-1) → IsEnabled (view_of c.self.inside) c.args.node
 enabled_at c = subst (λ v. IsEnabled v c.args.node) (sym c.self.view_is) c.requires
 
-read_at : (c : goal.After-self-6-1) → HasRead (view_of c.self.inside) (parts_of c.self.inside) c.self.inside.pool c.self.inside.outs.items c.self.inside.left.items c.self.invariant c.args.node (enabled_at c)
+read_at : (c : goal.After-self-7-1) → HasRead (view_of c.self.inside) (parts_of c.self.inside) c.self.inside.pool c.self.inside.outs.items c.self.inside.left.items c.self.invariant.0 c.args.node (enabled_at c)
     c.items-edges.result.now c.items-offsets.result.now c.items-2.result.now c.items-3.result.now
 read_at c =
     let i = c.self.inside in
     let n = c.args.node in
-    let row_inside : n < length i.entering.items = omega (arith, c.self.invariant.wired.rows_in, (enabled_at c).ready.there) in
-    let row_out_inside : n < length i.leaving.items = omega (arith, c.self.invariant.wired.rows_out, (enabled_at c).ready.there) in
+    let row_inside : n < length i.entering.items = omega (arith, c.self.invariant.0.wired.rows_in, (enabled_at c).ready.there) in
+    let row_out_inside : n < length i.leaving.items = omega (arith, c.self.invariant.0.wired.rows_out, (enabled_at c).ready.there) in
     record {
       edges_are = c.items-edges.ensures ∙ (ap (λ g. g.edges) c.graph-2.ensures.value ∙ ap (λ (k : Compilation). k.graph.edges) c.deref-2.ensures);
       offsets_are = c.items-offsets.ensures ∙ (ap (λ q. q.offsets) c.placement.ensures.value ∙ ap (λ (k : Compilation). k.placement.offsets) c.deref-3.ensures);
@@ -69,15 +77,15 @@ read_at c =
       outs_are = c.items-3.ensures ∙ get_or_read i.leaving.items n c.index-2.result.now row_out_inside c.index-2.ensures [];
     }
 
-took_at : (c : goal.After-self-6-1) → HasTakenAll (view_of c.self.inside) (parts_of c.self.inside) c.self.inside.pool c.self.inside.outs.items c.self.inside.left.items c.self.invariant c.args.node (enabled_at c)
+took_at : (c : goal.After-self-7-1) → HasTakenAll (view_of c.self.inside) (parts_of c.self.inside) c.self.inside.pool c.self.inside.outs.items c.self.inside.left.items c.self.invariant.0 c.args.node (enabled_at c)
     c.items-edges.result.now c.items-offsets.result.now c.items-2.result.now c.items-3.result.now (read_at c)
     c.reads_stored.result c.writes_stored.result c.replace.result c.replace-3.result c.take_leases-inputs.result.items c.take_leases-outputs.result.items c.take_leases-inputs.new.pool c.take_leases-outputs.new.pool
 took_at c =
     let i = c.self.inside in
     let n = c.args.node in
     let nodes_are = c.items.ensures ∙ (ap (λ g. g.nodes) c.graph.ensures.value ∙ ap (λ (k : Compilation). k.graph.nodes) c.deref.ensures) in
-    let in_inside : n < length i.tokens_in.items = omega (arith, c.self.invariant.parts.tokens_in, (enabled_at c).ready.there) in
-    let out_inside : n < length i.tokens_out.items = omega (arith, c.self.invariant.parts.tokens_out, (enabled_at c).ready.there) in
+    let in_inside : n < length i.tokens_in.items = omega (arith, c.self.invariant.0.parts.tokens_in, (enabled_at c).ready.there) in
+    let out_inside : n < length i.tokens_out.items = omega (arith, c.self.invariant.0.parts.tokens_out, (enabled_at c).ready.there) in
     record {
       reads = c.reads_stored.ensures ∙ ap (λ ns. reads_stored (node_at ns n)) nodes_are;
       writes = c.writes_stored.ensures ∙ ap (λ ns. writes_stored (node_at ns n)) nodes_are;
@@ -90,21 +98,21 @@ took_at c =
     }
 
 -- where the frame's leases lie
-places_are : (c : goal.After-self-6-1) → c.lend-frame.result.places ≡ record { inputs = map lease_place c.take_leases-inputs.result.items; outputs = map lease_place c.take_leases-outputs.result.items }
+places_are : (c : goal.After-self-7-1) → c.lend-frame.result.places ≡ record { inputs = map lease_place c.take_leases-inputs.result.items; outputs = map lease_place c.take_leases-outputs.result.items }
 places_are c =
     let one = c.lend-frame.ensures.inputs.places ∙ ap (map lease_place) c.new-9.ensures in
     let other = c.lend-frame.ensures.outputs.places ∙ ap (map lease_place) c.new-10.ensures in
     λ k. record { inputs = one k; outputs = other k }
 
-abbrev later : (c : goal.After-self-6-1) → JobView
+abbrev later : (c : goal.After-self-7-1) → JobView
 later c = record (view_of c.self.inside) { marks = set (view_of c.self.inside).marks c.args.node (Claimed (record { inputs = map lease_place c.take_leases-inputs.result.items; outputs = map lease_place c.take_leases-outputs.result.items })) }
 
 -- the view of the fields as they are then
-now_is : (c : goal.After-self-6-1) → record (view_of c.self.inside) { block = c.take_leases-outputs.new.pool.block; marks = map mark_of (set c.self.inside.stages.items c.args.node (stage.Claimed c.told_of.result)) } ≡ later c
+now_is : (c : goal.After-self-7-1) → record (view_of c.self.inside) { block = c.take_leases-outputs.new.pool.block; marks = map mark_of (set c.self.inside.stages.items c.args.node (stage.Claimed c.told_of.result)) } ≡ later c
 now_is c =
     let i = c.self.inside in
     let n = c.args.node in
-    let block_is = ap (λ (q : PoolView). q.block) (last_canonical (view_of i) (parts_of i) i.pool i.outs.items i.left.items c.self.invariant n (enabled_at c) _ _ _ _ (read_at c) _ _ _ _ _ _ _ _ (took_at c)) in
+    let block_is = ap (λ (q : PoolView). q.block) (last_canonical (view_of i) (parts_of i) i.pool i.outs.items i.left.items c.self.invariant.0 n (enabled_at c) _ _ _ _ (read_at c) _ _ _ _ _ _ _ _ (took_at c)) in
     let marks_is = map-set mark_of i.stages.items n (stage.Claimed c.told_of.result)
     ∙ ap (λ q. set (map mark_of i.stages.items) n (Claimed q)) (ap (λ (f : FrameView). f.places) c.told_of.ensures ∙ places_are c) in
     λ k. record (view_of i) { block = block_is k; marks = marks_is k }
@@ -113,12 +121,12 @@ pub invariant_of-self : goal.invariant_of-self
 invariant_of-self c =
     let i = c.self.inside in
     let n = c.args.node in
-    let last_is = last_canonical (view_of i) (parts_of i) i.pool i.outs.items i.left.items c.self.invariant n (enabled_at c) _ _ _ _ (read_at c) _ _ _ _ _ _ _ _ (took_at c) in
+    let last_is = last_canonical (view_of i) (parts_of i) i.pool i.outs.items i.left.items c.self.invariant.0 n (enabled_at c) _ _ _ _ (read_at c) _ _ _ _ _ _ _ _ (took_at c) in
     let in_empty : IsEmpty c.replace-2.new.dest = record { items = ap (λ (v : Vec LeaseView Global). v.items) c.replace-2.ensures.after ∙ c.new-3.ensures.items; len = ap (λ (v : Vec LeaseView Global). vec_len v) c.replace-2.ensures.after ∙ c.new-3.ensures.len } in
     let out_empty : IsEmpty c.replace-4.new.dest = record { items = ap (λ (v : Vec LeaseView Global). v.items) c.replace-4.ensures.after ∙ c.new-6.ensures.items; len = ap (λ (v : Vec LeaseView Global). vec_len v) c.replace-4.ensures.after ∙ c.new-6.ensures.len } in
-    let kept = claim_keeps (view_of i) (parts_of i) i.pool i.outs.items i.left.items c.self.invariant n (enabled_at c) c.take_leases-inputs.result.items c.take_leases-outputs.result.items
-    (ins_taken (view_of i) (parts_of i) i.pool i.outs.items i.left.items c.self.invariant n (enabled_at c) _ _ _ _ (read_at c) _ _ _ _ _ _ _ _ (took_at c))
-    (outs_also_taken (view_of i) (parts_of i) i.pool i.outs.items i.left.items c.self.invariant n (enabled_at c) _ _ _ _ (read_at c) _ _ _ _ _ _ _ _ (took_at c))
+    let kept = claim_keeps (view_of i) (parts_of i) i.pool i.outs.items i.left.items c.self.invariant.0 n (enabled_at c) c.take_leases-inputs.result.items c.take_leases-outputs.result.items
+    (ins_taken (view_of i) (parts_of i) i.pool i.outs.items i.left.items c.self.invariant.0 n (enabled_at c) _ _ _ _ (read_at c) _ _ _ _ _ _ _ _ (took_at c))
+    (outs_also_taken (view_of i) (parts_of i) i.pool i.outs.items i.left.items c.self.invariant.0 n (enabled_at c) _ _ _ _ (read_at c) _ _ _ _ _ _ _ _ (took_at c))
     c.replace-2.new.dest c.replace-4.new.dest in_empty out_empty c.replace-5.new.dest c.replace.new.dest c.replace-3.new.dest in
     let later_parts = record (parts_of i) {
       in_rooms = set i.in_rooms.items n c.replace-2.new.dest;
@@ -127,8 +135,12 @@ invariant_of-self c =
       tokens_in = set i.tokens_in.items n c.replace.new.dest;
       tokens_out = set i.tokens_out.items n c.replace-3.new.dest;
     } in
-    subst (λ v. Keeps v later_parts c.take_leases-outputs.new.pool i.outs.items i.left.items) (sym (now_is c))
-    (subst (λ q. Keeps (later c) later_parts q i.outs.items i.left.items) (sym last_is) kept)
+    let then_ready = claim_ready (view_of i) c.self.invariant.0.one_each i.waiting.items i.claimed i.ready c.self.invariant.1 n (enabled_at c) (record { inputs = map lease_place c.take_leases-inputs.result.items; outputs = map lease_place c.take_leases-outputs.result.items }) in (
+      subst (λ v. Keeps v later_parts c.take_leases-outputs.new.pool i.outs.items i.left.items) (sym (now_is c))
+          (subst (λ q. Keeps (later c) later_parts q i.outs.items i.left.items) (sym last_is) kept),
+      subst (λ v. KeepsReady v i.waiting.items (i.claimed + 1) c.remove.new.self) (sym (now_is c))
+          (subst (λ r. KeepsReady (later c) i.waiting.items (i.claimed + 1) r) (sym c.remove.ensures) then_ready),
+    )
 
 pub returns-clause-inputs : goal.returns-clause-inputs
 returns-clause-inputs c =
@@ -136,9 +148,9 @@ returns-clause-inputs c =
     let n = c.args.node in
     c.lend-frame.ensures.inputs.cells
     ∙ (ap (map cells_of) c.new-9.ensures
-    ∙ (inputs_hold (view_of i) (parts_of i) i.pool i.outs.items i.left.items c.self.invariant n (enabled_at c) c.take_leases-inputs.result.items c.take_leases-outputs.result.items
-    (ins_taken (view_of i) (parts_of i) i.pool i.outs.items i.left.items c.self.invariant n (enabled_at c) _ _ _ _ (read_at c) _ _ _ _ _ _ _ _ (took_at c))
-    (outs_also_taken (view_of i) (parts_of i) i.pool i.outs.items i.left.items c.self.invariant n (enabled_at c) _ _ _ _ (read_at c) _ _ _ _ _ _ _ _ (took_at c))
+    ∙ (inputs_hold (view_of i) (parts_of i) i.pool i.outs.items i.left.items c.self.invariant.0 n (enabled_at c) c.take_leases-inputs.result.items c.take_leases-outputs.result.items
+    (ins_taken (view_of i) (parts_of i) i.pool i.outs.items i.left.items c.self.invariant.0 n (enabled_at c) _ _ _ _ (read_at c) _ _ _ _ _ _ _ _ (took_at c))
+    (outs_also_taken (view_of i) (parts_of i) i.pool i.outs.items i.left.items c.self.invariant.0 n (enabled_at c) _ _ _ _ (read_at c) _ _ _ _ _ _ _ _ (took_at c))
     ∙ ap (λ v. inputs (graph_of v) (values v.marks) n) c.self.view_is))
 
 pub returns-clause-outputs : goal.returns-clause-outputs
@@ -146,9 +158,9 @@ returns-clause-outputs c =
     let i = c.self.inside in
     let n = c.args.node in
     ap lengths (c.lend-frame.ensures.outputs.cells ∙ ap (map cells_of) c.new-10.ensures)
-    ∙ (outputs_fit (view_of i) (parts_of i) i.pool i.outs.items i.left.items c.self.invariant n (enabled_at c) c.take_leases-inputs.result.items c.take_leases-outputs.result.items
-    (ins_taken (view_of i) (parts_of i) i.pool i.outs.items i.left.items c.self.invariant n (enabled_at c) _ _ _ _ (read_at c) _ _ _ _ _ _ _ _ (took_at c))
-    (outs_also_taken (view_of i) (parts_of i) i.pool i.outs.items i.left.items c.self.invariant n (enabled_at c) _ _ _ _ (read_at c) _ _ _ _ _ _ _ _ (took_at c))
+    ∙ (outputs_fit (view_of i) (parts_of i) i.pool i.outs.items i.left.items c.self.invariant.0 n (enabled_at c) c.take_leases-inputs.result.items c.take_leases-outputs.result.items
+    (ins_taken (view_of i) (parts_of i) i.pool i.outs.items i.left.items c.self.invariant.0 n (enabled_at c) _ _ _ _ (read_at c) _ _ _ _ _ _ _ _ (took_at c))
+    (outs_also_taken (view_of i) (parts_of i) i.pool i.outs.items i.left.items c.self.invariant.0 n (enabled_at c) _ _ _ _ (read_at c) _ _ _ _ _ _ _ _ (took_at c))
     ∙ ap (λ v. lens (graph_of v) n) c.self.view_is)
 
 pub returns-clause-leases : goal.returns-clause-leases
@@ -157,9 +169,9 @@ returns-clause-leases c =
     let n = c.args.node in
     subst (λ v. LieAtBuffers v n c.lend-frame.result.places) c.self.view_is
     (subst (LieAtBuffers (view_of i) n) (sym (places_are c))
-    (lie_at_buffers (view_of i) (parts_of i) i.pool i.outs.items i.left.items c.self.invariant n (enabled_at c) c.take_leases-inputs.result.items c.take_leases-outputs.result.items
-    (ins_taken (view_of i) (parts_of i) i.pool i.outs.items i.left.items c.self.invariant n (enabled_at c) _ _ _ _ (read_at c) _ _ _ _ _ _ _ _ (took_at c))
-    (outs_also_taken (view_of i) (parts_of i) i.pool i.outs.items i.left.items c.self.invariant n (enabled_at c) _ _ _ _ (read_at c) _ _ _ _ _ _ _ _ (took_at c))))
+    (lie_at_buffers (view_of i) (parts_of i) i.pool i.outs.items i.left.items c.self.invariant.0 n (enabled_at c) c.take_leases-inputs.result.items c.take_leases-outputs.result.items
+    (ins_taken (view_of i) (parts_of i) i.pool i.outs.items i.left.items c.self.invariant.0 n (enabled_at c) _ _ _ _ (read_at c) _ _ _ _ _ _ _ _ (took_at c))
+    (outs_also_taken (view_of i) (parts_of i) i.pool i.outs.items i.left.items c.self.invariant.0 n (enabled_at c) _ _ _ _ (read_at c) _ _ _ _ _ _ _ _ (took_at c))))
 
 pub returns-clause-claimed : goal.returns-clause-claimed
 returns-clause-claimed c =

@@ -10,5 +10,5 @@ use Rattle.one_job.proofs.job.Job.end.Goals as goal
 pub close-requires : goal.close-requires
 close-requires c =
     let j = view_of c.self.inside in
-    none_out (buffer_at j.compilation.graph.edges j.compilation.placement.offsets) (length j.compilation.graph.edges) j.compilation.graph.edges j.marks c.self.inside.pool.out c.self.invariant.out
+    none_out (buffer_at j.compilation.graph.edges j.compilation.placement.offsets) (length j.compilation.graph.edges) j.compilation.graph.edges j.marks c.self.inside.pool.out c.self.invariant.0.out
     (λ n. subst (λ (v : JobView). phase v.marks n ≢ IsClaimed) (sym c.self.view_is) (c.requires n))

@@ -1,12 +1,13 @@
-use Rattle.std.proofs.Common.{◌≡◌, ◌⊎◌, ◌++◌, length, map, set, take, drop, sym, ap, ap₂, ◌∙◌, subst}
+use Rattle.std.proofs.Common.{◌≡◌, ◌<◌, ◌-◌, ◌⊎◌, ◌++◌, [], length, map, set, take, drop, sym, ap, ap₂, ◌∙◌, subst, arith}
 use Rattle.std.specs.Prelude.{IsOk, if◌then◌else◌}
-use Rattle.std.proofs.lemmas.List.{map-set}
+use Rattle.std.proofs.lemmas.List.{map-set, with_items_is, get_or_read}
 use Rattle.split_block.specs.View.{lease_place, cells_of}
 use Rattle.cell_pool.specs.View.{PoolView}
 use Rattle.job_compiler.specs.Compilation.{Compilation}
 use Rattle.job_flow.specs.Graphs.{node_at}
 use Rattle.one_job.specs.Marks.{Claimed, mark_at}
-use Rattle.one_job.specs.Ports.{reads_stored, writes_stored, with_left, with_out}
+use Rattle.one_job.specs.Ready.{KeepsReady}
+use Rattle.one_job.specs.Ports.{row_of, reads_stored, writes_stored, with_left, with_out}
 use Rattle.one_job.specs.Taking.{with_leases}
 use Rattle.one_job.specs.View.{JobView, IsFiring}
 use Rattle.one_job.specs.Calls.{finished_with}
@@ -14,6 +15,7 @@ use Rattle.one_job.specs.Staged.{mark_of}
 use Rattle.one_job.specs.Kept.{view_of, parts_of, Keeps}
 use Rattle.one_job.proofs.JobDone.{can_give_both, back_is, ports_part, finish_keeps, mark_stage, length-with_out, length-with_left, lent_back}
 use Rattle.one_job.proofs.JobEnds.{once_of}
+use Rattle.one_job.proofs.FinishReady.{some_claimed, release_asks, release_keeps}
 use Rattle.one_job.proofs.job.Job.finish.Goals as goal
 
 pub return_leases-read-requires : goal.return_leases-read-requires
@@ -24,7 +26,7 @@ return_leases-read-requires c =
     let claimed : mark_at (view_of i).marks n ≡ Claimed c.args.frame.places = subst (λ (v : JobView). mark_at v.marks n ≡ Claimed c.args.frame.places) (sym c.self.view_is) c.requires.claimed in
     let back = c.take_back-inputs.ensures in
     let reads = c.reads_stored.ensures ∙ ap (λ ns. reads_stored (node_at ns n)) nodes_are in
-    let both = can_give_both (view_of i) (parts_of i) i.pool i.outs.items i.left.items c.self.invariant n c.args.frame claimed c.into_items.result.items c.take_back-inputs.result.outputs
+    let both = can_give_both (view_of i) (parts_of i) i.pool i.outs.items i.left.items c.self.invariant.0 n c.args.frame claimed c.into_items.result.items c.take_back-inputs.result.outputs
     (back.inputs.places ∙ ap (map lease_place) (sym c.into_items.ensures)) back.outputs.places back.outputs.cells c.args.answer in
     record { one = λ is. both.ins_one (sym reads ∙ is); due = λ is. both.ins_due (sym reads ∙ is) }
 
@@ -37,7 +39,7 @@ return_leases-kept-requires c =
     let back = c.take_back-inputs.ensures in
     let reads = c.reads_stored.ensures ∙ ap (λ ns. reads_stored (node_at ns n)) nodes_are in
     let writes = c.writes_stored.ensures ∙ ap (λ ns. writes_stored (node_at ns n)) nodes_are in
-    let both = can_give_both (view_of i) (parts_of i) i.pool i.outs.items i.left.items c.self.invariant n c.args.frame claimed c.into_items.result.items c.into_items-2.result.items
+    let both = can_give_both (view_of i) (parts_of i) i.pool i.outs.items i.left.items c.self.invariant.0 n c.args.frame claimed c.into_items.result.items c.into_items-2.result.items
     (back.inputs.places ∙ ap (map lease_place) (sym c.into_items.ensures)) (back.outputs.places ∙ ap (map lease_place) (sym c.into_items-2.ensures)) (back.outputs.cells ∙ ap (map cells_of) (sym c.into_items-2.ensures)) c.args.answer in
     let middle = c.return_leases-read.ensures.pool ∙ (ap (λ b. if b then i.pool else with_leases c.into_items.result.items i.pool) reads ∙ back_is (reads_stored (node_at (view_of i).compilation.graph.nodes n)) c.into_items.result.items i.pool) in
     record { one = λ is. both.outs_one (sym writes ∙ is); due = λ is. subst (Rattle.one_job.specs.Taking.AreDue c.into_items-2.result.items) (sym middle) (both.outs_due (sym writes ∙ is)) }
@@ -59,9 +61,9 @@ kept_all c =
     let back = c.take_back-inputs.ensures in
     let writes = c.writes_stored.ensures ∙ ap (λ ns. writes_stored (node_at ns n)) nodes_are in
     let sound : IsFiring (which c) ⊎ IsOk c.args.answer = subst (λ (v : JobView). IsFiring (node_at v.compilation.graph.nodes n) ⊎ IsOk c.args.answer) (sym c.self.view_is) c.requires.sound in
-    finish_keeps (view_of i) (parts_of i) i.pool i.outs.items i.left.items c.self.invariant n c.args.frame claimed c.into_items.result.items c.into_items-2.result.items
+    finish_keeps (view_of i) (parts_of i) i.pool i.outs.items i.left.items c.self.invariant.0 n c.args.frame claimed c.into_items.result.items c.into_items-2.result.items
     (back.inputs.places ∙ ap (map lease_place) (sym c.into_items.ensures)) (back.outputs.places ∙ ap (map lease_place) (sym c.into_items-2.ensures)) (back.outputs.cells ∙ ap (map cells_of) (sym c.into_items-2.ensures)) c.args.answer
-    sound (once_of c.graphs_numbered.ensures.once (view_of i).compilation c.self.invariant.compiled n (can_give_both (view_of i) (parts_of i) i.pool i.outs.items i.left.items c.self.invariant n c.args.frame claimed c.into_items.result.items c.into_items-2.result.items
+    sound (once_of c.graphs_numbered.ensures.once (view_of i).compilation c.self.invariant.0.compiled n (can_give_both (view_of i) (parts_of i) i.pool i.outs.items i.left.items c.self.invariant.0 n c.args.frame claimed c.into_items.result.items c.into_items-2.result.items
     (back.inputs.places ∙ ap (map lease_place) (sym c.into_items.ensures)) (back.outputs.places ∙ ap (map lease_place) (sym c.into_items-2.ensures)) (back.outputs.cells ∙ ap (map cells_of) (sym c.into_items-2.ensures)) c.args.answer).there) c.return_leases-kept.result.items (λ tokens is one. c.return_leases-kept.ensures.tokens tokens (writes ∙ is) one)
 
 -- the pool then
@@ -94,11 +96,43 @@ invariant_of-self c =
     let new_left : c.keep_tokens.new.left ≡ with_left (which c) c.return_leases-kept.result.items i.left.items = c.keep_tokens.ensures.left ∙ ap₂ (λ w l. with_left w c.return_leases-kept.result.items l) node_is c.deref_mut.ensures.value in
     let outs_are = lent_back i.outs c.keep_tokens.new.outs (ap length new_outs ∙ length-with_out (which c) c.return_leases-kept.result.items i.outs.items) ∙ new_outs in
     let left_are = lent_back i.left c.keep_tokens.new.left (ap length new_left ∙ length-with_left (which c) c.return_leases-kept.result.items i.left.items) ∙ new_left in
-    subst (λ v. Keeps v (parts_of i) c.return_leases-kept.new.pool (take i.outs.len (c.keep_tokens.new.outs ++ drop (length c.keep_tokens.new.outs) i.outs.items)) (take i.left.len (c.keep_tokens.new.left ++ drop (length c.keep_tokens.new.left) i.left.items))) (sym (now_is c))
-    (subst (λ q. Keeps (later c) (parts_of i) q (take i.outs.len (c.keep_tokens.new.outs ++ drop (length c.keep_tokens.new.outs) i.outs.items)) (take i.left.len (c.keep_tokens.new.left ++ drop (length c.keep_tokens.new.left) i.left.items))) (sym (pool_is c))
-    (subst (λ l. Keeps (later c) (parts_of i) (with_leases (ports_part (writes_stored (which c)) c.into_items-2.result.items) (with_leases (ports_part (reads_stored (which c)) c.into_items.result.items) i.pool)) l (take i.left.len (c.keep_tokens.new.left ++ drop (length c.keep_tokens.new.left) i.left.items))) (sym outs_are)
-    (subst (λ l. Keeps (later c) (parts_of i) (with_leases (ports_part (writes_stored (which c)) c.into_items-2.result.items) (with_leases (ports_part (reads_stored (which c)) c.into_items.result.items) i.pool)) (with_out (which c) c.return_leases-kept.result.items i.outs.items) l) (sym left_are)
-    (kept_all c))))
+    let j = view_of i in
+    let claimed : mark_at j.marks n ≡ Claimed c.args.frame.places = subst (λ (v : JobView). mark_at v.marks n ≡ Claimed c.args.frame.places) (sym c.self.view_is) c.requires.claimed in
+    let n_marked = Rattle.one_job.proofs.Phases.inside_of j.marks n (λ free. let bad : Rattle.one_job.specs.Marks.IsClaimed ≡ Rattle.one_job.specs.Marks.IsFree = sym (ap Rattle.one_job.specs.Marks.phase_of claimed) ∙ free in absurd (cc)) in
+    let row_inside : n < length i.leaving.items = omega (arith, c.self.invariant.0.wired.rows_out, c.self.invariant.0.one_each, n_marked) in
+    let edges_are : c.items-2.result.now ≡ j.compilation.graph.edges = c.items-2.ensures ∙ (ap (λ g. g.edges) c.graph-2.ensures.value ∙ ap (λ (k : Compilation). k.graph.edges) c.deref-2.ensures) in
+    let row_is : c.items-3.result.now ≡ row_of (parts_of i).leaving n = c.items-3.ensures ∙ get_or_read i.leaving.items n c.index.result.now row_inside c.index.ensures [] in
+    let ports_are : c.released.result.now ≡ (if c.is_ok-is_done.result then row_of (parts_of i).leaving n else []) = c.released.ensures ∙ ap (λ ports. if c.is_ok-is_done.result then ports else []) row_is in
+    let same = with_items_is i.waiting c.release.new.waiting (c.release.auto.waiting ∙ (ap length c.deref_mut-3.ensures.value ∙ sym i.waiting.ok.0)) in
+    let then_ready = release_keeps j (parts_of i) i.pool i.outs.items i.left.items c.self.invariant.0 i.waiting.items i.claimed i.ready c.self.invariant.1 n c.args.frame claimed c.args.answer c.is_ok-is_done.result c.is_ok-is_done.ensures.value c.items-2.result.now c.released.result.now c.deref_mut-3.result.now edges_are ports_are c.deref_mut-3.ensures.value c.release.new.waiting c.release.new.ready c.release.ensures in (
+      subst (λ v. Keeps v (parts_of i) c.return_leases-kept.new.pool (take i.outs.len (c.keep_tokens.new.outs ++ drop (length c.keep_tokens.new.outs) i.outs.items)) (take i.left.len (c.keep_tokens.new.left ++ drop (length c.keep_tokens.new.left) i.left.items))) (sym (now_is c))
+          (subst (λ q. Keeps (later c) (parts_of i) q (take i.outs.len (c.keep_tokens.new.outs ++ drop (length c.keep_tokens.new.outs) i.outs.items)) (take i.left.len (c.keep_tokens.new.left ++ drop (length c.keep_tokens.new.left) i.left.items))) (sym (pool_is c))
+          (subst (λ l. Keeps (later c) (parts_of i) (with_leases (ports_part (writes_stored (which c)) c.into_items-2.result.items) (with_leases (ports_part (reads_stored (which c)) c.into_items.result.items) i.pool)) l (take i.left.len (c.keep_tokens.new.left ++ drop (length c.keep_tokens.new.left) i.left.items))) (sym outs_are)
+          (subst (λ l. Keeps (later c) (parts_of i) (with_leases (ports_part (writes_stored (which c)) c.into_items-2.result.items) (with_leases (ports_part (reads_stored (which c)) c.into_items.result.items) i.pool)) (with_out (which c) c.return_leases-kept.result.items i.outs.items) l) (sym left_are)
+          (kept_all c)))),
+      subst (λ (t : Type 0). t) (λ t. KeepsReady (sym (now_is c) t) (sym same t) (i.claimed - 1) c.release.new.ready) then_ready,
+    )
+
+pub release-requires : goal.release-requires
+release-requires c =
+    let i = c.self.inside in
+    let n = c.args.node in
+    let j = view_of i in
+    let claimed : mark_at j.marks n ≡ Claimed c.args.frame.places = subst (λ (v : JobView). mark_at v.marks n ≡ Claimed c.args.frame.places) (sym c.self.view_is) c.requires.claimed in
+    let n_marked = Rattle.one_job.proofs.Phases.inside_of j.marks n (λ free. let bad : Rattle.one_job.specs.Marks.IsClaimed ≡ Rattle.one_job.specs.Marks.IsFree = sym (ap Rattle.one_job.specs.Marks.phase_of claimed) ∙ free in absurd (cc)) in
+    let row_inside : n < length i.leaving.items = omega (arith, c.self.invariant.0.wired.rows_out, c.self.invariant.0.one_each, n_marked) in
+    let edges_are : c.items-2.result.now ≡ j.compilation.graph.edges = c.items-2.ensures ∙ (ap (λ g. g.edges) c.graph-2.ensures.value ∙ ap (λ (k : Compilation). k.graph.edges) c.deref-2.ensures) in
+    let row_is : c.items-3.result.now ≡ row_of (parts_of i).leaving n = c.items-3.ensures ∙ get_or_read i.leaving.items n c.index.result.now row_inside c.index.ensures [] in
+    let ports_are : c.released.result.now ≡ (if c.is_ok-is_done.result then row_of (parts_of i).leaving n else []) = c.released.ensures ∙ ap (λ ports. if c.is_ok-is_done.result then ports else []) row_is in
+    release_asks j (parts_of i) i.pool i.outs.items i.left.items c.self.invariant.0 i.waiting.items i.claimed i.ready c.self.invariant.1 n c.args.frame claimed c.args.answer c.is_ok-is_done.result c.is_ok-is_done.ensures.value c.items-2.result.now c.released.result.now c.deref_mut-3.result.now edges_are ports_are c.deref_mut-3.ensures.value
+
+pub overflow_sub-self : goal.overflow_sub-self
+overflow_sub-self c =
+    let i = c.self.inside in
+    let n = c.args.node in
+    let j = view_of i in
+    let claimed : mark_at j.marks n ≡ Claimed c.args.frame.places = subst (λ (v : JobView). mark_at v.marks n ≡ Claimed c.args.frame.places) (sym c.self.view_is) c.requires.claimed in
+    some_claimed j (parts_of i) i.pool i.outs.items i.left.items c.self.invariant.0 i.waiting.items i.claimed i.ready c.self.invariant.1 n c.args.frame claimed
 
 pub returns : goal.returns
 returns c = now_is c ∙ ap (λ (v : JobView). record v { marks = set v.marks c.args.node (finished_with c.args.frame c.args.answer) }) c.self.view_is

@@ -11,5 +11,5 @@ pub close-requires : goal.close-requires
 close-requires c =
     let i = c.self.inside in
     let j = view_of i in
-    none_out (buffer_at j.compilation.graph.edges j.compilation.placement.offsets) (length j.compilation.graph.edges) j.compilation.graph.edges j.marks i.pool.out c.self.invariant.out
-    (quiet_none j (parts_of i) i.pool i.outs.items i.left.items c.self.invariant (subst (λ (v : JobView). IsQuiet (graph_of v) (values v.marks)) (sym c.self.view_is) c.requires))
+    none_out (buffer_at j.compilation.graph.edges j.compilation.placement.offsets) (length j.compilation.graph.edges) j.compilation.graph.edges j.marks i.pool.out c.self.invariant.0.out
+    (quiet_none j (parts_of i) i.pool i.outs.items i.left.items c.self.invariant.0 (subst (λ (v : JobView). IsQuiet (graph_of v) (values v.marks)) (sym c.self.view_is) c.requires))

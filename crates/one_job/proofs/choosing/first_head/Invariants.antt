@@ -1,0 +1,7 @@
+use Rattle.one_job.specs.Pick.{IsFirst}
+use Rattle.one_job.specs.Ready.{IsPut}
+use Rattle.one_job.proofs.Heads.{FromHomes}
+use Rattle.one_job.proofs.choosing.first_head.Given as goal
+
+abbrev pub invariant-loop-home : goal.invariant-loop-home
+invariant-loop-home l = IsFirst l.mapping l.worker (FromHomes l.mapping (IsPut l.mapping l.ready l.child) l.home) l.best

@@ -1,0 +1,44 @@
+use Rattle.std.proofs.Common.{◌≡◌, ℕ, ◌+◌, ◌<◌, List, length, drop, get_or, sym, ap, ◌∙◌, subst, arith}
+use Rattle.std.specs.Prelude.{Option, Some, None}
+use Rattle.std.proofs.lemmas.List.{drop_more}
+use Rattle.sdf_level.specs.declared.single_rate.Edge.{Edge}
+use Rattle.one_job.specs.Ready.{heads_at, heads_in, Releases}
+use Rattle.one_job.proofs.Releasing.{releases_same, releases_step, not_in, waits_one}
+use Rattle.one_job.proofs.ready.release.Goals as goal
+use Rattle.one_job.proofs.ready.release.Goals.{in-Some, in_default}
+
+-- the heads of the ports from one on
+heads_from : (edges : List Edge) (ports : List (Option ℕ)) (i : ℕ) (port : Option ℕ) → i < length ports → get_or ports i None ≡ port → (n : ℕ) → heads_in edges (drop i ports) n ≡ heads_at edges port n + heads_in edges (drop (i + 1) ports) n
+heads_from edges ports i port inside at n = ap (λ rest. heads_in edges rest n) (drop_more ports i None inside) ∙ ap (λ p. heads_at edges p n + heads_in edges (drop (i + 1) ports) n) at
+
+pub release_one-requires-clause-waits : goal.release_one-requires-clause-waits
+release_one-requires-clause-waits c =
+    let edges = c.args.edges.now in
+    let ports = c.args.ports.now in
+    let i = c.loop-port.port-index in
+    waits_one edges ports (drop i ports) (drop (i + 1) ports) c.in-Some.edge c.args.waiting.now c.loop-port.waiting c.args.ready.now c.loop-port.ready c.loop-port.invariant c.requires
+    (heads_from edges ports i (Some c.in-Some.edge) c.loop-port-test.true c.in-Some.is) (c.requires.heads i c.in-Some.edge c.in-Some.is)
+
+pub release_one-requires-clause-out : goal.release_one-requires-clause-out
+release_one-requires-clause-out c =
+    let edges = c.args.edges.now in
+    let ports = c.args.ports.now in
+    let i = c.loop-port.port-index in
+    not_in edges ports (drop i ports) (drop (i + 1) ports) c.in-Some.edge c.args.waiting.now c.loop-port.waiting c.args.ready.now c.loop-port.ready c.loop-port.invariant c.requires
+    (heads_from edges ports i (Some c.in-Some.edge) c.loop-port-test.true c.in-Some.is) (c.requires.heads i c.in-Some.edge c.in-Some.is)
+
+pub loop-port-preserved : goal.loop-port-preserved
+loop-port-preserved c =
+    let edges = c.args.edges.now in
+    let ports = c.args.ports.now in
+    let i = c.loop-port.port-index in
+    elim c.match-port.branch [
+      | in-Some w ↦
+          subst (λ (t : Type 0). t) (λ t. Releases edges ports (drop (i + 1) ports) c.args.waiting.now (sym (w.waiting-is ∙ w.release_one.ensures.waiting) t) c.args.ready.now (sym (w.ready-is ∙ w.release_one.ensures.ready) t))
+          (releases_step edges ports (drop i ports) (drop (i + 1) ports) w.in-Some.edge c.args.waiting.now c.loop-port.waiting c.args.ready.now c.loop-port.ready c.loop-port.invariant c.requires
+          (heads_from edges ports i (Some w.in-Some.edge) c.loop-port-test.true w.in-Some.is) (c.requires.heads i w.in-Some.edge w.in-Some.is))
+      | in_default w ↦
+          subst (λ (t : Type 0). t) (λ t. Releases edges ports (drop (i + 1) ports) c.args.waiting.now (sym w.waiting-is t) c.args.ready.now (sym w.ready-is t))
+          (releases_same edges ports (drop i ports) (drop (i + 1) ports) c.args.waiting.now c.loop-port.waiting c.args.ready.now c.loop-port.ready c.loop-port.invariant
+          (λ n. heads_from edges ports i None c.loop-port-test.true w.in_default.is n ∙ omega arith))
+    ]

@@ -1,0 +1,56 @@
+-- What holds of the buffers of every job.
+use Rattle.std.specs.Prelude.{◌≡◌, ◌≢◌, ℕ, ◌+◌, ◌<◌, ◌≤◌, List, length, false, slice_get, Some}
+use Rattle.split_block.specs.Places.{Apart}
+use Rattle.split_block.specs.View.{LeasePlace}
+use Rattle.kernel_gate.specs.Value.{Places}
+use Rattle.job_compiler.specs.Compilation.{Compilation, IsCompiled}
+use Rattle.job_flow.specs.Graphs.{node_at}
+use Rattle.one_job.specs.Marks.{Mark, Claimed, mark_at}
+use Rattle.one_job.specs.Places.{edge_at, buffer_at}
+use Rattle.one_job.specs.Live.{InOrder, IsLive, IsLent, IsFull}
+use Rattle.one_job.specs.Ports.{reads_stored, writes_stored}
+use Rattle.one_job.specs.View.{JobView}
+use Rattle.one_job.specs.Calls.{LieAtBuffers}
+
+-- two buffers that are live at once share no cell
+abbrev pub LiveBuffersAreApart : Type 0
+LiveBuffersAreApart =
+    (c : Compilation) (marks : List Mark) (e f : ℕ) → IsCompiled c → InOrder c.graph.edges marks
+    → e < length c.graph.edges → f < length c.graph.edges → e ≢ f → IsLive c.graph.edges marks e → IsLive c.graph.edges marks f
+    → Apart (buffer_at c.graph.edges c.placement.offsets e) (buffer_at c.graph.edges c.placement.offsets f)
+
+-- each buffer has a cell, and ends within the block
+abbrev pub BuffersAreWithin : Type 0
+BuffersAreWithin =
+    (c : Compilation) (e : ℕ) → IsCompiled c → e < length c.graph.edges
+    → (1 ≤ (edge_at c.graph.edges e).size)
+    × ((buffer_at c.graph.edges c.placement.offsets e).start + (buffer_at c.graph.edges c.placement.offsets e).len ≤ c.placement.height)
+
+-- what is out with a claimed node is live
+abbrev pub LentBuffersAreLive : Type 0
+LentBuffersAreLive =
+    (c : Compilation) (marks : List Mark) (e : ℕ) → InOrder c.graph.edges marks → e < length c.graph.edges
+    → IsLent c.graph.edges marks e → IsLive c.graph.edges marks e
+
+-- and so is what holds the tokens that its tail gave
+abbrev pub FullBuffersAreLive : Type 0
+FullBuffersAreLive =
+    (c : Compilation) (marks : List Mark) (e : ℕ) → IsFull c.graph.edges marks e → IsLive c.graph.edges marks e
+
+-- the leases of a claimed node are those of its buffers, and a port that no edge enters or leaves has an empty one, but where
+-- the node has stored tokens
+pub record LieOut (j : JobView) (n : ℕ) (places : Places) : Type 0 where
+  pub buffers : LieAtBuffers j n places
+  pub no_input : (p : ℕ) (lease : LeasePlace) → reads_stored (node_at j.compilation.graph.nodes n) ≡ false
+      → ((e : ℕ) → e < length j.compilation.graph.edges → (edge_at j.compilation.graph.edges e).head ≡ n → (edge_at j.compilation.graph.edges e).head_port ≢ p)
+      → slice_get places.inputs p ≡ Some lease → lease.len ≡ 0
+  pub no_output : (p : ℕ) (lease : LeasePlace) → writes_stored (node_at j.compilation.graph.nodes n) ≡ false
+      → ((e : ℕ) → e < length j.compilation.graph.edges → (edge_at j.compilation.graph.edges e).tail ≡ n → (edge_at j.compilation.graph.edges e).tail_port ≢ p)
+      → slice_get places.outputs p ≡ Some lease → lease.len ≡ 0
+
+-- each node has a mark; what is claimed was claimed in the order of the edges, and its leases are those of its buffers
+pub record KeepsBuffers (j : JobView) : Type 0 where
+  pub compiled : IsCompiled j.compilation
+  pub one_each : length j.marks ≡ length j.compilation.graph.nodes
+  pub order : InOrder j.compilation.graph.edges j.marks
+  pub leases : (n : ℕ) (places : Places) → mark_at j.marks n ≡ Claimed places → LieOut j n places
