@@ -1,25 +1,35 @@
-use Rattle.std.proofs.Common.{◌≡◌, Bool, true, false, sym, ◌∙◌}
+use Rattle.std.proofs.Common.{arith}
+use Rattle.std.proofs.lemmas.List.Elements.{All-append}
 use Rattle.placement_checker.specs.Rows.{RowHas}
-use Rattle.placement.proofs.Sweep.{free_before, passed_by, passed_over}
+use Rattle.placement.specs.Placing.{Blocks}
+use Rattle.placement.specs.declared.gap.Placed.{Placed}
+use Rattle.placement.proofs.Sweep.{free_before, free_at_end, passed_higher, search_starts, start_at_gap, one_more_large}
 use Rattle.placement.proofs.gap.least_offset.Goals as goal
-use Rattle.placement.proofs.gap.least_offset.Goals.{then-offset-p+then-has_bit, else-offset-p, else-offset-p-via-then-offset-p+else-has_bit, else-offset-p-via-else-offset-p}
 
-not_both : (b : Bool) → b ≡ true → b ≡ false → ⊥
-not_both b on off = let same : true ≡ false = sym on ∙ off in absurd (cc)
+pub loop-k-init : goal.loop-k-init
+loop-k-init c = search_starts (RowHas c.args.row.now) c.args.size c.args.small.now c.args.large.now c.first_behind-from.result c.args.start (λ k d below related. c.first_behind-from.ensures k d below) c.requires.start
 
 pub loop-k-preserved : goal.loop-k-preserved
 loop-k-preserved c =
-    elim c.if-offset-p.branch [
-      | then-offset-p+then-has_bit w ↦
-          rw w.offset-is (passed_over (RowHas c.args.row.now) c.args.size c.args.placed.now c.loop-k.k c.loop-k.offset _ c.loop-k-test.true c.loop-k.invariant c.requires.filled (w.has_bit.ensures.0 w.if-has_bit.true) c.if-offset-size.false w.if-offset-p.true)
-      | else-offset-p w ↦
-          rw w.offset-is (passed_by (RowHas c.args.row.now) c.args.size c.args.placed.now c.loop-k.k c.loop-k.offset (record { number = 0; offset = 0; end = 0 }) c.loop-k-test.true c.loop-k.invariant
-          (λ related. elim w.else-offset-p.branch [
-            | else-offset-p-via-then-offset-p+else-has_bit w' ↦ absurd (not_both w'.has_bit.result (w'.has_bit.ensures.1 related) w'.if-has_bit.false)
-            | else-offset-p-via-else-offset-p w' ↦ w'.if-offset-p.false
-          ]))
-    ]
+    one_more_large (RowHas c.args.row.now) c.args.size c.args.small.now c.args.large.now _ c.next_gap-gap.result.0 c.loop-k.k c.next_gap-gap.result.1 c.behind-offset.result _ c.loop-k-test.true c.behind-offset.ensures c.requires.large c.if-gap-size.false c.next_gap-gap.ensures.passed
+    (passed_higher (RowHas c.args.row.now) c.args.size c.args.large.now c.loop-k.k c.loop-k.offset c.next_gap-gap.result.1 c.next_gap-gap.ensures.up c.loop-k.invariant.large_passed)
+    (start_at_gap (RowHas c.args.row.now) c.args.size c.args.small.now c.args.large.now c.loop-k.offset c.next_gap-gap.result.1 c.loop-k.invariant.start c.next_gap-gap.ensures.blocked c.next_gap-gap.ensures.room)
 
-pub returns-then-offset-size-clause-free : goal.returns-then-offset-size-clause-free
-returns-then-offset-size-clause-free c =
-    free_before _ c.args.size c.args.placed.now _ c.loop-k.k c.loop-k.offset _ c.requires.placed c.loop-k.invariant c.if-offset-size.true
+pub returns-then-gap-size-clause-free : goal.returns-then-gap-size-clause-free
+returns-then-gap-size-clause-free c =
+    All-append (λ (p : Placed). Blocks (RowHas c.args.row.now) c.args.size c.next_gap-gap.result.1 p → ⊥) c.args.small.now c.args.large.now c.next_gap-gap.ensures.free
+    (free_before (RowHas c.args.row.now) c.args.size c.args.large.now _ c.loop-k.k c.next_gap-gap.result.1 _ c.requires.large
+    (passed_higher (RowHas c.args.row.now) c.args.size c.args.large.now c.loop-k.k c.loop-k.offset c.next_gap-gap.result.1 c.next_gap-gap.ensures.up c.loop-k.invariant.large_passed)
+    c.if-gap-size.true)
+
+pub returns-then-gap-size-clause-least : goal.returns-then-gap-size-clause-least
+returns-then-gap-size-clause-least c = (start_at_gap (RowHas c.args.row.now) c.args.size c.args.small.now c.args.large.now c.loop-k.offset c.next_gap-gap.result.1 c.loop-k.invariant.start c.next_gap-gap.ensures.blocked c.next_gap-gap.ensures.room).blocked
+
+pub returns-clause-free : goal.returns-clause-free
+returns-clause-free c =
+    All-append (λ (p : Placed). Blocks (RowHas c.args.row.now) c.args.size c.next_gap.result.1 p → ⊥) c.args.small.now c.args.large.now c.next_gap.ensures.free
+    (free_at_end (RowHas c.args.row.now) c.args.size c.args.large.now c.loop-k.k c.next_gap.result.1 c.loop-k-test.false
+    (passed_higher (RowHas c.args.row.now) c.args.size c.args.large.now c.loop-k.k c.loop-k.offset c.next_gap.result.1 c.next_gap.ensures.up c.loop-k.invariant.large_passed))
+
+pub returns-clause-least : goal.returns-clause-least
+returns-clause-least c = (start_at_gap (RowHas c.args.row.now) c.args.size c.args.small.now c.args.large.now c.loop-k.offset c.next_gap.result.1 c.loop-k.invariant.start c.next_gap.ensures.blocked c.next_gap.ensures.room).blocked
