@@ -1,5 +1,5 @@
 -- What was in the way of the last buffer is in the way of the next one too.
-use Rattle.std.proofs.Common.{◌≡◌, ℕ, ◌+◌, ◌-◌, ◌*◌, ◌/◌, ◌%◌, ◌^◌, ◌<◌, ◌≤◌, ◌⊎◌, inl, inr, ⊎_elim, List, length, get_or, slice_index, bit_and, w64, min, All, Any, refl, ap, ◌∙◌, arith}
+use Rattle.std.proofs.Common.{◌≡◌, ℕ, ◌+◌, ◌-◌, ◌*◌, ◌/◌, ◌%◌, ◌^◌, ◌<◌, ◌≤◌, ◌⊎◌, inl, inr, ⊎_elim, List, length, slice_index, bit_and, w64, min, All, Any, ap, ◌∙◌, arith}
 use Rattle.std.proofs.lemmas.Bool.{cases_lt, cases_eq}
 use Rattle.std.proofs.lemmas.List.{get_or_past}
 use Rattle.std.proofs.lemmas.Nat.{and_le_l}
@@ -61,36 +61,45 @@ module _ (row last_row : List ℕ) (size : ℕ) (placed : List Placed) where
       (least : ℕ) (gained : (e : ℕ) → e < length offsets → RowHas last_row e → (RowHas row e → ⊥) → least ≤ slice_index offsets e)
       (start : ℕ) (up_to : start ≤ last.offset) (low : (start + size ≤ least + 1) ⊎ (start ≡ 0))
     where
-    blocked_below : (lower : ℕ) → lower < start → Any (Blocks (RowHas row) size lower) placed
-    blocked_below lower below =
-        let some = rw as_large at (is.blocked lower (omega arith)) in
-        let at = rw some.3 at (standing some.0 some.1 some.2) in
-        let begins = at.begins in
-        let begins_low = some.4.1 in
-        (some.0, some.1, some.2, some.3, (elim (cases_eq (bit_at (slice_index row (some.1.number / 64)) (some.1.number % 64)) 1) [
-          | inl has ↦ has
-          | inr lacks ↦ absurd (let g = gained some.1.number at.there some.4.0 lacks in ⊎_elim
-              (λ (far : start + size ≤ least + 1). omega arith)
-              (λ (none : start ≡ 0). omega arith)
-              low)
-        ], some.4.1, some.4.2))
+      blocked_below : (lower : ℕ) → lower < start → Any (Blocks (RowHas row) size lower) placed
+      blocked_below lower below =
+          let some = rw as_large at (is.blocked lower (omega arith)) in
+          let at = rw some.3 at (standing some.0 some.1 some.2) in
+          let begins = at.begins in
+          let begins_low = some.4.1 in (
+            some.0,
+            some.1,
+            some.2,
+            some.3,
+            (
+              elim (cases_eq (bit_at (slice_index row (some.1.number / 64)) (some.1.number % 64)) 1) [
+                | inl has ↦ has
+                | inr lacks ↦ absurd (let g = gained some.1.number at.there some.4.0 lacks in ⊎_elim
+                    (λ (far : start + size ≤ least + 1). omega arith)
+                    (λ (none : start ≡ 0). omega arith)
+                    low)
+              ],
+              some.4.1,
+              some.4.2,
+            ),
+          )
 
-    last_room : last.end + size < 2 ^ 32
-    last_room = let there = is.there in rw there.4 at (rw there.3 at (room there.0 there.1 there.2))
+      last_room : last.end + size < 2 ^ 32
+      last_room = let there = is.there in rw there.4 at (rw there.3 at (room there.0 there.1 there.2))
 
-    pub start_below : IsStart (RowHas row) size placed start
-    start_below = record {
-      blocked = blocked_below;
-      room = let r = last_room in let f = is.filled in omega arith;
-    }
+      pub start_below : IsStart (RowHas row) size placed start
+      start_below = record {
+        blocked = blocked_below;
+        room = let r = last_room in let f = is.filled in omega arith;
+      }
 
-    pub start_behind : last.offset < start + size → RowHas row last.number → IsStart (RowHas row) size placed last.end
-    start_behind near related = record {
-      blocked = λ lower below. ⊎_elim
-          (λ (before : lower < start). blocked_below lower before)
-          (λ (later : start ≤ lower).
-          let there = is.there in
-          (there.0, there.1, there.2, there.3, rw there.4 (related, omega arith, below)))
-          (cases_lt lower start);
-      room = last_room;
-    }
+      pub start_behind : last.offset < start + size → RowHas row last.number → IsStart (RowHas row) size placed last.end
+      start_behind near related = record {
+        blocked = λ lower below. ⊎_elim
+            (λ (before : lower < start). blocked_below lower before)
+            (λ (later : start ≤ lower).
+            let there = is.there in
+            (there.0, there.1, there.2, there.3, rw there.4 (related, omega arith, below)))
+            (cases_lt lower start);
+        room = last_room;
+      }

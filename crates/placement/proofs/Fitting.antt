@@ -204,10 +204,16 @@ module _ (sizes : List ℕ) where
             let spared = rw one.3 at (free one.0 one.1 one.2) in
             let begins = one.4.1 in
             let ends = one.4.2 in
-            inr (one.0, one.1, one.2, one.3, ⊎_elim
-            (λ (over : offset < one.1.end). absurd (spared (one.4.0, omega arith, over)))
-            (λ (up_to : one.1.end ≤ offset). omega arith)
-            (cases_lt offset one.1.end)))
+            inr (
+              one.0,
+              one.1,
+              one.2,
+              one.3,
+              ⊎_elim
+                  (λ (over : offset < one.1.end). absurd (spared (one.4.0, omega arith, over)))
+                  (λ (up_to : one.1.end ≤ offset). omega arith)
+                  (cases_lt offset one.1.end),
+            ))
             (λ (none : offset ≤ 0). inl (omega arith))
             (cases_lt 0 offset)
 

@@ -64,11 +64,14 @@ pub(crate) fn start_of(
     requires told { IfSome last (λ p. (p.number / 64 < length row.now) × (p.offset < p.end)) }
     ensures { (placed : List Placed) → IfSome last (IsLast last_row.now placed) → All (StandsAt offsets.now) placed → All (λ p. p.number / 64 < length row.now) placed → All (λ p. p.end + size < 2 ^ 32) placed → IsStart (RowHas row.now) size placed result }
 {
-    let Some(Placed {
-        number,
-        offset,
-        end,
-    }) = last else {
+    let Some(
+        Placed {
+            number,
+            offset,
+            end,
+        },
+    ) = last
+    else {
         return 0;
     };
     if end - offset != size {

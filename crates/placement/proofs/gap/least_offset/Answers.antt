@@ -1,4 +1,3 @@
-use Rattle.std.proofs.Common.{arith}
 use Rattle.std.proofs.lemmas.List.Elements.{All-append}
 use Rattle.placement_checker.specs.Rows.{RowHas}
 use Rattle.placement.specs.Placing.{Blocks}
