@@ -168,11 +168,16 @@ module _ (sizes : List ℕ) where
             let end = rw p.is at top in
             let e = p.ends in let r = room in omega arith
 
-        pub all_standing : All (StandsAt offsets) placed
-        all_standing k d below = record {
-          there = let own = number_in k d below in let l = so_far.long in omega arith;
-          begins = (so_far.known k d below).begins;
-        }
+        pub all_standing : All (StandsAt offsets sizes) placed
+        all_standing k d below =
+            let own = number_in k d below in
+            let p = so_far.known k d below in
+            record {
+              there = let l = so_far.long in omega arith;
+              sized = own;
+              begins = p.begins;
+              ends = p.ends;
+            }
 
         -- the next buffer can be placed beside a part of those placed
         pub open_to : (words : ℕ) (some : List Placed) → length sizes ≤ 64 * words → Rise some → ((P : Placed → Type 0) → All P placed → All P some) → IsOpenTo words (slice_index sizes (slice_index order i)) some

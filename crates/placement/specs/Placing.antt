@@ -53,7 +53,9 @@ pub record IsLast (row : List ℕ) (placed : List Placed) (last : Placed) : Type
   pub filled : last.offset < last.end
   pub blocked : (lower : ℕ) → lower < last.offset → Any (Blocks (RowHas row) (last.end - last.offset) lower) placed
 
--- the offsets have the offset of p at its number
-pub record StandsAt (offsets : List ℕ) (p : Placed) : Type 0 where
+-- the offset and the size of p stand at its number
+pub record StandsAt (offsets sizes : List ℕ) (p : Placed) : Type 0 where
   pub there : p.number < length offsets
+  pub sized : p.number < length sizes
   pub begins : p.offset ≡ slice_index offsets p.number
+  pub ends : p.end ≡ slice_index offsets p.number + slice_index sizes p.number

@@ -48,20 +48,30 @@ fn first_behind(placed: &[Placed], limit: u32, cell: u32) -> usize
 }
 
 /// The place of the first buffer, from one on, that begins behind a gap of this size, and the offset of the gap: the
-/// least from `start` on.
-fn next_gap(placed: &[Placed], row: &[u64], size: u32, from: usize, start: u32) -> (usize, u32)
+/// least from `start` on. Where that is not below `bound`, any offset from there on up to which there is no gap.
+fn next_gap(
+    placed: &[Placed],
+    row: &[u64],
+    size: u32,
+    from: usize,
+    start: u32,
+    bound: u32,
+) -> (usize, u32)
     requires placed { IsOpenTo (length row.now) size placed.now }
     requires filled { 1 ≤ size }
     requires room { start + size < 2 ^ 32 }
     requires passed { ArePassed (RowHas row.now) placed.now from start }
     ensures passed { ArePassed (RowHas row.now) placed.now result.0 result.1 }
-    ensures free { All (λ p. Blocks (RowHas row.now) size result.1 p → ⊥) placed.now }
+    ensures free { result.1 < bound → All (λ p. Blocks (RowHas row.now) size result.1 p → ⊥) placed.now }
     ensures blocked { (lower : ℕ) → start ≤ lower → lower < result.1 → Any (Blocks (RowHas row.now) size lower) placed.now }
     ensures up { start ≤ result.1 }
     ensures room { result.1 + size < 2 ^ 32 }
 {
     let mut offset = start;
     for k in from..placed.len() {
+        if bound <= offset {
+            return (k, offset);
+        }
         let p = &placed[k];
         if offset + size <= p.offset {
             return (k, offset);
@@ -72,28 +82,32 @@ fn next_gap(placed: &[Placed], row: &[u64], size: u32, from: usize, start: u32) 
 }
 
 /// The least offset at which the buffer overlaps none that the row has, among a few large ones and small ones of at most
-/// `limit` cells, where it is known that this is not below `start`.
-pub(crate) fn least_offset(
+/// `limit` cells, where it is known that this is not below `start`. Where it is not below `bound`, any offset from there
+/// on that is not above it.
+pub(crate) fn search(
     small: &[Placed],
     large: &[Placed],
     limit: u32,
     row: &[u64],
     size: u32,
     start: u32,
+    bound: u32,
 ) -> u32
     requires small { IsOpenTo (length row.now) size small.now }
     requires large { IsOpenTo (length row.now) size large.now }
     requires narrow { IsNarrow limit small.now }
     requires filled { 1 ≤ size }
     requires start { IsStart (RowHas row.now) size (small.now ++ large.now) start }
-    ensures free { All (λ p. Blocks (RowHas row.now) size result p → ⊥) (small.now ++ large.now) }
-    ensures least { (lower : ℕ) → lower < result → Any (Blocks (RowHas row.now) size lower) (small.now ++ large.now) }
-    ensures room { result + size < 2 ^ 32 }
+    ensures free { result < bound → All (λ p. Blocks (RowHas row.now) size result p → ⊥) (small.now ++ large.now) }
+    ensures start { IsStart (RowHas row.now) size (small.now ++ large.now) result }
 {
     let mut from = first_behind(small, limit, start);
     let mut offset = start;
     for k in 0..large.len() {
-        let gap = next_gap(small, row, size, from, offset);
+        let gap = next_gap(small, row, size, from, offset, bound);
+        if bound <= gap.1 {
+            return gap.1;
+        }
         let p = &large[k];
         if gap.1 + size <= p.offset {
             return gap.1;
@@ -101,5 +115,5 @@ pub(crate) fn least_offset(
         from = gap.0;
         offset = behind(p, row, gap.1);
     }
-    next_gap(small, row, size, from, offset).1
+    next_gap(small, row, size, from, offset, bound).1
 }

@@ -3,6 +3,7 @@
 
 mod enter;
 mod gap;
+mod least;
 mod order;
 mod placing;
 mod start;

@@ -2,9 +2,9 @@ ghost use Rattle.std.specs.Prelude.{◌≡◌, ◌^◌, ◌<◌, ◌≤◌, leng
 ghost use Rattle.placement_checker.specs.Placed.{Valid, Tight};
 
 use crate::enter::enter;
-use crate::gap::{Placed, least_offset};
+use crate::gap::Placed;
+use crate::least::least_offset;
 use crate::order::placing_order;
-use crate::start::start_of;
 use placement_checker::Exclusion;
 use sdf_level::List;
 use std::alloc::{AllocError, Global};
@@ -52,8 +52,9 @@ pub fn place<X: Exclusion>(
     for &number in &order {
         let size = sizes[number as usize];
         exclusion.write_row(number, &mut row);
-        let start = start_of(&row, last, &last_row, size, &offsets);
-        let offset = least_offset(&small, &large, limit, &row, size, start);
+        let offset = least_offset(
+            &small, &large, limit, &row, size, last, &last_row, &offsets, sizes,
+        );
         let end = offset + size;
         let buffer = Placed {
             number,

@@ -2,7 +2,7 @@ use Rattle.std.proofs.Common.{◌≡◌, ◌++◌, ℕ, Bool, true, false, cond,
 use Rattle.std.proofs.lemmas.Bool.Decides.{nat_tests}
 use Rattle.std.proofs.lemmas.Grind.{common_steps}
 use Rattle.placement.proofs.Sweep.{all_left, all_right}
-use Rattle.placement.proofs.Fitting.{open_to, all_told, all_room, all_standing, free_by_row, blocked_by_row, one_more_placed, all_placed, last_of, valid_from_tight}
+use Rattle.placement.proofs.Fitting.{open_to, all_standing, free_by_row, blocked_by_row, one_more_placed, all_placed, last_of, valid_from_tight}
 use Rattle.placement.proofs.placing.place.Goals as goal
 
 one_of_two : (test : Bool) (a b : ℕ) → (cond test a b ≡ a) ⊎ (cond test a b ≡ b)
@@ -11,41 +11,30 @@ one_of_two false a b = inr refl
 
 pub least_offset-offset-requires-clause-small : goal.least_offset-offset-requires-clause-small
 least_offset-offset-requires-clause-small g c =
-    let words : length c.deref-in-loop-number-5.result.now ≡ length c.loop-number.row.items = grind (arith, common_steps) in
+    let words : length c.deref-in-loop-number-2.result.now ≡ length c.loop-number.row.items = grind (arith, common_steps) in
     let wide = c.loop-number.invariant.wide in
     let range = c.requires.range in
-    rw c.deref-in-loop-number-3.ensures.value (open_to c.args.sizes.now (g.X.Exclusion.excludes c.args.exclusion.now) c.deref-number-items.result.now c.loop-number.invariant.order c.loop-number.number-index (c.loop-number.small.items ++ c.loop-number.large.items) c.loop-number.offsets.items c.loop-number.height c.loop-number-test.true c.requires.filled c.requires.sum c.loop-number.invariant.so_far (length c.deref-in-loop-number-5.result.now) c.loop-number.small.items (omega arith) c.loop-number.invariant.small (λ P all. all_left P c.loop-number.small.items c.loop-number.large.items all))
+    rw c.deref.ensures.value (open_to c.args.sizes.now (g.X.Exclusion.excludes c.args.exclusion.now) c.deref-number-items.result.now c.loop-number.invariant.order c.loop-number.number-index (c.loop-number.small.items ++ c.loop-number.large.items) c.loop-number.offsets.items c.loop-number.height c.loop-number-test.true c.requires.filled c.requires.sum c.loop-number.invariant.so_far (length c.deref-in-loop-number-2.result.now) c.loop-number.small.items (omega arith) c.loop-number.invariant.small (λ P all. all_left P c.loop-number.small.items c.loop-number.large.items all))
 
 pub least_offset-offset-requires-clause-large : goal.least_offset-offset-requires-clause-large
 least_offset-offset-requires-clause-large g c =
-    let words : length c.deref-in-loop-number-5.result.now ≡ length c.loop-number.row.items = grind (arith, common_steps) in
+    let words : length c.deref-in-loop-number-2.result.now ≡ length c.loop-number.row.items = grind (arith, common_steps) in
     let wide = c.loop-number.invariant.wide in
     let range = c.requires.range in
-    rw c.deref-in-loop-number-4.ensures.value (open_to c.args.sizes.now (g.X.Exclusion.excludes c.args.exclusion.now) c.deref-number-items.result.now c.loop-number.invariant.order c.loop-number.number-index (c.loop-number.small.items ++ c.loop-number.large.items) c.loop-number.offsets.items c.loop-number.height c.loop-number-test.true c.requires.filled c.requires.sum c.loop-number.invariant.so_far (length c.deref-in-loop-number-5.result.now) c.loop-number.large.items (omega arith) c.loop-number.invariant.large (λ P all. all_right P c.loop-number.small.items c.loop-number.large.items all))
+    rw c.deref-in-loop-number.ensures.value (open_to c.args.sizes.now (g.X.Exclusion.excludes c.args.exclusion.now) c.deref-number-items.result.now c.loop-number.invariant.order c.loop-number.number-index (c.loop-number.small.items ++ c.loop-number.large.items) c.loop-number.offsets.items c.loop-number.height c.loop-number-test.true c.requires.filled c.requires.sum c.loop-number.invariant.so_far (length c.deref-in-loop-number-2.result.now) c.loop-number.large.items (omega arith) c.loop-number.invariant.large (λ P all. all_right P c.loop-number.small.items c.loop-number.large.items all))
 
-pub least_offset-offset-requires-clause-start : goal.least_offset-offset-requires-clause-start
-least_offset-offset-requires-clause-start g c =
-    let whole : take c.loop-number.row.len (c.write_row.new.row ++ drop (length c.write_row.new.row) c.loop-number.row.items) ≡ c.write_row.new.row = grind (arith, common_steps) in
-    let row_is : c.deref-in-loop-number-5.result.now ≡ c.write_row.new.row = c.deref-in-loop-number-5.ensures.value ∙ whole in
-    let early_is : c.deref.result.now ≡ c.write_row.new.row = c.deref.ensures.value ∙ whole in
-    let long = c.write_row.auto.row in
-    let len = c.deref_mut.ensures.len in
-    let items = c.loop-number.row.ok.0 in
-    let wide = c.loop-number.invariant.wide in
-    let range = c.requires.range in
-    let found = rw (early_is, c.deref-in-loop-number.ensures.value, c.deref-in-loop-number-2.ensures.value) at c.start_of-start.ensures in
-    rw (row_is, c.deref-in-loop-number-3.ensures.value, c.deref-in-loop-number-4.ensures.value)
-    (found (c.loop-number.small.items ++ c.loop-number.large.items) c.loop-number.invariant.last
-    (all_standing c.args.sizes.now (g.X.Exclusion.excludes c.args.exclusion.now) c.deref-number-items.result.now c.loop-number.invariant.order c.loop-number.number-index (c.loop-number.small.items ++ c.loop-number.large.items) c.loop-number.offsets.items c.loop-number.height c.loop-number-test.true c.requires.filled c.requires.sum c.loop-number.invariant.so_far)
-    (all_told c.args.sizes.now (g.X.Exclusion.excludes c.args.exclusion.now) c.deref-number-items.result.now c.loop-number.invariant.order c.loop-number.number-index (c.loop-number.small.items ++ c.loop-number.large.items) c.loop-number.offsets.items c.loop-number.height c.loop-number-test.true c.requires.filled c.requires.sum c.loop-number.invariant.so_far (length c.write_row.new.row) (omega arith))
-    (all_room c.args.sizes.now (g.X.Exclusion.excludes c.args.exclusion.now) c.deref-number-items.result.now c.loop-number.invariant.order c.loop-number.number-index (c.loop-number.small.items ++ c.loop-number.large.items) c.loop-number.offsets.items c.loop-number.height c.loop-number-test.true c.requires.filled c.requires.sum c.loop-number.invariant.so_far))
+pub least_offset-offset-requires-clause-last : goal.least_offset-offset-requires-clause-last
+least_offset-offset-requires-clause-last g c = rw (c.deref-in-loop-number-3.ensures.value, c.deref.ensures.value, c.deref-in-loop-number.ensures.value) c.loop-number.invariant.last
+
+pub least_offset-offset-requires-clause-standing : goal.least_offset-offset-requires-clause-standing
+least_offset-offset-requires-clause-standing g c = rw (c.deref-in-loop-number-4.ensures.value, c.deref.ensures.value, c.deref-in-loop-number.ensures.value) (all_standing c.args.sizes.now (g.X.Exclusion.excludes c.args.exclusion.now) c.deref-number-items.result.now c.loop-number.invariant.order c.loop-number.number-index (c.loop-number.small.items ++ c.loop-number.large.items) c.loop-number.offsets.items c.loop-number.height c.loop-number-test.true c.requires.filled c.requires.sum c.loop-number.invariant.so_far)
 
 pub loop-number-preserved : goal.loop-number-preserved
 loop-number-preserved g c =
     let whole : take c.loop-number.row.len (c.write_row.new.row ++ drop (length c.write_row.new.row) c.loop-number.row.items) ≡ c.write_row.new.row = grind (arith, common_steps) in
-    let row_is : c.deref-in-loop-number-5.result.now ≡ c.write_row.new.row = c.deref-in-loop-number-5.ensures.value ∙ whole in
-    let free = rw (c.deref-in-loop-number-3.ensures.value, c.deref-in-loop-number-4.ensures.value, row_is) at c.least_offset-offset.ensures.free in
-    let least = rw (c.deref-in-loop-number-3.ensures.value, c.deref-in-loop-number-4.ensures.value, row_is) at c.least_offset-offset.ensures.least in
+    let row_is : c.deref-in-loop-number-2.result.now ≡ c.write_row.new.row = c.deref-in-loop-number-2.ensures.value ∙ whole in
+    let free = rw (c.deref.ensures.value, c.deref-in-loop-number.ensures.value, row_is) at c.least_offset-offset.ensures.free in
+    let least = rw (c.deref.ensures.value, c.deref-in-loop-number.ensures.value, row_is) at c.least_offset-offset.ensures.least in
     let number : ℕ = slice_index c.deref-number-items.result.now c.loop-number.number-index in
     let there = c.loop-number.invariant.order.inside c.loop-number.number-index c.loop-number-test.true in
     let own_size = c.requires.filled number 0 there in
