@@ -54,51 +54,60 @@ module _ (row last_row : List ℕ) (size : ℕ) (placed : List Placed) (offsets 
     (gained : (e : ℕ) → e < length offsets → e < length sizes → from < slice_index offsets e + slice_index sizes e → RowHas last_row e → (RowHas row e → ⊥) → least ≤ slice_index offsets e)
     (reached start : ℕ) (up_to : reached ≤ last.offset) (low : reached ≤ least - (size - 1)) (start_is : (start ≡ reached) ⊎ (start ≡ from))
   where
-  blocked_between : (lower : ℕ) → from ≤ lower → lower < reached → Any (Blocks (RowHas row) size lower) placed
-  blocked_between lower above below =
-      let some = rw as_large at (is.blocked lower (omega arith)) in
-      let at = rw some.3 at (standing some.0 some.1 some.2) in
-      let begins = at.begins in
-      let ends = at.ends in
-      let begins_low = some.4.1 in
-      let ends_high = some.4.2 in
-      (some.0, some.1, some.2, some.3, (elim (cases_eq (bit_at (slice_index row (some.1.number / 64)) (some.1.number % 64)) 1) [
-        | inl has ↦ has
-        | inr lacks ↦ absurd (let g = gained some.1.number at.there at.sized (omega arith) some.4.0 lacks in omega arith)
-      ], some.4.1, some.4.2))
+    blocked_between : (lower : ℕ) → from ≤ lower → lower < reached → Any (Blocks (RowHas row) size lower) placed
+    blocked_between lower above below =
+        let some = rw as_large at (is.blocked lower (omega arith)) in
+        let at = rw some.3 at (standing some.0 some.1 some.2) in
+        let begins = at.begins in
+        let ends = at.ends in
+        let begins_low = some.4.1 in
+        let ends_high = some.4.2 in (
+          some.0,
+          some.1,
+          some.2,
+          some.3,
+          (
+            elim (cases_eq (bit_at (slice_index row (some.1.number / 64)) (some.1.number % 64)) 1) [
+              | inl has ↦ has
+              | inr lacks ↦ absurd (let g = gained some.1.number at.there at.sized (omega arith) some.4.0 lacks in omega arith)
+            ],
+            some.4.1,
+            some.4.2,
+          ),
+        )
 
-  blocked_below : (lower : ℕ) → lower < start → Any (Blocks (RowHas row) size lower) placed
-  blocked_below lower below = ⊎_elim
-      (λ (early : lower < from). before.blocked lower early)
-      (λ (late : from ≤ lower). blocked_between lower late (⊎_elim
-      (λ (on : start ≡ reached). omega arith)
-      (λ (here : start ≡ from). absurd (omega arith))
-      start_is))
-      (cases_lt lower from)
-
-  last_room : last.end + size < 2 ^ 32
-  last_room = let there = is.there in rw there.4 at (rw there.3 at (room there.0 there.1 there.2))
-
-  pub start_below : IsStart (RowHas row) size placed start
-  start_below = record {
-    blocked = blocked_below;
-    room =
-        let r = last_room in
-        let f = is.filled in
-        let b = before.room in
-        ⊎_elim
+    blocked_below : (lower : ℕ) → lower < start → Any (Blocks (RowHas row) size lower) placed
+    blocked_below lower below = ⊎_elim
+        (λ (early : lower < from). before.blocked lower early)
+        (λ (late : from ≤ lower). blocked_between lower late (⊎_elim
         (λ (on : start ≡ reached). omega arith)
-        (λ (here : start ≡ from). omega arith)
-        start_is;
-  }
+        (λ (here : start ≡ from). absurd (omega arith))
+        start_is))
+        (cases_lt lower from)
 
-  pub start_behind : last.offset < start + size → RowHas row last.number → IsStart (RowHas row) size placed last.end
-  start_behind near related = record {
-    blocked = λ lower below. ⊎_elim
-        (λ (early : lower < start). blocked_below lower early)
-        (λ (later : start ≤ lower).
-        let there = is.there in
-        (there.0, there.1, there.2, there.3, rw there.4 (related, omega arith, below)))
-        (cases_lt lower start);
-    room = last_room;
-  }
+    last_room : last.end + size < 2 ^ 32
+    last_room = let there = is.there in rw there.4 at (rw there.3 at (room there.0 there.1 there.2))
+
+    pub start_below : IsStart (RowHas row) size placed start
+    start_below = record {
+      blocked = blocked_below;
+      room =
+          let r = last_room in
+          let f = is.filled in
+          let b = before.room in
+          ⊎_elim
+          (λ (on : start ≡ reached). omega arith)
+          (λ (here : start ≡ from). omega arith)
+          start_is;
+    }
+
+    pub start_behind : last.offset < start + size → RowHas row last.number → IsStart (RowHas row) size placed last.end
+    start_behind near related = record {
+      blocked = λ lower below. ⊎_elim
+          (λ (early : lower < start). blocked_below lower early)
+          (λ (later : start ≤ lower).
+          let there = is.there in
+          (there.0, there.1, there.2, there.3, rw there.4 (related, omega arith, below)))
+          (cases_lt lower start);
+      room = last_room;
+    }

@@ -78,11 +78,14 @@ pub(crate) fn start_of(
     requires told { IfSome last (λ p. (p.number / 64 < length row.now) × (p.offset < p.end)) }
     ensures { (placed : List Placed) → IfSome last (IsLast last_row.now placed) → All (StandsAt offsets.now sizes.now) placed → All (λ p. p.end + size < 2 ^ 32) placed → IsStart (RowHas row.now) size placed from → IsStart (RowHas row.now) size placed result.0 }
 {
-    let Some(Placed {
-        number,
-        offset,
-        end,
-    }) = last else {
+    let Some(
+        Placed {
+            number,
+            offset,
+            end,
+        },
+    ) = last
+    else {
         return (from, u32::MAX);
     };
     if end - offset != size {
