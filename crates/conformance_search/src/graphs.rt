@@ -44,7 +44,7 @@ fn edges_of(alloc: Global, nodes: u32, count: u32, code: u32) -> Result<Vec<(u32
     Ok(edges)
 }
 
-fn rank_at(ranks: &[u32], node: u32) -> u32
+pub(crate) fn rank_at(ranks: &[u32], node: u32) -> u32
     ensures { result ≡ slice_index ranks.now node }
 {
     ranks.get(node as usize).copied().unwrap_or(0)

@@ -1,13 +1,18 @@
-//! Compares the solvers with plain searches, on all small levels, graphs and relations: prints each difference, and for each
+//! Compares the solvers with plain searches, on all small levels, graphs and relations and on some larger graphs: prints each difference, and for each
 //! comparison how many cases it had.
 #![tactic(auto)]
 
 mod bases;
 mod chains;
 mod checks;
+mod drawn;
+mod drawn_mappings;
+mod drawn_placements;
+mod draws;
 mod exclusions;
 mod expansions;
 mod factors;
+mod first_fit;
 mod flows;
 mod graphs;
 mod levels;
@@ -34,6 +39,16 @@ fn compare_all(rt: &(impl Print + AllocGlobal)) -> io::Result<Tally> {
     all.close(rt, "checks of placements", checks::compare(rt)?)?;
     all.close(rt, "placements", placements::compare(rt)?)?;
     all.close(rt, "mappings", mappings::compare(rt)?)?;
+    all.close(
+        rt,
+        "placements of drawn graphs",
+        drawn_placements::compare(rt)?,
+    )?;
+    all.close(
+        rt,
+        "mappings of drawn graphs",
+        drawn_mappings::compare(rt)?,
+    )?;
     all.close(rt, "long chains", chains::compare(rt)?)?;
     Ok(all)
 }

@@ -30,7 +30,7 @@ fn some_costs(alloc: Global, nodes: u32, bits: u32) -> Result<Vec<u32>, AllocErr
 }
 
 /// Whether `map` gives the homes and priorities of the rules.
-fn agrees(
+pub(crate) fn agrees(
     alloc: Global,
     nodes: u32,
     edges: &[(u32, u32)],

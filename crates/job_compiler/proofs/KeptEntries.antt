@@ -12,7 +12,7 @@ use Rattle.lru.proofs.CallerLemmas.{Contains-lookup_entry}
 use Rattle.job_compiler.specs.declared.key.Key.{Key}
 use Rattle.job_compiler.specs.Compilation.{Compilation}
 use Rattle.job_compiler.specs.Keys.{is_key}
-use Rattle.job_compiler.specs.Entries.{compilations}
+use Rattle.job_compiler.specs.Entries.{compilations, kept_limit}
 
 both-left : (a b : Bool) → (a && b) ≡ true → a ≡ true
 both-left true b h = refl
@@ -70,32 +70,32 @@ module _ {K X : Type 0} (test : K → Bool) where
     | Some e ↦ λ h. omega arith
   ]) (length-remove_entry es)
 
-module _ {Z : Type 0} (c : LruCache Key (Arc Compilation Z)) (k : Key) (v : Arc Compilation Z) (room : c.cap ≡ 64) (within : length c.entries ≤ 64) where
+module _ {Z : Type 0} (c : LruCache Key (Arc Compilation Z)) (k : Key) (v : Arc Compilation Z) (room : c.cap ≡ kept_limit) (within : length c.entries ≤ kept_limit) where
   abbrev es : List (Key × Arc Compilation Z)
   es = c.entries
 
   abbrev after : Option (Key × Arc Compilation Z) → List (Key × Arc Compilation Z)
   after o = option_map_or (λ e. (e.0, v) ∷ remove_entry (is_key k) es) o ((k, v) ∷ take (c.cap - 1) es)
 
-  -- the new entry first, then the others, at most 64 in all
-  after_put : (o : Option (Key × Arc Compilation Z)) → lookup_entry (is_key k) es ≡ o → after o ≡ take 64 ((k, v) ∷ remove_entry (is_key k) es)
+  -- the new entry first, then the others, at most the limit in all
+  after_put : (o : Option (Key × Arc Compilation Z)) → lookup_entry (is_key k) es ≡ o → after o ≡ take kept_limit ((k, v) ∷ remove_entry (is_key k) es)
   after_put None none =
       let kept = none_removed (is_key k) es none in
       rw (kept, room) refl
   after_put (Some e) some =
       let own : k ≡ e.0 = same_key k e.0 (Contains-lookup_entry (is_key k) es e some).1 in
       let fewer : length (remove_entry (is_key k) es) + option_map_or (λ f. 1) (Some e) 0 ≡ length es = rw some at (length-remove_entry (is_key k) es) in
-      let whole = take_all 64 ((k, v) ∷ remove_entry (is_key k) es) (omega arith) in
+      let whole = take_all kept_limit ((k, v) ∷ remove_entry (is_key k) es) (omega arith) in
       rw (← own) (sym whole)
 
-  pub put-compilations : compilations (put_entries is_key c k v) ≡ take 64 ((k, arc_value v) ∷ remove_entry (is_key k) (compilations es))
+  pub put-compilations : compilations (put_entries is_key c k v) ≡ take kept_limit ((k, arc_value v) ∷ remove_entry (is_key k) (compilations es))
   put-compilations =
       ap (λ (list : List (Key × Arc Compilation Z)). compilations list) (after_put (lookup_entry (is_key k) es) refl)
-      ∙ sym (take-map (λ (e : Key × Arc Compilation Z). (e.0, arc_value e.1)) 64 ((k, v) ∷ remove_entry (is_key k) es))
-      ∙ ap (λ (rest : List (Key × Compilation)). take 64 ((k, arc_value v) ∷ rest)) (sym (remove_entry-valued arc_value (is_key k) es))
+      ∙ sym (take-map (λ (e : Key × Arc Compilation Z). (e.0, arc_value e.1)) kept_limit ((k, v) ∷ remove_entry (is_key k) es))
+      ∙ ap (λ (rest : List (Key × Compilation)). take kept_limit ((k, arc_value v) ∷ rest)) (sym (remove_entry-valued arc_value (is_key k) es))
 
-  pub length-put : length (put_entries is_key c k v) ≤ 64
+  pub length-put : length (put_entries is_key c k v) ≤ kept_limit
   length-put =
       let is = ap length (after_put (lookup_entry (is_key k) es) refl) in
-      let short = length-take 64 ((k, v) ∷ remove_entry (is_key k) es) in
+      let short = length-take kept_limit ((k, v) ∷ remove_entry (is_key k) es) in
       omega arith

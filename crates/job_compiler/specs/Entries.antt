@@ -9,7 +9,11 @@ use Rattle.job_compiler.specs.Compilation.{Compilation}
 abbrev pub compilations : {Z : Type 0} → List (Key × Arc Compilation Z) → List (Key × Compilation)
 compilations entries = map (λ e. (e.0, arc_value e.1)) entries
 
--- at most 64, and room for so many
+-- the most compilations that are kept
+abbrev pub kept_limit : ℕ
+kept_limit = 64
+
+-- at most so many, and room for so many
 pub record IsKept {Z : Type 0} (cache : LruCache Key (Arc Compilation Z)) : Type 0 where
-  pub room : cache.cap ≡ 64
-  pub within : length cache.entries ≤ 64
+  pub room : cache.cap ≡ kept_limit
+  pub within : length cache.entries ≤ kept_limit

@@ -32,6 +32,7 @@ impl Kept {
     ghost use Rattle.std.specs.Map.{lookup, remove_entry};
     ghost use Rattle.lru.specs.LruCache.{promoted};
     ghost use Rattle.job_compiler.specs.Keys.{is_key};
+    ghost use Rattle.job_compiler.specs.Entries.{kept_limit};
 
     /// One more owner of the compilation that is kept with the key, if one is.
     fn shared(&self, key: &Key) -> Result<Option<Arc<Compiled>>, AllocError>
@@ -65,7 +66,7 @@ impl Kept {
     ///
     /// Want of memory. What is kept is then as it was.
     pub fn keep(&mut self, key: Key, compiled: Arc<Compiled>) -> Result<(), AllocError>
-        ensures kept { OnOk result (self.new ≡ take 64 ((key, arc_value compiled) ∷ remove_entry (is_key key) self.old)) }
+        ensures kept { OnOk result (self.new ≡ take kept_limit ((key, arc_value compiled) ∷ remove_entry (is_key key) self.old)) }
         ensures refused { OnErr result (self.new ≡ self.old) }
     {
         self.cache.put(key, compiled)?;

@@ -45,10 +45,6 @@ impl Exclusion for Reach {
         !self.shares(e, f)
     }
 
-    fn relates(&self, e: u32, f: u32) -> bool {
-        !self.shares(e, f)
-    }
-
     fn write_row(&self, e: u32, row: &mut [u64]) {
         let (tail, head) = self.edges[e as usize];
         write_neither(

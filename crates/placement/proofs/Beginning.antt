@@ -1,76 +1,113 @@
--- The search for a buffer's offset begins behind the last one.
-use Rattle.std.proofs.Common.{◌≡◌, ℕ, ◌+◌, ◌-◌, ◌/◌, ◌%◌, ◌^◌, ◌<◌, ◌≤◌, inl, inr, ⊎_elim, List, length, get_or, slice_index, bit_and, w64, min, All, Any, refl, ap, ◌∙◌, arith}
-use Rattle.std.proofs.lemmas.Bool.{cases_lt}
-use Rattle.std.proofs.lemmas.List.{get_or_past, get_or_default}
-use Rattle.std.proofs.lemmas.Nat.Bits.{bit_at_and, bit_at_not, bit_at-lt, bit_at-zero}
-use Rattle.std.specs.Int.{bit_at}
+-- What was in the way of the last buffer is in the way of the next one too.
+use Rattle.std.proofs.Common.{◌≡◌, ℕ, ◌+◌, ◌-◌, ◌*◌, ◌/◌, ◌%◌, ◌^◌, ◌<◌, ◌≤◌, ◌⊎◌, inl, inr, ⊎_elim, List, length, slice_index, bit_and, w64, min, max, All, Any, ap, ◌∙◌, arith}
+use Rattle.std.proofs.lemmas.Bool.{cases_lt, cases_eq}
+use Rattle.std.proofs.lemmas.List.{get_or_past}
+use Rattle.std.proofs.lemmas.Nat.{and_le_l}
+use Rattle.std.proofs.lemmas.Nat.Bits.{bit_at_and, bit_at_not, bit_at-lt, bit_at-zero, bit_at_clear_same, bit_at_clear_other}
+use Rattle.std.specs.Int.{bit_at, bit_not}
 use Rattle.placement_checker.specs.Rows.{RowHas}
-use Rattle.placement.specs.Placing.{Rise, Blocks, IsStart, IsLast}
+use Rattle.placement.specs.Placing.{Blocks, IsStart, IsLast, StandsAt}
 use Rattle.placement.specs.declared.gap.Placed.{Placed}
-use Rattle.placement.specs.declared.start.Last.{Last}
 
-no_bit_less : (x y k : ℕ) → y < 2 ^ 64 → k < 64 → bit_and x (2 ^ 64 - 1 - y) ≡ 0 → bit_at x k ≡ 1 → bit_at y k ≡ 1
-no_bit_less x y k fits below none one =
+-- clearing a bit that is set makes the word smaller, and leaves the other bits
+pub cleared : (word k : ℕ) → k < 64 → bit_at word k ≡ 1
+    → let left = bit_and word (bit_not w64 (1 * 2 ^ k % 2 ^ 64)) in
+    (left < word) × ((j : ℕ) → j < 64 → (j ≡ k → ⊥) → bit_at left j ≡ bit_at word j)
+cleared word k within set =
+    let left : ℕ = bit_and word (bit_not w64 (1 * 2 ^ k % 2 ^ 64)) in
+    let gone : bit_at left k ≡ 0 = bit_at_clear_same w64 word k within in (
+      elim (cases_eq left word) [
+        | inl same ↦ absurd (let both : bit_at left k ≡ bit_at word k = ap (λ x. bit_at x k) same in omega arith)
+        | inr other ↦ omega (arith, and_le_l word (bit_not w64 (1 * 2 ^ k % 2 ^ 64)))
+      ],
+      λ j small other. bit_at_clear_other w64 word k within j small other,
+    )
+
+-- a bit that one word has and another hasn't
+pub gained_bit : (x y k : ℕ) → y < 2 ^ 64 → k < 64 → bit_at x k ≡ 1 → (bit_at y k ≡ 1 → ⊥) → bit_at (bit_and x (2 ^ 64 - 1 - y)) k ≡ 1
+gained_bit x y k fits below has lacks =
     let both : bit_at (bit_and x (2 ^ 64 - 1 - y)) k ≡ min (bit_at x k) (1 - bit_at y k) = bit_at_and x (2 ^ 64 - 1 - y) k ∙ ap (λ (b : ℕ). min (bit_at x k) b) (bit_at_not w64 y k fits below) in
-    let clear : bit_at (bit_and x (2 ^ 64 - 1 - y)) k ≡ 0 = ap (λ (n : ℕ). bit_at n k) none ∙ bit_at-zero k in
     let low = bit_at-lt y k in
-    omega arith
+    elim (cases_eq (bit_at y k) 1) [
+      | inl on ↦ absurd (lacks on)
+      | inr off ↦ omega arith
+    ]
 
--- a row has all that another has, where no word of that has a bit more
-pub covering : (row other : List ℕ) → ((n : ℕ) → slice_index row n < 2 ^ 64) → ((k : ℕ) → k < length other → bit_and (slice_index other k) (2 ^ 64 - 1 - slice_index row k) ≡ 0) → (bit : ℕ) → RowHas other bit → RowHas row bit
-covering row other fits all bit has = ⊎_elim
-    (λ (inside : bit / 64 < length other). no_bit_less (slice_index other (bit / 64)) (slice_index row (bit / 64)) (bit % 64) (fits (bit / 64)) (omega arith) (all (bit / 64) inside) has)
-    (λ (past : length other ≤ bit / 64).
-    let zero_word : slice_index other (bit / 64) ≡ 0 = get_or_past other (bit / 64) 0 past in
+-- a bit that a row has lies in one of its words
+pub has_within : (row : List ℕ) (bit : ℕ) → RowHas row bit → bit / 64 < length row
+has_within row bit has = ⊎_elim
+    (λ (inside : bit / 64 < length row). inside)
+    (λ (past : length row ≤ bit / 64).
+    let zero_word : slice_index row (bit / 64) ≡ 0 = get_or_past row (bit / 64) 0 past in
     let none = rw (zero_word, bit_at-zero (bit % 64)) at has in
     absurd (omega arith))
-    (cases_lt (bit / 64) (length other))
+    (cases_lt (bit / 64) (length row))
 
-module _ (Others : ℕ → Type 0) (size : ℕ) (placed : List Placed) where
-  pub start_at_first : IsStart Others size placed 0 0
-  start_at_first = record {
-    within = omega arith;
-    passed = λ k d below. absurd (omega arith);
-    blocked = λ lower below. absurd (omega arith);
-    bound = inl refl;
-  }
+pub max_is : (a b : ℕ) → (max a b ≡ a) ⊎ (max a b ≡ b)
+max_is a b = ⊎_elim
+    (λ (below : a < b). inr (omega arith))
+    (λ (above : b ≤ a). inl (omega arith))
+    (cases_lt a b)
 
-  module _ (row : List ℕ) (last : Last) (is : IsLast row placed last) (as_large : last.buffer.end - last.buffer.offset ≡ size) (related : Others last.buffer.number) (covers : (bit : ℕ) → RowHas row bit → Others bit) where
-    blocked_below : (lower : ℕ) → lower < last.buffer.end → Any (Blocks Others size lower) placed
+module _ (row last_row : List ℕ) (size : ℕ) (placed : List Placed) (offsets sizes : List ℕ) (last : Placed) (is : IsLast last_row placed last) (as_large : last.end - last.offset ≡ size) (filled : 1 ≤ size) (standing : All (StandsAt offsets sizes) placed) (room : All (λ (p : Placed). p.end + size < 2 ^ 32) placed)
+    (from least : ℕ) (before : IsStart (RowHas row) size placed from)
+    (gained : (e : ℕ) → e < length offsets → e < length sizes → from < slice_index offsets e + slice_index sizes e → RowHas last_row e → (RowHas row e → ⊥) → least ≤ slice_index offsets e)
+    (reached start : ℕ) (up_to : reached ≤ last.offset) (low : reached ≤ least - (size - 1)) (start_is : (start ≡ reached) ⊎ (start ≡ from))
+  where
+    blocked_between : (lower : ℕ) → from ≤ lower → lower < reached → Any (Blocks (RowHas row) size lower) placed
+    blocked_between lower above below =
+        let some = rw as_large at (is.blocked lower (omega arith)) in
+        let at = rw some.3 at (standing some.0 some.1 some.2) in
+        let begins = at.begins in
+        let ends = at.ends in
+        let begins_low = some.4.1 in
+        let ends_high = some.4.2 in (
+          some.0,
+          some.1,
+          some.2,
+          some.3,
+          (
+            elim (cases_eq (bit_at (slice_index row (some.1.number / 64)) (some.1.number % 64)) 1) [
+              | inl has ↦ has
+              | inr lacks ↦ absurd (let g = gained some.1.number at.there at.sized (omega arith) some.4.0 lacks in omega arith)
+            ],
+            some.4.1,
+            some.4.2,
+          ),
+        )
+
+    blocked_below : (lower : ℕ) → lower < start → Any (Blocks (RowHas row) size lower) placed
     blocked_below lower below = ⊎_elim
-        (λ (before : lower < last.buffer.offset).
-        let some = rw as_large at (is.blocked lower before) in
-        (some.0, some.1, some.2, some.3, (covers some.1.number some.4.0, some.4.1, some.4.2)))
-        (λ (behind : last.buffer.offset ≤ lower).
-        let filled = is.filled in
-        let there = is.there in
-        (there.0, there.1, there.2, there.3, rw there.4 (related, omega arith, below)))
-        (cases_lt lower last.buffer.offset)
+        (λ (early : lower < from). before.blocked lower early)
+        (λ (late : from ≤ lower). blocked_between lower late (⊎_elim
+        (λ (on : start ≡ reached). omega arith)
+        (λ (here : start ≡ from). absurd (omega arith))
+        start_is))
+        (cases_lt lower from)
 
-    pub start_behind : (from : ℕ) → from ≤ length placed → ((k : ℕ) (d : Placed) → k < from → (get_or placed k d).end ≤ last.buffer.end) → IsStart Others size placed from last.buffer.end
-    start_behind from within passed = record {
-      within = within;
-      passed = passed;
+    last_room : last.end + size < 2 ^ 32
+    last_room = let there = is.there in rw there.4 at (rw there.3 at (room there.0 there.1 there.2))
+
+    pub start_below : IsStart (RowHas row) size placed start
+    start_below = record {
       blocked = blocked_below;
-      bound = let there = is.there in inr (there.0, there.1, there.2, there.3, ap (λ (p : Placed). p.end) there.4);
+      room =
+          let r = last_room in
+          let f = is.filled in
+          let b = before.room in
+          ⊎_elim
+          (λ (on : start ≡ reached). omega arith)
+          (λ (here : start ≡ from). omega arith)
+          start_is;
     }
 
--- those before place i end at or below the reach, and the others begin at or behind the offset
-pub reach_before : (placed : List Placed) (i offset reach : ℕ) (d : Placed) → Rise placed → ((k : ℕ) (e : Placed) → k < i → (get_or placed k e).end ≤ reach) → offset ≤ (get_or placed i d).offset → All (λ (p : Placed). p.offset < offset → p.end ≤ reach) placed
-reach_before placed i offset reach d rising reached late = λ k e inside begins. ⊎_elim
-    (λ (before : k < i). reached k e before)
-    (λ (behind : i ≤ k).
-    let rises = rising i k d behind inside in
-    let same = get_or_default placed k d e inside in
-    let here : (get_or placed i d).offset ≤ (get_or placed k e).offset = rw same at rises in
-    absurd (omega arith))
-    (cases_lt k i)
-
-pub reached_more : (placed : List Placed) (i reach new_reach : ℕ) (d : Placed) → i < length placed → reach ≤ new_reach → (get_or placed i d).end ≤ new_reach → ((k : ℕ) (e : Placed) → k < i → (get_or placed k e).end ≤ reach) → (k : ℕ) (e : Placed) → k < i + 1 → (get_or placed k e).end ≤ new_reach
-reached_more placed i reach new_reach d inside higher high reached k e below = ⊎_elim
-    (λ (before : k < i). let low = reached k e before in omega arith)
-    (λ (last : i ≤ k).
-    let here : k ≡ i = omega arith in
-    let same = get_or_default placed i e d inside in
-    rw (here, same) high)
-    (cases_lt k i)
+    pub start_behind : last.offset < start + size → RowHas row last.number → IsStart (RowHas row) size placed last.end
+    start_behind near related = record {
+      blocked = λ lower below. ⊎_elim
+          (λ (early : lower < start). blocked_below lower early)
+          (λ (later : start ≤ lower).
+          let there = is.there in
+          (there.0, there.1, there.2, there.3, rw there.4 (related, omega arith, below)))
+          (cases_lt lower start);
+      room = last_room;
+    }

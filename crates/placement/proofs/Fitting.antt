@@ -1,5 +1,5 @@
 -- One buffer after another gets its offset.
-use Rattle.std.proofs.Common.{◌≡◌, ◌≢◌, ℕ, suc, ◌+◌, ◌-◌, ◌*◌, ◌^◌, ◌<◌, ◌≤◌, ◌⊎◌, inl, inr, ⊎_elim, List, [], ◌∷◌, length, get_or, set, take, slice_index, sum, sum_by, All, Any, IsPermutation, refl, sym, ◌∙◌, arith}
+use Rattle.std.proofs.Common.{◌≡◌, ◌≢◌, ℕ, suc, ◌+◌, ◌-◌, ◌*◌, ◌/◌, ◌^◌, ◌<◌, ◌≤◌, ◌⊎◌, inl, inr, ⊎_elim, List, [], ◌∷◌, length, get_or, set, take, slice_index, sum, sum_by, All, Any, IsPermutation, refl, sym, ◌∙◌, arith}
 use Rattle.std.proofs.lemmas.Bool.{cases_lt}
 use Rattle.std.proofs.lemmas.List.{get_or-set_same, get_or-set_other, length-set}
 use Rattle.std.proofs.lemmas.List.Elements.{All-cons, All-weaker}
@@ -7,7 +7,7 @@ use Rattle.std.proofs.lemmas.List.Sorted.{All-permutation, Contains-permutation}
 use Rattle.std.proofs.lemmas.List.Sums.{sum_by_more, sum_by-take-le}
 use Rattle.placement_checker.specs.Placed.{end_of, Relates, Valid, StandsEarlier, Fits, Tight}
 use Rattle.placement_checker.specs.Rows.{RowHas, IsRowOf}
-use Rattle.placement.specs.Placing.{IsPlacingOrder, Rise, IsOpenTo, Blocks, IsLast}
+use Rattle.placement.specs.Placing.{IsPlacingOrder, Rise, IsOpenTo, Blocks, IsLast, StandsAt}
 use Rattle.placement.specs.declared.gap.Placed.{Placed}
 
 -- an element with this property stands in the same list in another order too
@@ -20,16 +20,13 @@ any_behind : {A : Type 0} (P : A → Type 0) (x : A) (xs : List A) → Any P xs 
 any_behind P x xs any = (suc any.0, any.1, let h = any.2 in omega arith, any.3, any.4)
 
 -- a buffer that was just placed is the last one
-pub last_of : (row : List ℕ) (placed next_placed : List Placed) (next : Placed) (size reach : ℕ) → next.end ≡ next.offset + size → 1 ≤ size → IsPermutation (next ∷ placed) next_placed → ((lower : ℕ) → lower < next.offset → Any (Blocks (RowHas row) size lower) placed) → All (λ (p : Placed). p.offset < next.offset → p.end ≤ reach) placed → IsLast row next_placed (record { buffer = next; reach = reach })
-last_of row placed next_placed next size reach ends filled moved blocked reached = record {
+pub last_of : (row : List ℕ) (placed next_placed : List Placed) (next : Placed) (size : ℕ) → next.end ≡ next.offset + size → 1 ≤ size → IsPermutation (next ∷ placed) next_placed → ((lower : ℕ) → lower < next.offset → Any (Blocks (RowHas row) size lower) placed) → IsLast row next_placed next
+last_of row placed next_placed next size ends filled moved blocked = record {
   there = any_moved (λ (p : Placed). p ≡ next) (next ∷ placed) next_placed moved (0, next, omega arith, refl, refl);
   filled = omega arith;
   blocked = λ lower below.
       let large : next.end - next.offset ≡ size = omega arith in
       rw large (any_moved (Blocks (RowHas row) size lower) (next ∷ placed) next_placed moved (any_behind (Blocks (RowHas row) size lower) next placed (blocked lower below)));
-  reached =
-      All-permutation (λ (p : Placed). p.offset < next.offset → p.end ≤ reach) (next ∷ placed) next_placed moved
-      (All-cons (λ (p : Placed). p.offset < next.offset → p.end ≤ reach) next placed (λ below. absurd (omega arith)) reached);
 }
 
 module _ (sizes : List ℕ) where
@@ -103,7 +100,6 @@ module _ (sizes : List ℕ) where
       -- the first i buffers of the order have their offsets
       pub record PlacedSoFar (i : ℕ) (placed : List Placed) (offsets : List ℕ) (height : ℕ) : Type 0 where
         pub long : length offsets ≡ length sizes
-        pub rising : Rise placed
         pub known : All (IsPlaced offsets i) placed
         pub all : (k : ℕ) → k < i → Any (λ (p : Placed). p.number ≡ slice_index order k) placed
         pub above : (k : ℕ) → k < i → end_of sizes offsets (slice_index order k) ≤ height
@@ -115,7 +111,6 @@ module _ (sizes : List ℕ) where
       pub none_placed : (offsets : List ℕ) → length offsets ≡ length sizes → PlacedSoFar 0 [] offsets 0
       none_placed offsets long = record {
         long = long;
-        rising = λ i j d up inside. absurd (omega arith);
         known = λ k d inside. absurd (omega arith);
         all = λ k below. absurd (omega arith);
         above = λ k below. absurd (omega arith);
@@ -157,19 +152,40 @@ module _ (sizes : List ℕ) where
         another : (k : ℕ) (d : Placed) → k < length placed → (get_or placed k d).number ≢ slice_index order i
         another k d below same = let p = so_far.known k d below in apart p.place i p.before inside (p.is ∙ same)
 
-        pub open_to : (words : ℕ) → length sizes ≤ 64 * words → IsOpenTo words (slice_index sizes (slice_index order i)) placed
-        open_to words wide = record {
-          rising = so_far.rising;
-          filled = λ k d below.
-              let p = so_far.known k d below in
-              let one = filled (get_or placed k d).number 0 (number_in k d below) in
-              let b = p.begins in let e = p.ends in omega arith;
-          told = λ k d below. let own = number_in k d below in omega arith;
-          room = λ k d below.
-              let p = so_far.known k d below in
-              let top = so_far.above p.place p.before in
-              let end = rw p.is at top in
-              let e = p.ends in let r = room in omega arith;
+        pub all_filled : All (λ (p : Placed). p.offset < p.end) placed
+        all_filled k d below =
+            let p = so_far.known k d below in
+            let one = filled (get_or placed k d).number 0 (number_in k d below) in
+            let b = p.begins in let e = p.ends in omega arith
+
+        pub all_told : (words : ℕ) → length sizes ≤ 64 * words → All (λ (p : Placed). p.number / 64 < words) placed
+        all_told words wide k d below = let own = number_in k d below in omega arith
+
+        pub all_room : All (λ (p : Placed). p.end + slice_index sizes (slice_index order i) < 2 ^ 32) placed
+        all_room k d below =
+            let p = so_far.known k d below in
+            let top = so_far.above p.place p.before in
+            let end = rw p.is at top in
+            let e = p.ends in let r = room in omega arith
+
+        pub all_standing : All (StandsAt offsets sizes) placed
+        all_standing k d below =
+            let own = number_in k d below in
+            let p = so_far.known k d below in
+            record {
+              there = let l = so_far.long in omega arith;
+              sized = own;
+              begins = p.begins;
+              ends = p.ends;
+            }
+
+        -- the next buffer can be placed beside a part of those placed
+        pub open_to : (words : ℕ) (some : List Placed) → length sizes ≤ 64 * words → Rise some → ((P : Placed → Type 0) → All P placed → All P some) → IsOpenTo words (slice_index sizes (slice_index order i)) some
+        open_to words some wide rising part = record {
+          rising = rising;
+          filled = part (λ (p : Placed). p.offset < p.end) all_filled;
+          told = part (λ (p : Placed). p.number / 64 < words) (all_told words wide);
+          room = part (λ (p : Placed). p.end + slice_index sizes (slice_index order i) < 2 ^ 32) all_room;
         }
 
         -- what the row of the next buffer has is what excludes it
@@ -185,7 +201,28 @@ module _ (sizes : List ℕ) where
               let other = rw some.3 at (another some.0 some.1 some.2) in
               (some.0, some.1, some.2, some.3, ((row_is some.1.number (omega arith) other).0 some.4.0, some.4.1, some.4.2))
 
-        pub offset_low : (offset : ℕ) → (offset ≡ 0) ⊎ Any (λ (p : Placed). p.end ≡ offset) placed → offset ≤ height
+        -- the least offset is 0 or the end of one of the others
+        at_an_end : (Others : ℕ → Type 0) (size offset : ℕ) → All (λ (p : Placed). Blocks Others size offset p → ⊥) placed → ((lower : ℕ) → lower < offset → Any (Blocks Others size lower) placed) → (offset ≡ 0) ⊎ Any (λ (p : Placed). p.end ≡ offset) placed
+        at_an_end Others size offset free least = ⊎_elim
+            (λ (some : 0 < offset).
+            let one = least (offset - 1) (omega arith) in
+            let spared = rw one.3 at (free one.0 one.1 one.2) in
+            let begins = one.4.1 in
+            let ends = one.4.2 in
+            inr (
+              one.0,
+              one.1,
+              one.2,
+              one.3,
+              ⊎_elim
+                  (λ (over : offset < one.1.end). absurd (spared (one.4.0, omega arith, over)))
+                  (λ (up_to : one.1.end ≤ offset). omega arith)
+                  (cases_lt offset one.1.end),
+            ))
+            (λ (none : offset ≤ 0). inl (omega arith))
+            (cases_lt 0 offset)
+
+        offset_low : (offset : ℕ) → (offset ≡ 0) ⊎ Any (λ (p : Placed). p.end ≡ offset) placed → offset ≤ height
         offset_low offset bound = ⊎_elim
             (λ (none : offset ≡ 0). omega arith)
             (λ (some : Any (λ (p : Placed). p.end ≡ offset) placed).
@@ -195,16 +232,11 @@ module _ (sizes : List ℕ) where
             let e = p.ends in let h = some.4 in omega arith)
             bound
 
-        pub end_fits : (offset : ℕ) → (offset ≡ 0) ⊎ Any (λ (p : Placed). p.end ≡ offset) placed → offset + slice_index sizes (slice_index order i) < 2 ^ 32
-        end_fits offset bound = let low = offset_low offset bound in let r = room in omega arith
-
         -- the next buffer gets this offset, and the height rises where it has to
         module _ (offset new_height : ℕ) (next_placed : List Placed)
             (free : All (λ (p : Placed). Blocks (Relates X (slice_index order i)) (slice_index sizes (slice_index order i)) offset p → ⊥) placed)
             (least : (lower : ℕ) → lower < offset → Any (Blocks (Relates X (slice_index order i)) (slice_index sizes (slice_index order i)) lower) placed)
-            (bound : (offset ≡ 0) ⊎ Any (λ (p : Placed). p.end ≡ offset) placed)
             (moved : IsPermutation {X = Placed} (record { number = slice_index order i; offset = offset; end = offset + slice_index sizes (slice_index order i) } ∷ placed) next_placed)
-            (rising : Rise next_placed)
             (no_lower : height ≤ new_height)
             (high : offset + slice_index sizes (slice_index order i) ≤ new_height)
             (tight : (new_height ≡ height) ⊎ (new_height ≡ offset + slice_index sizes (slice_index order i)))
@@ -288,7 +320,6 @@ module _ (sizes : List ℕ) where
             pub one_more_placed : PlacedSoFar (i + 1) next_placed next_offsets new_height
             one_more_placed = record {
               long = length-set offsets (slice_index order i) offset ∙ so_far.long;
-              rising = rising;
               known = known_next;
               all = all_next;
               above = λ k below. ⊎_elim
@@ -305,7 +336,7 @@ module _ (sizes : List ℕ) where
               low =
                   let more = sum_by_more (λ (e : ℕ). slice_index sizes e) order i 0 inside in
                   let before = so_far.low in
-                  let at_most = offset_low offset bound in
+                  let at_most = offset_low offset (at_an_end (Relates X (slice_index order i)) (slice_index sizes (slice_index order i)) offset free least) in
                   ⊎_elim
                   (λ (kept : new_height ≡ height). omega arith)
                   (λ (risen : new_height ≡ offset + slice_index sizes (slice_index order i)). omega arith)

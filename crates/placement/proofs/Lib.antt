@@ -2,3 +2,4 @@ pub mod Sweep
 pub mod Ranking
 pub mod Fitting
 pub mod Beginning
+pub mod Entering

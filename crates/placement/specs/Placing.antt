@@ -4,7 +4,6 @@ use Rattle.std.specs.List.Sorted.{IsNonDecreasingBy}
 use Rattle.placement_checker.specs.Placed.{StandsEarlier}
 use Rattle.placement_checker.specs.Rows.{RowHas}
 use Rattle.placement.specs.declared.gap.Placed.{Placed}
-use Rattle.placement.specs.declared.start.Last.{Last}
 
 -- all numbers of buffers, each before those that it stands earlier than
 pub record IsPlacingOrder (sizes order : List ℕ) : Type 0 where
@@ -28,17 +27,35 @@ pub record IsOpenTo (words size : ℕ) (placed : List Placed) : Type 0 where
 abbrev pub Blocks : (ℕ → Type 0) → ℕ → ℕ → Placed → Type 0
 Blocks Others size offset p = Others p.number × (p.offset < offset + size) × (offset < p.end)
 
--- Where a search can begin: those placed before this place end at or below the offset, at each lower one some of the others
--- is in the way, and it is 0 or the end of one placed.
-pub record IsStart (Others : ℕ → Type 0) (size : ℕ) (placed : List Placed) (from offset : ℕ) : Type 0 where
-  pub within : from ≤ length placed
-  pub passed : (k : ℕ) (d : Placed) → k < from → (slice_index_or placed k d).end ≤ offset
+-- none of them has more cells
+abbrev pub IsNarrow : ℕ → List Placed → Type 0
+IsNarrow limit placed = All (λ (p : Placed). p.end ≤ p.offset + limit) placed
+
+-- of those placed before this place the others end at or below the offset
+abbrev pub ArePassed : (ℕ → Type 0) → List Placed → ℕ → ℕ → Type 0
+ArePassed Others placed i offset = (k : ℕ) (d : Placed) → k < i → Others (slice_index_or placed k d).number → (slice_index_or placed k d).end ≤ offset
+
+-- The next offset to look at behind p: the end of p, which is one of the others and ends behind the offset; or the offset itself, where
+-- p isn't so.
+abbrev pub IsBehind : (ℕ → Type 0) → Placed → ℕ → ℕ → Type 0
+IsBehind Others p offset next =
+    (Others p.number × (offset < p.end) × (next ≡ p.end))
+    ⊎ ((Others p.number → p.end ≤ offset) × (next ≡ offset))
+
+-- where a search can begin: at each lower offset some of the others is in the way
+pub record IsStart (Others : ℕ → Type 0) (size : ℕ) (placed : List Placed) (offset : ℕ) : Type 0 where
   pub blocked : (lower : ℕ) → lower < offset → Any (Blocks Others size lower) placed
-  pub bound : (offset ≡ 0) ⊎ Any (λ (p : Placed). p.end ≡ offset) placed
+  pub room : offset + size < 2 ^ 32
 
 -- the buffer that was placed last, of whose others this row told
-pub record IsLast (row : List ℕ) (placed : List Placed) (last : Last) : Type 0 where
-  pub there : Any (λ (p : Placed). p ≡ last.buffer) placed
-  pub filled : last.buffer.offset < last.buffer.end
-  pub blocked : (lower : ℕ) → lower < last.buffer.offset → Any (Blocks (RowHas row) (last.buffer.end - last.buffer.offset) lower) placed
-  pub reached : All (λ (p : Placed). p.offset < last.buffer.offset → p.end ≤ last.reach) placed
+pub record IsLast (row : List ℕ) (placed : List Placed) (last : Placed) : Type 0 where
+  pub there : Any (λ (p : Placed). p ≡ last) placed
+  pub filled : last.offset < last.end
+  pub blocked : (lower : ℕ) → lower < last.offset → Any (Blocks (RowHas row) (last.end - last.offset) lower) placed
+
+-- the offset and the size of p stand at its number
+pub record StandsAt (offsets sizes : List ℕ) (p : Placed) : Type 0 where
+  pub there : p.number < length offsets
+  pub sized : p.number < length sizes
+  pub begins : p.offset ≡ slice_index offsets p.number
+  pub ends : p.end ≡ slice_index offsets p.number + slice_index sizes p.number

@@ -1,9 +1,10 @@
 ghost use Rattle.std.specs.Prelude.{◌≡◌, ◌^◌, ◌<◌, ◌≤◌, length, sum, All, IfOk};
 ghost use Rattle.placement_checker.specs.Placed.{Valid, Tight};
 
-use crate::gap::{Placed, enter, least_offset};
+use crate::enter::enter;
+use crate::gap::Placed;
+use crate::least::least_offset;
 use crate::order::placing_order;
-use crate::start::{Last, reach_of, start_of};
 use placement_checker::Exclusion;
 use sdf_level::List;
 use std::alloc::{AllocError, Global};
@@ -40,8 +41,10 @@ pub fn place<X: Exclusion>(
     let range = exclusion.range() as usize;
     prove!(sizes.len() <= range);
     let order = placing_order(alloc, sizes)?;
-    let mut offsets = vec![in alloc; 0u32; sizes.len()]?;
-    let mut placed = Vec::with_capacity(alloc, sizes.len())?;
+    let mut offsets = vec![in alloc; u32::MAX; sizes.len()]?;
+    let mut small = Vec::with_capacity(alloc, sizes.len())?;
+    let mut large = Vec::new(alloc);
+    let mut limit = 0;
     let mut row = vec![in alloc; 0u64; range.div_ceil(64)]?;
     let mut last_row = vec![in alloc; 0u64; range.div_ceil(64)]?;
     let mut last = None;
@@ -49,19 +52,19 @@ pub fn place<X: Exclusion>(
     for &number in &order {
         let size = sizes[number as usize];
         exclusion.write_row(number, &mut row);
-        let (from, start) = start_of(&placed, &row, last, &last_row, size);
-        let offset = least_offset(&placed, &row, size, from, start);
-        let reach = reach_of(&placed, from, start, offset);
+        let offset = least_offset(
+            &small, &large, limit, &row, size, last, &last_row, &offsets, sizes,
+        );
         let end = offset + size;
         let buffer = Placed {
             number,
             offset,
             end,
         };
-        enter(&mut placed, buffer)?;
+        enter(&mut small, &mut large, &mut limit, buffer)?;
         offsets[number as usize] = offset;
         height = height.max(end);
-        last = Some(Last { buffer, reach });
+        last = Some(buffer);
         mem::swap(&mut row, &mut last_row);
     }
     Ok(Placement {

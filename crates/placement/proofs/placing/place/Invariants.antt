@@ -1,13 +1,18 @@
-use Rattle.std.proofs.Common.{◌≡◌, ◌≤◌, ◌*◌, length, IfSome}
-use Rattle.placement.specs.Placing.{IsPlacingOrder, IsLast}
+use Rattle.std.proofs.Common.{◌≡◌, ◌≤◌, ◌<◌, ◌*◌, ◌/◌, ◌^◌, ◌++◌, length, IfSome}
+use Rattle.placement.specs.Placing.{IsPlacingOrder, IsLast, Rise, IsNarrow}
 use Rattle.placement.proofs.Fitting.{PlacedSoFar}
 use Rattle.placement.proofs.placing.place.Given as goal
 
 abbrev pub invariant-loop-number : goal.invariant-loop-number
 invariant-loop-number g l = record {
   order : IsPlacingOrder l.sizes l.number-items;
-  so_far : PlacedSoFar l.sizes (g.X.Exclusion.excludes l.exclusion) l.number-items order l.number-index l.placed.items l.offsets.items l.height;
+  so_far : PlacedSoFar l.sizes (g.X.Exclusion.excludes l.exclusion) l.number-items order l.number-index (l.small.items ++ l.large.items) l.offsets.items l.height;
+  small : Rise l.small.items;
+  large : Rise l.large.items;
+  narrow : IsNarrow l.limit l.small.items;
   wide : g.X.Exclusion.range l.exclusion ≤ 64 * length l.row.items;
+  few : length l.row.items < 2 ^ 32;
   rows : length l.row.items ≡ length l.last_row.items;
-  last : IfSome l.last (IsLast l.last_row.items l.placed.items);
+  told : IfSome l.last (λ p. (p.number / 64 < length l.row.items) × (p.offset < p.end));
+  last : IfSome l.last (IsLast l.last_row.items (l.small.items ++ l.large.items));
 }

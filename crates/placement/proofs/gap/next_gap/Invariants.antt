@@ -1,6 +1,6 @@
 use Rattle.placement_checker.specs.Rows.{RowHas}
 use Rattle.placement.proofs.Sweep.{OffsetSoFar}
-use Rattle.placement.proofs.gap.least_offset.Given as goal
+use Rattle.placement.proofs.gap.next_gap.Given as goal
 
 abbrev pub invariant-loop-k : goal.invariant-loop-k
-invariant-loop-k l = OffsetSoFar (RowHas l.row) l.size l.placed l.k l.offset
+invariant-loop-k l = OffsetSoFar (RowHas l.row) l.size l.placed l.start l.k l.offset

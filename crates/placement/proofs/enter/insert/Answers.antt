@@ -2,7 +2,7 @@ use Rattle.std.proofs.Common.{rules, ◌≡◌, ◌≤◌, ltb, ltb-true, ltb-fa
 use Rattle.std.specs.List.Sorted.{IsPartitionPoint}
 use Rattle.std.proofs.lemmas.List.Sorted.{IsPartitionPoint-from_clause, IsPartitionedBy-ltb, IsPermutation-insert, IsNonDecreasingBy-insert}
 use Rattle.placement.specs.declared.gap.Placed.{Placed}
-use Rattle.placement.proofs.gap.enter.Goals as goal
+use Rattle.placement.proofs.enter.insert.Goals as goal
 
 pub returns-clause-same : goal.returns-clause-same
 returns-clause-same c = rw c.in_ok-insert.ensures.items (IsPermutation-insert c.args.placed.now.items c.partition_point-index.result c.args.next)
