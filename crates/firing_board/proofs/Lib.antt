@@ -6,5 +6,6 @@ pub mod Known
 pub mod Steps
 pub mod Standing
 pub mod Choosing
+pub mod Asking
 pub mod Answering
 pub mod Picked

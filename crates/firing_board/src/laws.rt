@@ -1,6 +1,6 @@
 // Laws of journals, for whoever holds a board. The functions do nothing; their contracts are the laws.
 ghost use Rattle.firing_board.specs.JobLaws.{JobsHaveLaws};
-ghost use Rattle.firing_board.specs.Laws.{AnswersAreOne, NoneWaitsAlone, OpenJobsAreFew, OpenJobsAreShallow, PicksAreOne, PicksExist, WorkersAreAnswered, WorkersDontMatter};
+ghost use Rattle.firing_board.specs.Laws.{AnswersAreOne, ChildIsOpened, NoneWaitsAlone, OpenJobsAreFew, OpenJobsAreShallow, PicksAreOne, PicksExist, WorkIsPicked, WorkersAreAnswered, WorkersDontMatter};
 ghost use Rattle.firing_board.specs.Legal.{EndedJournalsTell, FewJobsAreOpen};
 
 use job_flow::{edges_have_ports, frames_told, ready_stays};
@@ -41,6 +41,16 @@ pub fn workers_are_answered()
     ensures answered { WorkersAreAnswered }
     ensures one_answer { AnswersAreOne }
     ensures alone { NoneWaitsAlone }
+{
+    job_laws();
+}
+
+/// The pick is found job by job. Each open job tells the best work that it offers, by home, urgency and number: the best of
+/// the deepest jobs that offer any, by home, urgency and path, is the pick. Where none offers work, the best call so found
+/// opens a child, and the pick is the child's first item, or that of the first child which this one opens, and so on.
+pub fn jobs_are_asked()
+    ensures work { WorkIsPicked }
+    ensures child { ChildIsOpened }
 {
     job_laws();
 }
