@@ -8,4 +8,5 @@ pub mod Standing
 pub mod Choosing
 pub mod Asking
 pub mod Answering
+pub mod Entering
 pub mod Picked

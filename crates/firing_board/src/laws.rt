@@ -1,6 +1,6 @@
 // Laws of journals, for whoever holds a board. The functions do nothing; their contracts are the laws.
 ghost use Rattle.firing_board.specs.JobLaws.{JobsHaveLaws};
-ghost use Rattle.firing_board.specs.Laws.{AnswersAreOne, ChildIsOpened, NoneWaitsAlone, OpenJobsAreFew, OpenJobsAreShallow, PicksAreOne, PicksExist, WorkIsPicked, WorkersAreAnswered, WorkersDontMatter};
+ghost use Rattle.firing_board.specs.Laws.{AnswersAreOne, ChildIsOpened, JournalsTellSteps, NoneWaitsAlone, OpenJobsAreFew, OpenJobsAreShallow, PicksAreOne, PicksExist, WorkHasOneAnswer, WorkIsPicked, WorkersAreAnswered, WorkersDontMatter};
 ghost use Rattle.firing_board.specs.Legal.{EndedJournalsTell, FewJobsAreOpen};
 
 use job_flow::{edges_have_ports, frames_told, ready_stays};
@@ -71,4 +71,13 @@ pub fn workers_dont_matter()
 {
     one_meaning();
     journals_tell_one_thread();
+}
+
+/// The entries of a legal journal tell the steps that were taken, and so the state that they leave: the place of each claim,
+/// since the pick is one, and each answer, since work has only one.
+pub fn entries_tell_steps()
+    ensures answers { WorkHasOneAnswer }
+    ensures steps { JournalsTellSteps }
+{
+    job_laws();
 }
