@@ -1,13 +1,11 @@
 -- What a worker is answered, how many jobs are open, and that the number of workers doesn't matter.
-use Rattle.std.proofs.Common.{◌≡◌, ◌⊎◌, ⊎_elim, inl, inr, ℕ, zero, suc, ◌+◌, ◌*◌, ◌<◌, ◌≤◌, Option, Some, None, List, [], ◌∷◌, length, refl, sym, ap, ◌∙◌, subst, arith}
-use Rattle.pisdf_model.specs.declared.graph.Graphs.{Graphs}
+use Rattle.std.proofs.Common.{◌≡◌, ◌⊎◌, ⊎_elim, inl, inr, ℕ, zero, suc, ◌*◌, ◌<◌, ◌≤◌, Option, Some, None, List, ◌∷◌, length, refl, sym, ap, ◌∙◌, subst, arith}
 use Rattle.pisdf_meaning.specs.Endings.{End}
 use Rattle.pisdf_meaning.specs.Laws.{HasOneMeaning}
 use Rattle.pisdf_meaning.specs.Meaning.{Means}
 use Rattle.pisdf_meaning.specs.declared.firing.Firing.{Firing}
 use Rattle.nested_jobs.specs.Rules.{Place}
 use Rattle.nested_jobs.specs.Marks.{Done, Open}
-use Rattle.nested_jobs.specs.Journals.{Runs}
 use Rattle.nested_jobs.specs.Pick.{AreAllOpen, Distinct, Few}
 use Rattle.nested_jobs.specs.Steps.{IsEnabled}
 use Rattle.nested_jobs.proofs.Depths.{few_in_all}

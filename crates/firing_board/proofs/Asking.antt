@@ -1,5 +1,5 @@
 -- The pick is found job by job.
-use Rattle.std.proofs.Common.{◌≡◌, ◌≢◌, ◌⊎◌, ⊎_elim, inl, inr, ℕ, zero, suc, ◌+◌, ◌<◌, nat_lt, not, Bool, true, false, Option, Some, None, List, [], ◌∷◌, ◌++◌, length, reverse, refl, sym, ap, ◌∙◌, subst, arith, append_assoc}
+use Rattle.std.proofs.Common.{◌≡◌, ◌≢◌, ◌⊎◌, ⊎_elim, inl, inr, ℕ, zero, suc, not, Bool, true, false, Option, Some, None, List, [], ◌∷◌, ◌++◌, length, reverse, refl, sym, ap, ◌∙◌, subst, arith, append_assoc}
 use Rattle.std.proofs.lemmas.Bool.{cases_eq, lt-ltb}
 use Rattle.std.proofs.lemmas.List.{reverse-append, reverse-reverse}
 use Rattle.pisdf_meaning.specs.declared.firing.Firing.{Firing}
@@ -7,22 +7,22 @@ use Rattle.nested_jobs.specs.Rules.{Call, Place, Task, Work}
 use Rattle.nested_jobs.specs.Marks.{Busy, Done, Free, Mark, Marks, Open, put, values}
 use Rattle.nested_jobs.specs.Kept.{InJob}
 use Rattle.nested_jobs.specs.Pick.{outer}
-use Rattle.nested_jobs.specs.Steps.{IsEnabled, begins, claimed, opened, opens, task_at}
-use Rattle.nested_jobs.proofs.Finding.{opened_open, opened_ready}
+use Rattle.nested_jobs.specs.Steps.{IsEnabled, begins, opened, opens, task_at}
+use Rattle.nested_jobs.proofs.Finding.{opened_open}
 use Rattle.nested_jobs.proofs.Nesting.{claimed_nested, of_busy, of_open, opened_nested}
 use Rattle.nested_jobs.proofs.OneStep.{outer_open, work_enabled}
 use Rattle.nested_jobs.proofs.Places.{cons_ne, one_open, place_cases, put_here, put_other, tail_is}
 use Rattle.nested_jobs.proofs.Turns.{task_is}
-use Rattle.job_rules.specs.Items.{Prepared, graph_of, prepared_in}
+use Rattle.job_rules.specs.Items.{graph_of, prepared_in}
 use Rattle.job_rules.specs.Meant.{rank}
 use Rattle.job_rules.specs.Words as words
 use Rattle.job_rules.specs.Words.{Answer}
 use Rattle.firing_board.specs.Keys.{IsKey, Key, rules, top_job}
-use Rattle.firing_board.specs.Offers.{AreFirst, IsBest, IsBestIn, NoneOffers, Offers, Yields, calls}
+use Rattle.firing_board.specs.Offers.{AreFirst, IsBest, NoneOffers, Offers, Yields, calls}
 use Rattle.firing_board.specs.Picks.{AreMapped, GoesBefore, IsPick, ItemStands, Standing, StandsAs, goes_before, is_lesser_way, is_open, item_towards, items_below, steps_to}
 use Rattle.firing_board.proofs.Known.{BoardLaws, Known}
 use Rattle.firing_board.proofs.Ordering.{deep_first, open_first, standings_ordered, way_decides, way_is_last, with_way}
-use Rattle.firing_board.proofs.Standing.{Alike, Homed, Way, alike_item, below_way, goes_below, homed, number_is, opens_is, outer_is, stands, stands_once, towards, way_of, within_is}
+use Rattle.firing_board.proofs.Standing.{Alike, Homed, Way, alike_item, below_way, goes_below, homed, number_is, opens_is, outer_is, stands, towards, way_of, within_is}
 
 -- ---- ways of zeros
 

@@ -1,6 +1,5 @@
 -- The entries of a legal journal tell the steps.
-use Rattle.std.proofs.Common.{◌≡◌, ◌⊎◌, ⊎_elim, inl, inr, ℕ, zero, suc, ◌+◌, ◌<◌, ℤ, Option, Some, None, Result, Ok, Err, List, [], ◌∷◌, ◌++◌, length, refl, sym, ap, ◌∙◌, subst, arith}
-use Rattle.std.specs.List.{flat_map}
+use Rattle.std.proofs.Common.{◌≡◌, ⊎_elim, inl, ℕ, ℤ, Some, Result, Ok, Err, List, [], ◌∷◌, ◌++◌, length, refl, sym, ap, ◌∙◌, subst, arith}
 use Rattle.std.proofs.lemmas.List.{length-append}
 use Rattle.kernel_gate.specs.Value.{lengths}
 use Rattle.sdf_level.specs.Interfaces.{last, repeated}
@@ -23,7 +22,7 @@ use Rattle.pisdf_meaning.specs.declared.firing.Firing.{Firing}
 use Rattle.pisdf_meaning.specs.declared.refusal.Refusal.{Refusal}
 use Rattle.nested_jobs.specs.Rules as nested
 use Rattle.nested_jobs.specs.Rules.{Place}
-use Rattle.nested_jobs.specs.Marks.{Mark, Marks, Open}
+use Rattle.nested_jobs.specs.Marks.{Open}
 use Rattle.nested_jobs.specs.Journals as steps
 use Rattle.nested_jobs.specs.Journals.{Allowed, LegalFrom, MayFinish, after, start, task_of}
 use Rattle.nested_jobs.specs.Steps.{claimed}
@@ -203,7 +202,7 @@ module _ (key : Key) (is : IsKey key) (laws : BoardLaws key) where
   picked_snoc s [] e picked one = (one, tt)
   picked_snoc s (x ∷ es) e picked one = (picked.0, picked_snoc (after (rules key) s x) es e picked.1 one)
 
-  one_more : (before : List Step) (e : Step) → AreLegal key before → MayStep (state_after key before) e → AreLegal key (before ++ e ∷ [])
+  pub one_more : (before : List Step) (e : Step) → AreLegal key before → MayStep (state_after key before) e → AreLegal key (before ++ e ∷ [])
   one_more before e legal may = record {
     allowed = legal-snoc (rules key) (Answers G) key.workers (start (top_job key)) before e legal.allowed may.0;
     picked = picked_snoc (start (top_job key)) before e legal.picked may.1;

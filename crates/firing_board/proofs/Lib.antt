@@ -9,4 +9,5 @@ pub mod Choosing
 pub mod Asking
 pub mod Answering
 pub mod Entering
+pub mod Keeping
 pub mod Picked

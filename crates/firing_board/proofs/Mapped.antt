@@ -1,5 +1,5 @@
 -- A job that is compiled has at most one list schedule.
-use Rattle.std.proofs.Common.{◌≡◌, ℕ, ◌+◌, ◌<◌, ⊎_elim, ℤ, List, [], ◌∷◌, length, map, slice_index, refl, sym, ap, ◌∙◌, subst, arith}
+use Rattle.std.proofs.Common.{◌≡◌, ℕ, ◌+◌, ◌<◌, List, [], length, map, slice_index, sym, ◌∙◌, subst, arith}
 use Rattle.std.specs.List.{All, range_with_len}
 use Rattle.std.proofs.lemmas.List.{ext_get_or}
 use Rattle.std.proofs.lemmas.List.Elements.{All-map}
@@ -7,9 +7,7 @@ use Rattle.std.proofs.lemmas.List.FromFn.{get_or-map-range_with_len}
 use Rattle.sdf_level.specs.View.{LevelView}
 use Rattle.sdf_level.specs.Kept.{IsLevel}
 use Rattle.sdf_level.specs.Orders.{IsTurnOrder}
-use Rattle.sdf_level.specs.declared.node.Node.{Node}
 use Rattle.sdf_level.specs.declared.single_rate.Edge.{Edge}
-use Rattle.sdf_level.specs.declared.single_rate.SingleRate.{SingleRate}
 use Rattle.sdf_level.specs.declared.turn.Turn.{Turn}
 use Rattle.single_rate.specs.Expanded.{nodes, edges}
 use Rattle.single_rate.specs.Stages.{EndsAreThere, GraphsHaveStages}

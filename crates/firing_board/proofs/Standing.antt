@@ -1,16 +1,14 @@
 -- Where enabled items stand: each stands somewhere, at one place alone, and no two at the same.
-use Rattle.std.proofs.Common.{◌≡◌, ◌≢◌, ◌⊎◌, ⊎_elim, inl, inr, ℕ, zero, suc, ◌+◌, ◌-◌, ◌==◌, ◌<◌, nat_lt, not, Bool, true, false, Option, Some, None, List, [], ◌∷◌, ◌++◌, length, reverse, take, slice_index, refl, sym, ap, ◌∙◌, subst, arith, length-append}
+use Rattle.std.proofs.Common.{◌≡◌, ℕ, suc, ◌-◌, ◌==◌, nat_lt, not, Bool, true, false, Option, Some, None, List, [], ◌∷◌, ◌++◌, length, reverse, take, slice_index, refl, sym, ap, ◌∙◌, subst, arith, length-append}
 use Rattle.std.proofs.lemmas.List.{reverse-reverse}
 use Rattle.pisdf_model.specs.declared.graph.Graph.{Graph}
 use Rattle.pisdf_meaning.specs.declared.firing.Firing.{Firing}
 use Rattle.worker_mapping.specs.declared.mapping.Mapping.{Mapping}
-use Rattle.nested_jobs.specs.Rules.{Call, Place, Task, Work}
-use Rattle.nested_jobs.specs.Rules as nested
-use Rattle.nested_jobs.specs.Marks.{Busy, Done, Free, Mark, Marks, Open, values}
-use Rattle.nested_jobs.specs.Kept.{InJob}
+use Rattle.nested_jobs.specs.Rules.{Place}
+use Rattle.nested_jobs.specs.Marks.{Free, Mark, Marks, Open, values}
 use Rattle.nested_jobs.specs.Pick.{outer}
 use Rattle.nested_jobs.specs.Steps.{IsEnabled}
-use Rattle.nested_jobs.proofs.Finding.{IsReady, OnWay, enabled_by}
+use Rattle.nested_jobs.proofs.Finding.{OnWay, enabled_by}
 use Rattle.nested_jobs.proofs.OneStep.{free_below, outer_below, outer_open}
 use Rattle.nested_jobs.proofs.Places.{one_open, tail_is}
 use Rattle.job_rules.proofs.Answered.{is_job}
@@ -18,7 +16,7 @@ use Rattle.job_rules.specs.Items.{Prepared, graph_of, node_base, prepared_in}
 use Rattle.job_rules.specs.Meant.{rank}
 use Rattle.job_rules.specs.Words.{Answer}
 use Rattle.firing_board.specs.Keys.{IsKey, Key, rules, top_job}
-use Rattle.firing_board.specs.Picks.{AreMapped, IsMappingOf, ItemStands, NodeStands, Standing, StandsAs, StandsAsNode, is_open, item_towards, items_below, steps_to}
+use Rattle.firing_board.specs.Picks.{AreMapped, IsMappingOf, ItemStands, Standing, StandsAs, StandsAsNode, is_open, item_towards, items_below, steps_to}
 use Rattle.firing_board.proofs.Known.{BoardLaws, Known}
 use Rattle.firing_board.proofs.Mapped.{mapping_once}
 use Rattle.firing_board.proofs.Steps.{paths_apart}

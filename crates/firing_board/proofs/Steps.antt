@@ -1,5 +1,5 @@
 -- Open jobs have different paths: the steps from the top tell the place.
-use Rattle.std.proofs.Common.{◌≡◌, ◌⊎◌, ⊎_elim, inl, inr, ℕ, zero, suc, ◌+◌, ◌-◌, ◌<◌, ◌≤◌, ◌&&◌, nat_lt, Bool, true, false, ℤ, List, [], ◌∷◌, ◌++◌, length, map, slice_get, slice_index, Option, Some, None, refl, sym, ap, ◌∙◌, subst, arith, length-append}
+use Rattle.std.proofs.Common.{◌≡◌, ◌⊎◌, ⊎_elim, inl, inr, ℕ, ◌+◌, ◌-◌, ◌<◌, ◌≤◌, ℤ, List, [], ◌∷◌, ◌++◌, length, map, slice_get, slice_index, Option, Some, None, refl, sym, ap, ◌∙◌, subst, arith, length-append}
 use Rattle.std.proofs.lemmas.Bool.{cases_lt, le-ltb, lt-ltb}
 use Rattle.std.proofs.lemmas.List.{length-map}
 use Rattle.std.proofs.lemmas.Option.{slice_get_within}
@@ -13,7 +13,7 @@ use Rattle.single_rate.specs.Expanded.{place_of}
 use Rattle.pisdf_meaning.specs.Configuring.{Configuration, configurations}
 use Rattle.pisdf_meaning.specs.declared.firing.Configured.{Configured}
 use Rattle.pisdf_meaning.specs.declared.firing.Firing.{Firing}
-use Rattle.nested_jobs.specs.Rules.{Call, Place, Task, Values}
+use Rattle.nested_jobs.specs.Rules.{Call, Place, Values}
 use Rattle.nested_jobs.specs.Marks.{Mark, Marks, Open, values}
 use Rattle.nested_jobs.proofs.Nesting.{of_open}
 use Rattle.nested_jobs.proofs.Places.{one_open}
@@ -23,7 +23,6 @@ use Rattle.job_rules.proofs.Answered.{is_job, rule_so}
 use Rattle.job_rules.proofs.Numbers.{rule_of_compilation, rule_of_node}
 use Rattle.job_rules.specs.Items.{Prepared, actor_task, compile_number, compile_rule, graph_of, job_graph, node_base, node_rule, node_task, node_values, nodes_in, prepared_in, rule, values_in}
 use Rattle.job_rules.specs.Meant.{rank}
-use Rattle.job_rules.specs.Words as words
 use Rattle.job_rules.specs.Words.{Answer}
 use Rattle.firing_board.specs.Keys.{IsKey, Key, rules, top_job}
 use Rattle.firing_board.specs.Picks.{step_in, step_of_item, step_of_node, steps_to}

@@ -5,3 +5,5 @@ pub mod Legal
 pub mod JobLaws
 pub mod Offers
 pub mod Laws
+pub mod Board
+pub mod BoardLaws

@@ -1,4 +1,5 @@
 // Laws of journals, for whoever holds a board. The functions do nothing; their contracts are the laws.
+ghost use Rattle.firing_board.specs.BoardLaws.{BoardsStart, ClaimsKeep, ClosingsEnd, ClosingsGoOn, ClosingsStop, FinishesBegin, HeldAreBusy, NothingOpened, OneMoreOpened};
 ghost use Rattle.firing_board.specs.JobLaws.{JobsHaveLaws};
 ghost use Rattle.firing_board.specs.Laws.{AnswersAreOne, ChildIsOpened, JournalsTellSteps, NoneWaitsAlone, OpenJobsAreFew, OpenJobsAreShallow, PicksAreOne, PicksExist, WorkHasOneAnswer, WorkIsPicked, WorkersAreAnswered, WorkersDontMatter};
 ghost use Rattle.firing_board.specs.Legal.{EndedJournalsTell, FewJobsAreOpen};
@@ -78,6 +79,23 @@ pub fn workers_dont_matter()
 pub fn entries_tell_steps()
     ensures answers { WorkHasOneAnswer }
     ensures steps { JournalsTellSteps }
+{
+    job_laws();
+}
+
+/// A table of the open jobs, with what each worker runs of them, follows the steps of a board. A claim opens no job or several,
+/// one in the other, and then marks the item that is picked. A finish marks the item that the worker runs, and then closes jobs
+/// from its own up, until one isn't quiet or the top job is closed.
+pub fn boards_keep()
+    ensures start { BoardsStart }
+    ensures nothing_opened { NothingOpened }
+    ensures one_more_opened { OneMoreOpened }
+    ensures claim { ClaimsKeep }
+    ensures held { HeldAreBusy }
+    ensures finish { FinishesBegin }
+    ensures go_on { ClosingsGoOn }
+    ensures stop { ClosingsStop }
+    ensures end { ClosingsEnd }
 {
     job_laws();
 }

@@ -7,5 +7,6 @@ mod laws;
 
 pub use entry::{Entry, Item};
 pub use laws::{
-    few_jobs_are_open, jobs_are_asked, journals_tell_one_thread, workers_are_answered, workers_dont_matter,
+    few_jobs_are_open, jobs_are_asked, journals_tell_one_thread, workers_are_answered,
+    workers_dont_matter,
 };
