@@ -182,7 +182,7 @@ module _ (key : Key) (is : IsKey key) (laws : BoardLaws key) (m : Marks Firing A
         }
 
     -- two standings of one offer are the same
-    offers_once : (opens : Bool) (q : Place) (k : ℕ) (s u : Standing) → Offered opens q k s → Offered opens q k u → s ≡ u
+    pub offers_once : (opens : Bool) (q : Place) (k : ℕ) (s u : Standing) → Offered opens q k s → Offered opens q k u → s ≡ u
     offers_once opens q k s u one other =
         let job : other.job ≡ one.job = one_open m q other.job one.job other.is_open one.is_open in
         let P : Firing → Type 0 = λ f. ItemStands key (graph_of key.graphs.graphs f) f (prepared_in (graph_of key.graphs.graphs f) (values m q)) w k u in

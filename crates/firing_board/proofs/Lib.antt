@@ -10,4 +10,5 @@ pub mod Asking
 pub mod Answering
 pub mod Entering
 pub mod Keeping
+pub mod Rows
 pub mod Picked

@@ -285,3 +285,20 @@ pub deep_first : (s u : Standing) → s.opens ≡ u.opens → u.depth < s.depth 
 deep_first s u same lower =
     rules_are s u ∙ ap (λ (z : Bool). decide (first_flag z u.opens) (first_flag u.opens z) (by_depth s u)) same
     ∙ rest_only first_flag flags u.opens (by_depth s u) ∙ rw (lt-ltb u.depth s.depth lower) refl
+
+-- of two items of one job home, urgency and number decide
+pub in_one_job : (opens : Bool) (depth : ℕ) (away away' : Bool) (urgency urgency' : Option ℕ) (path : List (ℕ × ℕ)) (number number' : ℕ)
+    → decide (not away && away') (away && not away') (decide (is_more_urgent urgency urgency') (is_more_urgent urgency' urgency) (nat_lt number number')) ≡ true
+    → (let s : Standing = record { opens = opens; depth = depth; away = away; urgency = urgency; path = path; number = number; within = [] } in let u : Standing = record { opens = opens; depth = depth; away = away'; urgency = urgency'; path = path; number = number'; within = [] } in goes_before s u ≡ true)
+in_one_job opens depth away away' urgency urgency' path number number' first =
+    let s : Standing = record { opens = opens; depth = depth; away = away; urgency = urgency; path = path; number = number; within = [] } in
+    let u : Standing = record { opens = opens; depth = depth; away = away'; urgency = urgency'; path = path; number = number'; within = [] } in
+    let by_two : Bool = decide (is_more_urgent urgency urgency') (is_more_urgent urgency' urgency) (nat_lt number number') in
+    let turned_first : decide (first_flag away away') (first_flag away' away) by_two ≡ true = ap (λ (z : Bool). decide (first_flag away away') z by_two) (sym (turned_flags away away')) ∙ first in
+    rules_are s u
+    ∙ rest_only first_flag flags opens (by_depth s u)
+    ∙ rest_only (λ (n m : ℕ). nat_lt m n) deeper depth (by_home s u)
+    ∙ rest_more (first_flag away away') (first_flag away' away) by_two (by_urgency s u)
+    (rest_more (is_more_urgent urgency urgency') (is_more_urgent urgency' urgency) (nat_lt number number') (by_path s u)
+    (λ less. rest_only is_lesser_path paths path (by_number s u) ∙ rw less refl))
+    turned_first

@@ -7,3 +7,5 @@ pub mod Offers
 pub mod Laws
 pub mod Board
 pub mod BoardLaws
+pub mod Asking
+pub mod AskingLaws

@@ -1,4 +1,5 @@
 // Laws of journals, for whoever holds a board. The functions do nothing; their contracts are the laws.
+ghost use Rattle.firing_board.specs.AskingLaws.{BoardsEnd, EndsAreMeant, FirstCallIsOpened, FirstWorkIsPicked, JobsBegin, NothingIsEnabled};
 ghost use Rattle.firing_board.specs.BoardLaws.{BoardsStart, ClaimsKeep, ClosingsEnd, ClosingsGoOn, ClosingsStop, FinishesBegin, HeldAreBusy, NothingOpened, OneMoreOpened};
 ghost use Rattle.firing_board.specs.JobLaws.{JobsHaveLaws};
 ghost use Rattle.firing_board.specs.Laws.{AnswersAreOne, ChildIsOpened, JournalsTellSteps, NoneWaitsAlone, OpenJobsAreFew, OpenJobsAreShallow, PicksAreOne, PicksExist, WorkHasOneAnswer, WorkIsPicked, WorkersAreAnswered, WorkersDontMatter};
@@ -98,4 +99,24 @@ pub fn boards_keep()
     ensures end { ClosingsEnd }
 {
     job_laws();
+}
+
+/// The rows of a board are asked one by one, each for the first item that it offers: what is then the first of all is the pick,
+/// and where none offers anything, nothing is enabled. A job that is opened begins with its first item.
+pub fn rows_are_asked()
+    ensures work { FirstWorkIsPicked }
+    ensures child { FirstCallIsOpened }
+    ensures none { NothingIsEnabled }
+    ensures begin { JobsBegin }
+{
+    job_laws();
+}
+
+/// A board has ended exactly where its top job is done, and then with what one thread gets.
+pub fn boards_end()
+    ensures ended { BoardsEnd }
+    ensures meant { EndsAreMeant }
+{
+    job_laws();
+    journals_tell_one_thread();
 }

@@ -1,0 +1,51 @@
+-- How the rows of a board are asked for what a worker is handed, and how a board ends.
+use Rattle.std.specs.Prelude.{◌≡◌, ◌↔◌, ◌⊎◌, ℕ, true, false, Some, None, List, [], ◌∷◌, ◌++◌}
+use Rattle.pisdf_meaning.specs.Endings.{End}
+use Rattle.pisdf_meaning.specs.Meaning.{Means}
+use Rattle.pisdf_meaning.specs.declared.firing.Firing.{Firing}
+use Rattle.nested_jobs.specs.Rules.{Place, Task}
+use Rattle.nested_jobs.specs.Marks.{Done}
+use Rattle.nested_jobs.specs.Steps.{IsEnabled}
+use Rattle.job_rules.specs.Items.{rule}
+use Rattle.job_rules.specs.Words as words
+use Rattle.job_rules.specs.Words.{Answer, answer_of}
+use Rattle.firing_board.specs.Keys.{IsKey, Key, rules, top_job}
+use Rattle.firing_board.specs.Entries.{Step}
+use Rattle.firing_board.specs.Legal.{AreLegal, HasEnded, state_after}
+use Rattle.firing_board.specs.Board.{Held, KeptAs, OpenJobs}
+use Rattle.firing_board.specs.Asking.{IsFirstOfAll, JobRow, NoRowOffers, Offer}
+use Rattle.firing_board.specs.Offers.{AreFirst}
+use Rattle.firing_board.specs.Picks.{AreMapped, IsPick}
+
+-- the first work of all rows is the pick
+abbrev pub FirstWorkIsPicked : Type 0
+FirstWorkIsPicked =
+    (key : Key) (taken : List Step) (table : OpenJobs) (held : Held) (w k : ℕ) (row : JobRow) (offer : Offer) → IsKey key → KeptAs key taken table held → AreMapped key (state_after key taken).marks →
+    IsFirstOfAll key (state_after key taken).marks w false table k row offer →
+    IsPick key (state_after key taken).marks w offer.item row.place
+
+-- where no row offers work, the first call of all rows opens a child, whose first item is the pick
+abbrev pub FirstCallIsOpened : Type 0
+FirstCallIsOpened =
+    (key : Key) (taken : List Step) (table : OpenJobs) (held : Held) (w k i j : ℕ) (p : Place) (way : List ℕ) (row : JobRow) (offer : Offer) → IsKey key → KeptAs key taken table held → AreMapped key (state_after key taken).marks →
+    NoRowOffers key false table → IsFirstOfAll key (state_after key taken).marks w true table k row offer →
+    AreFirst (j ∷ way) → i ∷ p ≡ j ∷ way ++ offer.item ∷ row.place → IsEnabled (rules key) (state_after key taken).marks (i ∷ p) →
+    IsPick key (state_after key taken).marks w i p
+
+-- where no row offers anything, nothing is enabled
+abbrev pub NothingIsEnabled : Type 0
+NothingIsEnabled =
+    (key : Key) (taken : List Step) (table : OpenJobs) (held : Held) (a : Place) → IsKey key → KeptAs key taken table held →
+    NoRowOffers key false table → NoRowOffers key true table → ¬ (IsEnabled (rules key) (state_after key taken).marks a)
+
+-- the first item of a job of which nothing is claimed has a task
+abbrev pub JobsBegin : Type 0
+JobsBegin = (key : Key) (job : Firing) → (task : Task Firing words.Work) × (rule key.graphs.graphs job (λ i. None) 0 ≡ Some task)
+
+-- the journal has ended exactly where the top job is done
+abbrev pub BoardsEnd : Type 0
+BoardsEnd = (key : Key) (taken : List Step) → IsKey key → AreLegal key taken → HasEnded key taken ↔ ((answer : Answer) × ((state_after key taken).marks [] ≡ Done answer))
+
+-- and its end is that which one thread gets
+abbrev pub EndsAreMeant : Type 0
+EndsAreMeant = (key : Key) (taken : List Step) (end : End) → IsKey key → AreLegal key taken → (state_after key taken).marks [] ≡ Done (answer_of end) → Means key.graphs.graphs (top_job key) end
