@@ -11,4 +11,5 @@ pub mod Answering
 pub mod Entering
 pub mod Keeping
 pub mod Rows
+pub mod Staying
 pub mod Picked

@@ -4,7 +4,7 @@ use Rattle.pisdf_meaning.specs.Endings.{End}
 use Rattle.pisdf_meaning.specs.Meaning.{Means}
 use Rattle.pisdf_meaning.specs.declared.firing.Firing.{Firing}
 use Rattle.nested_jobs.specs.Rules.{Place, Task}
-use Rattle.nested_jobs.specs.Marks.{Done}
+use Rattle.nested_jobs.specs.Marks.{Done, Open}
 use Rattle.nested_jobs.specs.Steps.{IsEnabled}
 use Rattle.job_rules.specs.Items.{rule}
 use Rattle.job_rules.specs.Words as words
@@ -15,7 +15,7 @@ use Rattle.firing_board.specs.Legal.{AreLegal, HasEnded, state_after}
 use Rattle.firing_board.specs.Board.{Held, KeptAs, OpenJobs}
 use Rattle.firing_board.specs.Asking.{IsFirstOfAll, JobRow, NoRowOffers, Offer}
 use Rattle.firing_board.specs.Offers.{AreFirst}
-use Rattle.firing_board.specs.Picks.{AreMapped, IsPick}
+use Rattle.firing_board.specs.Picks.{AreMapped, IsPick, steps_to}
 
 -- the first work of all rows is the pick
 abbrev pub FirstWorkIsPicked : Type 0
@@ -49,3 +49,17 @@ BoardsEnd = (key : Key) (taken : List Step) → IsKey key → AreLegal key taken
 -- and its end is that which one thread gets
 abbrev pub EndsAreMeant : Type 0
 EndsAreMeant = (key : Key) (taken : List Step) (end : End) → IsKey key → AreLegal key taken → (state_after key taken).marks [] ≡ Done (answer_of end) → Means key.graphs.graphs (top_job key) end
+
+-- a job that stays open keeps its path
+abbrev pub PathsStay : Type 0
+PathsStay =
+    (key : Key) (taken : List Step) (e : Step) (p : Place) (c d : Firing) → IsKey key → AreLegal key taken → AreLegal key (taken ++ e ∷ []) →
+    (state_after key taken).marks p ≡ Open c → (state_after key (taken ++ e ∷ [])).marks p ≡ Open d →
+    steps_to key (state_after key (taken ++ e ∷ [])).marks p ≡ steps_to key (state_after key taken).marks p
+
+-- and no two open jobs have one
+abbrev pub PathsAreApart : Type 0
+PathsAreApart =
+    (key : Key) (taken : List Step) (p q : Place) (c d : Firing) → IsKey key → AreLegal key taken →
+    (state_after key taken).marks p ≡ Open c → (state_after key taken).marks q ≡ Open d →
+    steps_to key (state_after key taken).marks p ≡ steps_to key (state_after key taken).marks q → p ≡ q

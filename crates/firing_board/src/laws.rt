@@ -1,5 +1,5 @@
 // Laws of journals, for whoever holds a board. The functions do nothing; their contracts are the laws.
-ghost use Rattle.firing_board.specs.AskingLaws.{BoardsEnd, EndsAreMeant, FirstCallIsOpened, FirstWorkIsPicked, JobsBegin, NothingIsEnabled};
+ghost use Rattle.firing_board.specs.AskingLaws.{BoardsEnd, EndsAreMeant, FirstCallIsOpened, FirstWorkIsPicked, JobsBegin, NothingIsEnabled, PathsAreApart, PathsStay};
 ghost use Rattle.firing_board.specs.BoardLaws.{BoardsStart, ClaimsKeep, ClosingsEnd, ClosingsGoOn, ClosingsStop, FinishesBegin, HeldAreBusy, NothingOpened, OneMoreOpened};
 ghost use Rattle.firing_board.specs.JobLaws.{JobsHaveLaws};
 ghost use Rattle.firing_board.specs.Laws.{AnswersAreOne, ChildIsOpened, JournalsTellSteps, NoneWaitsAlone, OpenJobsAreFew, OpenJobsAreShallow, PicksAreOne, PicksExist, WorkHasOneAnswer, WorkIsPicked, WorkersAreAnswered, WorkersDontMatter};
@@ -119,4 +119,12 @@ pub fn boards_end()
 {
     job_laws();
     journals_tell_one_thread();
+}
+
+/// An open job keeps its path, as actors and their firings from the top on, and no two open jobs have one path.
+pub fn paths_stay()
+    ensures stay { PathsStay }
+    ensures apart { PathsAreApart }
+{
+    job_laws();
 }
