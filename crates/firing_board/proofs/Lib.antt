@@ -10,6 +10,7 @@ pub mod Asking
 pub mod Answering
 pub mod Entering
 pub mod Keeping
+pub mod Growing
 pub mod Rows
 pub mod Staying
 pub mod Picked

@@ -6,14 +6,15 @@ use Rattle.nested_jobs.specs.Marks.{Busy, Done, Free, Marks, Open, put}
 use Rattle.nested_jobs.specs.Journals as steps
 use Rattle.nested_jobs.specs.Tables.{Row, answers_in, fresh_row, is_quiet_row, put_row, with_mark}
 use Rattle.job_rules.specs.Doing.{Answers}
-use Rattle.job_rules.specs.Items.{outcome, rule}
+use Rattle.job_rules.specs.Items.{graph_of, outcome, rule}
 use Rattle.job_rules.specs.Words as words
 use Rattle.job_rules.specs.Words.{Answer}
 use Rattle.firing_board.specs.Keys.{IsKey, Key, rules, top_job}
-use Rattle.firing_board.specs.Entries.{Step}
-use Rattle.firing_board.specs.Legal.{state_after}
+use Rattle.firing_board.specs.Entries.{Step, item_of}
+use Rattle.firing_board.specs.Legal.{AreLegal, HasEnded, journal_of, state_after}
 use Rattle.firing_board.specs.Board.{HasOpened, Held, IsClosing, KeptAs, OpenJobs, hold}
 use Rattle.firing_board.specs.Picks.{IsPick}
+use Rattle.firing_board.specs.declared.entry.Entry.TheVariants.{Claim, Finish}
 
 -- a board begins with the row of the top job
 abbrev pub BoardsStart : Type 0
@@ -92,3 +93,20 @@ ClosingsEnd =
     (key : Key) (taken : List Step) (held : Held) (w : ℕ) (answer : Answer) (table : OpenJobs) (n : Marks Firing Answer) (k : ℕ) (row : Row Firing Answer) → IsKey key →
     IsClosing key taken held w answer table n [] → table k ≡ Some row → row.place ≡ [] → is_quiet_row (rules key) row ≡ true →
     IsOver key (taken ++ steps.Finish w answer ∷ []) (put_row table k None) (hold held w None) (outcome key.graphs.graphs row.job (answers_in row))
+
+-- ---- the journal
+
+-- a claim appends the path and the item of the row whose item is claimed, and nothing else
+abbrev pub ClaimsAreEntered : Type 0
+ClaimsAreEntered =
+    (key : Key) (taken : List Step) (table : OpenJobs) (w k i : ℕ) (row : Row Firing Answer) (later : OpenJobs) (n : Marks Firing Answer) → IsKey key →
+    HasOpened key table (state_after key taken).marks (i ∷ row.place) later n → later k ≡ Some row →
+    journal_of key (taken ++ steps.Claim w (i ∷ row.place) ∷ []) ≡ journal_of key taken ++ Claim w row.job.path (item_of (graph_of key.graphs.graphs row.job) i) ∷ []
+
+-- a finish appends itself
+abbrev pub FinishesAreEntered : Type 0
+FinishesAreEntered = (key : Key) (taken : List Step) (w : ℕ) (answer : Answer) → journal_of key (taken ++ steps.Finish w answer ∷ []) ≡ journal_of key taken ++ Finish w ∷ []
+
+-- where a journal has ended it doesn't go on
+abbrev pub EndedJournalsStay : Type 0
+EndedJournalsStay = (key : Key) (taken : List Step) (e : Step) → HasEnded key taken → ¬ (AreLegal key (taken ++ e ∷ []))

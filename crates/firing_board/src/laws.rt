@@ -1,6 +1,6 @@
 // Laws of journals, for whoever holds a board. The functions do nothing; their contracts are the laws.
 ghost use Rattle.firing_board.specs.AskingLaws.{BoardsEnd, EndsAreMeant, FirstCallIsOpened, FirstWorkIsPicked, JobsBegin, NothingIsEnabled, PathsAreApart, PathsStay};
-ghost use Rattle.firing_board.specs.BoardLaws.{BoardsStart, ClaimsKeep, ClosingsEnd, ClosingsGoOn, ClosingsStop, FinishesBegin, HeldAreBusy, NothingOpened, OneMoreOpened};
+ghost use Rattle.firing_board.specs.BoardLaws.{BoardsStart, ClaimsAreEntered, ClaimsKeep, ClosingsEnd, ClosingsGoOn, ClosingsStop, EndedJournalsStay, FinishesAreEntered, FinishesBegin, HeldAreBusy, NothingOpened, OneMoreOpened};
 ghost use Rattle.firing_board.specs.JobLaws.{JobsHaveLaws};
 ghost use Rattle.firing_board.specs.Laws.{AnswersAreOne, ChildIsOpened, JournalsTellSteps, NoneWaitsAlone, OpenJobsAreFew, OpenJobsAreShallow, PicksAreOne, PicksExist, WorkHasOneAnswer, WorkIsPicked, WorkersAreAnswered, WorkersDontMatter};
 ghost use Rattle.firing_board.specs.Legal.{EndedJournalsTell, FewJobsAreOpen};
@@ -128,3 +128,10 @@ pub fn paths_stay()
 {
     job_laws();
 }
+
+/// Each claim and each finish appends one entry to the journal, and where a journal has ended it doesn't go on.
+pub fn journals_grow()
+    ensures claim { ClaimsAreEntered }
+    ensures finish { FinishesAreEntered }
+    ensures ended { EndedJournalsStay }
+{}
