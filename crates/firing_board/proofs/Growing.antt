@@ -1,8 +1,7 @@
 -- Each step appends one entry to the journal.
-use Rattle.std.proofs.Common.{◌≡◌, ℕ, Some, None, List, [], ◌∷◌, ◌++◌, refl, sym, ap, ◌∙◌, append_assoc}
+use Rattle.std.proofs.Common.{◌≡◌, ℕ, Some, None, List, [], ◌∷◌, ◌++◌, sym, ap, ◌∙◌, append_assoc}
 use Rattle.std.proofs.lemmas.List.{append-nil}
 use Rattle.pisdf_meaning.specs.declared.firing.Firing.{Firing}
-use Rattle.nested_jobs.specs.Rules.{Place}
 use Rattle.nested_jobs.specs.Marks.{Mark, Marks, Open}
 use Rattle.nested_jobs.specs.Journals as steps
 use Rattle.nested_jobs.specs.Journals.{Allowed, LegalFrom, after, start, state_from}

@@ -1,6 +1,7 @@
 pub mod Examples
 pub mod Ordering
 pub mod ActorPlaces
+pub mod ListSchedule
 pub mod Mapped
 pub mod Known
 pub mod Steps

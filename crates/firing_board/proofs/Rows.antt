@@ -1,19 +1,19 @@
 -- The rows of a board are asked.
-use Rattle.std.proofs.Common.{◌≡◌, ◌≢◌, ◌⊎◌, ◌↔◌, ⊎_elim, inl, inr, ℕ, ◌<◌, nat_lt, not, ◌&&◌, Bool, true, false, Option, Some, None, Result, Ok, Err, List, [], ◌∷◌, ◌++◌, length, refl, sym, ap, ◌∙◌, subst}
+use Rattle.std.proofs.Common.{◌≡◌, ◌≢◌, ◌↔◌, inl, inr, ℕ, Bool, true, false, Some, None, Ok, Err, List, [], ◌∷◌, length, refl, sym, ap, ◌∙◌, subst}
 use Rattle.pisdf_model.specs.declared.graph.Graph.{Graph}
 use Rattle.pisdf_meaning.specs.Configuring.{Configuration, configurations}
 use Rattle.pisdf_meaning.specs.Endings.{End}
 use Rattle.pisdf_meaning.specs.Meaning.{Means}
 use Rattle.pisdf_meaning.specs.declared.firing.Firing.{Firing}
-use Rattle.nested_jobs.specs.Rules.{Call, Place, Task, Values, Work}
-use Rattle.nested_jobs.specs.Marks.{Done, Free, Mark, Marks, Open, values}
+use Rattle.nested_jobs.specs.Rules.{Place, Task, Values, Work}
+use Rattle.nested_jobs.specs.Marks.{Done, Free, Mark, Marks, values}
 use Rattle.nested_jobs.specs.Steps.{IsEnabled}
-use Rattle.nested_jobs.specs.Tables.{HasRow, IsRow, Row, StandsFor, answers_in}
+use Rattle.nested_jobs.specs.Tables.{HasRow, IsRow, StandsFor, answers_in}
 use Rattle.nested_jobs.proofs.Ending.{done_ends, ended_done}
 use Rattle.nested_jobs.proofs.Places.{one_open}
 use Rattle.nested_jobs.proofs.Tabling.{answers_are}
 use Rattle.job_rules.proofs.Lawfully.{config_has_task, configured}
-use Rattle.job_rules.specs.Items.{Prepared, compile_rule, graph_of, left_from, left_in, node_base, prepared_in, rule, rule_from}
+use Rattle.job_rules.specs.Items.{compile_rule, graph_of, left_from, prepared_in, rule, rule_from}
 use Rattle.job_rules.specs.Meant.{rank}
 use Rattle.job_rules.specs.Words as words
 use Rattle.job_rules.specs.Words.{Answer, answer_of}
@@ -23,9 +23,9 @@ use Rattle.firing_board.specs.Keys.{IsKey, Key, rules, top_job}
 use Rattle.firing_board.specs.Entries.{Step}
 use Rattle.firing_board.specs.Legal.{AreLegal, HasEnded, TellsOneThread, state_after}
 use Rattle.firing_board.specs.Board.{OpenJobs}
-use Rattle.firing_board.specs.Asking.{GivesWay, IsAskedFor, IsFirstIn, IsFirstOfAll, IsHomed, IsOffered, JobRow, NoRowOffers, Offer, goes_first, graph_in, prepared_of, standing_of}
+use Rattle.firing_board.specs.Asking.{GivesWay, IsFirstIn, IsFirstOfAll, IsHomed, IsOffered, JobRow, NoRowOffers, Offer, graph_in, standing_of}
 use Rattle.firing_board.specs.Offers.{IsBest, IsBestIn, NoneOffers, Offers, Yields, calls}
-use Rattle.firing_board.specs.Picks.{ItemStands, Standing, StandsAsNode, goes_before}
+use Rattle.firing_board.specs.Picks.{ItemStands, Standing, goes_before}
 use Rattle.firing_board.proofs.Asking.{offers_once}
 use Rattle.firing_board.proofs.Known.{BoardLaws, Known, keeps}
 use Rattle.firing_board.proofs.Ordering.{in_one_job}
@@ -155,9 +155,10 @@ job_begins key job = let g = graph_of key.graphs.graphs job in begins_from key.g
 module _ (key : Key) (is : IsKey key) (laws : BoardLaws key) (taken : List Step) (legal : AreLegal key taken) where
   pub ends_at_top : HasEnded key taken ↔ ((answer : Answer) × ((state_after key taken).marks [] ≡ Done answer))
   ends_at_top =
-      let h = keeps key is laws taken legal in
-      (λ ended. ended_done (rules key) (rank key.graphs.graphs) laws.lawful (top_job key) key.workers (state_after key taken) h ended,
-        λ t. done_ends (rules key) (rank key.graphs.graphs) laws.lawful (top_job key) key.workers (state_after key taken) h t.0 t.1)
+      let h = keeps key is laws taken legal in (
+        λ ended. ended_done (rules key) (rank key.graphs.graphs) laws.lawful (top_job key) key.workers (state_after key taken) h ended,
+        λ t. done_ends (rules key) (rank key.graphs.graphs) laws.lawful (top_job key) key.workers (state_after key taken) h t.0 t.1,
+      )
 
   answer_once : (a b : End) → answer_of a ≡ answer_of b → a ≡ b
   answer_once (Ok given) (Ok other) same = let e : given ≡ other = cc in ap Ok e

@@ -18,7 +18,7 @@ use Rattle.job_rules.specs.Words.{Answer}
 use Rattle.firing_board.specs.Keys.{IsKey, Key, rules, top_job}
 use Rattle.firing_board.specs.Picks.{AreMapped, IsMappingOf, ItemStands, Standing, StandsAs, StandsAsNode, is_open, item_towards, items_below, steps_to}
 use Rattle.firing_board.proofs.Known.{BoardLaws, Known}
-use Rattle.firing_board.proofs.Mapped.{mapping_once}
+use Rattle.firing_board.proofs.Mapped.{mapping_made, mapping_once}
 use Rattle.firing_board.proofs.Steps.{paths_apart}
 
 -- ---- a place on a way
@@ -110,6 +110,12 @@ module _ (key : Key) (is : IsKey key) (laws : BoardLaws key) (m : Marks Firing A
   node_once c q o p e one other a b =
       let job = is_job laws.jobs key.signatures key.graphs is.in_range is.well_formed laws.fit is.lengths (known.levels q) c (values m q) (known.fits q c o) (known.sound q c o) p e in
       mapping_once laws.ends laws.jobs.stages _ p.schedule.counts p.schedule.order job.level_kept job.order key.workers one other a b
+
+  -- each job that is compiled has a list schedule
+  pub mapped_so : AreMapped key m
+  mapped_so q c p o e =
+      let job = is_job laws.jobs key.signatures key.graphs is.in_range is.well_formed laws.fit is.lengths (known.levels q) c (values m q) (known.fits q c o) (known.sound q c o) p e in
+      mapping_made laws.ends laws.jobs.stages _ p.schedule.counts p.schedule.order job.level_kept job.order key.workers is.some
 
   pub record Alike (s u : Standing) : Type 0 where
     pub away : s.away ≡ u.away

@@ -1,24 +1,22 @@
 -- The path of an open job stays while it is open.
-use Rattle.std.proofs.Common.{◌≡◌, ◌≢◌, ⊎_elim, ℕ, ◌+◌, ◌<◌, Option, Some, None, List, [], ◌∷◌, ◌++◌, refl, sym, ap, ◌∙◌, subst}
+use Rattle.std.proofs.Common.{◌≡◌, ◌≢◌, ⊎_elim, ℕ, ◌+◌, Option, Some, None, List, [], ◌∷◌, ◌++◌, refl, sym, ap, ◌∙◌, subst}
 use Rattle.pisdf_model.specs.declared.graph.Graph.{Graph}
 use Rattle.level_schedule.specs.declared.scheduling.LevelSchedule.{LevelSchedule}
 use Rattle.pisdf_meaning.specs.Configuring.{Configuration, configurations}
 use Rattle.pisdf_meaning.specs.declared.firing.Configured.{Configured}
 use Rattle.pisdf_meaning.specs.declared.firing.Firing.{Firing}
-use Rattle.nested_jobs.specs.Rules.{Call, Place, Task, Values}
+use Rattle.nested_jobs.specs.Rules.{Call, Place, Values}
 use Rattle.nested_jobs.specs.Marks.{Busy, Done, Free, Mark, Marks, Open, answer_of, put, values}
 use Rattle.nested_jobs.specs.Journals as steps
 use Rattle.nested_jobs.specs.Journals.{after, finish_of, start}
-use Rattle.nested_jobs.specs.Kept.{Nested}
 use Rattle.nested_jobs.specs.Meanings.{Within}
 use Rattle.nested_jobs.proofs.Appending.{state-snoc}
-use Rattle.nested_jobs.proofs.Nesting.{after_nested, grown, of_open}
+use Rattle.nested_jobs.proofs.Nesting.{grown, of_open}
 use Rattle.nested_jobs.proofs.Places.{one_open, put_at}
 use Rattle.nested_jobs.proofs.Turns.{claimed_keeps, finished_keeps}
 use Rattle.job_rules.proofs.Parts.{both_are, prepared_is}
 use Rattle.job_rules.specs.Items.{Prepared, compile_number, graph_of, leaves, left_from, left_in, prepared_in, rule, schedule_of}
 use Rattle.job_rules.specs.Meant.{rank}
-use Rattle.job_rules.specs.Words as words
 use Rattle.job_rules.specs.Words.{Answer}
 use Rattle.firing_board.specs.Keys.{IsKey, Key, rules, top_job}
 use Rattle.firing_board.specs.Entries.{BoardState, Step}

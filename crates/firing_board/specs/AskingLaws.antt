@@ -1,5 +1,5 @@
 -- How the rows of a board are asked for what a worker is handed, and how a board ends.
-use Rattle.std.specs.Prelude.{◌≡◌, ◌↔◌, ◌⊎◌, ℕ, true, false, Some, None, List, [], ◌∷◌, ◌++◌}
+use Rattle.std.specs.Prelude.{◌≡◌, ◌↔◌, ℕ, true, false, Some, None, List, [], ◌∷◌, ◌++◌}
 use Rattle.pisdf_meaning.specs.Endings.{End}
 use Rattle.pisdf_meaning.specs.Meaning.{Means}
 use Rattle.pisdf_meaning.specs.declared.firing.Firing.{Firing}
@@ -15,19 +15,19 @@ use Rattle.firing_board.specs.Legal.{AreLegal, HasEnded, state_after}
 use Rattle.firing_board.specs.Board.{Held, KeptAs, OpenJobs}
 use Rattle.firing_board.specs.Asking.{IsFirstOfAll, JobRow, NoRowOffers, Offer}
 use Rattle.firing_board.specs.Offers.{AreFirst}
-use Rattle.firing_board.specs.Picks.{AreMapped, IsPick, steps_to}
+use Rattle.firing_board.specs.Picks.{IsPick, steps_to}
 
 -- the first work of all rows is the pick
 abbrev pub FirstWorkIsPicked : Type 0
 FirstWorkIsPicked =
-    (key : Key) (taken : List Step) (table : OpenJobs) (held : Held) (w k : ℕ) (row : JobRow) (offer : Offer) → IsKey key → KeptAs key taken table held → AreMapped key (state_after key taken).marks →
+    (key : Key) (taken : List Step) (table : OpenJobs) (held : Held) (w k : ℕ) (row : JobRow) (offer : Offer) → IsKey key → KeptAs key taken table held →
     IsFirstOfAll key (state_after key taken).marks w false table k row offer →
     IsPick key (state_after key taken).marks w offer.item row.place
 
 -- where no row offers work, the first call of all rows opens a child, whose first item is the pick
 abbrev pub FirstCallIsOpened : Type 0
 FirstCallIsOpened =
-    (key : Key) (taken : List Step) (table : OpenJobs) (held : Held) (w k i j : ℕ) (p : Place) (way : List ℕ) (row : JobRow) (offer : Offer) → IsKey key → KeptAs key taken table held → AreMapped key (state_after key taken).marks →
+    (key : Key) (taken : List Step) (table : OpenJobs) (held : Held) (w k i j : ℕ) (p : Place) (way : List ℕ) (row : JobRow) (offer : Offer) → IsKey key → KeptAs key taken table held →
     NoRowOffers key false table → IsFirstOfAll key (state_after key taken).marks w true table k row offer →
     AreFirst (j ∷ way) → i ∷ p ≡ j ∷ way ++ offer.item ∷ row.place → IsEnabled (rules key) (state_after key taken).marks (i ∷ p) →
     IsPick key (state_after key taken).marks w i p

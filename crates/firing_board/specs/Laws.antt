@@ -19,14 +19,18 @@ use Rattle.firing_board.specs.declared.entry.Entry.{Entry}
 
 -- ---- the pick
 
+-- the open jobs that are compiled have list schedules, which tell homes and priorities
+abbrev pub JobsAreMapped : Type 0
+JobsAreMapped = (key : Key) (taken : List Step) → IsKey key → AreLegal key taken → AreMapped key (state_after key taken).marks
+
 -- an item is picked for the worker
 abbrev pub HasPick : Key → BoardState → ℕ → Type 0
 HasPick key s w = (i : ℕ) × (p : Place) × IsPick key s.marks w i p
 
--- where an item is enabled, one is picked for each worker, if the open jobs that are compiled have list schedules
+-- where an item is enabled, one is picked for each worker
 abbrev pub PicksExist : Type 0
 PicksExist =
-    (key : Key) (taken : List Step) (w : ℕ) (a : Place) → IsKey key → AreLegal key taken → AreMapped key (state_after key taken).marks →
+    (key : Key) (taken : List Step) (w : ℕ) (a : Place) → IsKey key → AreLegal key taken →
     IsEnabled (rules key) (state_after key taken).marks a → HasPick key (state_after key taken) w
 
 -- and only one
@@ -47,7 +51,7 @@ pub record HasToWait (key : Key) (s : BoardState) : Type 0 where
 -- an item is picked, or the worker has to wait, or the journal has ended
 abbrev pub WorkersAreAnswered : Type 0
 WorkersAreAnswered =
-    (key : Key) (taken : List Step) (w : ℕ) → IsKey key → AreLegal key taken → AreMapped key (state_after key taken).marks →
+    (key : Key) (taken : List Step) (w : ℕ) → IsKey key → AreLegal key taken →
     HasPick key (state_after key taken) w ⊎ (HasToWait key (state_after key taken) ⊎ HasEnded key taken)
 
 -- no two of these
@@ -68,13 +72,13 @@ NoneWaitsAlone = (key : Key) (taken : List Step) → key.workers ≡ 1 → (stat
 -- the best work of an open job to which all others yield is the pick
 abbrev pub WorkIsPicked : Type 0
 WorkIsPicked =
-    (key : Key) (taken : List Step) (w k : ℕ) (q : Place) (s : Standing) → IsKey key → AreLegal key taken → AreMapped key (state_after key taken).marks →
+    (key : Key) (taken : List Step) (w k : ℕ) (q : Place) (s : Standing) → IsKey key → AreLegal key taken →
     IsBest key (state_after key taken).marks w false q k s → IsPick key (state_after key taken).marks w k q
 
 -- where no job offers work, the best call of an open job to which all others yield opens a child, whose first item is the pick
 abbrev pub ChildIsOpened : Type 0
 ChildIsOpened =
-    (key : Key) (taken : List Step) (w k i : ℕ) (p q : Place) (s : Standing) (j : ℕ) (way : List ℕ) → IsKey key → AreLegal key taken → AreMapped key (state_after key taken).marks →
+    (key : Key) (taken : List Step) (w k i : ℕ) (p q : Place) (s : Standing) (j : ℕ) (way : List ℕ) → IsKey key → AreLegal key taken →
     NoneOffers key (state_after key taken).marks w false → IsBest key (state_after key taken).marks w true q k s →
     AreFirst (j ∷ way) → i ∷ p ≡ j ∷ way ++ k ∷ q → IsEnabled (rules key) (state_after key taken).marks (i ∷ p) →
     IsPick key (state_after key taken).marks w i p

@@ -2,7 +2,7 @@
 ghost use Rattle.firing_board.specs.AskingLaws.{BoardsEnd, EndsAreMeant, FirstCallIsOpened, FirstWorkIsPicked, JobsBegin, NothingIsEnabled, PathsAreApart, PathsStay};
 ghost use Rattle.firing_board.specs.BoardLaws.{BoardsStart, ClaimsAreEntered, ClaimsKeep, ClosingsEnd, ClosingsGoOn, ClosingsStop, EndedJournalsStay, FinishesAreEntered, FinishesBegin, HeldAreBusy, NothingOpened, OneMoreOpened};
 ghost use Rattle.firing_board.specs.JobLaws.{JobsHaveLaws};
-ghost use Rattle.firing_board.specs.Laws.{AnswersAreOne, ChildIsOpened, JournalsTellSteps, NoneWaitsAlone, OpenJobsAreFew, OpenJobsAreShallow, PicksAreOne, PicksExist, WorkHasOneAnswer, WorkIsPicked, WorkersAreAnswered, WorkersDontMatter};
+ghost use Rattle.firing_board.specs.Laws.{AnswersAreOne, ChildIsOpened, JobsAreMapped, JournalsTellSteps, NoneWaitsAlone, OpenJobsAreFew, OpenJobsAreShallow, PicksAreOne, PicksExist, WorkHasOneAnswer, WorkIsPicked, WorkersAreAnswered, WorkersDontMatter};
 ghost use Rattle.firing_board.specs.Legal.{EndedJournalsTell, FewJobsAreOpen};
 
 use job_flow::{edges_have_ports, frames_told, ready_stays};
@@ -36,8 +36,9 @@ fn job_laws()
 
 /// In the state of every legal journal where an item is enabled, exactly one is picked for each worker. So a worker that asks
 /// is handed that item, or has to wait for what others run, or the journal has ended, and no two of these; a worker that is
-/// alone never waits. The open jobs that are compiled have to have list schedules.
+/// alone never waits. The open jobs that are compiled have list schedules, by which homes and priorities are told.
 pub fn workers_are_answered()
+    ensures mapped { JobsAreMapped }
     ensures picked { PicksExist }
     ensures once { PicksAreOne }
     ensures answered { WorkersAreAnswered }
