@@ -36,7 +36,7 @@ module _ (key : Key) where
   pub finish_entered : (taken : List Step) (w : ℕ) (answer : Answer) → journal_of key (taken ++ steps.Finish w answer ∷ []) ≡ journal_of key taken ++ Finish w ∷ []
   finish_entered taken w answer = entries_snoc (start (top_job key)) taken (steps.Finish w answer)
 
-  last_allowed : (s : BoardState) (taken : List Step) (e : Step) → LegalFrom (rules key) (Answers key.graphs.graphs) key.workers s (taken ++ e ∷ []) → Allowed (rules key) (Answers key.graphs.graphs) key.workers (state_from (rules key) s taken) e
+  pub last_allowed : (s : BoardState) (taken : List Step) (e : Step) → LegalFrom (rules key) (Answers key.graphs.graphs) key.workers s (taken ++ e ∷ []) → Allowed (rules key) (Answers key.graphs.graphs) key.workers (state_from (rules key) s taken) e
   last_allowed s [] e legal = legal.0
   last_allowed s (x ∷ taken) e legal = last_allowed (after (rules key) s x) taken e legal.1
 

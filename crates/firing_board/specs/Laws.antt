@@ -1,15 +1,17 @@
 -- Laws of the journals of boards.
-use Rattle.std.specs.Prelude.{◌≡◌, ◌⊎◌, ℕ, ◌*◌, ◌<◌, ◌≤◌, true, false, List, [], ◌∷◌, ◌++◌, length, None}
+use Rattle.std.specs.Prelude.{◌≡◌, ◌⊎◌, ℕ, ◌*◌, ◌<◌, ◌≤◌, true, false, List, [], ◌∷◌, ◌++◌, length, None, Some}
 use Rattle.pisdf_model.specs.declared.graph.Graphs.{Graphs}
 use Rattle.pisdf_meaning.specs.Endings.{End}
 use Rattle.pisdf_meaning.specs.declared.firing.Firing.{Firing}
+use Rattle.pisdf_meaning.specs.declared.firing.Given.{Given}
 use Rattle.nested_jobs.specs.Rules.{Place}
-use Rattle.nested_jobs.specs.Marks.{Done, Open}
+use Rattle.nested_jobs.specs.Marks.{Done, Marks, Open, values}
 use Rattle.nested_jobs.specs.Journals.{Runs}
 use Rattle.nested_jobs.specs.Pick.{AreAllOpen, Distinct}
 use Rattle.nested_jobs.specs.Steps.{IsEnabled}
 use Rattle.job_rules.specs.Doing.{Answers}
-use Rattle.job_rules.specs.Words.{Answer, Work, answer_of}
+use Rattle.job_rules.specs.Items.{Prepared, count, graph_of, prepared_in}
+use Rattle.job_rules.specs.Words.{Answer, Gives, Work, answer_of}
 use Rattle.firing_board.specs.Keys.{IsKey, Key, rules}
 use Rattle.firing_board.specs.Entries.{BoardState, Step}
 use Rattle.firing_board.specs.Legal.{AreLegal, HasEnded, journal_of, state_after}
@@ -131,3 +133,18 @@ abbrev pub JournalsTellSteps : Type 0
 JournalsTellSteps =
     (key : Key) (taken others : List Step) → IsKey key → AreLegal key taken → AreLegal key others →
     journal_of key taken ≡ journal_of key others → taken ≡ others
+
+-- ---- jobs that are closed
+
+-- every item of the job is finished: its configuration actors, its compilation, and every node
+pub record HasFinished (key : Key) (m : Marks Firing Answer) (p : Place) (job : Firing) : Type 0 where
+  pub prepared : Prepared
+  pub prepared_so : prepared_in (graph_of key.graphs.graphs job) (values m p) ≡ Some prepared
+  pub each : (i : ℕ) → i < count key.graphs.graphs job (values m p) → (answer : Answer) × (values m p i ≡ Some answer)
+
+-- a job that a step closes, and that gives something, has finished every item
+abbrev pub ClosedJobsHaveFinished : Type 0
+ClosedJobsHaveFinished =
+    (key : Key) (taken : List Step) (e : Step) (p : Place) (job : Firing) (given : Given) → IsKey key → AreLegal key taken → AreLegal key (taken ++ e ∷ []) →
+    (state_after key taken).marks p ≡ Open job → (state_after key (taken ++ e ∷ [])).marks p ≡ Done (Gives given) →
+    HasFinished key (state_after key (taken ++ e ∷ [])).marks p job

@@ -2,10 +2,10 @@
 ghost use Rattle.firing_board.specs.AskingLaws.{BoardsEnd, EndsAreMeant, FirstCallIsOpened, FirstWorkIsPicked, JobsBegin, NothingIsEnabled, PathsAreApart, PathsStay};
 ghost use Rattle.firing_board.specs.BoardLaws.{BoardsStart, ClaimsAreEntered, ClaimsKeep, ClosingsEnd, ClosingsGoOn, ClosingsStop, EndedJournalsStay, FinishesAreEntered, FinishesBegin, HeldAreBusy, NothingOpened, OneMoreOpened};
 ghost use Rattle.firing_board.specs.JobLaws.{JobsHaveLaws};
-ghost use Rattle.firing_board.specs.Laws.{AnswersAreOne, ChildIsOpened, JobsAreMapped, JournalsTellSteps, NoneWaitsAlone, OpenJobsAreFew, OpenJobsAreShallow, PicksAreOne, PicksExist, WorkHasOneAnswer, WorkIsPicked, WorkersAreAnswered, WorkersDontMatter};
+ghost use Rattle.firing_board.specs.Laws.{AnswersAreOne, ChildIsOpened, ClosedJobsHaveFinished, JobsAreMapped, JournalsTellSteps, NoneWaitsAlone, OpenJobsAreFew, OpenJobsAreShallow, PicksAreOne, PicksExist, WorkHasOneAnswer, WorkIsPicked, WorkersAreAnswered, WorkersDontMatter};
 ghost use Rattle.firing_board.specs.Legal.{EndedJournalsTell, FewJobsAreOpen};
 
-use job_flow::{edges_have_ports, frames_told, ready_stays};
+use job_flow::{edges_have_ports, frames_told, jobs_end_as_runs, ready_stays};
 use job_rules::{jobs_mean_firings, rules_are_lawful};
 use pisdf_meaning::{Refusal, one_meaning, runnable};
 use single_rate::graphs_numbered;
@@ -136,3 +136,12 @@ pub fn journals_grow()
     ensures finish { FinishesAreEntered }
     ensures ended { EndedJournalsStay }
 {}
+
+/// A job that a step closes and that gives something, as it wasn't refused, has finished every item: its configuration actors,
+/// its compilation and every node.
+pub fn closed_jobs_have_finished()
+    ensures { ClosedJobsHaveFinished }
+{
+    job_laws();
+    jobs_end_as_runs::<i64, Refusal, u64>();
+}
