@@ -1,5 +1,5 @@
 -- The rows of a board are asked.
-use Rattle.std.proofs.Common.{◌≡◌, ◌≢◌, ◌↔◌, inl, inr, ℕ, Bool, true, false, Some, None, Ok, Err, List, [], ◌∷◌, length, refl, sym, ap, ◌∙◌, subst}
+use Rattle.std.proofs.Common.{Bool, Err, List, None, Ok, Some, [], ap, false, inl, inr, length, refl, subst, suc, sym, true, ℕ, ◌*◌, ◌↔◌, ◌∙◌, ◌∷◌, ◌≡◌, ◌≢◌, ◌≤◌}
 use Rattle.pisdf_model.specs.declared.graph.Graph.{Graph}
 use Rattle.pisdf_meaning.specs.Configuring.{Configuration, configurations}
 use Rattle.pisdf_meaning.specs.Endings.{End}
@@ -7,6 +7,7 @@ use Rattle.pisdf_meaning.specs.Meaning.{Means}
 use Rattle.pisdf_meaning.specs.declared.firing.Firing.{Firing}
 use Rattle.nested_jobs.specs.Rules.{Place, Task, Values, Work}
 use Rattle.nested_jobs.specs.Marks.{Done, Free, Mark, Marks, values}
+use Rattle.nested_jobs.specs.Pick.{AreAllOpen, Distinct, NotIn}
 use Rattle.nested_jobs.specs.Steps.{IsEnabled}
 use Rattle.nested_jobs.specs.Tables.{HasRow, IsRow, StandsFor, answers_in}
 use Rattle.nested_jobs.proofs.Ending.{done_ends, ended_done}
@@ -23,6 +24,7 @@ use Rattle.firing_board.specs.Keys.{IsKey, Key, rules, top_job}
 use Rattle.firing_board.specs.Entries.{Step}
 use Rattle.firing_board.specs.Legal.{AreLegal, HasEnded, TellsOneThread, state_after}
 use Rattle.firing_board.specs.Board.{OpenJobs}
+use Rattle.firing_board.specs.AskingLaws.{AreKeys}
 use Rattle.firing_board.specs.Asking.{GivesWay, IsFirstIn, IsFirstOfAll, IsHomed, IsOffered, JobRow, NoRowOffers, Offer, graph_in, standing_of}
 use Rattle.firing_board.specs.Offers.{IsBest, IsBestIn, NoneOffers, Offers, Yields, calls}
 use Rattle.firing_board.specs.Picks.{ItemStands, Standing, goes_before}
@@ -171,3 +173,35 @@ module _ (key : Key) (is : IsKey key) (laws : BoardLaws key) (taken : List Step)
       let told = tells (ends_at_top.1 (answer_of end, done)) in
       let answers : answer_of told.end ≡ answer_of end = let e : ◌≡◌ {A = Mark Firing Answer} (Done (answer_of told.end)) (Done (answer_of end)) = sym told.done ∙ done in cc in
       subst (Means key.graphs.graphs (top_job key)) (answer_once told.end end answers) told.means
+
+-- ---- how many rows there are
+
+module _ (key : Key) (table : OpenJobs) (m : Marks Firing Answer) (stands : StandsFor table m) where
+  places : (keys : List ℕ) → AreKeys table keys → List Place
+  places [] are = []
+  places (k ∷ keys) are = are.0.0.place ∷ places keys are.2
+
+  places_many : (keys : List ℕ) (are : AreKeys table keys) → length (places keys are) ≡ length keys
+  unfolding places
+  places_many [] are = refl
+  places_many (k ∷ keys) are = ap suc (places_many keys are.2)
+
+  place_apart : (k : ℕ) (row : JobRow) (keys : List ℕ) → table k ≡ Some row → AllByRecursion (λ (l : ℕ). k ≢ l) keys → (are : AreKeys table keys) → NotIn row.place (places keys are)
+  unfolding places
+  place_apart k row [] here apart are = tt
+  place_apart k row (l ∷ keys) here apart are = ((λ e. apart.0 (stands.apart k l row are.0.0 here are.0.1 e)), place_apart k row keys here apart.1 are.2)
+
+  places_apart : (keys : List ℕ) (are : AreKeys table keys) → Distinct (places keys are)
+  unfolding places
+  places_apart [] are = tt
+  places_apart (k ∷ keys) are = (place_apart k are.0.0 keys are.0.1 are.1 are.2, places_apart keys are.2)
+
+  places_open : (keys : List ℕ) (are : AreKeys table keys) → AreAllOpen m (places keys are)
+  unfolding places
+  places_open [] are = tt
+  places_open (k ∷ keys) are = ((are.0.0.job, (stands.rows k are.0.0 are.0.1).is_open), places_open keys are.2)
+
+  pub rows_few : (keys : List ℕ) → ((ps : List Place) → Distinct ps → AreAllOpen m ps → length ps ≤ 8 * key.workers) → AreKeys table keys → length keys ≤ 8 * key.workers
+  rows_few keys few are =
+      let most = few (places keys are) (places_apart keys are) (places_open keys are) in
+      subst (λ (n : ℕ). n ≤ 8 * key.workers) (places_many keys are) most

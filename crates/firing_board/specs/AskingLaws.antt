@@ -1,18 +1,20 @@
 -- How the rows of a board are asked for what a worker is handed, and how a board ends.
-use Rattle.std.specs.Prelude.{◌≡◌, ◌↔◌, ℕ, true, false, Some, None, List, [], ◌∷◌, ◌++◌}
+use Rattle.std.specs.Prelude.{◌≡◌, ◌≢◌, ◌↔◌, ℕ, ◌*◌, ◌≤◌, true, false, Some, None, List, [], ◌∷◌, ◌++◌, length}
+use Rattle.std.specs.List.{AllByRecursion}
 use Rattle.pisdf_meaning.specs.Endings.{End}
 use Rattle.pisdf_meaning.specs.Meaning.{Means}
 use Rattle.pisdf_meaning.specs.declared.firing.Firing.{Firing}
-use Rattle.nested_jobs.specs.Rules.{Place, Task}
-use Rattle.nested_jobs.specs.Marks.{Done, Open}
+use Rattle.nested_jobs.specs.Rules.{Place, Task, Work}
+use Rattle.nested_jobs.specs.Marks.{Done, Free, Marks, Open}
 use Rattle.nested_jobs.specs.Steps.{IsEnabled}
+use Rattle.nested_jobs.specs.Tables.{answers_in}
 use Rattle.job_rules.specs.Items.{rule}
 use Rattle.job_rules.specs.Words as words
 use Rattle.job_rules.specs.Words.{Answer, answer_of}
 use Rattle.firing_board.specs.Keys.{IsKey, Key, rules, top_job}
 use Rattle.firing_board.specs.Entries.{Step}
 use Rattle.firing_board.specs.Legal.{AreLegal, HasEnded, state_after}
-use Rattle.firing_board.specs.Board.{Held, KeptAs, OpenJobs}
+use Rattle.firing_board.specs.Board.{HasOpened, Held, KeptAs, OpenJobs}
 use Rattle.firing_board.specs.Asking.{IsFirstOfAll, JobRow, NoRowOffers, Offer}
 use Rattle.firing_board.specs.Offers.{AreFirst}
 use Rattle.firing_board.specs.Picks.{IsPick, steps_to}
@@ -63,3 +65,24 @@ PathsAreApart =
     (key : Key) (taken : List Step) (p q : Place) (c d : Firing) → IsKey key → AreLegal key taken →
     (state_after key taken).marks p ≡ Open c → (state_after key taken).marks q ≡ Open d →
     steps_to key (state_after key taken).marks p ≡ steps_to key (state_after key taken).marks q → p ≡ q
+
+-- Where jobs were opened for that call, each of them the first item of the one round it, down to work, this work is the pick.
+abbrev pub OpenedWorkIsPicked : Type 0
+OpenedWorkIsPicked =
+    (key : Key) (taken : List Step) (table : OpenJobs) (held : Held) (w k l i j : ℕ) (way : List ℕ) (row inner : JobRow) (offer : Offer) (work : words.Work) (later : OpenJobs) (n : Marks Firing Answer) → IsKey key → KeptAs key taken table held →
+    NoRowOffers key false table → IsFirstOfAll key (state_after key taken).marks w true table k row offer →
+    AreFirst (j ∷ way) → i ∷ inner.place ≡ j ∷ way ++ offer.item ∷ row.place →
+    HasOpened key table (state_after key taken).marks (i ∷ inner.place) later n →
+    later l ≡ Some inner → inner.marks i ≡ Free → rule key.graphs.graphs inner.job (answers_in inner) i ≡ Some (Work work) →
+    IsPick key (state_after key taken).marks w i inner.place
+
+-- these keys have rows, and none stands twice
+abbrev pub AreKeys : OpenJobs → List ℕ → Type 0
+AreKeys table [] = Unit {0}
+AreKeys table (k ∷ keys) = ((row : JobRow) × (table k ≡ Some row)) × AllByRecursion (λ l. k ≢ l) keys × AreKeys table keys
+
+-- a table has at most 8 times as many rows as there are workers
+abbrev pub RowsAreFew : Type 0
+RowsAreFew =
+    (key : Key) (taken : List Step) (table : OpenJobs) (held : Held) (keys : List ℕ) → IsKey key → KeptAs key taken table held →
+    AreKeys table keys → length keys ≤ 8 * key.workers

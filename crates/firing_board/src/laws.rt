@@ -1,5 +1,5 @@
 // Laws of journals, for whoever holds a board. The functions do nothing; their contracts are the laws.
-ghost use Rattle.firing_board.specs.AskingLaws.{BoardsEnd, EndsAreMeant, FirstCallIsOpened, FirstWorkIsPicked, JobsBegin, NothingIsEnabled, PathsAreApart, PathsStay};
+ghost use Rattle.firing_board.specs.AskingLaws.{BoardsEnd, EndsAreMeant, FirstCallIsOpened, FirstWorkIsPicked, JobsBegin, NothingIsEnabled, OpenedWorkIsPicked, PathsAreApart, PathsStay, RowsAreFew};
 ghost use Rattle.firing_board.specs.BoardLaws.{BoardsStart, ClaimsAreEntered, ClaimsKeep, ClosingsEnd, ClosingsGoOn, ClosingsStop, EndedJournalsStay, FinishesAreEntered, FinishesBegin, HeldAreBusy, NothingOpened, OneMoreOpened};
 ghost use Rattle.firing_board.specs.JobLaws.{JobsHaveLaws};
 ghost use Rattle.firing_board.specs.Laws.{AnswersAreOne, ChildIsOpened, ClosedJobsHaveFinished, JobsAreMapped, JournalsTellSteps, NoneWaitsAlone, OpenJobsAreFew, OpenJobsAreShallow, PicksAreOne, PicksExist, WorkHasOneAnswer, WorkIsPicked, WorkersAreAnswered, WorkersDontMatter};
@@ -63,6 +63,7 @@ pub fn jobs_are_asked()
 pub fn few_jobs_are_open()
     ensures shallow { OpenJobsAreShallow }
     ensures few { OpenJobsAreFew }
+    ensures rows { RowsAreFew }
 {
     job_laws();
     journals_tell_one_thread();
@@ -107,6 +108,7 @@ pub fn boards_keep()
 pub fn rows_are_asked()
     ensures work { FirstWorkIsPicked }
     ensures child { FirstCallIsOpened }
+    ensures opened { OpenedWorkIsPicked }
     ensures none { NothingIsEnabled }
     ensures begin { JobsBegin }
 {

@@ -5,6 +5,9 @@ use Rattle.firing_board.proofs.Asking.{child_is_opened, work_is_picked}
 use Rattle.firing_board.proofs.Known.{board_laws, known}
 use Rattle.firing_board.proofs.Rows.{best_of_all, job_begins, none_offers, nothing_enabled}
 use Rattle.firing_board.proofs.Standing.{mapped_so}
+use Rattle.firing_board.specs.Keys.{rules, top_job}
+use Rattle.job_rules.specs.Meant.{rank}
+use Rattle.nested_jobs.proofs.Tabling.{claims}
 use Rattle.firing_board.proofs.laws.rows_are_asked.Goals as goal
 
 pub returns-clause-work : goal.returns-clause-work
@@ -29,3 +32,12 @@ returns-clause-none c = λ key taken table held a is kept no_work no_call.
 
 pub returns-clause-begin : goal.returns-clause-begin
 returns-clause-begin c = job_begins
+
+pub returns-clause-opened : goal.returns-clause-opened
+returns-clause-opened c = λ key taken table held w k l i j way row inner offer work later n is kept none all zeros at opened here free task.
+    let laws = board_laws key (c.job_laws.ensures key is) in
+    let m = (state_after key taken).marks in
+    let so = known key is laws taken kept.legal in
+    let on = claims (rules key) (rank key.graphs.graphs) laws.lawful (top_job key) later n opened.nested opened.stands l inner here i work free task in
+    child_is_opened key is laws m so w (mapped_so key is laws m so) (none_offers key is laws m so table kept.stands w false none) offer.item i inner.place row.place (standing_of key m true row offer) j way
+    (best_of_all key is laws m so table kept.stands w true k row offer all) zeros at (opened.enables on.0)
