@@ -1,13 +1,11 @@
 -- What a worker is answered, how many jobs are open, and that the number of workers doesn't matter.
-use Rattle.std.proofs.Common.{◌≡◌, ◌⊎◌, ⊎_elim, inl, inr, ℕ, zero, suc, ◌+◌, ◌*◌, ◌<◌, ◌≤◌, Option, Some, None, List, [], ◌∷◌, length, refl, sym, ap, ◌∙◌, subst, arith}
-use Rattle.pisdf_model.specs.declared.graph.Graphs.{Graphs}
+use Rattle.std.proofs.Common.{◌≡◌, ◌⊎◌, ⊎_elim, inl, inr, ℕ, zero, suc, ◌*◌, ◌<◌, ◌≤◌, Option, Some, None, List, ◌∷◌, length, refl, sym, ap, ◌∙◌, subst, arith}
 use Rattle.pisdf_meaning.specs.Endings.{End}
 use Rattle.pisdf_meaning.specs.Laws.{HasOneMeaning}
 use Rattle.pisdf_meaning.specs.Meaning.{Means}
 use Rattle.pisdf_meaning.specs.declared.firing.Firing.{Firing}
 use Rattle.nested_jobs.specs.Rules.{Place}
 use Rattle.nested_jobs.specs.Marks.{Done, Open}
-use Rattle.nested_jobs.specs.Journals.{Runs}
 use Rattle.nested_jobs.specs.Pick.{AreAllOpen, Distinct, Few}
 use Rattle.nested_jobs.specs.Steps.{IsEnabled}
 use Rattle.nested_jobs.proofs.Depths.{few_in_all}
@@ -21,6 +19,7 @@ use Rattle.firing_board.specs.Legal.{AreLegal, HasEnded, TellsOneThread, state_a
 use Rattle.firing_board.specs.Picks.{AreMapped}
 use Rattle.firing_board.proofs.Choosing.{pick_or_none}
 use Rattle.firing_board.proofs.Known.{BoardLaws, known, shallow_top}
+use Rattle.firing_board.proofs.Standing.{mapped_so}
 
 -- ---- workers
 
@@ -50,11 +49,14 @@ module _ (key : Key) (is : IsKey key) (laws : BoardLaws key) (taken : List Step)
   abbrev state_so : BoardState
   state_so = state_after key taken
 
-  pub has_pick : (w : ℕ) (a : Place) → AreMapped key state_so.marks → IsEnabled (rules key) state_so.marks a → HasPick key state_so w
-  has_pick w a mapped on = ⊎_elim (λ picked. picked) (λ none. absurd (none a on)) (pick_or_none key is laws state_so.marks (known key is laws taken legal) w mapped)
+  pub mapped : AreMapped key state_so.marks
+  mapped = mapped_so key is laws state_so.marks (known key is laws taken legal)
 
-  pub answered : (w : ℕ) → AreMapped key state_so.marks → HasPick key state_so w ⊎ (HasToWait key state_so ⊎ HasEnded key taken)
-  answered w mapped = ⊎_elim
+  pub has_pick : (w : ℕ) (a : Place) → IsEnabled (rules key) state_so.marks a → HasPick key state_so w
+  has_pick w a on = ⊎_elim (λ picked. picked) (λ none. absurd (none a on)) (pick_or_none key is laws state_so.marks (known key is laws taken legal) w mapped)
+
+  pub answered : (w : ℕ) → HasPick key state_so w ⊎ (HasToWait key state_so ⊎ HasEnded key taken)
+  answered w = ⊎_elim
       (λ picked. inl picked)
       (λ none. inr (⊎_elim
       (λ any. inl record { none_enabled = none; worker = any.0; place = any.1; runs = any.2 })

@@ -1,12 +1,17 @@
 -- A board of a graph with one actor, which passes the token of x on to y: what one worker's journal tells.
-use Rattle.std.proofs.Common.{◌≡◌, ℕ, pos, Bool, true, false, List, [], ◌∷◌, None, codes, refl}
+use Rattle.std.proofs.Common.{◌≡◌, ◌≢◌, ℕ, zero, suc, pos, Bool, true, false, List, [], ◌∷◌, None, Some, codes, refl, sym, ap, ◌∙◌}
 use Rattle.param_resolver.specs.Assignment.{values_after}
 use Rattle.param_resolver.specs.EarlyCheck.{check_to}
 use Rattle.nested_jobs.specs.Journals as steps
-use Rattle.nested_jobs.specs.Marks.{Done}
+use Rattle.nested_jobs.specs.Marks.{Done, Marks}
+use Rattle.nested_jobs.specs.Rules.{Work}
+use Rattle.nested_jobs.specs.Tables.{fresh_row}
+use Rattle.pisdf_meaning.specs.declared.firing.Firing.{Firing}
 use Rattle.job_rules.proofs.Examples.{passes}
-use Rattle.job_rules.specs.Words.{Answer, Gives, Schedules, given_outs}
-use Rattle.firing_board.specs.Keys.{Key}
+use Rattle.job_rules.specs.Words.{Answer, Compiles, Gives, Schedules, given_outs}
+use Rattle.firing_board.specs.Asking.{IsAskedFor, IsFirstIn, IsOffered, JobRow, Offer}
+use Rattle.firing_board.specs.Keys.{Key, top_job}
+use Rattle.firing_board.specs.Offers.{calls}
 use Rattle.firing_board.specs.Entries.{Step}
 use Rattle.firing_board.specs.Legal.{journal_of, state_after}
 use Rattle.firing_board.specs.Picks.{Standing, goes_before}
@@ -54,3 +59,30 @@ first_first = refl
 
 second_waits : goes_before (stands true 1 false 4 (1 ∷ [])) (stands true 1 false 4 (0 ∷ 0 ∷ [])) ≡ false
 second_waits = refl
+
+-- ---- what a job offers
+
+-- the top job before anything is claimed: it offers its compilation, and nothing else
+top_row : JobRow
+top_row = fresh_row [] (top_job key)
+
+compilation : Offer
+compilation = record { item = 0; away = false; urgency = None }
+
+nothing_more : (j : ℕ) → IsOffered key false top_row j → j ≢ 0 → ⊥
+unfolding top_row
+nothing_more zero offered apart = apart refl
+nothing_more (suc j) offered apart = let none : None ≡ Some offered.task = offered.has_task in cc
+
+offers_compilation : (m : Marks Firing Answer) (w : ℕ) → IsFirstIn key m w false top_row compilation
+unfolding top_row compilation
+offers_compilation m w = record {
+  offered = record { free = refl; task = Work (Compiles (top_job key) []); has_task = refl; kind = refl };
+  homed = (refl, refl);
+  first = λ j offered apart. absurd (nothing_more j offered apart);
+}
+
+calls_nothing : (m : Marks Firing Answer) (w : ℕ) → IsAskedFor key m w true top_row None
+unfolding top_row
+calls_nothing m w zero offered = let same : Some (Work (Compiles (top_job key) [])) ≡ Some offered.task = offered.has_task in let task : offered.task ≡ Work (Compiles (top_job key) []) = cc in let kind : false ≡ true = sym (ap calls task) ∙ offered.kind in cc
+calls_nothing m w (suc j) offered = let none : None ≡ Some offered.task = offered.has_task in cc

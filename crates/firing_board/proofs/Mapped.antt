@@ -1,5 +1,5 @@
 -- A job that is compiled has at most one list schedule.
-use Rattle.std.proofs.Common.{◌≡◌, ℕ, ◌+◌, ◌<◌, ⊎_elim, ℤ, List, [], ◌∷◌, length, map, slice_index, refl, sym, ap, ◌∙◌, subst, arith}
+use Rattle.std.proofs.Common.{◌≡◌, ℕ, ◌+◌, ◌<◌, List, [], length, map, slice_index, sym, ◌∙◌, subst, arith}
 use Rattle.std.specs.List.{All, range_with_len}
 use Rattle.std.proofs.lemmas.List.{ext_get_or}
 use Rattle.std.proofs.lemmas.List.Elements.{All-map}
@@ -7,9 +7,7 @@ use Rattle.std.proofs.lemmas.List.FromFn.{get_or-map-range_with_len}
 use Rattle.sdf_level.specs.View.{LevelView}
 use Rattle.sdf_level.specs.Kept.{IsLevel}
 use Rattle.sdf_level.specs.Orders.{IsTurnOrder}
-use Rattle.sdf_level.specs.declared.node.Node.{Node}
 use Rattle.sdf_level.specs.declared.single_rate.Edge.{Edge}
-use Rattle.sdf_level.specs.declared.single_rate.SingleRate.{SingleRate}
 use Rattle.sdf_level.specs.declared.turn.Turn.{Turn}
 use Rattle.single_rate.specs.Expanded.{nodes, edges}
 use Rattle.single_rate.specs.Stages.{EndsAreThere, GraphsHaveStages}
@@ -20,6 +18,7 @@ use Rattle.worker_mapping.specs.declared.mapping.Mapping.{Mapping}
 use Rattle.worker_mapping.proofs.Priorities.{IsPriority-unique}
 use Rattle.worker_mapping.proofs.Unique.{AreHomes-unique}
 use Rattle.job_compiler.specs.Compilation.{IsMapped}
+use Rattle.firing_board.proofs.ListSchedule.{costs_made, homes, priorities}
 
 costs_once : (count : ℕ) (es : List Edge) (one other : List ℕ) → AreCosts count es one → AreCosts count es other → one ≡ other
 costs_once count es one other a b = ext_get_or 0 one other (a.one_each ∙ sym b.one_each)
@@ -65,3 +64,12 @@ module _ (there_so : EndsAreThere) (stages_so : GraphsHaveStages) (level : Level
       (subst (λ (list : List ℕ). AreHomes (graph_of count pairs list) workers other.priority other.home) costs b.homes) in
       let home : one.home ≡ other.home = AreHomes-unique (graph_of count pairs a.costs) workers one.priority one.home other.home a.homes as_homes in
       λ i. record { home = home i; priority = priority i }
+
+  -- and it has one
+  pub mapping_made : (workers : ℕ) → 0 < workers → (mapping : Mapping) × IsMapped record { nodes = nodes level q turns; edges = es; ranks = [] } workers mapping
+  mapping_made workers some =
+      let costs = costs_made count es in
+      let graph = graph_of count pairs costs.0 in
+      let priority = priorities graph workers some ranks there rise in
+      let home = homes graph workers some ranks there rise priority.0 in
+      (record { home = home.0; priority = priority.0 }, record { costs = costs.0; are_costs = costs.1; priority = priority.1; homes = home.1 })

@@ -1,5 +1,5 @@
 -- The six rules order what they look at: of two standings that differ one goes before the other.
-use Rattle.std.proofs.Common.{◌≡◌, ◌⊎◌, inl, inr, ℕ, ◌<◌, nat_lt, not, ◌&&◌, Bool, true, false, Option, Some, None, List, [], ◌∷◌, refl, sym, ap, ◌∙◌, subst, arith, ltb-true, ltb-false}
+use Rattle.std.proofs.Common.{◌≡◌, ℕ, ◌<◌, nat_lt, not, ◌&&◌, Bool, true, false, Option, Some, None, List, [], ◌∷◌, refl, sym, ap, ◌∙◌, subst, arith, ltb-true, ltb-false}
 use Rattle.std.proofs.lemmas.Bool.{lt-ltb, le-ltb}
 use Rattle.firing_board.specs.Picks.{Standing, decide, goes_before, is_lesser_path, is_lesser_way, is_more_urgent}
 
@@ -233,3 +233,72 @@ standings_ordered = record {
   through = λ a b c one other. rules_are a c ∙ all_through a b c (sym (rules_are a b) ∙ one) (sym (rules_are b c) ∙ other);
   same = λ a b one other. all_same a b (sym (rules_are a b) ∙ one) (sym (rules_are b a) ∙ other);
 }
+
+-- ---- what the last rule changes
+
+-- the same standing, with other items on the way
+abbrev pub with_way : Standing → List ℕ → Standing
+with_way s way = record { opens = s.opens; depth = s.depth; away = s.away; urgency = s.urgency; path = s.path; number = s.number; within = way }
+
+rest_only : {T : Type 0} (before : T → T → Bool) → IsOrder before → (a : T) (rest : Bool) → decide (before a a) (before a a) rest ≡ rest
+rest_only before order a rest = rw (order.apart a) refl
+
+-- of two that differ in that alone, that rule decides
+pub way_decides : (s : Standing) (x y : List ℕ) → is_lesser_way x y ≡ true → goes_before (with_way s x) (with_way s y) ≡ true
+way_decides s x y lesser =
+    let a : Standing = with_way s x in
+    let b : Standing = with_way s y in
+    rules_are a b
+    ∙ rest_only first_flag flags s.opens (by_depth a b)
+    ∙ rest_only (λ (n m : ℕ). nat_lt m n) deeper s.depth (by_home a b)
+    ∙ rest_only first_flag flags s.away (by_urgency a b)
+    ∙ rest_only is_more_urgent urgencies s.urgency (by_path a b)
+    ∙ rest_only is_lesser_path paths s.path (by_number a b)
+    ∙ rest_only nat_lt numbers s.number (is_lesser_way x y)
+    ∙ lesser
+
+rest_more : (first second r s : Bool) → (r ≡ true → s ≡ true) → decide first second r ≡ true → decide first second s ≡ true
+rest_more true second r s more is = refl
+rest_more false true r s more is = absurd (cc)
+rest_more false false r s more is = more is
+
+-- where nothing is said of them, the rules before it decide
+pub way_is_last : (s u : Standing) (x y : List ℕ) → s.within ≡ [] → u.within ≡ [] → goes_before s u ≡ true → goes_before (with_way s x) (with_way u y) ≡ true
+way_is_last s u x y s_none u_none before =
+    let a : Standing = with_way s x in
+    let b : Standing = with_way u y in
+    let never : is_lesser_way s.within u.within ≡ true → is_lesser_way x y ≡ true = λ is. let no : false ≡ true = sym (rw (s_none, u_none) refl) ∙ is in cc in
+    rules_are a b
+    ∙ rest_more (first_flag s.opens u.opens) (first_flag u.opens s.opens) (by_depth s u) (by_depth a b)
+    (rest_more (nat_lt u.depth s.depth) (nat_lt s.depth u.depth) (by_home s u) (by_home a b)
+    (rest_more (first_flag s.away u.away) (first_flag u.away s.away) (by_urgency s u) (by_urgency a b)
+    (rest_more (is_more_urgent s.urgency u.urgency) (is_more_urgent u.urgency s.urgency) (by_path s u) (by_path a b)
+    (rest_more (is_lesser_path s.path u.path) (is_lesser_path u.path s.path) (by_number s u) (by_number a b)
+    (rest_more (nat_lt s.number u.number) (nat_lt u.number s.number) (is_lesser_way s.within u.within) (is_lesser_way x y) never)))))
+    (sym (rules_are s u) ∙ before)
+
+-- an item of an open job goes before one that opens a job, and of two that both do or don't, the deeper goes first
+pub open_first : (s u : Standing) → s.opens ≡ false → u.opens ≡ true → goes_before s u ≡ true
+open_first s u s_is u_is = rw (s_is, u_is) refl
+
+pub deep_first : (s u : Standing) → s.opens ≡ u.opens → u.depth < s.depth → goes_before s u ≡ true
+deep_first s u same lower =
+    rules_are s u ∙ ap (λ (z : Bool). decide (first_flag z u.opens) (first_flag u.opens z) (by_depth s u)) same
+    ∙ rest_only first_flag flags u.opens (by_depth s u) ∙ rw (lt-ltb u.depth s.depth lower) refl
+
+-- of two items of one job home, urgency and number decide
+pub in_one_job : (opens : Bool) (depth : ℕ) (away away' : Bool) (urgency urgency' : Option ℕ) (path : List (ℕ × ℕ)) (number number' : ℕ)
+    → decide (not away && away') (away && not away') (decide (is_more_urgent urgency urgency') (is_more_urgent urgency' urgency) (nat_lt number number')) ≡ true
+    → (let s : Standing = record { opens = opens; depth = depth; away = away; urgency = urgency; path = path; number = number; within = [] } in let u : Standing = record { opens = opens; depth = depth; away = away'; urgency = urgency'; path = path; number = number'; within = [] } in goes_before s u ≡ true)
+in_one_job opens depth away away' urgency urgency' path number number' first =
+    let s : Standing = record { opens = opens; depth = depth; away = away; urgency = urgency; path = path; number = number; within = [] } in
+    let u : Standing = record { opens = opens; depth = depth; away = away'; urgency = urgency'; path = path; number = number'; within = [] } in
+    let by_two : Bool = decide (is_more_urgent urgency urgency') (is_more_urgent urgency' urgency) (nat_lt number number') in
+    let turned_first : decide (first_flag away away') (first_flag away' away) by_two ≡ true = ap (λ (z : Bool). decide (first_flag away away') z by_two) (sym (turned_flags away away')) ∙ first in
+    rules_are s u
+    ∙ rest_only first_flag flags opens (by_depth s u)
+    ∙ rest_only (λ (n m : ℕ). nat_lt m n) deeper depth (by_home s u)
+    ∙ rest_more (first_flag away away') (first_flag away' away) by_two (by_urgency s u)
+    (rest_more (is_more_urgent urgency urgency') (is_more_urgent urgency' urgency) (nat_lt number number') (by_path s u)
+    (λ less. rest_only is_lesser_path paths path (by_number s u) ∙ rw less refl))
+    turned_first

@@ -1,16 +1,14 @@
 -- Where enabled items stand: each stands somewhere, at one place alone, and no two at the same.
-use Rattle.std.proofs.Common.{◌≡◌, ◌≢◌, ◌⊎◌, ⊎_elim, inl, inr, ℕ, zero, suc, ◌+◌, ◌-◌, ◌==◌, ◌<◌, nat_lt, not, Bool, true, false, Option, Some, None, List, [], ◌∷◌, ◌++◌, length, reverse, take, slice_index, refl, sym, ap, ◌∙◌, subst, arith, length-append}
+use Rattle.std.proofs.Common.{◌≡◌, ℕ, suc, ◌-◌, ◌==◌, nat_lt, not, Bool, true, false, Option, Some, None, List, [], ◌∷◌, ◌++◌, length, reverse, take, slice_index, refl, sym, ap, ◌∙◌, subst, arith, length-append}
 use Rattle.std.proofs.lemmas.List.{reverse-reverse}
 use Rattle.pisdf_model.specs.declared.graph.Graph.{Graph}
 use Rattle.pisdf_meaning.specs.declared.firing.Firing.{Firing}
 use Rattle.worker_mapping.specs.declared.mapping.Mapping.{Mapping}
-use Rattle.nested_jobs.specs.Rules.{Call, Place, Task, Work}
-use Rattle.nested_jobs.specs.Rules as nested
-use Rattle.nested_jobs.specs.Marks.{Busy, Done, Free, Mark, Marks, Open, values}
-use Rattle.nested_jobs.specs.Kept.{InJob}
+use Rattle.nested_jobs.specs.Rules.{Place}
+use Rattle.nested_jobs.specs.Marks.{Free, Mark, Marks, Open, values}
 use Rattle.nested_jobs.specs.Pick.{outer}
 use Rattle.nested_jobs.specs.Steps.{IsEnabled}
-use Rattle.nested_jobs.proofs.Finding.{IsReady, OnWay, enabled_by}
+use Rattle.nested_jobs.proofs.Finding.{OnWay, enabled_by}
 use Rattle.nested_jobs.proofs.OneStep.{free_below, outer_below, outer_open}
 use Rattle.nested_jobs.proofs.Places.{one_open, tail_is}
 use Rattle.job_rules.proofs.Answered.{is_job}
@@ -18,9 +16,9 @@ use Rattle.job_rules.specs.Items.{Prepared, graph_of, node_base, prepared_in}
 use Rattle.job_rules.specs.Meant.{rank}
 use Rattle.job_rules.specs.Words.{Answer}
 use Rattle.firing_board.specs.Keys.{IsKey, Key, rules, top_job}
-use Rattle.firing_board.specs.Picks.{AreMapped, IsMappingOf, ItemStands, NodeStands, Standing, StandsAs, StandsAsNode, is_open, item_towards, items_below, steps_to}
+use Rattle.firing_board.specs.Picks.{AreMapped, IsMappingOf, ItemStands, Standing, StandsAs, StandsAsNode, is_open, item_towards, items_below, steps_to}
 use Rattle.firing_board.proofs.Known.{BoardLaws, Known}
-use Rattle.firing_board.proofs.Mapped.{mapping_once}
+use Rattle.firing_board.proofs.Mapped.{mapping_made, mapping_once}
 use Rattle.firing_board.proofs.Steps.{paths_apart}
 
 -- ---- a place on a way
@@ -41,10 +39,10 @@ take_way (j ∷ way) q = ap (λ (z : List ℕ). j ∷ z) (take_way way q)
 way_long : (way : List ℕ) (k : ℕ) (q : Place) → length (way ++ k ∷ q) - suc (length q) ≡ length way
 way_long way k q = let l = length-append way (k ∷ q) in omega arith
 
-towards : (way : List ℕ) (k : ℕ) (q : Place) → item_towards q (way ++ k ∷ q) ≡ k
+pub towards : (way : List ℕ) (k : ℕ) (q : Place) → item_towards q (way ++ k ∷ q) ≡ k
 towards way k q = ap (slice_index (way ++ k ∷ q)) (way_long way k q) ∙ at_way way k q
 
-below_way : (way : List ℕ) (k : ℕ) (q : Place) → items_below q (way ++ k ∷ q) ≡ reverse way
+pub below_way : (way : List ℕ) (k : ℕ) (q : Place) → items_below q (way ++ k ∷ q) ≡ reverse way
 below_way way k q = ap (λ (n : ℕ). reverse (take n (way ++ k ∷ q))) (way_long way k q) ∙ ap reverse (take_way way (k ∷ q))
 
 module _ (key : Key) (is : IsKey key) (laws : BoardLaws key) (m : Marks Firing Answer) (known : Known key m) where
@@ -113,9 +111,15 @@ module _ (key : Key) (is : IsKey key) (laws : BoardLaws key) (m : Marks Firing A
       let job = is_job laws.jobs key.signatures key.graphs is.in_range is.well_formed laws.fit is.lengths (known.levels q) c (values m q) (known.fits q c o) (known.sound q c o) p e in
       mapping_once laws.ends laws.jobs.stages _ p.schedule.counts p.schedule.order job.level_kept job.order key.workers one other a b
 
-  record Alike (s u : Standing) : Type 0 where
-    away : s.away ≡ u.away
-    urgency : s.urgency ≡ u.urgency
+  -- each job that is compiled has a list schedule
+  pub mapped_so : AreMapped key m
+  mapped_so q c p o e =
+      let job = is_job laws.jobs key.signatures key.graphs is.in_range is.well_formed laws.fit is.lengths (known.levels q) c (values m q) (known.fits q c o) (known.sound q c o) p e in
+      mapping_made laws.ends laws.jobs.stages _ p.schedule.counts p.schedule.order job.level_kept job.order key.workers is.some
+
+  pub record Alike (s u : Standing) : Type 0 where
+    pub away : s.away ≡ u.away
+    pub urgency : s.urgency ≡ u.urgency
 
   alike_node : (c : Firing) (q : Place) (o : m q ≡ Open c) (p : Prepared) (e : prepared_so q c ≡ Some p) (w n : ℕ) (s u : Standing) → (b : Bool) → StandsAsNode key (graph_so c) c p w n s b → StandsAsNode key (graph_so c) c p w n u b → Alike s u
   alike_node c q o p e w n s u true one other = record { away = one.0 ∙ sym other.0; urgency = one.1 ∙ sym other.1 }
@@ -126,7 +130,7 @@ module _ (key : Key) (is : IsKey key) (laws : BoardLaws key) (m : Marks Firing A
         urgency = one.urgency_is ∙ (ap (λ (x : Mapping). Some (slice_index x.priority (n - node_base (graph_so c)))) same ∙ sym other.urgency_is);
       }
 
-  alike_item : (c : Firing) (q : Place) (o : m q ≡ Open c) (w n : ℕ) (s u : Standing) (r : Option Prepared) → prepared_so q c ≡ r → ItemStands key (graph_so c) c r w n s → ItemStands key (graph_so c) c r w n u → Alike s u
+  pub alike_item : (c : Firing) (q : Place) (o : m q ≡ Open c) (w n : ℕ) (s u : Standing) (r : Option Prepared) → prepared_so q c ≡ r → ItemStands key (graph_so c) c r w n s → ItemStands key (graph_so c) c r w n u → Alike s u
   alike_item c q o w n s u None e one other = record { away = one.0 ∙ sym other.0; urgency = one.1 ∙ sym other.1 }
   alike_item c q o w n s u (Some p) e one other = alike_node c q o p e w n s u (nat_lt n (node_base (graph_so c))) one other
 
@@ -162,10 +166,10 @@ module _ (key : Key) (is : IsKey key) (laws : BoardLaws key) (m : Marks Firing A
   -- ---- each stands somewhere
 
   -- a home and an urgency that an item has
-  record Homed (c : Firing) (r : Option Prepared) (w n : ℕ) : Type 0 where
-    away : Bool
-    urgency : Option ℕ
-    stands : (s : Standing) → s.away ≡ away → s.urgency ≡ urgency → ItemStands key (graph_so c) c r w n s
+  pub record Homed (c : Firing) (r : Option Prepared) (w n : ℕ) : Type 0 where
+    pub away : Bool
+    pub urgency : Option ℕ
+    pub stands : (s : Standing) → s.away ≡ away → s.urgency ≡ urgency → ItemStands key (graph_so c) c r w n s
 
   homed_node : (c : Firing) (p : Prepared) (w n : ℕ) (mapping : Mapping) → IsMappingOf key (graph_so c) c p mapping → (b : Bool) → nat_lt n (node_base (graph_so c)) ≡ b → Homed c (Some p) w n
   homed_node c p w n mapping mapped true e = record {
@@ -179,7 +183,7 @@ module _ (key : Key) (is : IsKey key) (laws : BoardLaws key) (m : Marks Firing A
     stands = λ s a u. subst (λ (b : Bool). StandsAsNode key (graph_so c) c p w n s b) (sym e) record { mapping = mapping; mapped = mapped; away_is = a; urgency_is = u };
   }
 
-  homed : AreMapped key m → (q : Place) (c : Firing) → m q ≡ Open c → (w n : ℕ) (r : Option Prepared) → prepared_so q c ≡ r → Homed c r w n
+  pub homed : AreMapped key m → (q : Place) (c : Firing) → m q ≡ Open c → (w n : ℕ) (r : Option Prepared) → prepared_so q c ≡ r → Homed c r w n
   homed mapped q c o w n None e = record { away = false; urgency = None; stands = λ s a u. (a, u) }
   homed mapped q c o w n (Some p) e = let t = mapped q c p o e in homed_node c p w n t.0 t.1 (nat_lt n (node_base (graph_so c))) refl
 

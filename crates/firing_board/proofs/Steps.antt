@@ -1,5 +1,5 @@
 -- Open jobs have different paths: the steps from the top tell the place.
-use Rattle.std.proofs.Common.{◌≡◌, ◌⊎◌, ⊎_elim, inl, inr, ℕ, zero, suc, ◌+◌, ◌-◌, ◌<◌, ◌≤◌, ◌&&◌, nat_lt, Bool, true, false, ℤ, List, [], ◌∷◌, ◌++◌, length, map, slice_get, slice_index, Option, Some, None, refl, sym, ap, ◌∙◌, subst, arith, length-append}
+use Rattle.std.proofs.Common.{◌≡◌, ◌⊎◌, ⊎_elim, inl, inr, ℕ, ◌+◌, ◌-◌, ◌<◌, ◌≤◌, ℤ, List, [], ◌∷◌, ◌++◌, length, map, slice_get, slice_index, Option, Some, None, refl, sym, ap, ◌∙◌, subst, arith, length-append}
 use Rattle.std.proofs.lemmas.Bool.{cases_lt, le-ltb, lt-ltb}
 use Rattle.std.proofs.lemmas.List.{length-map}
 use Rattle.std.proofs.lemmas.Option.{slice_get_within}
@@ -13,7 +13,7 @@ use Rattle.single_rate.specs.Expanded.{place_of}
 use Rattle.pisdf_meaning.specs.Configuring.{Configuration, configurations}
 use Rattle.pisdf_meaning.specs.declared.firing.Configured.{Configured}
 use Rattle.pisdf_meaning.specs.declared.firing.Firing.{Firing}
-use Rattle.nested_jobs.specs.Rules.{Call, Place, Task, Values}
+use Rattle.nested_jobs.specs.Rules.{Call, Place, Values}
 use Rattle.nested_jobs.specs.Marks.{Mark, Marks, Open, values}
 use Rattle.nested_jobs.proofs.Nesting.{of_open}
 use Rattle.nested_jobs.proofs.Places.{one_open}
@@ -23,7 +23,6 @@ use Rattle.job_rules.proofs.Answered.{is_job, rule_so}
 use Rattle.job_rules.proofs.Numbers.{rule_of_compilation, rule_of_node}
 use Rattle.job_rules.specs.Items.{Prepared, actor_task, compile_number, compile_rule, graph_of, job_graph, node_base, node_rule, node_task, node_values, nodes_in, prepared_in, rule, values_in}
 use Rattle.job_rules.specs.Meant.{rank}
-use Rattle.job_rules.specs.Words as words
 use Rattle.job_rules.specs.Words.{Answer}
 use Rattle.firing_board.specs.Keys.{IsKey, Key, rules, top_job}
 use Rattle.firing_board.specs.Picks.{step_in, step_of_item, step_of_node, steps_to}
@@ -47,7 +46,7 @@ module _ (key : Key) (g : Graph) (firing : Firing) where
   abbrev places : List ℕ
   places = map (λ (c : Configuration). c.place) (configurations g)
 
-  config_step : (k : ℕ) → k < compile_number g → (o : Option Prepared) → step_of_item key g firing k o ≡ (slice_index places k, 0)
+  pub config_step : (k : ℕ) → k < compile_number g → (o : Option Prepared) → step_of_item key g firing k o ≡ (slice_index places k, 0)
   config_step k low None = refl
   config_step k low (Some p) = rw (lt-ltb k (compile_number g) low) refl
 
@@ -57,7 +56,7 @@ module _ (key : Key) (g : Graph) (firing : Firing) where
       let e : node_base g + n - node_base g ≡ n = omega arith in
       rw (past, e) refl
 
-  record IsFiring (nd : Node) : Type 0 where
+  pub record IsFiring (nd : Node) : Type 0 where
     actor : ℕ
     turn : ℕ
     is : nd ≡ node.Firing actor turn
@@ -88,13 +87,13 @@ module _ (key : Key) (is : IsKey key) (laws : BoardLaws key) (m : Marks Firing A
     v = values m q
 
     -- an item that is a node, of an actor whose graph is fired
-    record CallsNode (k : ℕ) : Type 0 where
-      number : ℕ
-      number_is : k ≡ node_base g + number
-      p : Prepared
-      prepared_so : prepared_in g v ≡ Some p
-      inside : number < length (nodes_in key.graphs.graphs g firing p)
-      firing_is : IsFiring key g firing (node_at (nodes_in key.graphs.graphs g firing p) number)
+    pub record CallsNode (k : ℕ) : Type 0 where
+      pub number : ℕ
+      pub number_is : k ≡ node_base g + number
+      pub p : Prepared
+      pub prepared_so : prepared_in g v ≡ Some p
+      pub inside : number < length (nodes_in key.graphs.graphs g firing p)
+      pub firing_is : IsFiring key g firing (node_at (nodes_in key.graphs.graphs g firing p) number)
 
     by_node : (n : ℕ) (d : Firing) (r : Option Prepared) → prepared_in g v ≡ r → node_rule key.graphs.graphs g firing v n r ≡ Some (Call d) → CallsNode (node_base g + n)
     by_node n d None e task = absurd (cc)
@@ -114,7 +113,7 @@ module _ (key : Key) (is : IsKey key) (laws : BoardLaws key) (m : Marks Firing A
     not_compilation d None task = cc
     not_compilation d (Some left) task = cc
 
-    which : (k : ℕ) (d : Firing) → rule key.graphs.graphs firing v k ≡ Some (Call d) → (k < compile_number g) ⊎ CallsNode k
+    pub which : (k : ℕ) (d : Firing) → rule key.graphs.graphs firing v k ≡ Some (Call d) → (k < compile_number g) ⊎ CallsNode k
     which k d task = ⊎_elim
         (λ (low : k < compile_number g). inl low)
         (λ (past : compile_number g ≤ k). ⊎_elim
@@ -193,7 +192,7 @@ module _ (key : Key) (is : IsKey key) (laws : BoardLaws key) (m : Marks Firing A
   up_of : (i : ℕ) (p : Place) (d : Firing) → m (i ∷ p) ≡ Open d → Up i p d
   up_of i p d o = let up = of_open (rules key) (rank key.graphs.graphs) laws.lawful (top_job key) m i p d known.nested o in (up.job, up.is_open, up.has_task)
 
-  steps_are : (i : ℕ) (p : Place) (c : Firing) → m p ≡ Open c → steps_to key m (i ∷ p) ≡ steps_to key m p ++ step_of_item key (graph_of key.graphs.graphs c) c i (prepared_in (graph_of key.graphs.graphs c) (values m p)) ∷ []
+  pub steps_are : (i : ℕ) (p : Place) (c : Firing) → m p ≡ Open c → steps_to key m (i ∷ p) ≡ steps_to key m p ++ step_of_item key (graph_of key.graphs.graphs c) c i (prepared_in (graph_of key.graphs.graphs c) (values m p)) ∷ []
   steps_are i p c o = ap (λ (x : Mark Firing Answer). steps_to key m p ++ step_in key m p i x) o
 
   abbrev step_to : ℕ → Place → Firing → ℕ × ℕ

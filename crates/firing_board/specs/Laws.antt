@@ -1,17 +1,17 @@
 -- Laws of the journals of boards.
-use Rattle.std.specs.Prelude.{◌≡◌, ◌⊎◌, ℕ, ◌*◌, ◌<◌, ◌≤◌, true, false, List, [], ◌∷◌, ◌++◌, length, None}
-use Rattle.pisdf_model.specs.Range.{InRange}
-use Rattle.pisdf_model.specs.WellFormed.{WellFormed}
+use Rattle.std.specs.Prelude.{◌≡◌, ◌⊎◌, ℕ, ◌*◌, ◌<◌, ◌≤◌, true, false, List, [], ◌∷◌, ◌++◌, length, None, Some}
 use Rattle.pisdf_model.specs.declared.graph.Graphs.{Graphs}
 use Rattle.pisdf_meaning.specs.Endings.{End}
 use Rattle.pisdf_meaning.specs.declared.firing.Firing.{Firing}
+use Rattle.pisdf_meaning.specs.declared.firing.Given.{Given}
 use Rattle.nested_jobs.specs.Rules.{Place}
-use Rattle.nested_jobs.specs.Marks.{Done, Open}
+use Rattle.nested_jobs.specs.Marks.{Done, Marks, Open, values}
 use Rattle.nested_jobs.specs.Journals.{Runs}
 use Rattle.nested_jobs.specs.Pick.{AreAllOpen, Distinct}
 use Rattle.nested_jobs.specs.Steps.{IsEnabled}
 use Rattle.job_rules.specs.Doing.{Answers}
-use Rattle.job_rules.specs.Words.{Answer, Work, answer_of}
+use Rattle.job_rules.specs.Items.{Prepared, count, graph_of, prepared_in}
+use Rattle.job_rules.specs.Words.{Answer, Gives, Work, answer_of}
 use Rattle.firing_board.specs.Keys.{IsKey, Key, rules}
 use Rattle.firing_board.specs.Entries.{BoardState, Step}
 use Rattle.firing_board.specs.Legal.{AreLegal, HasEnded, journal_of, state_after}
@@ -21,14 +21,18 @@ use Rattle.firing_board.specs.declared.entry.Entry.{Entry}
 
 -- ---- the pick
 
+-- the open jobs that are compiled have list schedules, which tell homes and priorities
+abbrev pub JobsAreMapped : Type 0
+JobsAreMapped = (key : Key) (taken : List Step) → IsKey key → AreLegal key taken → AreMapped key (state_after key taken).marks
+
 -- an item is picked for the worker
 abbrev pub HasPick : Key → BoardState → ℕ → Type 0
 HasPick key s w = (i : ℕ) × (p : Place) × IsPick key s.marks w i p
 
--- where an item is enabled, one is picked for each worker, if the open jobs that are compiled have list schedules
+-- where an item is enabled, one is picked for each worker
 abbrev pub PicksExist : Type 0
 PicksExist =
-    (key : Key) (taken : List Step) (w : ℕ) (a : Place) → IsKey key → AreLegal key taken → AreMapped key (state_after key taken).marks →
+    (key : Key) (taken : List Step) (w : ℕ) (a : Place) → IsKey key → AreLegal key taken →
     IsEnabled (rules key) (state_after key taken).marks a → HasPick key (state_after key taken) w
 
 -- and only one
@@ -49,7 +53,7 @@ pub record HasToWait (key : Key) (s : BoardState) : Type 0 where
 -- an item is picked, or the worker has to wait, or the journal has ended
 abbrev pub WorkersAreAnswered : Type 0
 WorkersAreAnswered =
-    (key : Key) (taken : List Step) (w : ℕ) → IsKey key → AreLegal key taken → AreMapped key (state_after key taken).marks →
+    (key : Key) (taken : List Step) (w : ℕ) → IsKey key → AreLegal key taken →
     HasPick key (state_after key taken) w ⊎ (HasToWait key (state_after key taken) ⊎ HasEnded key taken)
 
 -- no two of these
@@ -70,13 +74,13 @@ NoneWaitsAlone = (key : Key) (taken : List Step) → key.workers ≡ 1 → (stat
 -- the best work of an open job to which all others yield is the pick
 abbrev pub WorkIsPicked : Type 0
 WorkIsPicked =
-    (key : Key) (taken : List Step) (w k : ℕ) (q : Place) (s : Standing) → IsKey key → AreLegal key taken → AreMapped key (state_after key taken).marks →
+    (key : Key) (taken : List Step) (w k : ℕ) (q : Place) (s : Standing) → IsKey key → AreLegal key taken →
     IsBest key (state_after key taken).marks w false q k s → IsPick key (state_after key taken).marks w k q
 
 -- where no job offers work, the best call of an open job to which all others yield opens a child, whose first item is the pick
 abbrev pub ChildIsOpened : Type 0
 ChildIsOpened =
-    (key : Key) (taken : List Step) (w k i : ℕ) (p q : Place) (s : Standing) (j : ℕ) (way : List ℕ) → IsKey key → AreLegal key taken → AreMapped key (state_after key taken).marks →
+    (key : Key) (taken : List Step) (w k i : ℕ) (p q : Place) (s : Standing) (j : ℕ) (way : List ℕ) → IsKey key → AreLegal key taken →
     NoneOffers key (state_after key taken).marks w false → IsBest key (state_after key taken).marks w true q k s →
     AreFirst (j ∷ way) → i ∷ p ≡ j ∷ way ++ k ∷ q → IsEnabled (rules key) (state_after key taken).marks (i ∷ p) →
     IsPick key (state_after key taken).marks w i p
@@ -129,3 +133,18 @@ abbrev pub JournalsTellSteps : Type 0
 JournalsTellSteps =
     (key : Key) (taken others : List Step) → IsKey key → AreLegal key taken → AreLegal key others →
     journal_of key taken ≡ journal_of key others → taken ≡ others
+
+-- ---- jobs that are closed
+
+-- every item of the job is finished: its configuration actors, its compilation, and every node
+pub record HasFinished (key : Key) (m : Marks Firing Answer) (p : Place) (job : Firing) : Type 0 where
+  pub prepared : Prepared
+  pub prepared_so : prepared_in (graph_of key.graphs.graphs job) (values m p) ≡ Some prepared
+  pub each : (i : ℕ) → i < count key.graphs.graphs job (values m p) → (answer : Answer) × (values m p i ≡ Some answer)
+
+-- a job that a step closes, and that gives something, has finished every item
+abbrev pub ClosedJobsHaveFinished : Type 0
+ClosedJobsHaveFinished =
+    (key : Key) (taken : List Step) (e : Step) (p : Place) (job : Firing) (given : Given) → IsKey key → AreLegal key taken → AreLegal key (taken ++ e ∷ []) →
+    (state_after key taken).marks p ≡ Open job → (state_after key (taken ++ e ∷ [])).marks p ≡ Done (Gives given) →
+    HasFinished key (state_after key (taken ++ e ∷ [])).marks p job

@@ -5,3 +5,7 @@ pub mod Legal
 pub mod JobLaws
 pub mod Offers
 pub mod Laws
+pub mod Board
+pub mod BoardLaws
+pub mod Asking
+pub mod AskingLaws

@@ -7,5 +7,7 @@ mod laws;
 
 pub use entry::{Entry, Item};
 pub use laws::{
-    few_jobs_are_open, journals_tell_one_thread, workers_are_answered, workers_dont_matter,
+    boards_end, closed_jobs_have_finished, few_jobs_are_open, jobs_are_asked, journals_grow,
+    journals_tell_one_thread, paths_stay, rows_are_asked, workers_are_answered,
+    workers_dont_matter,
 };

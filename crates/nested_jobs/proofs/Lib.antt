@@ -13,3 +13,4 @@ pub mod Examples
 pub mod Listing
 pub mod Depths
 pub mod Closing
+pub mod Tabling

@@ -6,3 +6,5 @@ pub mod Meanings
 pub mod Kept
 pub mod Pick
 pub mod Laws
+pub mod Tables
+pub mod TableLaws

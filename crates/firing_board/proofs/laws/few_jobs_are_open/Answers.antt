@@ -1,5 +1,7 @@
 use Rattle.firing_board.proofs.Answering.{few_jobs, shallow}
 use Rattle.firing_board.proofs.Known.{board_laws}
+use Rattle.firing_board.proofs.Rows.{rows_few}
+use Rattle.firing_board.specs.Legal.{state_after}
 use Rattle.firing_board.proofs.laws.few_jobs_are_open.Goals as goal
 
 pub returns-clause-shallow : goal.returns-clause-shallow
@@ -7,3 +9,9 @@ returns-clause-shallow c = λ key taken p firing is legal o. shallow key is (boa
 
 pub returns-clause-few : goal.returns-clause-few
 returns-clause-few c = λ key taken ps is legal apart o. few_jobs key is (board_laws key (c.job_laws.ensures key is)) taken legal ps (c.journals_tell_one_thread.ensures.few key taken is legal) apart o
+
+pub returns-clause-rows : goal.returns-clause-rows
+returns-clause-rows c = λ key taken table held keys is kept are.
+    rows_few key table (state_after key taken).marks kept.stands keys
+    (λ ps apart o. few_jobs key is (board_laws key (c.job_laws.ensures key is)) taken kept.legal ps (c.journals_tell_one_thread.ensures.few key taken is kept.legal) apart o)
+    are

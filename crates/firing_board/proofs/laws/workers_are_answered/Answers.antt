@@ -1,11 +1,14 @@
 use Rattle.firing_board.specs.Legal.{state_after}
-use Rattle.firing_board.proofs.Answering.{alone, answered, has_pick, one_answer}
+use Rattle.firing_board.proofs.Answering.{alone, answered, has_pick, mapped, one_answer}
 use Rattle.firing_board.proofs.Choosing.{pick_once}
 use Rattle.firing_board.proofs.Known.{board_laws, known}
 use Rattle.firing_board.proofs.laws.workers_are_answered.Goals as goal
 
+pub returns-clause-mapped : goal.returns-clause-mapped
+returns-clause-mapped c = λ key taken is legal. mapped key is (board_laws key (c.job_laws.ensures key is)) taken legal
+
 pub returns-clause-picked : goal.returns-clause-picked
-returns-clause-picked c = λ key taken w a is legal mapped on. has_pick key is (board_laws key (c.job_laws.ensures key is)) taken legal w a mapped on
+returns-clause-picked c = λ key taken w a is legal on. has_pick key is (board_laws key (c.job_laws.ensures key is)) taken legal w a on
 
 pub returns-clause-once : goal.returns-clause-once
 returns-clause-once c = λ key taken w i j p q is legal one other.
@@ -13,7 +16,7 @@ returns-clause-once c = λ key taken w i j p q is legal one other.
     pick_once key is laws (state_after key taken).marks (known key is laws taken legal) w i j p q one other
 
 pub returns-clause-answered : goal.returns-clause-answered
-returns-clause-answered c = λ key taken w is legal mapped. answered key is (board_laws key (c.job_laws.ensures key is)) taken legal w mapped
+returns-clause-answered c = λ key taken w is legal. answered key is (board_laws key (c.job_laws.ensures key is)) taken legal w
 
 pub returns-clause-one_answer : goal.returns-clause-one_answer
 returns-clause-one_answer c = one_answer
