@@ -1,7 +1,9 @@
 ghost use Rattle.std.specs.Prelude.{◌≡◌, ◌≤◌, ℕ, List as Seq, IfOk, string_bytes};
 ghost use Rattle.job_report.specs.Told.{Tells};
 
+use crate::memory::memory_text;
 use crate::names::JobNames;
+use crate::ordering::ordering_of;
 use crate::plan::plan_text;
 use crate::report::report_on;
 use crate::schedule::schedule_text;
@@ -15,6 +17,8 @@ pub enum JobText {
     Plan,
     /// Its list schedule (Graham 1969), beside what bounds the length of every schedule.
     Schedule,
+    /// What each worker runs in turn where it keeps a fixed order, and where the buffers lie then.
+    Memory,
 }
 
 /// The text that tells this of a job for one worker at least, the parts of whose level have these names. There is no other.
@@ -32,5 +36,6 @@ pub fn job_text(
     match what {
         JobText::Plan => plan_text(alloc, names, job),
         JobText::Schedule => schedule_text(alloc, &report_on(alloc, job)?),
+        JobText::Memory => memory_text(alloc, job, &ordering_of(alloc, job)?),
     }
 }

@@ -1,6 +1,7 @@
 use Rattle.std.proofs.Common.{ℕ, List, IfOk, string_bytes, ◌≡◌, sym, subst}
 use Rattle.job_report.specs.Told.{Tells}
 use Rattle.job_report.specs.declared.text.JobText.{JobText}
+use Rattle.job_report.proofs.OneOrdering.{memory_only}
 use Rattle.job_report.proofs.OneReport.{schedule_only}
 use Rattle.job_report.proofs.text.job_text.Goals as goal
 
@@ -8,3 +9,8 @@ pub returns-in_ok-report_on-in-Schedule-clause-only : goal.returns-in_ok-report_
 returns-in_ok-report_on-in-Schedule-clause-only c =
     subst (λ (what : JobText). IfOk c.schedule_text.result (λ text. (other : List ℕ) → Tells what c.args.names.now c.args.job.now other → other ≡ string_bytes text)) (sym c.in-Schedule.is)
     (schedule_only c.args.names.now c.args.job.now c.in_ok-report_on-in-Schedule.field-0 c.schedule_text.result c.in_ok-report_on-in-Schedule.ensures.only c.schedule_text.ensures)
+
+pub returns-in_ok-ordering_of-in-Memory-clause-only : goal.returns-in_ok-ordering_of-in-Memory-clause-only
+returns-in_ok-ordering_of-in-Memory-clause-only c =
+    subst (λ (what : JobText). IfOk c.memory_text.result (λ text. (other : List ℕ) → Tells what c.args.names.now c.args.job.now other → other ≡ string_bytes text)) (sym c.in-Memory.is)
+    (memory_only c.args.names.now c.args.job.now c.in_ok-ordering_of-in-Memory.field-0 c.memory_text.result c.in_ok-ordering_of-in-Memory.ensures.only c.memory_text.ensures)
