@@ -1,9 +1,10 @@
 -- A job meets what ordered workers ask, and has one order for each and one placement under them.
-use Rattle.std.proofs.Common.{◌≡◌, ℕ, ◌+◌, ◌<◌, ◌≤◌, ◌^◌, ◌==◌, ◌||◌, Bool, true, false, ◌⊎◌, inl, inr, ⊎_elim, List, [], ◌∷◌, ◌++◌, length, slice_index, map, filter, refl, ap, sym, subst, ◌∙◌, arith, Result, Ok, Err, IfOk, String, Global, string_bytes}
-use Rattle.std.specs.List.{All, AllByRecursion, sum_by}
+use Rattle.std.proofs.Common.{◌≡◌, ℕ, ◌+◌, ◌<◌, ◌≤◌, ◌^◌, ⊎_elim, List, [], ◌∷◌, ◌++◌, length, slice_index, ap, sym, subst, ◌∙◌, arith, Result, Ok, Err, IfOk, String, Global, string_bytes}
+use Rattle.std.specs.List.{AllByRecursion}
+use Rattle.std.specs.Prelude.{OnOk}
 use Rattle.std.proofs.lemmas.Bool.{cases_eq, ne_eqb}
 use Rattle.std.proofs.lemmas.List.{length-map}
-use Rattle.std.proofs.lemmas.List.Elements.{recursion_from_All, All-cons}
+use Rattle.std.proofs.lemmas.List.Elements.{recursion_from_All}
 use Rattle.sdf_level.specs.declared.single_rate.Edge.{Edge}
 use Rattle.memory_exclusion.specs.Paths.{Excludes}
 use Rattle.placement.specs.declared.placing.Placement.{Placement}
@@ -13,11 +14,13 @@ use Rattle.single_rate.specs.Sizes.{space}
 use Rattle.single_rate.proofs.FewNodes.{few-nodes}
 use Rattle.worker_mapping.specs.Costs.{pairs_of}
 use Rattle.worker_mapping.specs.Graph.{CostedGraph, graph_of}
-use Rattle.worker_mapping.specs.Schedule.{AreHomes, EachEntry, IsChoice, times_placed}
+use Rattle.worker_mapping.specs.Schedule.{EachEntry, IsChoice, times_placed}
 use Rattle.worker_mapping.specs.declared.entry.Entry.{Entry}
 use Rattle.order_memory.specs.Orders.{AreOrders, after_of, sizes_of}
+use Rattle.order_memory.specs.Runs.{Event, FinishesAll, IsOrderedRun, LiveAreApart}
 use Rattle.order_memory.specs.declared.tables.Ordered.{Ordered}
-use Rattle.job_compiler.specs.Compilation.{Compilation, IsCompiled, IsMapped, IsSound}
+use Rattle.job_compiler.specs.Compilation.{Compilation, IsCompiled, IsMapped}
+use Rattle.job_report.specs.Kept.{Holds, KeepsApart}
 use Rattle.job_report.specs.Memory.{IsOrdering, memory_text}
 use Rattle.job_report.specs.Told.{Tells}
 use Rattle.job_report.specs.declared.names.JobNames.{JobNames}
@@ -85,3 +88,15 @@ pub memory_only : {E : Type 0} (names : JobNames) (job : Compilation) (ordered :
     → IfOk r (λ text. string_bytes text ≡ memory_text job ordered) → IfOk r (λ text. (other : List ℕ) → Tells Memory names job other → other ≡ string_bytes text)
 memory_only names job ordered (Ok text) only h = λ other t. t.2 ∙ ap (memory_text job) (only t.0 t.1) ∙ sym h
 memory_only names job ordered (Err e) only h = tt
+
+-- ---- what ordered runs keep
+
+pub apart_of : {E : Type 0} (job : Compilation) (r : Result Ordered E)
+    → IfOk r (λ o. (run : List Event) → IsOrderedRun (pairs_of job.graph.edges) o.orders run → LiveAreApart (pairs_of job.graph.edges) (sizes_of job.graph.edges) o.placement.offsets run)
+    → IfOk r (λ o. (run : List Event) × IsOrderedRun (pairs_of job.graph.edges) o.orders run × FinishesAll (length job.graph.nodes) run) → IfOk r (KeepsApart job)
+apart_of job (Ok o) apart possible = record { apart = apart; possible = possible }
+apart_of job (Err e) apart possible = tt
+
+pub memory_holds : {E : Type 0} (job : Compilation) (ordered : Ordered) (r : Result (String Global) E) → ((other : Ordered) → IsOrdering job other → other ≡ ordered) → KeepsApart job ordered → OnOk r (Holds Memory job)
+memory_holds job ordered (Ok text) only apart = λ other is. subst (KeepsApart job) (sym (only other is)) apart
+memory_holds job ordered (Err e) only apart = tt

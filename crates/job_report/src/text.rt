@@ -1,4 +1,5 @@
-ghost use Rattle.std.specs.Prelude.{◌≡◌, ◌≤◌, ℕ, List as Seq, IfOk, string_bytes};
+ghost use Rattle.std.specs.Prelude.{◌≡◌, ◌≤◌, ℕ, List as Seq, IfOk, OnOk, string_bytes};
+ghost use Rattle.job_report.specs.Kept.{Holds};
 ghost use Rattle.job_report.specs.Told.{Tells};
 
 use crate::memory::memory_text;
@@ -32,6 +33,9 @@ pub fn job_text(
     requires { 1 ≤ job.now.workers }
     ensures tells { IfOk result (λ text. Tells what names.now job.now (string_bytes text)) }
     ensures only { IfOk result (λ text. (other : Seq ℕ) → Tells what names.now job.now other → other ≡ string_bytes text) }
+
+    // A report bounds every schedule of the job, and offsets under orders keep apart what is live at once.
+    ensures holds { OnOk result (Holds what job.now) }
 {
     match what {
         JobText::Plan => plan_text(alloc, names, job),
