@@ -1,17 +1,18 @@
 -- A job has at most one report on its schedule.
-use Rattle.std.proofs.Common.{◌≡◌, ℕ, ◌<◌, ◌≤◌, ◌⊎◌, inl, inr, ⊎_elim, List, [], ◌∷◌, length, slice_index, slice_index_or, sum, refl, ap, sym, subst, ◌∙◌, arith, Result, Ok, Err, IfOk, String, Global, string_bytes}
+use Rattle.std.proofs.Common.{◌≡◌, ℕ, ◌+◌, ◌-◌, ◌*◌, ◌<◌, ◌≤◌, inl, inr, ⊎_elim, List, [], ◌∷◌, length, sum, refl, ap, sym, subst, ◌∙◌, arith, Result, Ok, Err, IfOk, String, Global, string_bytes}
 use Rattle.std.proofs.lemmas.Bool.{cases_eq, ne_eqb}
 use Rattle.std.proofs.lemmas.List.{ext_get_or}
 use Rattle.std.proofs.lemmas.List.Elements.{recursion_from_All}
 use Rattle.std.specs.List.{AllByRecursion}
 use Rattle.sdf_level.specs.declared.single_rate.Edge.{Edge}
 use Rattle.sdf_level.proofs.OnlyOne.{same_list}
-use Rattle.worker_mapping.specs.Costs.{AreCosts}
-use Rattle.worker_mapping.specs.Graph.{CostedGraph, IsPriority}
+use Rattle.worker_mapping.specs.Costs.{AreCosts, pairs_of}
+use Rattle.worker_mapping.specs.Graph.{CostedGraph, IsPriority, graph_of}
 use Rattle.worker_mapping.specs.Schedule.{IsSchedule, times_placed}
 use Rattle.worker_mapping.specs.declared.entry.Entry.{Entry}
 use Rattle.worker_mapping.proofs.Priorities.{IsPriority-unique}
 use Rattle.worker_mapping.proofs.Unique.{IsSchedule-unique}
+use Rattle.schedule_bound.specs.Feasible.{IsFeasible}
 use Rattle.schedule_bound.specs.Critical.{ComesFirst, IsCritical}
 use Rattle.schedule_bound.specs.Listed.{AreSlots, IsListed, slot_in}
 use Rattle.schedule_bound.specs.Slots.{length_of, no_slot, slot_of}
@@ -19,6 +20,8 @@ use Rattle.schedule_bound.specs.declared.slots.Slot.{Slot}
 use Rattle.schedule_bound.specs.declared.tables.Report.{Report}
 use Rattle.job_compiler.specs.Compilation.{Compilation, IsSound}
 use Rattle.job_compiler.proofs.SoundEdges.{pair_ends, pairs_rise}
+use Rattle.std.specs.Prelude.{OnOk}
+use Rattle.job_report.specs.Kept.{Bounds, Holds}
 use Rattle.job_report.specs.Schedule.{IsReportOn, costed, schedule_text}
 use Rattle.job_report.specs.Told.{Tells}
 use Rattle.job_report.specs.declared.names.JobNames.{JobNames}
@@ -97,3 +100,28 @@ pub schedule_only : {E : Type 0} (names : JobNames) (job : Compilation) (report 
     → IfOk r (λ text. string_bytes text ≡ schedule_text report) → IfOk r (λ text. (other : List ℕ) → Tells Schedule names job other → other ≡ string_bytes text)
 schedule_only names job report (Ok text) only h = λ other t. t.2 ∙ ap schedule_text (only t.0 t.1) ∙ sym h
 schedule_only names job report (Err e) only h = tt
+
+pub schedule_holds : {E : Type 0} (job : Compilation) (report : Report) (r : Result (String Global) E) → ((other : Report) → IsReportOn job other → other ≡ report) → Bounds job report → OnOk r (Holds Schedule job)
+schedule_holds job report (Ok text) only bounds = λ other is. subst (Bounds job) (sym (only other is)) bounds
+schedule_holds job report (Err e) only bounds = tt
+
+-- ---- the bounds of every schedule
+
+pub bounds_of : {E : Type 0} (job : Compilation) (nodes : ℕ) (pairs : List (ℕ × ℕ)) (costs : List ℕ) (workers : ℕ) (r : Result Report E) → nodes ≡ length job.graph.nodes → pairs ≡ pairs_of job.graph.edges → workers ≡ job.workers
+    → AreCosts (length job.graph.nodes) job.graph.edges costs
+    → IfOk r (λ r. IsFeasible (graph_of nodes pairs costs) workers r.entries)
+    → IfOk r (λ r. (slots : List Slot) → IsFeasible (graph_of nodes pairs costs) workers slots → r.critical ≤ length_of slots)
+    → IfOk r (λ r. (slots : List Slot) → IsFeasible (graph_of nodes pairs costs) workers slots → r.work ≤ workers * length_of slots)
+    → IfOk r (λ r. workers * r.length ≤ r.work + (workers - 1) * r.critical) → IfOk r (Bounds job)
+bounds_of job nodes pairs costs workers (Ok report) nodes_are pairs_are workers_are are feasible shorter faster longer =
+    let graph : graph_of nodes pairs costs ≡ costed job costs = ap (λ n. graph_of n pairs costs) nodes_are ∙ ap (λ (p : List (ℕ × ℕ)). graph_of (length job.graph.nodes) p costs) pairs_are in
+    let both : (P : ℕ → CostedGraph → Type 0) → P workers (graph_of nodes pairs costs) → P job.workers (costed job costs) = λ P h. subst (P job.workers) graph (subst (λ w. P w (graph_of nodes pairs costs)) workers_are h) in
+    record {
+      costs = costs;
+      are_costs = are;
+      feasible = both (λ w g. IsFeasible g w report.entries) feasible;
+      no_shorter = both (λ w g. (slots : List Slot) → IsFeasible g w slots → report.critical ≤ length_of slots) shorter;
+      no_faster = both (λ w g. (slots : List Slot) → IsFeasible g w slots → report.work ≤ w * length_of slots) faster;
+      no_longer = subst (λ w. w * report.length ≤ report.work + (w - 1) * report.critical) workers_are longer;
+    }
+bounds_of job nodes pairs costs workers (Err e) nodes_are pairs_are workers_are are feasible shorter faster longer = tt

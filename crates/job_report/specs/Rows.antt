@@ -1,5 +1,5 @@
 -- What the rows of jobs are made of.
-use Rattle.std.specs.Prelude.{ℕ, List, [], ◌∷◌, ◌++◌, codes, slice_index_or}
+use Rattle.std.specs.Prelude.{ℕ, List, [], ◌++◌, codes, slice_index_or}
 use Rattle.std.specs.Fmt.{decimal}
 
 -- the name with a number, none where there is no such name

@@ -1,5 +1,6 @@
 // The report on the list schedule of a job.
 ghost use Rattle.std.specs.Prelude.{◌≡◌, ◌≤◌, IfOk};
+ghost use Rattle.job_report.specs.Kept.{Bounds};
 ghost use Rattle.job_report.specs.Schedule.{IsReportOn};
 ghost use Rattle.schedule_bound.specs.declared.tables.Report.{Report as AnyReport};
 
@@ -12,6 +13,7 @@ use worker_mapping::{edge_pairs, node_costs};
 pub(crate) fn report_on(alloc: Global, job: &Compiled) -> Result<Report, AllocError>
     requires { 1 ≤ job.now.workers }
     ensures report { IfOk result (IsReportOn job.now) }
+    ensures bounds { IfOk result (Bounds job.now) }
     ensures only { IfOk result (λ report. (other : AnyReport) → IsReportOn job.now other → other ≡ report) }
 {
     let graph = job.graph();

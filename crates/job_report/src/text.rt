@@ -1,7 +1,10 @@
-ghost use Rattle.std.specs.Prelude.{◌≡◌, ◌≤◌, ℕ, List as Seq, IfOk, string_bytes};
+ghost use Rattle.std.specs.Prelude.{◌≡◌, ◌≤◌, ℕ, List as Seq, IfOk, OnOk, string_bytes};
+ghost use Rattle.job_report.specs.Kept.{Holds};
 ghost use Rattle.job_report.specs.Told.{Tells};
 
+use crate::memory::memory_text;
 use crate::names::JobNames;
+use crate::ordering::ordering_of;
 use crate::plan::plan_text;
 use crate::report::report_on;
 use crate::schedule::schedule_text;
@@ -15,6 +18,8 @@ pub enum JobText {
     Plan,
     /// Its list schedule (Graham 1969), beside what bounds the length of every schedule.
     Schedule,
+    /// What each worker runs in turn where it keeps a fixed order, and where the buffers lie then.
+    Memory,
 }
 
 /// The text that tells this of a job for one worker at least, the parts of whose level have these names. There is no other.
@@ -28,9 +33,13 @@ pub fn job_text(
     requires { 1 ≤ job.now.workers }
     ensures tells { IfOk result (λ text. Tells what names.now job.now (string_bytes text)) }
     ensures only { IfOk result (λ text. (other : Seq ℕ) → Tells what names.now job.now other → other ≡ string_bytes text) }
+
+    // A report bounds every schedule of the job, and offsets under orders keep apart what is live at once.
+    ensures holds { OnOk result (Holds what job.now) }
 {
     match what {
         JobText::Plan => plan_text(alloc, names, job),
         JobText::Schedule => schedule_text(alloc, &report_on(alloc, job)?),
+        JobText::Memory => memory_text(alloc, job, &ordering_of(alloc, job)?),
     }
 }

@@ -1,36 +1,28 @@
 -- The way to the compiled job: there is one end.
-use Rattle.std.proofs.Common.{◌≡◌, ◌≢◌, ◌⊎◌, inl, inr, ⊎_elim, ℕ, ◌≤◌, ℤ, List, [], ◌∷◌, ◌++◌, length, drop, min, Option, Some, None, Result, Ok, Err, String, Global, refl, sym, ap, ◌∙◌, subst, arith, slice_get}
-use Rattle.std.proofs.Math.ListN.{drop_of_length-le}
-use Rattle.std.specs.List.{filter, flat_map}
-use Rattle.std.specs.Prelude.{zero, suc, true, false, not, if◌then◌else◌}
+use Rattle.std.proofs.Common.{◌≡◌, ◌⊎◌, inl, inr, ⊎_elim, ℕ, ℤ, List, Option, Some, None, Result, Ok, Err, refl, sym, ap, ◌∙◌, subst, slice_get}
 use Rattle.job_compiler.specs.Compilation.{Compilation, IsCompiled}
 use Rattle.job_compiler.specs.Refusals.{IsRefused, of_unscheduled}
 use Rattle.job_compiler.specs.declared.fault.CompileFault.{CompileFault}
 use Rattle.job_compiler.specs.declared.fault.CompileFault.TheVariants as compile
-use Rattle.job_report.specs.Names.{actor_name, actor_names}
 use Rattle.level_schedule.specs.Schedules.{IsUnscheduled}
 use Rattle.level_schedule.specs.declared.unscheduled.Unscheduled.{Unscheduled}
 use Rattle.level_schedule.specs.declared.unscheduled.Unscheduled.TheVariants as unscheduled
-use Rattle.outer_world.specs.Sink.{Grows}
-use Rattle.param_resolver.specs.Numbering.{acting, fires}
+use Rattle.param_resolver.specs.Numbering.{acting}
 use Rattle.param_resolver.specs.declared.level_set.LevelSet.{LevelSet}
-use Rattle.pisdf_meaning.specs.Causes.{actors_left, left_of_actor, schedule_cause}
+use Rattle.pisdf_meaning.specs.Causes.{schedule_cause}
 use Rattle.pisdf_meaning.specs.Endings.{IfRefused}
 use Rattle.pisdf_meaning.specs.Run as run
 use Rattle.pisdf_meaning.specs.TopLevel.{IsTopLevel, TopLevelRefused}
-use Rattle.pisdf_meaning.specs.declared.refusal.Left.{Left}
 use Rattle.pisdf_meaning.specs.declared.refusal.PlainFault.{PlainFault}
 use Rattle.pisdf_meaning.specs.declared.refusal.PlainFault.TheVariants as plain
 use Rattle.pisdf_meaning.specs.declared.refusal.Refusal.{Refusal}
 use Rattle.pisdf_model.specs.Hold.{initial}
-use Rattle.pisdf_model.specs.InterfaceWires.{is_configuration}
-use Rattle.pisdf_model.specs.declared.actor.Actor.{Actor}
 use Rattle.pisdf_model.specs.declared.graph.Graph.{Graph}
 use Rattle.pisdf_model.specs.declared.graph.Graphs.{Graphs}
 use Rattle.sdf_level.specs.View.{LevelView}
 use Rattle.pisdf_program.specs.Iterated.{Checks}
-use Rattle.pisdf_program.specs.Job.{Compiles, EndsJob, FindsLevel, FindsNoLevel, IsJobOf, JobEnd, at_top, first_inputs}
-use Rattle.pisdf_program.specs.LeftAmong.{IsLeftTo, left_among, left_with, schedule_fault}
+use Rattle.pisdf_program.specs.Job.{Compiles, EndsJob, FindsLevel, JobEnd, at_top, first_inputs}
+use Rattle.pisdf_program.specs.Uncompiled.{IsLeftTo, schedule_fault}
 use Rattle.pisdf_program.specs.declared.stop.Stop.{Stop}
 use Rattle.pisdf_program.specs.declared.stop.Stop.TheVariants as stop
 use Rattle.pisdf_program.specs.Stepped.{refused_stop}
@@ -41,43 +33,6 @@ refused end = Err end
 
 abbrev ready : Compilation → JobEnd
 ready job = Ok job
-
--- ---- the actors with firings left
-
-no_counts : (names : List (List ℕ)) → left_among names [] ≡ []
-no_counts [] = refl
-no_counts (n ∷ names) = refl
-
-shorter : (a b i : ℕ) → min a b ≤ i → (a ≤ i) ⊎ (b ≤ i)
-shorter a b i h = search (arith)
-
--- past the names or the counts there is none
-pub none_left : (i : ℕ) (names : List (List ℕ)) (counts : List ℕ) → min (length names) (length counts) ≤ i → left_among (drop i names) (drop i counts) ≡ []
-none_left i names counts h =
-    elim (shorter (length names) (length counts) i h) [
-      | inl a ↦ ap (λ n. left_among n (drop i counts)) (drop_of_length-le names a)
-      | inr b ↦ ap (left_among (drop i names)) (drop_of_length-le counts b) ∙ no_counts (drop i names)
-    ]
-
-left_is : (actor : Actor) (n : ℕ) → left_with actor.name n ≡ left_of_actor actor n
-left_is actor n = elim n as (λ k. left_with actor.name k ≡ left_of_actor actor k) [ zero ↦ refl | suc k ↦ refl ]
-
-left_nothing : (actors : List Actor) → actors_left actors [] ≡ []
-left_nothing [] = refl
-left_nothing (a ∷ actors) = refl
-
-one_more : (a : Actor) (actors : List Actor) (names : List (List ℕ)) (counts : List ℕ) → ((cs : List ℕ) → left_among names cs ≡ actors_left actors cs) → left_among (a.name ∷ names) counts ≡ actors_left (a ∷ actors) counts
-one_more a actors names [] same = refl
-one_more a actors names (n ∷ counts) same = ap (λ l. l ++ left_among names counts) (left_is a n) ∙ ap (λ l. left_of_actor a n ++ l) (same counts)
-
--- by the names of the actors of the level
-pub left_by_names : (actors : List Actor) (counts : List ℕ) → left_among (flat_map (λ (a : Actor). actor_name a) actors) counts ≡ actors_left (filter fires actors) counts
-left_by_names [] counts = refl
-left_by_names (a ∷ actors) counts =
-    (elim (is_configuration a.body) as (λ b. left_among ((if b then [] else a.name ∷ []) ++ flat_map (λ (x : Actor). actor_name x) actors) counts ≡ actors_left (if not b then a ∷ filter fires actors else filter fires actors) counts) [
-      | true ↦ left_by_names actors counts
-      | false ↦ one_more a (filter fires actors) (flat_map (λ (x : Actor). actor_name x) actors) counts (left_by_names actors)
-    ])
 
 -- ---- a level that is compiled or refused
 

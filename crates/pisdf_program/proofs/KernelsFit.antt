@@ -1,19 +1,18 @@
 -- The actors of graphs that were read fit their kernels.
-use Rattle.std.proofs.Common.{◌≡◌, ℕ, zero, suc, ◌+◌, ◌≤◌, ◌<◌, List, [], ◌∷◌, length, Bool, true, false, Option, Some, None, Ok, refl, sym, ap, ◌∙◌, subst, arith, slice_get, get_or, map}
+use Rattle.std.proofs.Common.{◌≡◌, ℕ, zero, suc, ◌+◌, ◌≤◌, ◌<◌, List, [], ◌∷◌, length, Bool, true, false, Option, Some, None, refl, sym, ap, subst, arith, slice_get, get_or, map}
 use Rattle.std.specs.Prelude.{◌&&◌, nat_le, ◌==◌}
 use Rattle.std.specs.List.{All}
 use Rattle.std.proofs.lemmas.Bool.Decides.{nat_tests}
-use Rattle.serde_json.specs.Data.{Data}
 use Rattle.kernel_gate.specs.Signed.{Counts, SignatureView, unnamed}
 use Rattle.kernel_gate.specs.Table.{the_signatures}
 use Rattle.pisdf_model.specs.Details.{unless, from_number}
-use Rattle.pisdf_model.specs.Ports.{actor_ports, body_fits, graph_ports, param_ports, all_sets, ports_faults}
+use Rattle.pisdf_model.specs.Ports.{actor_ports, body_fits, graph_ports, param_ports, all_sets}
 use Rattle.pisdf_model.specs.declared.actor.Actor.{Actor}
 use Rattle.pisdf_model.specs.declared.actor.Body.{Body}
 use Rattle.pisdf_model.specs.declared.actor.Body.TheVariants.{Kernel, Config, Child, ConfigChild}
 use Rattle.pisdf_model.specs.declared.graph.Graph.{Graph}
 use Rattle.pisdf_model.specs.declared.graph.Graphs.{Graphs}
-use Rattle.graph_format.specs.Faults.{Tells, file_faults, fit_counts, fit_signature, fits_kernel, graphs_of}
+use Rattle.graph_format.specs.Faults.{file_faults, fit_counts, fit_signature, fits_kernel, graphs_of}
 use Rattle.graph_format.specs.declared.file.File.{File}
 use Rattle.graph_format.proofs.NoFaults.{neither, no_file_faults, no_rule_faults}
 use Rattle.pisdf_meaning.specs.Kernels.{FitsKernel}

@@ -6,3 +6,6 @@ pub mod Runs
 pub mod Working
 pub mod Jobs
 pub mod Telling
+pub mod LoadFile
+pub mod LoadStreams
+pub mod Loads

@@ -1,7 +1,7 @@
 -- A run, iteration by iteration.
 use Rattle.std.proofs.Common.{◌≡◌, ℕ, suc, zero, ◌+◌, ◌-◌, ◌*◌, ◌≤◌, ◌<◌, ℤ, List, [], ◌∷◌, ◌++◌, length, take, drop, Option, Some, None, Result, Ok, Err, refl, sym, ap, ◌∙◌, subst, append_assoc, arith, inl, inr, map, length-append, slice_get, slice_index_or}
-use Rattle.std.proofs.lemmas.List.{append-nil, take-append-le}
-use Rattle.std.proofs.Math.Seq.{drop-nil, take-append_seam, take-append-add}
+use Rattle.std.proofs.lemmas.List.{append-nil}
+use Rattle.std.proofs.Math.Seq.{drop-nil, take-append-add}
 use Rattle.outer_world.specs.Sink.{Grows}
 use Rattle.outer_world.specs.Faults.{Rose}
 use Rattle.pisdf_model.specs.Hold.{initial}
@@ -18,7 +18,7 @@ use Rattle.pisdf_meaning.specs.Meaning.{Means}
 use Rattle.pisdf_meaning.specs.Run as run
 use Rattle.pisdf_meaning.specs.declared.outcome.Iteration.{Iteration}
 use Rattle.pisdf_meaning.specs.declared.refusal.Refusal.{Refusal}
-use Rattle.pisdf_program.specs.Calls.{GrowsPartly, GrowsByFirst, EndsRun, RanTo, HasBegun, text_of}
+use Rattle.pisdf_program.specs.Calls.{GrowsPartly, EndsRun, RanTo, HasBegun, text_of}
 use Rattle.pisdf_program.specs.Iterated.{Checks, Gives, IsRefused, HaveIterated}
 use Rattle.pisdf_program.specs.Top.{no_graph, top_of}
 use Rattle.pisdf_program.specs.Stepped.{EndsAt, StopsAt, refused_stop, run_end}

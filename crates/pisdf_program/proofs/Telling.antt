@@ -1,5 +1,5 @@
 -- What is told of the compiled job.
-use Rattle.std.proofs.Common.{◌≡◌, ◌⊎◌, inl, inr, ⊎_elim, ℕ, List, Option, Result, Ok, Err, String, Global, refl, sym, ap, ◌∙◌, subst, true}
+use Rattle.std.proofs.Common.{◌≡◌, ◌⊎◌, ⊎_elim, ℕ, List, Option, Result, Ok, Err, String, Global, sym, ap, ◌∙◌, subst, true}
 use Rattle.job_report.specs.declared.text.JobText.{JobText}
 use Rattle.pisdf_program.specs.Job.{EndsJob, JobEnd}
 use Rattle.pisdf_program.specs.Loaded.{is_answer}

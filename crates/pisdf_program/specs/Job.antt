@@ -1,5 +1,5 @@
 -- The compiled job of the top graph in the first iteration of a run.
-use Rattle.std.specs.Prelude.{◌≡◌, ◌⊎◌, ℕ, ℤ, List, Option, Some, None, Result, Ok, Err}
+use Rattle.std.specs.Prelude.{◌≡◌, ◌⊎◌, ℕ, ℤ, List, Some, None, Result, Ok, Err}
 use Rattle.job_compiler.specs.Compilation.{Compilation, IsCompiled}
 use Rattle.level_schedule.specs.Schedules.{IsUnscheduled}
 use Rattle.level_schedule.specs.declared.unscheduled.Unscheduled.{Unscheduled}

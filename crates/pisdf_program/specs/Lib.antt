@@ -7,11 +7,13 @@ pub mod LackSeen
 pub mod Streams
 pub mod Top
 pub mod Job
-pub mod LeftAmong
+pub mod Uncompiled
 pub mod Calls
 pub mod Iterated
 pub mod Stepped
 pub mod LineSeen
 pub mod Loaded
 pub mod Texts
+pub mod Load
+pub mod LoadEnd
 pub mod Result

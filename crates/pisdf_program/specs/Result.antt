@@ -1,5 +1,5 @@
 -- The result of a command: what it writes and how it ends, from the words and the files that they name.
-use Rattle.std.specs.Prelude.{◌≡◌, ℕ, ◌==◌, nat_lt, ℤ, Bool, true, false, List, [], ◌∷◌, map, length, slice_index_or, Option, Some, None, Result, Ok, Err, if◌then◌else◌}
+use Rattle.std.specs.Prelude.{◌≡◌, ℕ, ◌==◌, nat_lt, ℤ, Bool, true, false, List, [], ◌∷◌, length, slice_index_or, Option, Some, None, Result, Ok, Err, if◌then◌else◌}
 use Rattle.std.specs.Str.{is_utf8}
 use Rattle.serde_json.specs.Data.{Data}
 use Rattle.serde_json.specs.Read.{read}
@@ -7,7 +7,6 @@ use Rattle.serde_json.specs.Written.{compact_text}
 use Rattle.kernel_gate.specs.Table.{the_signatures}
 use Rattle.token_text.specs.Streams.{read_of}
 use Rattle.token_text.specs.declared.fault.TokenFault.{TokenFault}
-use Rattle.pisdf_model.specs.declared.graph.Graph.{Graph}
 use Rattle.pisdf_model.specs.declared.graph.Graphs.{Graphs}
 use Rattle.graph_format.specs.Canonical.{canonical}
 use Rattle.graph_format.specs.Kernels.{kernel_names}
@@ -16,10 +15,12 @@ use Rattle.graph_format.specs.declared.graph_fault.GraphFault.{GraphFault}
 use Rattle.graph_format.specs.declared.graph_fault.GraphFault.TheVariants.{NotJson}
 use Rattle.graph_writer.specs.Upgraded.{upgraded}
 use Rattle.pisdf_meaning.specs.Run as run
+use Rattle.pisdf_meaning.specs.declared.outcome.Iteration.{Iteration}
 use Rattle.job_report.specs.Names.{names_of}
 use Rattle.job_report.specs.Told.{Tells}
 use Rattle.job_report.specs.declared.text.JobText.{JobText}
 use Rattle.pisdf_program.specs.Job.{EndsJob, JobEnd}
+use Rattle.pisdf_program.specs.Load.{all_tokens, load_file, load_iterations, load_row, load_streams}
 use Rattle.pisdf_program.specs.Top.{input_names, top_of}
 use Rattle.pisdf_program.specs.Words.{Command, command_of, Run, Plain, Job, Journal, Soak, Upgrade}
 use Rattle.pisdf_program.specs.Texts.{texts_from, left_lines, line_of}
@@ -148,6 +149,26 @@ TellsEnd what graphs (Err stop) o = TellsStop graphs stop o
 abbrev pub TellsJob : JobText → ℕ → Input → Outcome → Type 0
 TellsJob what workers input o = (end : JobEnd) × EndsJob input.graphs input.streams workers end × TellsEnd what input.graphs end o
 
+-- ---- a load
+
+-- what is told of a load whose run ends so
+abbrev pub ends_load : ℕ → Graphs → run.RunEnd → List Iteration → Outcome
+ends_load number graphs (run.Done left) iterations = told (load_row number (all_tokens iterations))
+ends_load number graphs (run.Short lack) iterations = refused (short_of graphs lack)
+ends_load number graphs (run.Refused refusal) iterations = refused (RunRefused refusal)
+
+-- what one thread gets from the iterations of the load of a number
+abbrev pub SoaksOn : ℕ → Graphs → Outcome → Type 0
+SoaksOn number graphs o = (r : run.Run) × run.IsRun graphs (load_streams number) (load_iterations number) r × (o ≡ ends_load number graphs r.end r.iterations)
+
+abbrev pub SoaksIn : ℕ → Result Graphs Status → Outcome → Type 0
+SoaksIn number (Ok graphs) o = SoaksOn number graphs o
+SoaksIn number (Err status) o = o ≡ refused status
+
+-- on the graphs of its file
+abbrev pub Soaks : ℕ → Outcome → Type 0
+Soaks number o = SoaksIn number (read_graphs load_file) o
+
 -- ---- graph files written anew
 
 -- graphs as those of a file of version 2, where the version is 1
@@ -180,7 +201,7 @@ ComesTo (Some (Run graph tokens iterations workers)) files o = RunsAlone (worker
 ComesTo (Some (Plain graph tokens iterations)) files o = RunsFile (files graph) iterations (files tokens) o
 ComesTo (Some (Job what graph tokens workers)) files o = FromFiles (TellsJob what workers) (files graph) (files tokens) o
 ComesTo (Some (Journal graph tokens iterations workers)) files o = o ≡ refused (NotYet later.Command)
-ComesTo (Some (Soak number workers)) files o = o ≡ refused (NotYet later.Command)
+ComesTo (Some (Soak number workers)) files o = Soaks number o
 ComesTo (Some (Upgrade graph)) files o = Upgrades (files graph) o
 
 -- the result of a command in these words

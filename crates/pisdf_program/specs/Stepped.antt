@@ -1,5 +1,5 @@
 -- What one iteration of a run says.
-use Rattle.std.specs.Prelude.{◌≡◌, ℕ, ℤ, List, [], Option, Some, Result, Ok, Err}
+use Rattle.std.specs.Prelude.{ℕ, ℤ, List, [], Option, Some, Result, Ok, Err}
 use Rattle.outer_world.specs.Faults.{Rose}
 use Rattle.outer_world.specs.Sink.{Grows}
 use Rattle.pisdf_model.specs.declared.graph.Graphs.{Graphs}

@@ -68,6 +68,7 @@ row_of name words =
     else if bytes_eq name (codes "plain") then plain_row words
     else if bytes_eq name (codes "plan") then job_row told.Plan words
     else if bytes_eq name (codes "schedule") then job_row told.Schedule words
+    else if bytes_eq name (codes "memory") then job_row told.Memory words
     else if bytes_eq name (codes "journal") then journal_row words
     else if bytes_eq name (codes "soak") then soak_row words
     else if bytes_eq name (codes "upgrade") then upgrade_row words

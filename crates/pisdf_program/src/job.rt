@@ -1,13 +1,10 @@
 // The way to the compiled job of the top graph.
-ghost use Rattle.std.specs.Prelude.{◌≡◌, ◌⊎◌, ◌≤◌, ◌++◌, [], Err, length, IfOk, OnOk};
-ghost use Rattle.job_report.specs.Names.{actor_names};
+ghost use Rattle.std.specs.Prelude.{◌≡◌, ◌⊎◌, ◌≤◌, [], Err, length};
 ghost use Rattle.kernel_gate.specs.Table.{the_signatures};
 ghost use Rattle.param_resolver.specs.EarlyCheck.{early_faults};
-ghost use Rattle.param_resolver.specs.Numbering.{acting};
-ghost use Rattle.pisdf_meaning.specs.Causes.{actors_left};
 ghost use Rattle.pisdf_meaning.specs.Run.{top_needs};
 ghost use Rattle.pisdf_program.specs.Job.{Compiles, EndsJob, JobEnd, at_top};
-ghost use Rattle.pisdf_program.specs.LeftAmong.{IsLeftTo, left_among, left_with};
+ghost use Rattle.pisdf_program.specs.Uncompiled.{IsLeftTo};
 ghost use Rattle.pisdf_program.specs.Loaded.{AreGood};
 ghost use Rattle.pisdf_program.specs.Top.{top_of};
 
@@ -17,36 +14,13 @@ use crate::stop::{Stop, refused, short};
 use crate::streams::Streams;
 use job_compiler::{CompileFault, Compiled, compile};
 use kernel_gate::Gate;
-use param_expr::Name;
-use pisdf_meaning::{Cause, Left, Path, Refusal, first_delays, top_level, top_needs};
+use level_schedule::Unscheduled;
+use pisdf_meaning::{
+    Cause, Path, Refusal, first_delays, schedule_cause, top_level, top_needs,
+};
 use pisdf_model::{Graph, Graphs};
-use sdf_level::{Level, List};
-use std::alloc::{AllocError, Global};
-
-/// Adds an actor with its count of firings left, if any is.
-fn add_left(left: &mut Vec<Left>, actor: &Name, count: u32) -> Result<(), AllocError>
-    ensures { OnOk result (left.new.items ≡ left.old.items ++ left_with actor.now count) }
-{
-    if count > 0 {
-        left.push(Left {
-            name: actor.clone()?,
-            count,
-        })?;
-    }
-    Ok(())
-}
-
-/// The actors with firings left, by these names and counts.
-fn left_among(alloc: Global, actors: &[Name], counts: &[u32]) -> Result<List<Left>, AllocError>
-    ensures { IfOk result (λ left. left ≡ left_among actors.now counts.now) }
-{
-    let mut left = Vec::new(alloc);
-    let number = actors.len().min(counts.len());
-    for actor in 0..number {
-        add_left(&mut left, &actors[actor], counts[actor])?;
-    }
-    Ok(List::new(left))
-}
+use sdf_level::Level;
+use std::alloc::Global;
 
 /// A refusal at the path of the top graph.
 fn refused_at(alloc: Global, top: &Graph, cause: Cause) -> Stop
@@ -61,38 +35,37 @@ fn refused_at(alloc: Global, top: &Graph, cause: Cause) -> Stop
     }
 }
 
-/// Why there is no job, where the level of the top graph, whose actors have these names, can't be compiled.
-fn uncompiled(alloc: Global, top: &Graph, actors: &[Name], fault: CompileFault) -> Stop
-    requires { actors.now ≡ actor_names top.now }
+/// Why there is no job, where the level of the top graph can't be compiled.
+fn uncompiled(alloc: Global, top: &Graph, fault: CompileFault) -> Stop
     ensures { IsLeftTo top.now fault result }
 {
     match fault {
         CompileFault::Rates => refused_at(alloc, top, Cause::Rates),
         CompileFault::Limit { what, value } => refused_at(alloc, top, Cause::Limit { what, value }),
-        CompileFault::Deadlock { left } => match left_among(alloc, actors, left.items()) {
-            Ok(left) => refused_at(alloc, top, Cause::Deadlock { left }),
-            Err(_) => Stop::Memory,
-        },
+        CompileFault::Deadlock { left } => {
+            match schedule_cause(alloc, top, Unscheduled::Deadlock { left }) {
+                Ok(cause) => refused_at(alloc, top, cause),
+                Err(_) => Stop::Memory,
+            }
+        }
         CompileFault::Memory => Stop::Memory,
     }
 }
 
-/// Compiles the level of the top graph, whose actors have these names.
+/// Compiles the level of the top graph.
 fn compile_level(
     alloc: Global,
     top: &Graph,
-    actors: &[Name],
     level: &Level,
     workers: u32,
 ) -> Result<Compiled, Stop>
-    requires workers { 1 ≤ workers }
-    requires actors { actors.now ≡ actor_names top.now }
+    requires { 1 ≤ workers }
     ensures compiles { Compiles top.now workers level.now result ⊎ (result ≡ Err Stop.Memory) }
     ensures only { (end : JobEnd) → Compiles top.now workers level.now end → (result ≡ end) ⊎ (result ≡ Err Stop.Memory) }
 {
     match compile(alloc, level, workers) {
         Ok(job) => Ok(job),
-        Err(fault) => Err(uncompiled(alloc, top, actors, fault)),
+        Err(fault) => Err(uncompiled(alloc, top, fault)),
     }
 }
 
@@ -100,7 +73,6 @@ fn compile_level(
 fn lead_to_job<K: Gate>(
     alloc: Global,
     graphs: &Graphs,
-    actors: &[Name],
     streams: &Streams<'_>,
     workers: u32,
     gate: &K,
@@ -108,7 +80,6 @@ fn lead_to_job<K: Gate>(
     requires good { AreGood graphs.now }
     requires kernels { K.kernels gate.now ≡ the_signatures }
     requires workers { 1 ≤ workers }
-    requires actors { actors.now ≡ actor_names (top_of graphs.now) }
     requires needs { streams.now.needs.now ≡ top_needs graphs.now }
     requires fit { length streams.now.needs.now ≡ length streams.now.tokens.now }
     requires sound { early_faults graphs.now.graphs graphs.now.top [] ≡ [] }
@@ -126,24 +97,22 @@ fn lead_to_job<K: Gate>(
         return Err(Stop::Memory);
     };
     match top_level(alloc, graphs, &delays, ins.as_slice(), gate) {
-        Ok(set) => compile_level(alloc, top_of(graphs), actors, &set.level, workers),
+        Ok(set) => compile_level(alloc, top_of(graphs), &set.level, workers),
         Err(fault) => Err(refused(fault)),
     }
 }
 
-/// The compiled job of the top graph in the first iteration, whose actors have these names, or how an iteration of a run
+/// The compiled job of the top graph in the first iteration, or how an iteration of a run
 /// ends before its level is run. Of the top graph's actors the configuration actors alone fire.
 pub(crate) fn first_job<K: Gate>(
     alloc: Global,
     input: &Input,
-    actors: &[Name],
     workers: u32,
     gate: &K,
 ) -> Result<Compiled, Stop>
     requires good { AreGood input.now.graphs }
     requires kernels { K.kernels gate.now ≡ the_signatures }
     requires workers { 1 ≤ workers }
-    requires actors { actors.now ≡ actor_names (top_of input.now.graphs) }
     requires fit { length input.now.streams ≡ length (top_of input.now.graphs).inputs }
     ensures ends { EndsJob input.now.graphs input.now.streams workers result ⊎ (result ≡ Err Stop.Memory) }
     ensures only { (end : JobEnd) → EndsJob input.now.graphs input.now.streams workers end → (result ≡ end) ⊎ (result ≡ Err Stop.Memory) }
@@ -157,5 +126,5 @@ pub(crate) fn first_job<K: Gate>(
         needs: needs.items(),
         tokens: input.streams.items(),
     };
-    lead_to_job(alloc, graphs, actors, &streams, workers, gate)
+    lead_to_job(alloc, graphs, &streams, workers, gate)
 }

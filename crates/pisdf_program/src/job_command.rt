@@ -93,6 +93,6 @@ pub(crate) fn tell_job<S: Shelf, O: Sink, K: Gate>(
     let Ok(names) = job_names(alloc, graphs.graphs.items(), top_of(graphs)) else {
         return Err(Status::WantOfMemory);
     };
-    let end = first_job(alloc, &input, names.actors.items(), workers, gate);
+    let end = first_job(alloc, &input, workers, gate);
     tell_end(alloc, what, graphs, &names, end, out)
 }

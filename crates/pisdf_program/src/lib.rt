@@ -1,5 +1,6 @@
 //! The commands of the program, over files by name and two sinks of bytes: `run GRAPH TOKENS ITERATIONS WORKERS`,
-//! `plain GRAPH TOKENS ITERATIONS`, `plan GRAPH TOKENS WORKERS`, `schedule GRAPH TOKENS WORKERS` and `upgrade GRAPH`.
+//! `plain GRAPH TOKENS ITERATIONS`, `plan GRAPH TOKENS WORKERS`, `schedule GRAPH TOKENS WORKERS`, `memory GRAPH TOKENS
+//! WORKERS`, `soak NUMBER WORKERS` and `upgrade GRAPH`.
 #![tactic(auto)]
 
 mod job;
@@ -7,10 +8,13 @@ mod job_command;
 mod limits;
 mod line;
 mod load;
+mod load_tokens;
+mod load_totals;
 mod number;
 mod program;
 mod put;
 mod run;
+mod soak;
 mod status;
 mod stop;
 mod streams;

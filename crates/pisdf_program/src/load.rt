@@ -30,7 +30,11 @@ fn is_memory(fault: &GraphFault) -> bool
 }
 
 /// The graphs in the bytes of a file.
-fn parse_graphs(alloc: Global, bytes: &[u8], signatures: &[Signature]) -> Result<Graphs, Status>
+pub(crate) fn parse_graphs(
+    alloc: Global,
+    bytes: &[u8],
+    signatures: &[Signature],
+) -> Result<Graphs, Status>
     requires { map signature_view signatures.now ≡ the_signatures }
     ensures settles { Settles (graphs_in_json (json_of bytes.now)) result }
     ensures good { IfOk result AreGood }

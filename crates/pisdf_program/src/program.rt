@@ -1,8 +1,9 @@
 // The top call.
-ghost use Rattle.std.specs.Prelude.{◌≡◌, ◌≢◌, ◌⊎◌, ◌↔◌, ◌<◌, ◌≤◌, true, map, IfErr, IsTrue, length, string_bytes};
+ghost use Rattle.std.specs.Prelude.{ℕ, ◌≡◌, ◌≢◌, ◌⊎◌, ◌↔◌, ◌<◌, ◌≤◌, ◌==◌, true, map, IfErr, IsTrue, length, string_bytes};
 ghost use Rattle.kernel_gate.specs.Table.{the_signatures};
+ghost use Rattle.pisdf_program.specs.LoadEnd.{IsLoadStatus};
 ghost use Rattle.pisdf_program.specs.Loaded.{is_answer};
-ghost use Rattle.pisdf_program.specs.Result.{AreTold, Knows, Outcome, ResultOf, RunsFile};
+ghost use Rattle.pisdf_program.specs.Result.{AreTold, AreToldAlone, Knows, Outcome, ResultOf, RunsAlone, RunsFile};
 ghost use Rattle.pisdf_program.specs.Words as table;
 ghost use Rattle.pisdf_program.specs.Worked.{Completes, Concludes, CountRose, Ended, FilesRose, IsThere, PutsLine, Reports, TellsUnlessCut, Works};
 
@@ -11,6 +12,7 @@ use crate::line::{MEMORY, left_lines, line_of};
 use crate::load::load_input;
 use crate::put::put_text;
 use crate::run::{RunEnd, run_all, top_of};
+use crate::soak::soak;
 use crate::status::{Later, Status};
 use crate::stop::short_status;
 use crate::upgrade::upgrade;
@@ -69,6 +71,30 @@ fn run<S: Shelf, O: Sink, K: Gate>(
     report(alloc, graphs, end)
 }
 
+/// Runs a graph file on a token file, where one worker is asked for: more aren't supported yet.
+fn run_alone<S: Shelf, O: Sink, K: Gate>(
+    alloc: Global,
+    graph: &str,
+    tokens: &str,
+    iterations: u32,
+    workers: u32,
+    shelf: &mut S,
+    out: &mut O,
+    gate: &K,
+) -> Result<String, Status>
+    requires kernels { K.kernels gate.now ≡ the_signatures }
+    requires few { iterations ≤ 65536 }
+    ensures works { Works (RunsAlone (workers == 1) (S.holds shelf.old graph.now) iterations (S.holds shelf.old tokens.now)) (O.written out.old) (O.written out.new) (O.faults out.old) (O.faults out.new) result }
+    ensures there { IsThere (AreToldAlone (workers == 1) (S.holds shelf.old graph.now) (S.holds shelf.old tokens.now)) (RunsAlone (workers == 1) (S.holds shelf.old graph.now) iterations (S.holds shelf.old tokens.now)) result }
+    ensures read { IfErr result (CountRose (Some (table.Run graph.now tokens.now iterations workers)) (S.faults shelf.old) (S.faults shelf.new)) }
+    ensures usage { result ≢ Err Status.Usage }
+{
+    if workers != 1 {
+        return Err(Status::NotYet(Later::Workers));
+    }
+    run(alloc, graph, tokens, iterations, shelf, out, gate)
+}
+
 /// Does what the words ask for, up to what is put to standard error.
 fn work<S: Shelf, O: Sink, K: Gate>(
     alloc: Global,
@@ -83,6 +109,7 @@ fn work<S: Shelf, O: Sink, K: Gate>(
     ensures read { IfErr result (CountRose (table.command_of (map string_bytes words.now)) (S.faults shelf.old) (S.faults shelf.new)) }
     ensures usage { table.command_of (map string_bytes words.now) ≡ None → (result ≡ Err Status.Usage) × (shelf.new ≡ shelf.old) }
     ensures only { result ≡ Err Status.Usage → table.command_of (map string_bytes words.now) ≡ None }
+    ensures load { (number workers : ℕ) → table.command_of (map string_bytes words.now) ≡ Some (table.Soak number workers) → IfErr result IsLoadStatus }
 {
     let Some(command) = read_words(words) else {
         return Err(Status::Usage);
@@ -93,12 +120,9 @@ fn work<S: Shelf, O: Sink, K: Gate>(
             tokens,
             iterations,
             workers,
-        } => {
-            if workers != 1 {
-                return Err(Status::NotYet(Later::Workers));
-            }
-            run(alloc, graph, tokens, iterations, shelf, out, gate)
-        }
+        } => run_alone(
+            alloc, graph, tokens, iterations, workers, shelf, out, gate,
+        ),
         Command::Plain {
             graph,
             tokens,
@@ -111,7 +135,7 @@ fn work<S: Shelf, O: Sink, K: Gate>(
             workers,
         } => tell_job(alloc, what, graph, tokens, workers, shelf, out, gate),
         Command::Journal { .. } => Err(Status::NotYet(Later::Command)),
-        Command::Soak { .. } => Err(Status::NotYet(Later::Command)),
+        Command::Soak { number, .. } => soak(alloc, number, out, gate),
         Command::Upgrade { graph } => upgrade(alloc, graph, shelf, out, gate),
     }
 }
@@ -171,6 +195,8 @@ pub fn run_program<S: Shelf, O: Sink, E: Sink, K: Gate + Sync>(
     ensures read { CountRose (table.command_of (map string_bytes words.now)) (S.faults shelf.old) (S.faults shelf.new) result }
     ensures usage { table.command_of (map string_bytes words.now) ≡ None → ((result ≡ Status.Usage) ⊎ (result ≡ Status.WriteFault)) × (shelf.new ≡ shelf.old) }
     ensures only_usage { result ≡ Status.Usage → table.command_of (map string_bytes words.now) ≡ None }
+    // A load refuses no file and lacks no tokens.
+    ensures load { (number workers : ℕ) → table.command_of (map string_bytes words.now) ≡ Some (table.Soak number workers) → IsLoadStatus result }
     ensures complete { Completes (ResultOf (map string_bytes words.now) (S.holds shelf.old)) (table.command_of (map string_bytes words.now)) (S.faults shelf.old) (S.faults shelf.new) (O.faults out.old) (O.faults out.new) (E.faults err.old) (E.faults err.new) result }
     // Where the files that the command loads are told, an answer is the status of such a result.
     ensures there { Knows (table.command_of (map string_bytes words.now)) (S.holds shelf.old) → is_answer result ≡ true → (o : Outcome) × ResultOf (map string_bytes words.now) (S.holds shelf.old) o }

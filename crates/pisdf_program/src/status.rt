@@ -55,7 +55,7 @@ pub enum Which {
 /// What the program doesn't do yet.
 #[derive(Clone, Copy, Debug, PartialEq, Eq)]
 pub enum Later {
-    /// The commands `journal` and `soak`.
+    /// The command `journal`.
     Command,
     /// More than one worker.
     Workers,

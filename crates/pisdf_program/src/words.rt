@@ -158,6 +158,7 @@ pub(crate) fn read_words(words: &[String]) -> Option<Command<'_>>
         "plain" => plain_row(rest),
         "plan" => job_row(JobText::Plan, rest),
         "schedule" => job_row(JobText::Schedule, rest),
+        "memory" => job_row(JobText::Memory, rest),
         "journal" => journal_row(rest),
         "soak" => soak_row(rest),
         "upgrade" => upgrade_row(rest),

@@ -1,10 +1,4 @@
-use Rattle.std.proofs.Common.{◌≡◌, ◌⊎◌, inl, inr, ⊎_elim, ap, sym, subst, Ok, Err, Result}
-use Rattle.job_compiler.specs.Compilation.{Compilation}
-use Rattle.job_compiler.specs.Refusals.{IsRefused}
-use Rattle.job_compiler.specs.declared.fault.CompileFault.{CompileFault}
-use Rattle.job_compiler.specs.declared.fault.CompileFault.TheVariants as compile
-use Rattle.pisdf_program.specs.Job.{Compiles, JobEnd}
-use Rattle.pisdf_program.specs.declared.stop.Stop.TheVariants as stop
+use Rattle.std.proofs.Common.{inl, subst}
 use Rattle.pisdf_program.proofs.Jobs.{Compilers, fault_ends, fault_only, job_only}
 use Rattle.pisdf_program.proofs.job.compile_level.Goals as goal
 

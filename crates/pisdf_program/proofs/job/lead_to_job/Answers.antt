@@ -1,9 +1,7 @@
-use Rattle.std.proofs.Common.{◌≡◌, ◌⊎◌, inl, inr, ⊎_elim, ap, sym, subst, ◌∙◌, List, ℕ, ℤ, Option, None, Some, Ok, Err, Result}
-use Rattle.kernel_gate.specs.Signed.{SignatureView, unnamed}
+use Rattle.std.proofs.Common.{◌≡◌, ◌⊎◌, inl, inr, ⊎_elim, ap, sym, subst, ◌∙◌, None, Some, Ok, Err}
 use Rattle.param_resolver.specs.declared.level_set.LevelSet.{LevelSet}
 use Rattle.pisdf_meaning.specs.Endings.{IfRefused}
 use Rattle.pisdf_meaning.specs.Run as run
-use Rattle.pisdf_meaning.specs.Sound.{KernelsFit}
 use Rattle.pisdf_meaning.specs.TopLevel.{IsTopLevel, TopLevelRefused}
 use Rattle.pisdf_meaning.specs.declared.refusal.PlainFault.TheVariants as plain
 use Rattle.pisdf_meaning.specs.declared.refusal.Refusal.{Refusal}

@@ -1,4 +1,3 @@
-use Rattle.std.proofs.Common.{List, ℤ, sym, subst}
 use Rattle.pisdf_program.specs.Result.{Runs, RunsFile}
 use Rattle.pisdf_program.proofs.Working.{ended_there, files_stop, files_there, rose_unread, run_decides, unread_report, usage_stops, usage_unread, works_run}
 use Rattle.pisdf_program.proofs.program.run.Goals as goal

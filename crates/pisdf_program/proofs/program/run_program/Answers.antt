@@ -1,7 +1,7 @@
 use Rattle.std.proofs.Common.{map, string_bytes}
 use Rattle.pisdf_program.specs.Words.{command_of}
 use Rattle.pisdf_program.specs.Result.{Knows, ResultOf}
-use Rattle.pisdf_program.proofs.Working.{completes, ended, rose_told, there, usage_told}
+use Rattle.pisdf_program.proofs.Working.{completes, ended, load_told, rose_told, there, usage_told}
 use Rattle.pisdf_program.proofs.program.run_program.Goals as goal
 
 pub returns-clause-ended : goal.returns-clause-ended
@@ -33,3 +33,8 @@ returns-clause-there g c =
     there (Knows (command_of (map string_bytes c.args.words.now)) (g.S.Shelf.holds c.args.shelf.now)) (ResultOf (map string_bytes c.args.words.now) (g.S.Shelf.holds c.args.shelf.now)) c.work-worked.result
     (g.E.Sink.written c.args.err.now) (g.E.Sink.written c.conclude.new.err) (g.E.Sink.faults c.args.err.now) (g.E.Sink.faults c.conclude.new.err) c.conclude.result
     c.work-worked.ensures.there c.conclude.ensures.concludes
+
+pub returns-clause-load : goal.returns-clause-load
+returns-clause-load g c = λ number workers is.
+    load_told c.work-worked.result (g.E.Sink.written c.args.err.now) (g.E.Sink.written c.conclude.new.err) (g.E.Sink.faults c.args.err.now) (g.E.Sink.faults c.conclude.new.err) c.conclude.result
+    c.conclude.ensures.concludes (c.work-worked.ensures.load number workers is)

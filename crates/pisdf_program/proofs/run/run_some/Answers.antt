@@ -1,4 +1,4 @@
-use Rattle.std.proofs.Common.{◌≡◌, ap, sym, subst, ◌∙◌, length, map, arith, ℕ}
+use Rattle.std.proofs.Common.{◌≡◌, ap, subst, ◌∙◌, length, map, arith}
 use Rattle.pisdf_program.specs.Streams.{rest_of}
 use Rattle.pisdf_program.proofs.Runs.{Reached, starts, goes_on, ends_at, finished}
 use Rattle.pisdf_program.proofs.run.run_some.Goals as goal

@@ -1,26 +1,15 @@
--- The actors with firings left, by their names.
-use Rattle.std.specs.Prelude.{◌≡◌, ◌⊎◌, ℕ, zero, suc, List, [], ◌∷◌, ◌++◌}
+-- The causes where the level of the top graph can't be compiled.
+use Rattle.std.specs.Prelude.{◌≡◌, ◌⊎◌}
 use Rattle.job_compiler.specs.declared.fault.CompileFault.{CompileFault}
 use Rattle.job_compiler.specs.declared.fault.CompileFault.TheVariants as compile
 use Rattle.level_schedule.specs.declared.unscheduled.Unscheduled.{Unscheduled}
 use Rattle.level_schedule.specs.declared.unscheduled.Unscheduled.TheVariants as unscheduled
 use Rattle.param_resolver.specs.Numbering.{acting}
 use Rattle.pisdf_meaning.specs.Causes.{schedule_cause}
-use Rattle.pisdf_meaning.specs.declared.refusal.Left.{Left}
 use Rattle.pisdf_model.specs.declared.graph.Graph.{Graph}
 use Rattle.pisdf_program.specs.Job.{at_top}
 use Rattle.pisdf_program.specs.declared.stop.Stop.{Stop}
 use Rattle.pisdf_program.specs.declared.stop.Stop.TheVariants.{Refused, Memory}
-
-abbrev pub left_with : List ℕ → ℕ → List Left
-left_with name zero = []
-left_with name (suc n) = record { name = name; count = suc n } ∷ []
-
--- these actors with the counts left, where there are any
-abbrev pub left_among : List (List ℕ) → List ℕ → List Left
-left_among [] counts = []
-left_among (name ∷ names) [] = []
-left_among (name ∷ names) (n ∷ counts) = left_with name n ++ left_among names counts
 
 -- the fault of a schedule that a fault of compiling is
 abbrev pub schedule_fault : CompileFault → Unscheduled

@@ -1,0 +1,169 @@
+// The command that runs a load of its own.
+ghost use Rattle.std.specs.Prelude.{◌≡◌, ◌⊎◌, ◌<◌, ◌≤◌, [], ◌∷◌, length, map, Err, IfErr, IfOk};
+ghost use Rattle.kernel_gate.specs.Signed.{signature_view};
+ghost use Rattle.kernel_gate.specs.Table.{the_signatures};
+ghost use Rattle.param_resolver.specs.EarlyCheck.{early_faults};
+ghost use Rattle.pisdf_meaning.specs.Run.{top_needs};
+ghost use Rattle.pisdf_program.specs.Iterated.{Gives};
+ghost use Rattle.pisdf_program.specs.Load.{load_file, load_iterations, load_streams};
+ghost use Rattle.pisdf_program.specs.LoadEnd.{EndsLoad, IsLoadStatus, LacksNothing, total_row};
+ghost use Rattle.pisdf_program.specs.Loaded.{AreGood, Settles};
+ghost use Rattle.pisdf_program.specs.Result.{Soaks, read_graphs, told};
+ghost use Rattle.pisdf_program.specs.Stepped.{StopsAt};
+ghost use Rattle.pisdf_program.specs.Streams.{rest_of};
+ghost use Rattle.pisdf_program.specs.Worked.{IsThere, TellsLoad, Works};
+
+use crate::load::{graphs_in, parse_graphs};
+use crate::load_tokens::{load_iterations, load_part};
+use crate::load_totals::{Total, total_row, with_tokens, y_tokens};
+use crate::put::put_text;
+use crate::status::Status;
+use crate::stop::{Stop, refused, stop_status};
+use graph_writer::write;
+use kernel_gate::{Gate, Signature};
+use outer_world::Sink;
+use pisdf_meaning::{Delays, Iteration, first_delays, one_meaning, plain_iteration};
+use pisdf_model::Graphs;
+use std::alloc::Global;
+
+/// The file of the load's graphs.
+const LOAD_FILE: &str = "{\"pisdf\":3,\"top\":\"g\",\"graphs\":[{\"name\":\"g\",\"params\":[{\"name\":\"n\",\"kind\":\"set\",\"low\":1,\"high\":8}],\"inputs\":[{\"name\":\"k\",\"rate\":\"1\"},{\"name\":\"x\",\"rate\":\"64\"}],\"outputs\":[{\"name\":\"y\",\"rate\":\"8\"}],\"actors\":[{\"name\":\"c\",\"kind\":\"config\",\"kernel\":\"read_param\",\"args\":[],\"ins\":[{\"name\":\"i\"}],\"outs\":[],\"sets\":[\"n\"]},{\"name\":\"h\",\"kind\":\"graph\",\"graph\":\"blk\",\"args\":[\"n\"]}],\"fifos\":[{\"from\":\"k\",\"to\":\"c.i\"},{\"from\":\"x\",\"to\":\"h.i\"},{\"from\":\"h.o\",\"to\":\"y\"}],\"exports\":[]},{\"name\":\"blk\",\"params\":[{\"name\":\"n\",\"kind\":\"in\",\"low\":1,\"high\":8}],\"inputs\":[{\"name\":\"i\",\"rate\":\"n\"}],\"outputs\":[{\"name\":\"o\",\"rate\":\"1\"}],\"actors\":[{\"name\":\"s\",\"kind\":\"kernel\",\"kernel\":\"sum\",\"args\":[],\"ins\":[{\"name\":\"i\",\"rate\":\"n\"}],\"outs\":[{\"name\":\"o\",\"rate\":\"1\"}]},{\"name\":\"m\",\"kind\":\"kernel\",\"kernel\":\"gain\",\"args\":[\"n\"],\"ins\":[{\"name\":\"i\",\"rate\":\"1\"}],\"outs\":[{\"name\":\"o\",\"rate\":\"1\"}]}],\"fifos\":[{\"from\":\"i\",\"to\":\"s.i\"},{\"from\":\"s.o\",\"to\":\"m.i\"},{\"from\":\"m.o\",\"to\":\"o\"}],\"exports\":[]}]}";
+
+/// The graphs of the load: read from their file, written anew, and read again.
+fn load_graphs(alloc: Global, signatures: &[Signature]) -> Result<Graphs, Status>
+    requires { map signature_view signatures.now ≡ the_signatures }
+    ensures settles { Settles (read_graphs load_file) result }
+    ensures good { IfOk result AreGood }
+    ensures memory { IfErr result (λ s. s ≡ Status.WantOfMemory) }
+{
+    let graphs = match graphs_in(alloc, LOAD_FILE.as_bytes(), signatures) {
+        Ok(graphs) => graphs,
+        Err(status) => return Err(status),
+    };
+    let Ok(file) = write(alloc, &graphs, signatures) else {
+        return Err(Status::WantOfMemory);
+    };
+    parse_graphs(alloc, file.as_slice(), signatures)
+}
+
+/// Makes one iteration, whose part of the streams is made here.
+fn load_iteration<K: Gate>(
+    alloc: Global,
+    graphs: &Graphs,
+    number: u32,
+    iteration: u32,
+    delays: &mut Delays,
+    gate: &K,
+) -> Result<Iteration, Stop>
+    requires good { AreGood graphs.now }
+    requires kernels { K.kernels gate.now ≡ the_signatures }
+    requires number { number ≤ 65535 }
+    requires iteration { iteration < load_iterations number }
+    requires needs { top_needs graphs.now ≡ 1 ∷ 64 ∷ [] }
+    requires sound { early_faults graphs.now.graphs graphs.now.top [] ≡ [] }
+    ensures gives { IfOk result (λ i. Gives graphs.now delays.old.lists (rest_of iteration (top_needs graphs.now) (load_streams number)) i delays.new.lists) }
+    ensures stops { IfErr result (StopsAt graphs.now delays.old.lists (rest_of iteration (top_needs graphs.now) (load_streams number))) }
+    ensures enough { IfErr result LacksNothing }
+{
+    let Ok(ins) = load_part(alloc, number, iteration) else {
+        return Err(Stop::Memory);
+    };
+    match plain_iteration(alloc, graphs, delays, ins.as_slice(), gate) {
+        Ok(iteration) => Ok(iteration),
+        Err(fault) => Err(refused(fault)),
+    }
+}
+
+/// Runs the iterations of a load in one thread.
+fn run_load<K: Gate>(
+    alloc: Global,
+    graphs: &Graphs,
+    number: u32,
+    gate: &K,
+) -> Result<Total, Stop>
+    requires good { AreGood graphs.now }
+    requires kernels { K.kernels gate.now ≡ the_signatures }
+    requires number { number ≤ 65535 }
+    requires needs { top_needs graphs.now ≡ 1 ∷ 64 ∷ [] }
+    requires sound { early_faults graphs.now.graphs graphs.now.top [] ≡ [] }
+    ensures ends { EndsLoad graphs.now number result }
+    ensures enough { IfErr result LacksNothing }
+{
+    let Ok(mut delays) = first_delays(alloc, graphs) else {
+        return Err(Stop::Memory);
+    };
+    let mut total = Total { count: 0, sum: 0 };
+    for place in 0..load_iterations(number) {
+        let iteration = match load_iteration(alloc, graphs, number, place, &mut delays, gate) {
+            Ok(iteration) => iteration,
+            Err(stop) => return Err(stop),
+        };
+        let Some(more) = with_tokens(total, y_tokens(&iteration)) else {
+            return Err(Stop::Memory);
+        };
+        total = more;
+    }
+    Ok(total)
+}
+
+/// Puts the row of a load that is done, in one put.
+fn put_total<O: Sink>(
+    alloc: Global,
+    number: u32,
+    total: Total,
+    out: &mut O,
+) -> Result<String, Status>
+    ensures works { Works (λ o. o ≡ told (total_row number total)) (O.written out.old) (O.written out.new) (O.faults out.old) (O.faults out.new) result }
+    ensures fault { IfErr result (λ s. (s ≡ Status.WantOfMemory) ⊎ (s ≡ Status.WriteFault)) }
+{
+    let Ok(row) = total_row(alloc, number, total) else {
+        return Err(Status::WantOfMemory);
+    };
+    match put_text(out, row.as_bytes()) {
+        Ok(()) => Ok(String::new(alloc)),
+        Err(_) => Err(Status::WriteFault),
+    }
+}
+
+/// Puts the row of a load, or answers why its run isn't done.
+fn tell_load<O: Sink>(
+    alloc: Global,
+    graphs: &Graphs,
+    number: u32,
+    end: Result<Total, Stop>,
+    out: &mut O,
+) -> Result<String, Status>
+    requires there { graphs.now.top < length graphs.now.graphs }
+    requires enough { IfErr end LacksNothing }
+    ensures works { Works (TellsLoad graphs.now number end) (O.written out.old) (O.written out.new) (O.faults out.old) (O.faults out.new) result }
+    ensures memory { end ≡ Err Stop.Memory → result ≡ Err Status.WantOfMemory }
+    ensures answers { IfErr result IsLoadStatus }
+{
+    match end {
+        Ok(total) => put_total(alloc, number, total, out),
+        Err(stop) => Err(stop_status(alloc, graphs, stop)),
+    }
+}
+
+/// Runs the load of a number, and puts one row that tells of it. Its iterations are run by one thread, whatever the number of
+/// workers: the result is the same for each. The answer is no text for standard error, or a status.
+pub(crate) fn soak<O: Sink, K: Gate>(
+    alloc: Global,
+    number: u32,
+    out: &mut O,
+    gate: &K,
+) -> Result<String, Status>
+    requires kernels { K.kernels gate.now ≡ the_signatures }
+    requires number { number ≤ 65535 }
+    ensures works { Works (Soaks number) (O.written out.old) (O.written out.new) (O.faults out.old) (O.faults out.new) result }
+    ensures there { IsThere (Unit {0}) (Soaks number) result }
+    ensures answers { IfErr result IsLoadStatus }
+{
+    one_meaning();
+    let graphs = match load_graphs(alloc, gate.signatures()) {
+        Ok(graphs) => graphs,
+        Err(status) => return Err(status),
+    };
+    let end = run_load(alloc, &graphs, number, gate);
+    tell_load(alloc, &graphs, number, end, out)
+}
