@@ -1,12 +1,12 @@
 -- What the steps of a board do to a table of open jobs.
-use Rattle.std.specs.Prelude.{◌≡◌, ℕ, true, false, Some, None, List, [], ◌∷◌, ◌++◌}
-use Rattle.nested_jobs.specs.Rules.{Work, Call, Rules}
+use Rattle.std.specs.Prelude.{◌≡◌, ◌≢◌, ℕ, true, false, Some, None, List, [], ◌∷◌, ◌++◌}
+use Rattle.nested_jobs.specs.Rules.{Place, Work, Call, Rules}
 use Rattle.nested_jobs.specs.Marks.{Free, Busy, Open, Done, Marks, put, values}
 use Rattle.nested_jobs.specs.Steps.{IsEnabled, claimed, closed, finished, is_quiet}
 use Rattle.nested_jobs.specs.Journals.{start}
 use Rattle.nested_jobs.specs.Meanings.{Lawful}
 use Rattle.nested_jobs.specs.Kept.{Nested}
-use Rattle.nested_jobs.specs.Tables.{Row, Table, StandsFor, answers_in, fresh_row, is_quiet_row, put_row, with_mark}
+use Rattle.nested_jobs.specs.Tables.{HasRow, Row, Table, StandsFor, answers_in, fresh_row, is_quiet_row, put_row, with_mark}
 
 -- the table of a state tells which jobs are quiet, and what their items are to do
 abbrev pub RowsTell : Type 0 → Type 0 → Type 0 → Type 0
@@ -80,3 +80,20 @@ TablesCloseTop J W A =
     (rs : Rules J W A) (rank : J → ℕ) (top : J) (table : Table J A) (m : Marks J A) (k : ℕ) (row : Row J A) →
     Lawful rs rank → Nested rs top m → StandsFor table m → table k ≡ Some row → row.place ≡ [] → is_quiet_row rs row ≡ true →
     ClosesTop rs table m k row
+
+-- the row of the job round that of another row, whose item this one is
+pub record HasUpper {J A : Type 0} (table : Table J A) (row : Row J A) (i : ℕ) (p : Place) : Type 0 where
+  pub upper : HasRow table p
+  pub is_item : upper.row.marks i ≡ Open row.job
+
+-- each row but the top job's has one
+abbrev pub RowsHaveUppers : Type 0 → Type 0 → Type 0 → Type 0
+RowsHaveUppers J W A =
+    (rs : Rules J W A) (rank : J → ℕ) (top : J) (table : Table J A) (m : Marks J A) (k i : ℕ) (p : Place) (row : Row J A) →
+    Lawful rs rank → Nested rs top m → StandsFor table m → table k ≡ Some row → row.place ≡ i ∷ p → HasUpper table row i p
+
+-- a row that is quiet is round no other
+abbrev pub QuietRowsAreLast : Type 0 → Type 0 → Type 0 → Type 0
+QuietRowsAreLast J W A =
+    (rs : Rules J W A) (rank : J → ℕ) (top : J) (table : Table J A) (m : Marks J A) (k l i : ℕ) (row other : Row J A) →
+    Lawful rs rank → Nested rs top m → StandsFor table m → table k ≡ Some row → table l ≡ Some other → is_quiet_row rs row ≡ true → other.place ≢ i ∷ row.place

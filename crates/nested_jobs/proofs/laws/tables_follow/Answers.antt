@@ -1,4 +1,4 @@
-use Rattle.nested_jobs.proofs.Tabling.{answers_are, claims, closes_so, closes_top_so, finishes_so, opens_so, quiet_is, starts_with, stops}
+use Rattle.nested_jobs.proofs.Tabling.{answers_are, claims, closes_so, closes_top_so, finishes_so, opens_so, none_below, quiet_is, starts_with, stops, upper_of}
 use Rattle.nested_jobs.proofs.laws.tables_follow.Goals as goal
 
 pub returns-clause-tell : goal.returns-clause-tell
@@ -24,3 +24,9 @@ returns-clause-close g c = λ rs rank top table m k l i row upper law nested sta
 
 pub returns-clause-close_top : goal.returns-clause-close_top
 returns-clause-close_top g c = λ rs rank top table m k row law nested stands here place_is quiet. closes_top_so rs rank law top table m nested stands k row here place_is quiet
+
+pub returns-clause-upper : goal.returns-clause-upper
+returns-clause-upper g c = λ rs rank top table m k i p row law nested stands here place_is. upper_of rs rank law top table m nested stands k row here i p place_is
+
+pub returns-clause-last : goal.returns-clause-last
+returns-clause-last g c = λ rs rank top table m k l i row other law nested stands here there quiet. none_below rs rank law top table m nested stands k row here l i other there quiet
