@@ -15,9 +15,7 @@ use crate::streams::Streams;
 use job_compiler::{CompileFault, Compiled, compile};
 use kernel_gate::Gate;
 use level_schedule::Unscheduled;
-use pisdf_meaning::{
-    Cause, Path, Refusal, first_delays, schedule_cause, top_level, top_needs,
-};
+use pisdf_meaning::{Cause, Path, Refusal, first_delays, schedule_cause, top_level, top_needs};
 use pisdf_model::{Graph, Graphs};
 use sdf_level::Level;
 use std::alloc::Global;
@@ -53,12 +51,7 @@ fn uncompiled(alloc: Global, top: &Graph, fault: CompileFault) -> Stop
 }
 
 /// Compiles the level of the top graph.
-fn compile_level(
-    alloc: Global,
-    top: &Graph,
-    level: &Level,
-    workers: u32,
-) -> Result<Compiled, Stop>
+fn compile_level(alloc: Global, top: &Graph, level: &Level, workers: u32) -> Result<Compiled, Stop>
     requires { 1 ≤ workers }
     ensures compiles { Compiles top.now workers level.now result ⊎ (result ≡ Err Stop.Memory) }
     ensures only { (end : JobEnd) → Compiles top.now workers level.now end → (result ≡ end) ⊎ (result ≡ Err Stop.Memory) }

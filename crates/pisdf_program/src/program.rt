@@ -120,9 +120,7 @@ fn work<S: Shelf, O: Sink, K: Gate>(
             tokens,
             iterations,
             workers,
-        } => run_alone(
-            alloc, graph, tokens, iterations, workers, shelf, out, gate,
-        ),
+        } => run_alone(alloc, graph, tokens, iterations, workers, shelf, out, gate),
         Command::Plain {
             graph,
             tokens,

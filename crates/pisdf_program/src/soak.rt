@@ -27,7 +27,8 @@ use pisdf_model::Graphs;
 use std::alloc::Global;
 
 /// The file of the load's graphs.
-const LOAD_FILE: &str = "{\"pisdf\":3,\"top\":\"g\",\"graphs\":[{\"name\":\"g\",\"params\":[{\"name\":\"n\",\"kind\":\"set\",\"low\":1,\"high\":8}],\"inputs\":[{\"name\":\"k\",\"rate\":\"1\"},{\"name\":\"x\",\"rate\":\"64\"}],\"outputs\":[{\"name\":\"y\",\"rate\":\"8\"}],\"actors\":[{\"name\":\"c\",\"kind\":\"config\",\"kernel\":\"read_param\",\"args\":[],\"ins\":[{\"name\":\"i\"}],\"outs\":[],\"sets\":[\"n\"]},{\"name\":\"h\",\"kind\":\"graph\",\"graph\":\"blk\",\"args\":[\"n\"]}],\"fifos\":[{\"from\":\"k\",\"to\":\"c.i\"},{\"from\":\"x\",\"to\":\"h.i\"},{\"from\":\"h.o\",\"to\":\"y\"}],\"exports\":[]},{\"name\":\"blk\",\"params\":[{\"name\":\"n\",\"kind\":\"in\",\"low\":1,\"high\":8}],\"inputs\":[{\"name\":\"i\",\"rate\":\"n\"}],\"outputs\":[{\"name\":\"o\",\"rate\":\"1\"}],\"actors\":[{\"name\":\"s\",\"kind\":\"kernel\",\"kernel\":\"sum\",\"args\":[],\"ins\":[{\"name\":\"i\",\"rate\":\"n\"}],\"outs\":[{\"name\":\"o\",\"rate\":\"1\"}]},{\"name\":\"m\",\"kind\":\"kernel\",\"kernel\":\"gain\",\"args\":[\"n\"],\"ins\":[{\"name\":\"i\",\"rate\":\"1\"}],\"outs\":[{\"name\":\"o\",\"rate\":\"1\"}]}],\"fifos\":[{\"from\":\"i\",\"to\":\"s.i\"},{\"from\":\"s.o\",\"to\":\"m.i\"},{\"from\":\"m.o\",\"to\":\"o\"}],\"exports\":[]}]}";
+const LOAD_FILE: &str =
+    "{\"pisdf\":3,\"top\":\"g\",\"graphs\":[{\"name\":\"g\",\"params\":[{\"name\":\"n\",\"kind\":\"set\",\"low\":1,\"high\":8}],\"inputs\":[{\"name\":\"k\",\"rate\":\"1\"},{\"name\":\"x\",\"rate\":\"64\"}],\"outputs\":[{\"name\":\"y\",\"rate\":\"8\"}],\"actors\":[{\"name\":\"c\",\"kind\":\"config\",\"kernel\":\"read_param\",\"args\":[],\"ins\":[{\"name\":\"i\"}],\"outs\":[],\"sets\":[\"n\"]},{\"name\":\"h\",\"kind\":\"graph\",\"graph\":\"blk\",\"args\":[\"n\"]}],\"fifos\":[{\"from\":\"k\",\"to\":\"c.i\"},{\"from\":\"x\",\"to\":\"h.i\"},{\"from\":\"h.o\",\"to\":\"y\"}],\"exports\":[]},{\"name\":\"blk\",\"params\":[{\"name\":\"n\",\"kind\":\"in\",\"low\":1,\"high\":8}],\"inputs\":[{\"name\":\"i\",\"rate\":\"n\"}],\"outputs\":[{\"name\":\"o\",\"rate\":\"1\"}],\"actors\":[{\"name\":\"s\",\"kind\":\"kernel\",\"kernel\":\"sum\",\"args\":[],\"ins\":[{\"name\":\"i\",\"rate\":\"n\"}],\"outs\":[{\"name\":\"o\",\"rate\":\"1\"}]},{\"name\":\"m\",\"kind\":\"kernel\",\"kernel\":\"gain\",\"args\":[\"n\"],\"ins\":[{\"name\":\"i\",\"rate\":\"1\"}],\"outs\":[{\"name\":\"o\",\"rate\":\"1\"}]}],\"fifos\":[{\"from\":\"i\",\"to\":\"s.i\"},{\"from\":\"s.o\",\"to\":\"m.i\"},{\"from\":\"m.o\",\"to\":\"o\"}],\"exports\":[]}]}";
 
 /// The graphs of the load: read from their file, written anew, and read again.
 fn load_graphs(alloc: Global, signatures: &[Signature]) -> Result<Graphs, Status>
@@ -75,12 +76,7 @@ fn load_iteration<K: Gate>(
 }
 
 /// Runs the iterations of a load in one thread.
-fn run_load<K: Gate>(
-    alloc: Global,
-    graphs: &Graphs,
-    number: u32,
-    gate: &K,
-) -> Result<Total, Stop>
+fn run_load<K: Gate>(alloc: Global, graphs: &Graphs, number: u32, gate: &K) -> Result<Total, Stop>
     requires good { AreGood graphs.now }
     requires kernels { K.kernels gate.now ≡ the_signatures }
     requires number { number ≤ 65535 }
