@@ -10,9 +10,9 @@ use Rattle.job_flow.specs.Frames.{given, on_edge}
 use Rattle.one_job.specs.Marks.{Mark, Free, Claimed, Finished, Failed, mark_at, IsFree, IsClaimed, IsFinished, IsFailed, phase, phase_of, values, value_of}
 use Rattle.one_job.specs.Places.{edge_at, buffer_at}
 use Rattle.one_job.specs.Live.{InOrder, IsLive, IsFull, HoldFull}
-use Rattle.one_job.specs.Images.{Event, Claim, Finish, mark_with, marks_after, out_at, written, written_by, image, FitsEdges, MayComeNext, AreEvents}
+use Rattle.one_job.specs.Images.{Event, Claim, Finish, mark_with, marks_after, out_at, written, written_by, image, FitsEdges, AreEvents}
 use Rattle.one_job.proofs.Phases.{inside_of, mark_there, mark_elsewhere, phase_there, phase_elsewhere, finished_not_free, claimed_not_free, claimed_not_finished, free_not_finished, free_not_failed}
-use Rattle.one_job.proofs.Order.{IsLaid, live_apart, buffer_within, full_live, CanClaim, claim_keeps_order, finish_keeps_order}
+use Rattle.one_job.proofs.Order.{IsLaid, live_apart, buffer_within, full_live, claim_keeps_order, finish_keeps_order}
 use Rattle.one_job.proofs.Cells.{length-write, window-write_same, window-write_apart}
 use Rattle.one_job.proofs.Wires.{laid_of}
 
