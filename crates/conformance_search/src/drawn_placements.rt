@@ -64,9 +64,7 @@ impl OnGraphs for Placements {
             return Ok(());
         }
         for most in [1, 4, 20] {
-            let sizes = self
-                .draws
-                .numbers(rt.alloc(), edges.len() as u32, most)?;
+            let sizes = self.draws.numbers(rt.alloc(), edges.len() as u32, most)?;
             let same = agrees(rt.alloc(), nodes, edges, ranks, &sizes, most)?;
             if self.tally.enter(same) {
                 println!(rt; "placement: {edges:?}, sizes {sizes:?}")?;

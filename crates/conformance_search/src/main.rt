@@ -44,11 +44,7 @@ fn compare_all(rt: &(impl Print + AllocGlobal)) -> io::Result<Tally> {
         "placements of drawn graphs",
         drawn_placements::compare(rt)?,
     )?;
-    all.close(
-        rt,
-        "mappings of drawn graphs",
-        drawn_mappings::compare(rt)?,
-    )?;
+    all.close(rt, "mappings of drawn graphs", drawn_mappings::compare(rt)?)?;
     all.close(rt, "long chains", chains::compare(rt)?)?;
     Ok(all)
 }

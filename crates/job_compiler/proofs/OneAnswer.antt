@@ -1,5 +1,5 @@
 -- A level has no two faults, and none where it has a schedule.
-use Rattle.std.proofs.Common.{◌≡◌, ◌⊎◌, inl, inr, ⊎_elim, ap, sym, ◌∙◌, subst, refl, Result, Ok, Err}
+use Rattle.std.proofs.Common.{◌≡◌, ◌⊎◌, inl, inr, ⊎_elim, ap, ◌∙◌, refl, Result, Ok, Err}
 use Rattle.std.specs.Result.{IsErrAnd}
 use Rattle.sdf_level.specs.View.{LevelView}
 use Rattle.level_schedule.specs.declared.scheduling.LevelSchedule.{LevelSchedule}

@@ -1,5 +1,5 @@
 -- A level has at most one compilation for some workers.
-use Rattle.std.proofs.Common.{◌≡◌, ℕ, ◌<◌, ◌≤◌, ◌⊎◌, inl, inr, ⊎_elim, List, length, slice_index, arith, ap, sym, subst, ◌∙◌, Result, Ok, Err}
+use Rattle.std.proofs.Common.{◌≡◌, ℕ, ◌<◌, ◌⊎◌, inl, ⊎_elim, List, length, arith, ap, sym, subst, ◌∙◌, Result, Ok, Err}
 use Rattle.std.proofs.lemmas.List.{length-map}
 use Rattle.sdf_level.specs.View.{LevelView}
 use Rattle.sdf_level.specs.Repetition.{IsRepetition}

@@ -1,5 +1,5 @@
 -- The parts of a compilation, from what the calls that make them say.
-use Rattle.std.proofs.Common.{◌≡◌, ℕ, List, length, refl, ◌∙◌, Result, Ok, Err, IfOk}
+use Rattle.std.proofs.Common.{◌≡◌, List, length, ◌∙◌, Result, Ok, Err, IfOk}
 use Rattle.std.proofs.lemmas.List.{length-map}
 use Rattle.sdf_level.specs.declared.single_rate.Edge.{Edge}
 use Rattle.memory_exclusion.specs.Paths.{Excludes}

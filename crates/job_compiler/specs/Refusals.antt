@@ -1,5 +1,4 @@
 -- Why a level can't be compiled.
-use Rattle.std.specs.Prelude.{ℕ, List}
 use Rattle.sdf_level.specs.View.{LevelView}
 use Rattle.sdf_level.specs.Repetition.{HasNoRepetition}
 use Rattle.level_schedule.specs.Schedules.{IsOverLimit, EndsInDeadlock}

@@ -1,4 +1,4 @@
-use Rattle.std.proofs.Common.{◌≡◌, ◌∙◌, ap, sym, arith}
+use Rattle.std.proofs.Common.{◌≡◌, ◌∙◌, ap, arith}
 use Rattle.worker_mapping.specs.Costs.{pairs_of}
 use Rattle.job_compiler.specs.Compilation.{sizes_of}
 use Rattle.job_compiler.proofs.SoundEdges.{pair_ends, pairs_rise, sizes_filled, sum_within}
