@@ -4,6 +4,7 @@ pub mod Reading
 pub mod Rows
 pub mod Runs
 pub mod Working
+pub mod NoLoads
 pub mod Jobs
 pub mod Telling
 pub mod LoadFile

@@ -1,5 +1,5 @@
 -- What a call of the program has done, from what its parts did.
-use Rattle.std.proofs.Common.{◌≡◌, ◌≢◌, inl, inr, ℕ, ◌+◌, ◌-◌, ◌≤◌, ℤ, List, [], ◌∷◌, ◌++◌, length, length-append, take, Bool, true, false, Option, Some, None, Result, Ok, Err, String, Global, string_bytes, refl, sym, ap, ◌∙◌, subst, arith}
+use Rattle.std.proofs.Common.{◌≡◌, ◌≢◌, inl, inr, ℕ, ◌+◌, ◌-◌, ◌≤◌, ℤ, List, [], ◌∷◌, ◌++◌, length, length-append, take, true, false, Option, Some, None, Result, Ok, Err, String, Global, string_bytes, refl, sym, ap, ◌∙◌, subst, arith}
 use Rattle.std.specs.Prelude.{◌==◌, IfErr, if◌then◌else◌}
 use Rattle.std.proofs.lemmas.Bool.Decides.{nat_tests}
 use Rattle.std.proofs.lemmas.List.{append-nil, take-append-le}
@@ -17,8 +17,7 @@ use Rattle.pisdf_program.specs.Loaded.{is_answer, FaultsOnly, NoFault, StopsRead
 use Rattle.pisdf_program.specs.Result.{Outcome, refused, told, read_graphs, read_streams, outcome_of, short_of, status_of, line_of_end, input_in, ReadsTokens, ReadsFiles, GoesOn, FromFiles, Runs, RunsFile, RunsAlone, TellsStop, ComesTo, Upgrades, upgrade_graphs, AreTold, AreToldAlone, IsTold, IsToldAfter, Knows}
 use Rattle.pisdf_program.specs.Top.{top_of}
 use Rattle.pisdf_program.specs.Texts.{iteration_text, joined, texts_from, line_of, memory_line, read_line}
-use Rattle.pisdf_program.specs.LoadEnd.{IsLoadStatus}
-use Rattle.pisdf_program.specs.Words.{Command, Run, Plain, Job, Journal, Soak, Upgrade}
+use Rattle.pisdf_program.specs.Words.{Command, Run, Plain}
 use Rattle.pisdf_program.specs.Worked.{FilesRose, ReadsNothing, StopsWith, file_among, Reports, Decided, Stopped, Works, IsThere, PutsLine, Concludes, CountRose, RoseAt, Completes, MayTell, Ended}
 use Rattle.pisdf_program.specs.declared.run.RunEnd.{RunEnd}
 use Rattle.pisdf_program.specs.declared.run.RunEnd.TheVariants as end
@@ -574,32 +573,3 @@ there told expected (Err status) eh en eb enow s h (inr (non, inl (inl (is, rest
 there told expected (Err status) eh en eb enow s h (inr (non, inl (inr (is, rose, rest)))) t a = absurd (not_answer s WriteFault is refl a)
 there told expected (Err status) eh en eb enow s h (inr (non, inr (inl (is, rest)))) t a = absurd (not_answer s WantOfMemory is refl a)
 there told expected (Err status) eh en eb enow s h (inr (non, inr (inr (is, rose, rest)))) t a = absurd (not_answer s WriteFault is refl a)
-
--- ---- the commands that are no load
-
-abbrev pub is_load : Command → Bool
-is_load (Run graph tokens iterations workers) = false
-is_load (Plain graph tokens iterations) = false
-is_load (Job what graph tokens workers) = false
-is_load (Journal graph tokens iterations workers) = false
-is_load (Soak number workers) = true
-is_load (Upgrade graph) = false
-
-pub no_load : (a : Command) (b : Option Command) (r : Result (String Global) Status) → Some a ≡ b → is_load a ≡ false → (n w : ℕ) → b ≡ Some (Soak n w) → IfErr r IsLoadStatus
-no_load a b r e non n w h =
-    let both : Some a ≡ Some (Soak n w) = e ∙ h in
-    let same : a ≡ Soak n w = cc in
-    let no : is_load (Soak n w) ≡ false = ap is_load (sym same) ∙ non in
-    absurd cc
-
-pub nothing_read : (b : Option Command) (r : Result (String Global) Status) → b ≡ None → (n w : ℕ) → b ≡ Some (Soak n w) → IfErr r IsLoadStatus
-nothing_read b r e n w h = let both : None ≡ Some (Soak n w) = sym e ∙ h in absurd cc
-
-pub load_told : (worked : Result (String Global) Status) (eh en : File) (eb enow : ℕ) (s : Status) → Concludes worked eh en eb enow s → IfErr worked IsLoadStatus → IsLoadStatus s
-load_told (Ok text) eh en eb enow s (inl (is, rest)) h = subst IsLoadStatus (sym is) tt
-load_told (Ok text) eh en eb enow s (inr (is, rose, rest)) h = subst IsLoadStatus (sym is) tt
-load_told (Err told) eh en eb enow s (inl (a, is, rest)) h = subst IsLoadStatus (sym is) tt
-load_told (Err told) eh en eb enow s (inr (non, inl (inl (is, rest)))) h = subst IsLoadStatus (sym is) h
-load_told (Err told) eh en eb enow s (inr (non, inl (inr (is, rose, rest)))) h = subst IsLoadStatus (sym is) tt
-load_told (Err told) eh en eb enow s (inr (non, inr (inl (is, rest)))) h = subst IsLoadStatus (sym is) tt
-load_told (Err told) eh en eb enow s (inr (non, inr (inr (is, rose, rest)))) h = subst IsLoadStatus (sym is) tt

@@ -1,7 +1,8 @@
 use Rattle.std.proofs.Common.{map, string_bytes}
 use Rattle.pisdf_program.specs.Words.{command_of}
 use Rattle.pisdf_program.specs.Result.{Knows, ResultOf}
-use Rattle.pisdf_program.proofs.Working.{completes, ended, load_told, rose_told, there, usage_told}
+use Rattle.pisdf_program.proofs.NoLoads.{load_told}
+use Rattle.pisdf_program.proofs.Working.{completes, ended, rose_told, there, usage_told}
 use Rattle.pisdf_program.proofs.program.run_program.Goals as goal
 
 pub returns-clause-ended : goal.returns-clause-ended

@@ -5,7 +5,8 @@ use Rattle.pisdf_program.specs.WordsSeen.{seen}
 use Rattle.pisdf_program.specs.declared.words.Command.{Command as Here}
 use Rattle.pisdf_program.specs.declared.status.Status.TheVariants.{NotYet}
 use Rattle.pisdf_program.specs.declared.status.Later.TheVariants.{Command as AnyCommand}
-use Rattle.pisdf_program.proofs.Working.{decided_as, no_load, refused_there, usage_there, works_as}
+use Rattle.pisdf_program.proofs.NoLoads.{no_load}
+use Rattle.pisdf_program.proofs.Working.{decided_as, refused_there, usage_there, works_as}
 use Rattle.pisdf_program.proofs.program.work.Goals as goal
 
 pub returns-in-Plain-clause-works : goal.returns-in-Plain-clause-works
