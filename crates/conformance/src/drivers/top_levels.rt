@@ -63,7 +63,12 @@ fn text_of_deadlock(alloc: Global, left: &[Left]) -> Result<String, Trouble> {
 /// The words of a cause, with its names and numbers.
 fn text_of_refused(alloc: Global, cause: &Cause) -> Result<String, Trouble> {
     match cause {
-        Cause::Param { name, why, low, high } => {
+        Cause::Param {
+            name,
+            why,
+            low,
+            high,
+        } => {
             let why = text_of_cause(alloc, *why)?;
             let name = name.text();
             Ok(format!(in alloc; "param {name} {why} range {low} {high}")?)
@@ -79,7 +84,11 @@ fn text_of_refused(alloc: Global, cause: &Cause) -> Result<String, Trouble> {
             Ok(format!(in alloc; "limit {word} {value}")?)
         }
         Cause::Deadlock { left } => text_of_deadlock(alloc, left.items()),
-        Cause::Kernel { actor, firing, code } => {
+        Cause::Kernel {
+            actor,
+            firing,
+            code,
+        } => {
             let actor = actor.text();
             Ok(format!(in alloc; "kernel {actor} firing {firing} code {code}")?)
         }
