@@ -1,5 +1,5 @@
 -- What configuration actors are asked, and what they give.
-use Rattle.std.proofs.Common.{◌≡◌, ℕ, zero, suc, ◌+◌, ◌<◌, ℤ, pos, true, false, List, [], ◌∷◌, length, map, replicate, get_or, slice_get, Option, Some, None, refl, sym, ap, ◌∙◌, subst, arith}
+use Rattle.std.proofs.Common.{◌≡◌, ℕ, ◌+◌, ◌<◌, ◌≤◌, ◌^◌, ℤ, true, List, [], ◌∷◌, length, map, get_or, slice_get, Option, Some, None, refl, sym, ap, ◌∙◌, subst, arith}
 use Rattle.std.proofs.lemmas.Option.{get_or_from_slice_get, slice_get-get_or, slice_get_within}
 use Rattle.std.proofs.lemmas.Bool.{and_parts, eqb-true}
 use Rattle.kernel_gate.specs.Value.{lengths}
@@ -8,7 +8,7 @@ use Rattle.param_expr.specs.Tree.{Tree}
 use Rattle.param_resolver.specs.EarlyCheck.{early_faults, early_of}
 use Rattle.pisdf_model.specs.Hold.{initial, actor_state}
 use Rattle.pisdf_model.specs.InterfaceWires.{is_configuration}
-use Rattle.pisdf_model.specs.Ports.{body_fits, inherited_count}
+use Rattle.pisdf_model.specs.Ports.{body_fits, inherited_count, sets_of}
 use Rattle.pisdf_model.specs.Range.{InRange}
 use Rattle.pisdf_model.specs.WellFormed.{WellFormed}
 use Rattle.pisdf_model.specs.declared.actor.Actor.{Actor}
@@ -22,7 +22,7 @@ use Rattle.pisdf_meaning.specs.Nested.{configuration_at}
 use Rattle.pisdf_meaning.specs.Sound.{IsConfiguration, KnowsBody, actor_at, no_actor}
 use Rattle.pisdf_meaning.specs.States.{actor_list}
 use Rattle.pisdf_meaning.specs.declared.firing.Firing.{Firing}
-use Rattle.pisdf_meaning.proofs.Fitting.{actor_fits}
+use Rattle.pisdf_meaning.proofs.Fitting.{AreFew, actor_fits, few_parts, few_sets}
 use Rattle.pisdf_meaning.proofs.KeptSizes.{Levelled}
 use Rattle.pisdf_meaning.proofs.Knowing.{Unfolds, all_know}
 use Rattle.pisdf_meaning.proofs.MadeLevels.{levels_made}
@@ -72,46 +72,65 @@ call_task graphs g firing number a place args sets is = ap (config_task graphs g
 
 -- ---- firings of graphs
 
-module _ (graphs : Graphs) (range : InRange graphs) (well : WellFormed graphs) (unfolds : Unfolds graphs.graphs) (firing : Firing) (fit : IsFit graphs.graphs firing) (g : Graph) (at_graph : slice_get graphs.graphs firing.graph ≡ Some g)
-    (number a : ℕ) (is : IsConfiguration g number a) (place : ℕ) (args : List Tree) (sets : List ℕ) (body_is : (actor_at g a).body ≡ ConfigChild place args sets) where
-  abbrev G : List Graph
-  G = graphs.graphs
+module _ (graphs : Graphs) (range : InRange graphs) (well : WellFormed graphs) (firing : Firing) (g : Graph) (at_graph : slice_get graphs.graphs firing.graph ≡ Some g) (number a : ℕ) (is : IsConfiguration g number a) where
+  graph_inside : firing.graph < length graphs.graphs
+  graph_inside = slice_get_within graphs.graphs firing.graph g at_graph
 
-  knows : KnowsBody G (early_in G firing) number (ConfigChild place args sets)
-  knows =
-      let P : Body → Type 0 = λ b. KnowsBody G (early_in G firing) number b in
-      subst P body_is ((all_know G unfolds firing.graph g firing.inherited at_graph fit.sound).each number a is)
+  own_graph : get_or graphs.graphs firing.graph g ≡ g
+  own_graph = get_or_from_slice_get graphs.graphs firing.graph g g at_graph
 
-  abbrev child : Firing
-  child = config_firing G g firing (configuration_at g number a) place
+  parts : AreFew g
+  parts = subst AreFew own_graph (few_parts graphs range well firing.graph g graph_inside)
 
-  pub child_rates : (early_of G child.graph child.inherited).outputs ≡ config_rates G firing number
-  child_rates = sym knows.1
+  pub few : length g.fifos + a < 2 ^ 64
+  few =
+      let fifos = parts.fifos in
+      let actors = parts.actors in
+      let inside = is.inside in
+      omega arith
 
-  level : Levelled G firing.graph g
-  level = levelled graphs well firing.graph g at_graph (levels_made graphs range well)
+  pub few_actors : length g.actors ≤ 64
+  few_actors = parts.actors
 
-  states : StateFits G g firing.state
-  states = state_fits G g firing.state (fit.state ∙ ap lengths level.begins)
+  pub sets_few : (body : Body) → (actor_at g a).body ≡ body → length (sets_of body) < 2 ^ 32
+  sets_few body body_is =
+      let P : Graph → Type 0 = λ x. (b : ℕ) (e : Actor) → b < length x.actors → length (sets_of (get_or x.actors b e).body) < 2 ^ 32 in
+      let Q : Body → Type 0 = λ b. length (sets_of b) < 2 ^ 32 in
+      subst Q body_is (subst P own_graph (few_sets graphs range well firing.graph g graph_inside) a no_actor is.inside)
 
-  actor_there : slice_get g.actors a ≡ Some (actor_at g a)
-  actor_there = slice_get-get_or g.actors a no_actor is.inside
+  module _ (unfolds : Unfolds graphs.graphs) (fit : IsFit graphs.graphs firing) (place : ℕ) (args : List Tree) (sets : List ℕ) (body_is : (actor_at g a).body ≡ ConfigChild place args sets) where
+    abbrev G : List Graph
+    G = graphs.graphs
 
-  pub child_state : lengths child.state ≡ lengths (initial G place)
-  child_state = state_in_sizes G place (actor_list g firing.state a) (states.actors a (actor_at g a) actor_there ∙ ap (λ (x : Body). length (actor_state (initial G) x)) body_is)
+    knows : KnowsBody G (early_in G firing) number (ConfigChild place args sets)
+    knows =
+        let P : Body → Type 0 = λ b. KnowsBody G (early_in G firing) number b in
+        subst P body_is ((all_know G unfolds firing.graph g firing.inherited at_graph fit.sound).each number a is)
 
-  graph_inside : firing.graph < length G
-  graph_inside = slice_get_within G firing.graph g at_graph
+    abbrev child : Firing
+    child = config_firing G g firing (configuration_at g number a) place
 
-  own_graph : get_or G firing.graph g ≡ g
-  own_graph = get_or_from_slice_get G firing.graph g g at_graph
+    pub child_rates : (early_of G child.graph child.inherited).outputs ≡ config_rates G firing number
+    child_rates = sym knows.1
 
-  args_many : length args ≡ inherited_count (slice_get G place)
-  args_many =
-      let P : Graph → Type 0 = λ x. (b : ℕ) (e : Actor) → b < length x.actors → body_fits (λ c. true) G (get_or x.actors b e).body ≡ true in
-      let fits = subst P own_graph (actor_fits graphs range well firing.graph g graph_inside) a no_actor is.inside in
-      let own : body_fits (λ c. true) G (ConfigChild place args sets) ≡ true = ap (body_fits (λ c. true) G) (sym body_is) ∙ fits in
-      eqb-true (length args) (inherited_count (slice_get G place)) (and_parts _ _ own).0
+    level : Levelled G firing.graph g
+    level = levelled graphs well firing.graph g at_graph (levels_made graphs range well)
 
-  pub child_inherited : length child.inherited ≡ inherited_count (slice_get G place)
-  child_inherited = knows.0 ∙ args_many
+    states : StateFits G g firing.state
+    states = state_fits G g firing.state (fit.state ∙ ap lengths level.begins)
+
+    actor_there : slice_get g.actors a ≡ Some (actor_at g a)
+    actor_there = slice_get-get_or g.actors a no_actor is.inside
+
+    pub child_state : lengths child.state ≡ lengths (initial G place)
+    child_state = state_in_sizes G place (actor_list g firing.state a) (states.actors a (actor_at g a) actor_there ∙ ap (λ (x : Body). length (actor_state (initial G) x)) body_is)
+
+    args_many : length args ≡ inherited_count (slice_get G place)
+    args_many =
+        let P : Graph → Type 0 = λ x. (b : ℕ) (e : Actor) → b < length x.actors → body_fits (λ c. true) G (get_or x.actors b e).body ≡ true in
+        let fits = subst P own_graph (actor_fits graphs range well firing.graph g graph_inside) a no_actor is.inside in
+        let own : body_fits (λ c. true) G (ConfigChild place args sets) ≡ true = ap (body_fits (λ c. true) G) (sym body_is) ∙ fits in
+        eqb-true (length args) (inherited_count (slice_get G place)) (and_parts _ _ own).0
+
+    pub child_inherited : length child.inherited ≡ inherited_count (slice_get G place)
+    child_inherited = knows.0 ∙ args_many

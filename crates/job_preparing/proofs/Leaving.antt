@@ -84,17 +84,17 @@ all_left rates v i (x ∷ cs) (s ∷ stages) (one ∷ left) (trace ∷ traces) a
     ap (λ o. both o (left_from v (i + 1) cs)) here ∙ ap (λ o. both (Some (joined one trace)) o) later
 
 gives_if_left : (s : Stage) → IsSome (leaves (answered s)) → has_given s ≡ true
-gives_if_left (Fires spare) some = absurd some
-gives_if_left Calls some = absurd some
-gives_if_left (Busy told spare) some = absurd some
-gives_if_left (Open told line) some = absurd some
+gives_if_left (Fires spare) some = absurd (cc)
+gives_if_left Calls some = absurd (cc)
+gives_if_left (Busy told spare) some = absurd (cc)
+gives_if_left (Open told line) some = absurd (cc)
 gives_if_left (Gave told) some = refl
-gives_if_left (Refused refusal) some = absurd some
+gives_if_left (Refused refusal) some = absurd (cc)
 
 both_some : {T : Type 0} (one : Option T) (more : Option (List T)) → IsSome (both one more) → IsSome one × IsSome more
-both_some None more some = absurd some
-both_some (Some x) None some = absurd some
-both_some (Some x) (Some xs) some = (tt, tt)
+both_some None more some = absurd (cc)
+both_some (Some x) None some = absurd (cc)
+both_some (Some x) (Some xs) some = (refl, refl)
 
 -- what all left is there only where each gave something
 pub all_gave : (v : Values Answer) (i : ℕ) (cs : List Configuration) (stages : List Stage) → length stages ≡ length cs → Answered v i stages → IsSome (left_from v i cs) → list_all has_given stages ≡ true
@@ -110,7 +110,7 @@ all_gave v i (x ∷ cs) (s ∷ stages) a all some =
 
 pub some_of : {T : Type 0} (o : Option T) (x : T) → o ≡ Some x → IsSome o
 some_of None x e = absurd (cc)
-some_of (Some y) x e = tt
+some_of (Some y) x e = refl
 
 -- ---- refusals
 
@@ -151,14 +151,14 @@ done_some (Fires spare) done = absurd (cc)
 done_some Calls done = absurd (cc)
 done_some (Busy told spare) done = absurd (cc)
 done_some (Open told line) done = absurd (cc)
-done_some (Gave told) done = tt
-done_some (Refused refusal) done = tt
+done_some (Gave told) done = refl
+done_some (Refused refusal) done = refl
 
 some_done : (s : Stage) → IsSome (answered s) → is_done s ≡ true
-some_done (Fires spare) some = absurd some
-some_done Calls some = absurd some
-some_done (Busy told spare) some = absurd some
-some_done (Open told line) some = absurd some
+some_done (Fires spare) some = absurd (cc)
+some_done Calls some = absurd (cc)
+some_done (Busy told spare) some = absurd (cc)
+some_done (Open told line) some = absurd (cc)
 some_done (Gave told) some = refl
 some_done (Refused refusal) some = refl
 

@@ -1,8 +1,8 @@
 -- Where configuration actors stand.
-use Rattle.std.proofs.Common.{◌≡◌, ℕ, zero, suc, ◌+◌, ◌<◌, Bool, true, false, List, [], ◌∷◌, ◌++◌, length, map, get_or, slice_get, Option, Some, None, refl, sym, ap, ◌∙◌, subst, arith, ⊎_elim}
+use Rattle.std.proofs.Common.{◌≡◌, ℕ, zero, suc, ◌+◌, ◌<◌, ◌≤◌, Bool, true, false, List, [], ◌∷◌, ◌++◌, length, map, take, get_or, slice_get, Option, Some, None, refl, sym, ap, ◌∙◌, subst, arith, ⊎_elim}
 use Rattle.std.specs.Option.{option_map}
 use Rattle.std.proofs.lemmas.Bool.{cases_Bool}
-use Rattle.std.proofs.lemmas.List.{length-map}
+use Rattle.std.proofs.lemmas.List.{length-map, length-take-le, take_more}
 use Rattle.std.proofs.lemmas.Option.{get_or_from_slice_get}
 use Rattle.pisdf_model.specs.InterfaceWires.{is_configuration}
 use Rattle.pisdf_model.specs.declared.actor.Actor.{Actor}
@@ -25,6 +25,20 @@ first_with c a y actors is = ap (map place_of) (with_first_one c a y actors is)
 
 first_without : (c a : ℕ) (y : Actor) (actors : List Actor) → is_configuration y.body ≡ false → places_from c a (y ∷ actors) ≡ places_from c (a + 1) actors
 first_without c a y actors is = ap (map place_of) (without_first_one c a y actors is)
+
+-- no more of them than actors
+pub count_le : (c a : ℕ) (actors : List Actor) → length (configurations_from c a actors) ≤ length actors
+count_le c a [] = omega arith
+count_le c a (y ∷ actors) = ⊎_elim
+    (λ (one : is_configuration y.body ≡ true).
+    let e = ap (λ (l : List Configuration). length l) (with_first_one c a y actors one) in
+    let again = count_le (c + 1) (a + 1) actors in
+    omega arith)
+    (λ (none : is_configuration y.body ≡ false).
+    let e = ap (λ (l : List Configuration). length l) (without_first_one c a y actors none) in
+    let again = count_le c (a + 1) actors in
+    omega arith)
+    (cases_Bool (is_configuration y.body))
 
 -- one more actor, which is a configuration actor
 pub place_added : (c a : ℕ) (actors : List Actor) (x : Actor) → is_configuration x.body ≡ true → places_from c a (actors ++ x ∷ []) ≡ places_from c a actors ++ (a + length actors) ∷ []
@@ -49,6 +63,20 @@ place_not_added c a (y ∷ actors) x is = ⊎_elim
     (λ (none : is_configuration y.body ≡ false).
     first_without c a y (actors ++ x ∷ []) none ∙ place_not_added c (a + 1) actors x is ∙ sym (first_without c a y actors none))
     (cases_Bool (is_configuration y.body))
+
+-- the places of the first actors, and of one more
+pub step_with : (actors : List Actor) (k : ℕ) (x : Actor) (places places' : List ℕ) → k < length actors → x ≡ get_or actors k x → is_configuration x.body ≡ true → places ≡ places_from 0 0 (take k actors) → places' ≡ places ++ k ∷ [] →
+    places' ≡ places_from 0 0 (take (k + 1) actors)
+step_with actors k x places places' inside is config before after =
+    let more : take (k + 1) actors ≡ take k actors ++ x ∷ [] = take_more actors k x inside ∙ ap (λ y. take k actors ++ y ∷ []) (sym is) in
+    let at : 0 + length (take k actors) ≡ k = let l = length-take-le k actors (omega arith) in omega arith in
+    after ∙ ap (λ l. l ++ k ∷ []) before ∙ ap (λ n. places_from 0 0 (take k actors) ++ n ∷ []) (sym at)
+    ∙ sym (place_added 0 0 (take k actors) x config) ∙ ap (places_from 0 0) (sym more)
+
+pub step_without : (actors : List Actor) (k : ℕ) (x : Actor) (places : List ℕ) → k < length actors → x ≡ get_or actors k x → is_configuration x.body ≡ false → places ≡ places_from 0 0 (take k actors) → places ≡ places_from 0 0 (take (k + 1) actors)
+step_without actors k x places inside is config before =
+    let more : take (k + 1) actors ≡ take k actors ++ x ∷ [] = take_more actors k x inside ∙ ap (λ y. take k actors ++ y ∷ []) (sym is) in
+    before ∙ sym (place_not_added 0 0 (take k actors) x config) ∙ ap (places_from 0 0) (sym more)
 
 record IsImage (cs : List Configuration) (c a : ℕ) : Type 0 where
   pub one : Configuration

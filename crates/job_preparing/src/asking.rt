@@ -1,5 +1,6 @@
 // What is asked of the configuration actors of a firing.
-ghost use Rattle.std.specs.Prelude.{◌≡◌, [], length, vec_capacity, slice_get, slice_index_or, Some, IfOk, ℕ, List as Seq};
+ghost use Rattle.std.specs.Prelude.{◌≡◌, [], length, vec_capacity, slice_get, slice_index_or, None, Some, IfOk, ℕ, List as Seq};
+ghost use Rattle.nested_jobs.specs.Marks.{Free};
 ghost use Rattle.nested_jobs.specs.Rules.{Call, Work};
 ghost use Rattle.kernel_gate.specs.Value.{lengths};
 ghost use Rattle.param_resolver.specs.EarlyCheck.{early_of};
@@ -14,6 +15,7 @@ ghost use Rattle.pisdf_meaning.specs.States.{tokens_at};
 ghost use Rattle.job_rules.specs.Meant.{IsFit};
 ghost use Rattle.pisdf_meaning.specs.declared.firing.Configured.{Configured};
 ghost use Rattle.pisdf_meaning.specs.declared.outcome.TraceRow.{TraceRow};
+ghost use Rattle.job_preparing.specs.Stages.{lent_of, mark_of};
 ghost use Rattle.job_preparing.specs.Standing.{ArePlaces, IsCall, IsOwn, StandsRight};
 ghost use Rattle.job_preparing.specs.Seated.{kernel_work};
 ghost use Rattle.job_preparing.specs.View.{HasInherited, task_of};
@@ -102,6 +104,8 @@ fn kernel_seat(
 ) -> Result<Seat, AllocError>
     requires { early.now ≡ early_in graphs.now firing.now }
     ensures own { IfOk result (λ s. IsOwn s.frame) }
+    ensures free { IfOk result (λ s. mark_of s.stage ≡ Free) }
+    ensures lent { IfOk result (λ s. lent_of s.stage ≡ None) }
     ensures waits { IfOk result (λ s. (rates : Seq ℕ) (one : Configured) (trace : Seq TraceRow) → StandsRight graphs.now (Some (Work (kernel_work graphs.now graph.now firing.now number place name.now kernel ins sets))) rates s.stage s.frame one trace) }
 {
     let rates = rates_at(early.outs.items(), number);
@@ -143,6 +147,8 @@ pub(crate) fn make_seat(
     requires configuration { slice_get (configurations graph.now) number ≡ Some (configuration_at graph.now number place) }
     requires is { IsConfiguration graph.now number place }
     ensures own { IfOk result (λ s. IsOwn s.frame) }
+    ensures free { IfOk result (λ s. mark_of s.stage ≡ Free) }
+    ensures lent { IfOk result (λ s. lent_of s.stage ≡ None) }
     ensures stands { IfOk result (λ s. (one : Configured) (trace : Seq TraceRow) → StandsRight graphs.now.graphs (task_of graphs.now.graphs graph.now firing.now (slice_get (configurations graph.now) number)) (config_rates graphs.now.graphs firing.now number) s.stage s.frame one trace) }
 {
     let actor = &graph.actors.items()[place];
