@@ -41,6 +41,10 @@ use Rattle.job_preparing.specs.View.{task_of}
 pub here : (graphs : List Graph) (firing : Firing) → IsFit graphs firing → slice_get graphs firing.graph ≡ Some (graph_of graphs firing)
 here graphs firing fit = fit.here ∙ ap Some (sym (get_or_from_slice_get graphs firing.graph fit.g _ fit.here))
 
+-- the element at its place
+pub graph_at : (graphs : List Graph) (firing : Firing) → IsFit graphs firing → (items : List Graph) (x : Graph) → items ≡ graphs → get_or items firing.graph x ≡ graph_of graphs firing
+graph_at graphs firing fit items x e = ap (λ (l : List Graph). get_or l firing.graph x) e ∙ get_or_from_slice_get graphs firing.graph (graph_of graphs firing) x (here graphs firing fit)
+
 -- ---- kernels
 
 -- the output rates that a kernel is asked for are those of the actor

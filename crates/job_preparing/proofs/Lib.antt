@@ -10,3 +10,4 @@ pub mod Frames
 pub mod Seating
 pub mod Events
 pub mod Readied
+pub mod Started

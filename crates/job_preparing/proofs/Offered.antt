@@ -45,27 +45,27 @@ IsFirstFrom test i stages (Some n) = (m : ℕ) × (n ≡ i + m) × IsFirstOf tes
 
 module _ (test : Stage → Bool) where
   none_more : (x : Stage) (stages : List Stage) → test x ≡ false → ((k : ℕ) (s : Stage) → slice_get stages k ≡ Some s → test s ≡ false) → (k : ℕ) (s : Stage) → slice_get (x ∷ stages) k ≡ Some s → test s ≡ false
-  none_more x stages no none zero s is = let same : x ≡ s = cc in ap test (sym same) ∙ no
-  none_more x stages no none (suc k) s is = none k s is
+  none_more x stages fails rest zero s is = let same : x ≡ s = cc in ap test (sym same) ∙ fails
+  none_more x stages fails rest (suc k) s is = rest k s is
 
   below_more : (x : Stage) (stages : List Stage) (n : ℕ) → test x ≡ false → ((k : ℕ) (s : Stage) → k < n → slice_get stages k ≡ Some s → test s ≡ false) → (k : ℕ) (s : Stage) → k < suc n → slice_get (x ∷ stages) k ≡ Some s → test s ≡ false
-  below_more x stages n no before zero s less is = let same : x ≡ s = cc in ap test (sym same) ∙ no
-  below_more x stages n no before (suc k) s less is = before k s (omega arith) is
+  below_more x stages n fails before zero s less is = let same : x ≡ s = cc in ap test (sym same) ∙ fails
+  below_more x stages n fails before (suc k) s less is = before k s (omega arith) is
 
   later : (i : ℕ) (x : Stage) (stages : List Stage) → test x ≡ false → (o : Option ℕ) → IsFirstFrom test (i + 1) stages o → IsFirstFrom test i (x ∷ stages) o
-  later i x stages no None none = none_more x stages no none
-  later i x stages no (Some n) at = (suc at.0, let e = at.1 in omega arith, record { stage = at.2.stage; is = at.2.is; passes = at.2.passes; before = below_more x stages at.0 no at.2.before })
+  later i x stages fails None rest = none_more x stages fails rest
+  later i x stages fails (Some n) at = (suc at.0, let e = at.1 in omega arith, record { stage = at.2.stage; is = at.2.is; passes = at.2.passes; before = below_more x stages at.0 fails at.2.before })
+
+  here_or_later : (i : ℕ) (x : Stage) (stages : List Stage) (o : Option ℕ) (b : Bool) → test x ≡ b → IsFirstFrom test (i + 1) stages o → IsFirstFrom test i (x ∷ stages) (cond b (Some i) o)
+  here_or_later i x stages o true holds rest = (0, let e : i ≡ i + 0 = omega arith in e, record { stage = x; is = refl; passes = holds; before = λ k s less is. absurd (omega arith) })
+  here_or_later i x stages o false fails rest = later i x stages fails o rest
 
   found_from : (i : ℕ) (stages : List Stage) → IsFirstFrom test i stages (position_from test i stages)
   found_from i [] = λ k s is. absurd (cc)
-  found_from i (x ∷ stages) = go (test x) refl
-    where
-      go : (b : Bool) → test x ≡ b → IsFirstFrom test i (x ∷ stages) (cond b (Some i) (position_from test (i + 1) stages))
-      go true yes = (0, let e : i ≡ i + 0 = omega arith in e, record { stage = x; is = refl; passes = yes; before = λ k s less is. absurd (omega arith) })
-      go false no = later i x stages no (position_from test (i + 1) stages) (found_from (i + 1) stages)
+  found_from i (x ∷ stages) = here_or_later i x stages (position_from test (i + 1) stages) (test x) refl (found_from (i + 1) stages)
 
   at_zero : (stages : List Stage) (o : Option ℕ) → IsFirstFrom test 0 stages o → IsFirst test stages o
-  at_zero stages None none = none
+  at_zero stages None rest = rest
   at_zero stages (Some n) at = subst (IsFirstOf test stages) (let e = at.1 in let s : at.0 ≡ n = omega arith in s) at.2
 
   pub first_found : (stages : List Stage) → IsFirst test stages (position test stages)
@@ -201,25 +201,25 @@ module _ (graphs : Graphs) (firing : Firing) (early : EarlyView) (places : List 
   is_offered_call n offered s is = ap is_call (calling_at n s is offered)
 
   pub picked : (o : Option ℕ) → IsFirst is_kernel stages o → IsLeast (IsOfferedWork view) o
-  picked None none = λ n offered.
+  picked None rest = λ n offered.
       let h = stage_there n (Work offered.work) offered.task_is in
-      let yes = is_offered n offered h.0 h.1 in
-      let no = none n h.0 h.1 in
-      true_false (sym yes ∙ no)
+      let holds = is_offered n offered h.0 h.1 in
+      let fails = rest n h.0 h.1 in
+      true_false (sym holds ∙ fails)
   picked (Some n) at = (kernel_offered n at.stage at.is at.passes, λ k less offered.
       let h = stage_there k (Work offered.work) offered.task_is in
-      let yes = is_offered k offered h.0 h.1 in
-      let no = at.before k h.0 less h.1 in
-      true_false (sym yes ∙ no))
+      let holds = is_offered k offered h.0 h.1 in
+      let fails = at.before k h.0 less h.1 in
+      true_false (sym holds ∙ fails))
 
   pub picked_call : (o : Option ℕ) → IsFirst is_call stages o → IsLeast (IsOfferedCall view) o
-  picked_call None none = λ n offered.
+  picked_call None rest = λ n offered.
       let h = stage_there n (Call offered.job) offered.task_is in
-      let yes = is_offered_call n offered h.0 h.1 in
-      let no = none n h.0 h.1 in
-      true_false (sym yes ∙ no)
+      let holds = is_offered_call n offered h.0 h.1 in
+      let fails = rest n h.0 h.1 in
+      true_false (sym holds ∙ fails)
   picked_call (Some n) at = (call_offered n at.stage at.is at.passes, λ k less offered.
       let h = stage_there k (Call offered.job) offered.task_is in
-      let yes = is_offered_call k offered h.0 h.1 in
-      let no = at.before k h.0 less h.1 in
-      true_false (sym yes ∙ no))
+      let holds = is_offered_call k offered h.0 h.1 in
+      let fails = at.before k h.0 less h.1 in
+      true_false (sym holds ∙ fails))

@@ -42,7 +42,7 @@ within (x ∷ xs) (suc k) y e = let again = within xs k y e in omega arith
 
 replicated : {X : Type 0} (n : ℕ) (x : X) → replicate (n + 1) x ≡ replicate n x ++ x ∷ []
 replicated zero x = refl
-replicated (suc n) x = ap (λ l. x ∷ l) (replicated n x)
+replicated (suc n) x = ap (λ m. replicate m x) (let e : suc n + 1 ≡ suc (n + 1) = omega arith in e) ∙ ap (λ l. x ∷ l) (replicated n x)
 
 all_more : {X : Type 0} (P : X → Type 0) (xs : List X) (x : X) → All P xs → P x → All P (xs ++ x ∷ [])
 all_more P xs x all here = λ k d inside. ⊎_elim

@@ -20,12 +20,22 @@ use Rattle.job_rules.specs.Doing as doing
 use Rattle.job_rules.specs.Items.{graph_of}
 use Rattle.job_rules.specs.Words.{Answer}
 use Rattle.job_preparing.specs.CompileTasks.{IsReadyWith}
+use Rattle.job_preparing.specs.Handing.{without_trace}
 use Rattle.job_preparing.specs.Slim.{slim_firing, slim_left, slim_one}
 
 sets_kept : (cs : List Configuration) (left : List Configured) → values_set cs (slim_left left) ≡ values_set cs left
 sets_kept [] left = refl
 sets_kept (c ∷ cs) [] = refl
 sets_kept (c ∷ cs) (one ∷ left) = ap (λ (l : List (ℕ × ℤ)). zip (sets_of c.body) one.sets ++ l) (sets_kept cs left)
+
+sets_bare : (cs : List Configuration) (left : List Configured) → values_set cs (map without_trace left) ≡ values_set cs left
+sets_bare [] left = refl
+sets_bare (c ∷ cs) [] = refl
+sets_bare (c ∷ cs) (one ∷ left) = ap (λ (l : List (ℕ × ℤ)). zip (sets_of c.body) one.sets ++ l) (sets_bare cs left)
+
+-- the chosen values don't depend on traces
+pub chosen_bare : (g : Graph) (left : List Configured) → chosen_values g (map without_trace left) ≡ chosen_values g left
+chosen_bare g left = ap (λ sets. chosen_from sets 0 g.params) (sets_bare (configurations g) left)
 
 module _ (graphs : List Graph) (g : Graph) (firing : Firing) (left : List Configured) where
   chosen_kept : chosen_values g (slim_left left) ≡ chosen_values g left

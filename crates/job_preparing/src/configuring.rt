@@ -202,9 +202,10 @@ impl Configuring {
         ensures { self.new ≡ record self.old { marks = slice_set self.old.marks c (Done (answer_of (end_of end))) } }
     {
         let n = c as usize;
+        let stage = mem::replace(&mut self.stages[n], Stage::Calls);
         match end {
             Ok(given) => {
-                let line = line_of(mem::replace(&mut self.stages[n], Stage::Calls));
+                let line = line_of(stage);
                 self.stages[n] = keep(
                     self.alloc,
                     given,

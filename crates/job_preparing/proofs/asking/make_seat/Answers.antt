@@ -48,5 +48,6 @@ returns-in-Config-clause-stands c =
     ok_more _ Q c.kernel_seat.result
     (λ s stands. λ one trace.
     let P : Option (Task Firing words.Work) → Type 0 = λ t. StandsRight G t (config_rates G firing c.args.number) s.stage s.frame one trace in
-    subst P (sym task) (stands (config_rates G firing c.args.number) one trace))
+    let R : List Graph → Type 0 = λ gs. StandsRight gs (Some (Work (kernel_work gs g firing c.args.number c.args.place c.index-items-place.result.name c.in-Config.kernel (length c.items-in-Config-2.result.now) (length c.items-in-Config-3.result.now)))) (config_rates G firing c.args.number) s.stage s.frame one trace in
+    subst P (sym task) (subst R c.items-in-Config.ensures (stands (config_rates G firing c.args.number) one trace)))
     c.kernel_seat.ensures.waits
