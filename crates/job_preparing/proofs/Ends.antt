@@ -1,5 +1,5 @@
 -- How compilations end, and that they have one end.
-use Rattle.std.proofs.Common.{◌≡◌, ℕ, ℤ, List, slice_get, Option, Some, None, Result, Ok, Err, refl, sym, ap, ◌∙◌, subst, inl, inr}
+use Rattle.std.proofs.Common.{◌≡◌, ℕ, ℤ, List, [], ◌∷◌, slice_get, Option, Some, None, Result, Ok, Err, refl, sym, ap, ◌∙◌, subst, inl, inr}
 use Rattle.std.specs.Prelude.{◌⊎◌}
 use Rattle.std.specs.Arc.{arc_value}
 use Rattle.sdf_level.specs.View.{LevelView}
@@ -8,6 +8,9 @@ use Rattle.level_schedule.specs.Schedules.{IsScheduled}
 use Rattle.level_schedule.specs.declared.scheduling.LevelSchedule.{LevelSchedule}
 use Rattle.param_resolver.specs.declared.level_set.LevelSet.{LevelSet}
 use Rattle.pisdf_model.specs.declared.graph.Graph.{Graph}
+use Rattle.param_resolver.specs.LevelOf.{level_faults}
+use Rattle.param_resolver.specs.Refusal as part
+use Rattle.pisdf_meaning.specs.Causes.{part_cause, unless_refused}
 use Rattle.pisdf_meaning.specs.Endings.{Then}
 use Rattle.pisdf_meaning.specs.Preparing.{Schedules, level_in, rated, resolved}
 use Rattle.pisdf_meaning.specs.TopLevel.{IsLevelSet}
@@ -118,6 +121,25 @@ module _ (graphs : List Graph) (firing : Firing) (left : List Configured) where
         let P : Graph → Type 0 = λ x. LeadsToSchedule graphs x firing left is.end in
         let Q : Result LevelSchedule Refusal → Type 0 = λ r. LeadsToSchedule graphs g firing left r in
         subst Q end_is (subst P same is.leads)
+
+    -- a refusal stands at the firing's path
+    at_path : (faults : List part.Refusal) (values : List ℤ) (refusal : Refusal) → unless_refused graphs g firing.path faults values ≡ Err refusal → refusal.path ≡ firing.path
+    at_path [] values refusal e = absurd (cc)
+    at_path (fault ∷ faults) values refusal e =
+        let own : Refusal = record { path = firing.path; cause = part_cause graphs (Some g) fault } in
+        let same : own ≡ refusal = cc in
+        sym (ap (λ (r : Refusal). r.path) same)
+
+    schedule_path : (values : List ℤ) (r : Result (List ℤ) Refusal) (refusal : Refusal) → ((x : Refusal) → r ≡ Err x → x.path ≡ firing.path) → Then OfLevel r (Err refusal) → refusal.path ≡ firing.path
+    schedule_path values (Ok v) refusal at is = ap (λ (r : Refusal). r.path) is.2
+    schedule_path values (Err other) refusal at is = let same : refusal ≡ other = cc in ap (λ (r : Refusal). r.path) same ∙ at other refl
+
+    values_path : (r : Result (List ℤ) Refusal) (refusal : Refusal) → ((x : Refusal) → r ≡ Err x → x.path ≡ firing.path) → Then OfValues r (Err refusal) → refusal.path ≡ firing.path
+    values_path (Ok v) refusal at is = schedule_path v (rated graphs g firing v) refusal (λ x e. at_path (level_faults graphs g v) v x e) is
+    values_path (Err other) refusal at is = let same : refusal ≡ other = cc in ap (λ (r : Refusal). r.path) same ∙ at other refl
+
+    pub refusal_path : (refusal : Refusal) → doing.IsCompiled graphs firing left (words.Refuses refusal) → refusal.path ≡ firing.path
+    refusal_path refusal is = values_path (resolved graphs g firing left) refusal (λ x e. at_path _ _ x e) (err_leads refusal is)
 
     both_ways : (workers : ℕ) (c : Compilation) (set : LevelSet) (values : List ℤ) (refusal : Refusal) → IsReadyWith graphs workers firing left c set values → doing.IsCompiled graphs firing left (words.Refuses refusal) → ⊥
     both_ways workers c set values refusal ready is =

@@ -3,7 +3,7 @@ use Rattle.std.proofs.Common.{◌≡◌, ℕ, ◌+◌, ◌<◌, ◌≤◌, ℤ, 
 use Rattle.std.specs.Prelude.{Vec, vec_capacity}
 use Rattle.std.specs.Global.{Global}
 use Rattle.std.specs.declared.snapshot.Snapshot.{Snapshot}
-use Rattle.std.proofs.lemmas.List.{length-map, map-set}
+use Rattle.std.proofs.lemmas.List.{length-map, map-set, set-get_or}
 use Rattle.std.proofs.lemmas.Option.{slice_get_within}
 use Rattle.split_block.specs.View.{LeasePlace}
 use Rattle.kernel_gate.specs.Leased.{AreWhole}
@@ -28,7 +28,7 @@ use Rattle.job_rules.specs.Items.{graph_of}
 use Rattle.job_rules.specs.Words as words
 use Rattle.job_rules.specs.Words.{Answer}
 use Rattle.job_preparing.specs.Ending.{IsKeptAs}
-use Rattle.job_preparing.specs.Handing.{EndSuits, IsFrameFor, SuitsCall, answer_with, given_of, lent_at, mark_at}
+use Rattle.job_preparing.specs.Handing.{IsFrameFor, ItemMarks, Lent, SuitsCall, answer_with, given_of, lent_at, mark_at}
 use Rattle.job_preparing.specs.Stages.{lent_of, line_in, mark_of, spare_in}
 use Rattle.job_preparing.specs.Standing.{HasSpare, IsCalled, IsLeft, IsOut, IsOwn, Keeps, StandsRight, nothing}
 use Rattle.job_preparing.specs.View.{ConfiguringView, IsOfferedCall, IsOfferedWork, task, task_of}
@@ -79,6 +79,17 @@ kept_lent given (Open told line) kept = absurd kept
 kept_lent given (Gave told) kept = refl
 kept_lent given (Refused refusal) kept = absurd kept
 
+abbrev pub the_view : Graphs → Firing → ItemMarks → Lent → ConfiguringView
+the_view graphs firing marks lent = record { graphs = graphs; firing = firing; marks = marks; lent = lent }
+
+pub open_lent : (s : Stage) (job : Firing) → mark_of s ≡ mark.Open job → lent_of s ≡ None
+open_lent (Fires spare) job e = refl
+open_lent Calls job e = refl
+open_lent (Busy told spare) job e = absurd (cc)
+open_lent (Open told line) job e = refl
+open_lent (Gave told) job e = refl
+open_lent (Refused refusal) job e = refl
+
 -- ---- the answer of a kernel
 
 module _ (t : Option (Task Firing words.Work)) (spare : Spare) (has : HasSpare t spare) (frame : FrameView) where
@@ -93,7 +104,7 @@ module _ (t : Option (Task Firing words.Work)) (spare : Spare) (has : HasSpare t
       ∙ ap (λ k. words.Refuses record { path = spare.path; cause = cause.Kernel spare.name k fault.code }) has.turn_is
 
 module _ (graphs : Graphs) (firing : Firing) (early : EarlyView) (places : List ℕ) (stages : List Stage) (frames : List (Option FrameView)) (left : List Configured) (traces : List (List TraceRow)) (kept : Keeps graphs firing early places stages frames left traces)
-    (n : ℕ) (s : Stage) (is : slice_get stages n ≡ Some s) where
+    (n : ℕ) (s : Stage) (is : slice_get stages n ≡ Some s) (between : Stage) where
   abbrev view : ConfiguringView
   view = record { graphs = graphs; firing = firing; marks = map mark_of stages; lent = map lent_of stages }
 
@@ -102,11 +113,39 @@ module _ (graphs : Graphs) (firing : Firing) (early : EarlyView) (places : List 
 
   -- ---- marks after a write
 
-  pub marks_after : (later : Stage) (m : Mark Firing Answer) → mark_of later ≡ m → map mark_of (set (set stages n Calls) n later) ≡ set (map mark_of stages) n m
-  marks_after later m e = ap (map mark_of) (set_twice stages n Calls later) ∙ map-set mark_of stages n later ∙ ap (λ x. set (map mark_of stages) n x) e
+  pub marks_after : (later : Stage) (m : Mark Firing Answer) → mark_of later ≡ m → map mark_of (set (set stages n between) n later) ≡ set (map mark_of stages) n m
+  marks_after later m e = ap (map mark_of) (set_twice stages n between later) ∙ map-set mark_of stages n later ∙ ap (λ x. set (map mark_of stages) n x) e
 
-  pub lent_after : (later : Stage) (p : Option Places) → lent_of later ≡ p → map lent_of (set (set stages n Calls) n later) ≡ set (map lent_of stages) n p
-  lent_after later p e = ap (map lent_of) (set_twice stages n Calls later) ∙ map-set lent_of stages n later ∙ ap (λ x. set (map lent_of stages) n x) e
+  pub lent_after : (later : Stage) (p : Option Places) → lent_of later ≡ p → map lent_of (set (set stages n between) n later) ≡ set (map lent_of stages) n p
+  lent_after later p e = ap (map lent_of) (set_twice stages n between later) ∙ map-set lent_of stages n later ∙ ap (λ x. set (map lent_of stages) n x) e
+
+  -- the view then, for whoever knows what it was
+  pub both_after : (old : ConfiguringView) → view ≡ old → (later : Stage) (m : Mark Firing Answer) (p : Option Places) → mark_of later ≡ m → lent_of later ≡ p →
+      the_view graphs firing (map mark_of (set (set stages n between) n later)) (map lent_of (set (set stages n between) n later)) ≡ the_view old.graphs old.firing (set old.marks n m) (set old.lent n p)
+  both_after old was later m p e f =
+      ap (λ l. the_view graphs firing l (map lent_of (set (set stages n between) n later))) (marks_after later m e)
+      ∙ ap (λ l. the_view graphs firing (set (map mark_of stages) n m) l) (lent_after later p f)
+      ∙ ap (λ (v : ConfiguringView). the_view v.graphs v.firing (set v.marks n m) (set v.lent n p)) was
+
+  -- where nothing was lent before and after
+  nothing_at : lent_of s ≡ None → set (map lent_of stages) n None ≡ map lent_of stages
+  nothing_at none =
+      let at : get_or (map lent_of stages) n None ≡ None = image_at lent_of stages n s None is ∙ none in
+      ap (λ x. set (map lent_of stages) n x) (sym at) ∙ set-get_or (map lent_of stages) n None
+
+  pub marks_only : (old : ConfiguringView) → view ≡ old → lent_of s ≡ None → (later : Stage) (m : Mark Firing Answer) → mark_of later ≡ m → lent_of later ≡ None →
+      the_view graphs firing (map mark_of (set (set stages n between) n later)) (map lent_of (set (set stages n between) n later)) ≡ the_view old.graphs old.firing (set old.marks n m) old.lent
+  marks_only old was none later m e f =
+      ap (λ l. the_view graphs firing l (map lent_of (set (set stages n between) n later))) (marks_after later m e)
+      ∙ ap (λ l. the_view graphs firing (set (map mark_of stages) n m) l) (lent_after later None f ∙ nothing_at none)
+      ∙ ap (λ (v : ConfiguringView). the_view v.graphs v.firing (set v.marks n m) v.lent) was
+
+  pub opened_only : (old : ConfiguringView) → view ≡ old → lent_of s ≡ None → (later : Stage) (m : Mark Firing Answer) → mark_of later ≡ m → lent_of later ≡ None →
+      the_view graphs firing (map mark_of (set stages n later)) (map lent_of (set stages n later)) ≡ the_view old.graphs old.firing (set old.marks n m) old.lent
+  opened_only old was none later m e f =
+      ap (λ l. the_view graphs firing l (map lent_of (set stages n later))) (map-set mark_of stages n later ∙ ap (λ x. set (map mark_of stages) n x) e)
+      ∙ ap (λ l. the_view graphs firing (set (map mark_of stages) n m) l) (map-set lent_of stages n later ∙ ap (λ x. set (map lent_of stages) n x) f ∙ nothing_at none)
+      ∙ ap (λ (v : ConfiguringView). the_view v.graphs v.firing (set v.marks n m) v.lent) was
 
   -- ---- a claim
 
@@ -134,14 +173,14 @@ module _ (graphs : Graphs) (firing : Firing) (early : EarlyView) (places : List 
       whole : AreWhole frame.places
       whole = subst IsOwn frame_is (kept.own n None (let a = kept.one_stage in let b = kept.one_frame in let i = inside in omega arith))
 
-      pub claim_keeps : (spare : Spare) → spare_in s ≡ Some spare → (told : Told) → told.frame ≡ frame → Keeps graphs firing early places (set (set stages n Calls) n (Busy told spare)) (set frames n None) left traces
+      pub claim_keeps : (spare : Spare) → spare_in s ≡ Some spare → (told : Told) → told.frame ≡ frame → Keeps graphs firing early places (set (set stages n between) n (Busy told spare)) (set frames n None) left traces
       claim_keeps spare spare_is told told_is =
           let own_spare : w.spare ≡ spare = (let e : Some w.spare ≡ Some spare = sym (ap spare_in w.stage_is) ∙ spare_is in cc) in
           let first : IsOut (task view n) w.spare w.waits.frame.places = record { has = w.waits.has; outputs = w.waits.outputs; whole = subst (λ (f : FrameView). AreWhole f.places) (sym own_frame) whole } in
           let P : Spare → Type 0 = λ x. IsOut (task view n) x w.waits.frame.places in
           let Q : FrameView → Type 0 = λ f. IsOut (task view n) spare f.places in
           let R : List Stage → Type 0 = λ l. Keeps graphs firing early places l (set frames n None) left traces in
-          subst R (sym (set_twice stages n Calls (Busy told spare))) (put_stage graphs firing early places stages frames left traces kept n inside (Busy told spare) None tt (subst Q (own_frame ∙ sym told_is) (subst P own_spare first)))
+          subst R (sym (set_twice stages n between (Busy told spare))) (put_stage graphs firing early places stages frames left traces kept n inside (Busy told spare) None tt (subst Q (own_frame ∙ sym told_is) (subst P own_spare first)))
 
   -- ---- a call
 
@@ -177,12 +216,12 @@ module _ (graphs : Graphs) (firing : Firing) (early : EarlyView) (places : List 
           omega arith
 
       pub given_keeps : (given : JobGiven) (stage : Stage) (one : Configured) (trace : List TraceRow) → given ≡ kernel_gives frame → lengths frame.outputs ≡ map (λ (p : LeasePlace). p.len) frame.places.outputs → IsKeptAs given stage → one ≡ kept_one given → trace ≡ given.trace →
-          Keeps graphs firing early places (set (set stages n Calls) n stage) frames (set left n one) (set traces n trace)
+          Keeps graphs firing early places (set (set stages n between) n stage) frames (set left n one) (set traces n trace)
       given_keeps given stage one trace given_is long kept_as one_is trace_is =
           let rates : lengths given.outs ≡ config_rates graphs.graphs firing n =
               ap (λ (x : JobGiven). lengths x.outs) given_is ∙ long ∙ out.outputs ∙ lens_are graphs.graphs (graph_of graphs.graphs firing) firing n out.has.spot out.has.asked out.has.task_is in
           let R : List Stage → Type 0 = λ l. Keeps graphs firing early places l frames (set left n one) (set traces n trace) in
-          subst R (sym (set_twice stages n Calls stage))
+          subst R (sym (set_twice stages n between stage))
           (put_left graphs firing early places stages frames left traces kept n inside stage one trace (kept_stands graphs.graphs (task view n) (config_rates graphs.graphs firing n) given stage (get_or frames n None) one trace kept_as one_is trace_is rates))
 
       pub given_mark : (given : JobGiven) (stage : Stage) (done : Unit {0}) → given ≡ kernel_gives frame → IsKeptAs given stage → mark_of stage ≡ mark.Done (answer_with (task view n) frame (Ok done))
@@ -193,10 +232,10 @@ module _ (graphs : Graphs) (firing : Firing) (early : EarlyView) (places : List 
       refused_mark fault = ap mark.Done (sym (answer_refused (task view n) spare out.has frame fault))
 
   -- an actor that was refused
-  pub refused_keeps : (refusal : Refusal) → Keeps graphs firing early places (set (set stages n Calls) n (Refused refusal)) frames left traces
+  pub refused_keeps : (refusal : Refusal) → Keeps graphs firing early places (set (set stages n between) n (Refused refusal)) frames left traces
   refused_keeps refusal =
       let R : List Stage → Type 0 = λ l. Keeps graphs firing early places l frames left traces in
-      subst R (sym (set_twice stages n Calls (Refused refusal))) (put_alone graphs firing early places stages frames left traces kept n inside (Refused refusal) tt)
+      subst R (sym (set_twice stages n between (Refused refusal))) (put_alone graphs firing early places stages frames left traces kept n inside (Refused refusal) tt)
 
   pub refused_keeps_once : (refusal : Refusal) → Keeps graphs firing early places (set stages n (Refused refusal)) frames left traces
   refused_keeps_once refusal = put_alone graphs firing early places stages frames left traces kept n inside (Refused refusal) tt
@@ -204,6 +243,9 @@ module _ (graphs : Graphs) (firing : Firing) (early : EarlyView) (places : List 
   -- ---- the end of a call
 
   module _ (job : Firing) (open_at : mark_at view.marks n ≡ mark.Open job) where
+    pub open_mark : mark_of s ≡ mark.Open job
+    open_mark = sym (image_at mark_of stages n s mark.Free is) ∙ open_at
+
     o : IsOpenAt graphs.graphs (task view n) (config_rates graphs.graphs firing n) s job
     o = open_stage graphs.graphs (task view n) (config_rates graphs.graphs firing n) s (get_or frames n None) (get_or left n nothing) (get_or traces n []) job (kept.right n s is)
         (sym (image_at mark_of stages n s mark.Free is) ∙ open_at)
@@ -222,8 +264,8 @@ module _ (graphs : Graphs) (firing : Firing) (early : EarlyView) (places : List 
           omega arith
 
       pub call_given_keeps : (given : JobGiven) (stage : Stage) (one : Configured) (trace : List TraceRow) → SuitsCall graphs.graphs job (given_of given) → IsKeptAs given stage → one ≡ kept_one given → trace ≡ given.trace →
-          Keeps graphs firing early places (set (set stages n Calls) n stage) frames (set left n one) (set traces n trace)
+          Keeps graphs firing early places (set (set stages n between) n stage) frames (set left n one) (set traces n trace)
       call_given_keeps given stage one trace suits kept_as one_is trace_is =
           let R : List Stage → Type 0 = λ l. Keeps graphs firing early places l frames (set left n one) (set traces n trace) in
-          subst R (sym (set_twice stages n Calls stage))
+          subst R (sym (set_twice stages n between stage))
           (put_left graphs firing early places stages frames left traces kept n inside stage one trace (kept_stands graphs.graphs (task view n) (config_rates graphs.graphs firing n) given stage (get_or frames n None) one trace kept_as one_is trace_is (suits.outs ∙ called.rates_are)))

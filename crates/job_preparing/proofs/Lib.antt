@@ -11,3 +11,4 @@ pub mod Seating
 pub mod Events
 pub mod Readied
 pub mod Started
+pub mod Marked

@@ -15,12 +15,13 @@ use Rattle.pisdf_meaning.specs.Endings.{Then}
 use Rattle.pisdf_meaning.specs.Preparing.{Schedules, chosen_from, chosen_values, given_values, level_in, rated, resolved, values_set}
 use Rattle.pisdf_meaning.specs.declared.firing.Configured.{Configured}
 use Rattle.pisdf_meaning.specs.declared.firing.Firing.{Firing}
+use Rattle.pisdf_meaning.specs.declared.outcome.TraceRow.{TraceRow}
 use Rattle.pisdf_meaning.specs.declared.refusal.Refusal.{Refusal}
 use Rattle.job_rules.specs.Doing as doing
 use Rattle.job_rules.specs.Items.{graph_of}
 use Rattle.job_rules.specs.Words.{Answer}
 use Rattle.job_preparing.specs.CompileTasks.{IsReadyWith}
-use Rattle.job_preparing.specs.Handing.{without_trace}
+use Rattle.job_preparing.specs.Handing.{with_traces, without_trace}
 use Rattle.job_preparing.specs.Slim.{slim_firing, slim_left, slim_one}
 
 sets_kept : (cs : List Configuration) (left : List Configured) → values_set cs (slim_left left) ≡ values_set cs left
@@ -32,6 +33,12 @@ sets_bare : (cs : List Configuration) (left : List Configured) → values_set cs
 sets_bare [] left = refl
 sets_bare (c ∷ cs) [] = refl
 sets_bare (c ∷ cs) (one ∷ left) = ap (λ (l : List (ℕ × ℤ)). zip (sets_of c.body) one.sets ++ l) (sets_bare cs left)
+
+-- nor does what is slim depend on traces
+pub slim_traced : (left : List Configured) (traces : List (List TraceRow)) → slim_left (with_traces left traces) ≡ slim_left left
+slim_traced [] traces = refl
+slim_traced (one ∷ left) [] = ap (λ l. slim_one one ∷ l) (slim_traced left [])
+slim_traced (one ∷ left) (t ∷ traces) = ap (λ l. slim_one one ∷ l) (slim_traced left traces)
 
 -- the chosen values don't depend on traces
 pub chosen_bare : (g : Graph) (left : List Configured) → chosen_values g (map without_trace left) ≡ chosen_values g left

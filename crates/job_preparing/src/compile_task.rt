@@ -2,7 +2,7 @@
 ghost use Rattle.std.specs.Prelude.{◌≡◌};
 
 use crate::compiling::{CompileEnd, Made, make};
-use job_compiler::Compiled;
+use job_compiler::{Compiled, one_compilation};
 use param_resolver::Early;
 use pisdf_meaning::{Configured, Firing, PlainFault, TraceRow};
 use pisdf_model::Graphs;
@@ -72,6 +72,7 @@ impl CompileTask {
         ensures only_ready { (c : Compilation) (set : SetOfLevel) (values : Seq ℤ) → IsReadyWith self.now.graphs.graphs self.now.workers self.now.firing self.now.left c set values → IsReadyAs c set values result ⊎ (result ≡ CompileEnd.Memory) }
         ensures only_refused { (cause : Cause) → doing.IsCompiled self.now.graphs.graphs self.now.firing self.now.left (words.Refuses record { path = self.now.firing.path; cause = cause }) → (result ≡ CompileEnd.Refused cause) ⊎ (result ≡ CompileEnd.Memory) }
     {
+        one_compilation();
         let made = make(
             alloc,
             &self.graphs,

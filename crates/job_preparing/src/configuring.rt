@@ -5,7 +5,7 @@ use crate::ending::{keep, kernel_given};
 use crate::handing::{JobGiven, Left};
 use crate::slim::{slim_firing, slim_left};
 use crate::stage::{
-    Stage, all_finished, all_gave, first_call, first_kernel, first_refused, line_of, spare_of,
+    Stage, all_finished, all_gave, first_call, first_kernel, first_refused, line_of, put, spare_of,
 };
 use crate::starting::spend_frames;
 use crate::told::told_of;
@@ -206,17 +206,16 @@ impl Configuring {
         match end {
             Ok(given) => {
                 let line = line_of(stage);
-                self.stages[n] = keep(
+                let next = keep(
                     self.alloc,
                     given,
                     line,
                     &mut self.left[n],
                     &mut self.traces[n],
                 );
+                put(&mut self.stages, n, next);
             }
-            Err(refusal) => {
-                self.stages[n] = Stage::Refused(refusal);
-            }
+            Err(refusal) => put(&mut self.stages, n, Stage::Refused(refusal)),
         }
     }
 

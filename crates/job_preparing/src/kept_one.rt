@@ -20,10 +20,24 @@ fn same_rates(rates: &[u32], other: &[u32]) -> bool
     rates == other
 }
 
+fn same_link(link: &Link, other: &Link) -> bool
+    ensures { IsTrue result ↔ (link.now ≡ other.now) }
+{
+    link == other
+}
+
 fn same_links(links: &[Link], other: &[Link]) -> bool
     ensures { IsTrue result ↔ (links.now ≡ other.now) }
 {
-    links == other
+    if links.len() != other.len() {
+        return false;
+    }
+    for n in 0..links.len() {
+        if !same_link(&links[n], &other[n]) {
+            return false;
+        }
+    }
+    true
 }
 
 /// Whether two levels are the same.

@@ -1,5 +1,5 @@
 // How far configuration actors are.
-ghost use Rattle.std.specs.Prelude.{◌≡◌, Some, IsSome, position};
+ghost use Rattle.std.specs.Prelude.{◌≡◌, ◌<◌, Some, IsSome, length, position, slice_set};
 ghost use Rattle.std.specs.List.{list_all};
 ghost use Rattle.job_preparing.specs.Stages.{has_given, is_call, is_done, is_kernel, line_in, or_else, refusal_in, refusal_of, spare_in};
 
@@ -66,6 +66,14 @@ pub(crate) fn line_of(stage: Stage) -> Vec<i64>
         Stage::Gave(_) => unreachable!(),
         Stage::Refused(_) => unreachable!(),
     }
+}
+
+/// Writes the stage of the actor with this number.
+pub(crate) fn put(stages: &mut Vec<Stage>, number: usize, stage: Stage)
+    requires { number < length stages.old.items }
+    ensures { stages.new.items ≡ slice_set stages.old.items number stage }
+{
+    stages[number] = stage;
 }
 
 fn fires_kernel(stage: &Stage) -> bool
