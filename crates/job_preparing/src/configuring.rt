@@ -215,7 +215,10 @@ impl Configuring {
                 );
                 put(&mut self.stages, n, next);
             }
-            Err(refusal) => put(&mut self.stages, n, Stage::Refused(refusal)),
+            Err(refusal) => {
+                drop(stage);
+                put(&mut self.stages, n, Stage::Refused(refusal));
+            }
         }
     }
 

@@ -3,6 +3,8 @@ use Rattle.std.specs.Arc.{arc_value}
 use Rattle.pisdf_model.specs.declared.graph.Graphs.{Graphs}
 use Rattle.pisdf_meaning.specs.declared.firing.Configured.{Configured}
 use Rattle.pisdf_meaning.specs.declared.firing.Firing.{Firing}
+use Rattle.pisdf_meaning.specs.Endings.{IfRefused}
+use Rattle.pisdf_meaning.specs.declared.refusal.PlainFault.{PlainFault}
 use Rattle.pisdf_meaning.specs.declared.refusal.Refusal.{Refusal}
 use Rattle.job_rules.specs.Doing as doing
 use Rattle.job_rules.specs.Items.{graph_of}
@@ -52,7 +54,9 @@ refused_end : (c : goal.After-drop-refusal) → IsEndOf c.args.self.now.graphs.g
 refused_end c =
     let P : Graphs → Firing → List Configured → Type 0 = λ gs f l. doing.IsCompiled gs.graphs f l (words.Refuses c.in-Err-Refused.refusal) in
     let Q : CompileView → Type 0 = λ v. doing.IsCompiled v.graphs.graphs v.firing v.left (words.Refuses c.in-Err-Refused.refusal) in
-    let slim = for_all c.self.inside c.self.invariant c.args.self.now c.self.view_is P c.deref.result.now c.deref-3.result.now c.deref.ensures c.deref-3.ensures.value c.in-Err-Refused.ensures.refused in
+    let S : Refusal → Type 0 = λ r. doing.IsCompiled c.deref.result.now.graphs c.self.inside.firing c.deref-3.result.now (words.Refuses r) in
+    let made = subst (λ (x : PlainFault). IfRefused S x) c.in-Err-Refused.field-0-is c.in-Err-Refused.ensures.refused in
+    let slim = for_all c.self.inside c.self.invariant c.args.self.now c.self.view_is P c.deref.result.now c.deref-3.result.now c.deref.ensures c.deref-3.ensures.value made in
     let own = subst Q c.self.view_is (compiled_kept (task_view c.self.inside).graphs.graphs (task_view c.self.inside).firing (task_view c.self.inside).left (words.Refuses c.in-Err-Refused.refusal) slim) in
     let path = refusal_path c.args.self.now.graphs.graphs c.args.self.now.firing c.args.self.now.left (here c.self.inside c.self.invariant c.args.self.now c.self.view_is) c.in-Err-Refused.refusal own in
     let R : List ℕ → Type 0 = λ p. doing.IsCompiled c.args.self.now.graphs.graphs c.args.self.now.firing c.args.self.now.left (words.Refuses record { path = p; cause = c.in-Err-Refused.refusal.cause }) in
