@@ -47,6 +47,11 @@ invariant_of-self c =
     subst P (sym c.put.ensures)
     (call_given_keeps (arc_value c.self.inside.graphs) c.self.inside.firing (arc_value c.self.inside.early) c.self.inside.places.items c.self.inside.stages.items c.self.inside.frames.items c.self.inside.left.items c.self.inside.traces.items c.self.invariant c.args.c c.index_mut.result.now (stage_is c.self.inside c.self.invariant c.args.c c.args.self.now c.self.view_is c.requires.open.0 c.requires.open.1 c.index_mut.result.now c.index_mut.ensures.value) c.replace-stage.new.dest c.requires.open.0 (is_open c.self.inside c.self.invariant c.args.c c.args.self.now c.self.view_is c.requires.open.0 c.requires.open.1 c.index_mut.result.now c.index_mut.ensures.value) c.line_of-line.result (ap line_in (sym c.replace-stage.ensures.value) ∙ c.line_of-line.ensures) c.in-Ok.given c.keep-next.result c.keep-next.new.left c.keep-next.new.trace (suits_own c.self.inside c.self.invariant c.args.c c.args.self.now c.self.view_is c.requires.open.0 c.requires.open.1 c.index_mut.result.now c.index_mut.ensures.value c.in-Ok.given c.args.end c.in-Ok.is c.requires.open.2) c.keep-next.ensures.stage c.keep-next.ensures.left c.keep-next.ensures.trace)
 
+pub invariant_of-self-in-Err : goal.invariant_of-self-in-Err
+invariant_of-self-in-Err c =
+    let P : List Stage → Type 0 = λ l. Keeps (arc_value c.self.inside.graphs) c.self.inside.firing (arc_value c.self.inside.early) c.self.inside.places.items l c.self.inside.frames.items c.self.inside.left.items c.self.inside.traces.items in
+    subst P (sym c.put-in-Err.ensures) (refused_keeps (arc_value c.self.inside.graphs) c.self.inside.firing (arc_value c.self.inside.early) c.self.inside.places.items c.self.inside.stages.items c.self.inside.frames.items c.self.inside.left.items c.self.inside.traces.items c.self.invariant c.args.c c.index_mut.result.now (stage_is c.self.inside c.self.invariant c.args.c c.args.self.now c.self.view_is c.requires.open.0 c.requires.open.1 c.index_mut.result.now c.index_mut.ensures.value) c.replace-stage.new.dest c.in-Err.refusal)
+
 pub returns-in-Ok : goal.returns-in-Ok
 returns-in-Ok c =
     let mark_is : mark_of c.keep-next.result ≡ mark.Done (words.answer_of (end_of c.args.end)) =
