@@ -219,7 +219,7 @@ module _ (graphs : Graphs) (firing : Firing) (early : EarlyView) (places : List 
           Keeps graphs firing early places (set (set stages n between) n stage) frames (set left n one) (set traces n trace)
       given_keeps given stage one trace given_is long kept_as one_is trace_is =
           let rates : lengths given.outs ≡ config_rates graphs.graphs firing n =
-              ap (λ (x : JobGiven). lengths x.outs) given_is ∙ long ∙ out.outputs ∙ lens_are graphs.graphs (graph_of graphs.graphs firing) firing n out.has.spot out.has.asked out.has.task_is in
+          ap (λ (x : JobGiven). lengths x.outs) given_is ∙ long ∙ out.outputs ∙ lens_are graphs.graphs (graph_of graphs.graphs firing) firing n out.has.spot out.has.asked out.has.task_is in
           let R : List Stage → Type 0 = λ l. Keeps graphs firing early places l frames (set left n one) (set traces n trace) in
           subst R (sym (set_twice stages n between stage))
           (put_left graphs firing early places stages frames left traces kept n inside stage one trace (kept_stands graphs.graphs (task view n) (config_rates graphs.graphs firing n) given stage (get_or frames n None) one trace kept_as one_is trace_is rates))

@@ -80,7 +80,7 @@ all_left rates v i (x ∷ cs) (s ∷ stages) (one ∷ left) (trace ∷ traces) a
     let parts = first_of_two (has_given s) (list_all has_given stages) gave in
     let here : leaves (v i) ≡ Some (joined one trace) = ap leaves (answered_here v i s stages all) ∙ leaves_so (rates (i + 0)) s one trace (kept 0 s refl) parts.0 in
     let later = all_left rates v (i + 1) cs stages left traces (omega arith) (omega arith) (omega arith) (answered_rest v i s stages all)
-        (λ j y is. let P : ℕ → Type 0 = λ k. KeptOf (rates k) y (get_or left j nothing) (get_or traces j []) in subst P (let e : i + suc j ≡ i + 1 + j = omega arith in e) (kept (suc j) y is)) parts.1 in
+    (λ j y is. let P : ℕ → Type 0 = λ k. KeptOf (rates k) y (get_or left j nothing) (get_or traces j []) in subst P (let e : i + suc j ≡ i + 1 + j = omega arith in e) (kept (suc j) y is)) parts.1 in
     ap (λ o. both o (left_from v (i + 1) cs)) here ∙ ap (λ o. both (Some (joined one trace)) o) later
 
 gives_if_left : (s : Stage) → IsSome (leaves (answered s)) → has_given s ≡ true

@@ -206,11 +206,14 @@ module _ (graphs : Graphs) (firing : Firing) (early : EarlyView) (places : List 
       let holds = is_offered n offered h.0 h.1 in
       let fails = rest n h.0 h.1 in
       true_false (sym holds ∙ fails)
-  picked (Some n) at = (kernel_offered n at.stage at.is at.passes, λ k less offered.
-      let h = stage_there k (Work offered.work) offered.task_is in
-      let holds = is_offered k offered h.0 h.1 in
-      let fails = at.before k h.0 less h.1 in
-      true_false (sym holds ∙ fails))
+  picked (Some n) at = (
+    kernel_offered n at.stage at.is at.passes,
+    λ k less offered.
+        let h = stage_there k (Work offered.work) offered.task_is in
+        let holds = is_offered k offered h.0 h.1 in
+        let fails = at.before k h.0 less h.1 in
+        true_false (sym holds ∙ fails),
+  )
 
   pub picked_call : (o : Option ℕ) → IsFirst is_call stages o → IsLeast (IsOfferedCall view) o
   picked_call None rest = λ n offered.
@@ -218,8 +221,11 @@ module _ (graphs : Graphs) (firing : Firing) (early : EarlyView) (places : List 
       let holds = is_offered_call n offered h.0 h.1 in
       let fails = rest n h.0 h.1 in
       true_false (sym holds ∙ fails)
-  picked_call (Some n) at = (call_offered n at.stage at.is at.passes, λ k less offered.
-      let h = stage_there k (Call offered.job) offered.task_is in
-      let holds = is_offered_call k offered h.0 h.1 in
-      let fails = at.before k h.0 less h.1 in
-      true_false (sym holds ∙ fails))
+  picked_call (Some n) at = (
+    call_offered n at.stage at.is at.passes,
+    λ k less offered.
+        let h = stage_there k (Call offered.job) offered.task_is in
+        let holds = is_offered_call k offered h.0 h.1 in
+        let fails = at.before k h.0 less h.1 in
+        true_false (sym holds ∙ fails),
+  )

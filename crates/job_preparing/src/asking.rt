@@ -50,11 +50,7 @@ pub(crate) fn rates_at(lists: &[List<u32>], place: usize) -> &[u32]
 }
 
 /// What is known of the graph of a firing before its configuration actors fire.
-pub(crate) fn known(
-    alloc: Global,
-    graphs: &Graphs,
-    firing: &Firing,
-) -> Result<Early, AllocError>
+pub(crate) fn known(alloc: Global, graphs: &Graphs, firing: &Firing) -> Result<Early, AllocError>
     requires in_range { InRange graphs.now }
     requires well_formed { WellFormed graphs.now }
     requires fit { IsFit graphs.now.graphs firing.now }

@@ -83,11 +83,13 @@ impl CompileTask {
             &self.kept,
         );
         match made {
-            Ok(Made {
-                compiled,
-                set,
-                values,
-            }) => CompileEnd::Ready {
+            Ok(
+                Made {
+                    compiled,
+                    set,
+                    values,
+                },
+            ) => CompileEnd::Ready {
                 compiled,
                 set,
                 values,

@@ -50,6 +50,8 @@ pub returns-clause-inherited : goal.returns-clause-inherited
 returns-clause-inherited c =
     let P : Firing → Type 0 = λ d. HasInherited c.args.graphs.now.graphs d in
     ok_more _ P c.config_firing.result
-    (λ d e. subst P (sym (is_called c d e)) (record { one_each = child_inherited c.args.graphs.now c.requires.in_range c.requires.well_formed c.args.firing.now c.args.graph.now c.requires.here c.args.number c.args.place c.requires.is
-    (λ place inherited inside. c.early_unfolds.ensures c.args.graphs.now place inherited c.requires.in_range c.requires.well_formed inside) c.requires.fit c.in-ConfigChild.child c.in-ConfigChild.args c.in-ConfigChild.sets (body_at c) }))
+    (λ d e. subst P (sym (is_called c d e)) (record {
+      one_each = child_inherited c.args.graphs.now c.requires.in_range c.requires.well_formed c.args.firing.now c.args.graph.now c.requires.here c.args.number c.args.place c.requires.is
+          (λ place inherited inside. c.early_unfolds.ensures c.args.graphs.now place inherited c.requires.in_range c.requires.well_formed inside) c.requires.fit c.in-ConfigChild.child c.in-ConfigChild.args c.in-ConfigChild.sets (body_at c);
+    }))
     c.config_firing.ensures

@@ -11,11 +11,11 @@ use Rattle.job_preparing.proofs.asking.config_places.Goals.{then-is_configuratio
 pub loop-place-preserved : goal.loop-place-preserved
 loop-place-preserved c =
     elim c.if-is_configuration.branch [
-      then-is_configuration+in_ok-push w ↦
+      | then-is_configuration+in_ok-push w ↦
           ap (λ (v : Vec ℕ Global). v.items) w.places-is
           ∙ step_with c.items-actors.result.now c.loop-place.place c.index-actors-place.result c.loop-place.places.items w.push.new.self.items c.loop-place-test.true c.index-actors-place.is
           (ap (λ (x : Actor). is_configuration x.body) c.index-actors-place.is ∙ sym c.is_configuration.ensures ∙ w.if-is_configuration.true) c.loop-place.invariant w.in_ok-push.ensures.items
-    | else-is_configuration w ↦
+      | else-is_configuration w ↦
           ap (λ (v : Vec ℕ Global). v.items) w.places-is ∙ step_without c.items-actors.result.now c.loop-place.place c.index-actors-place.result c.loop-place.places.items c.loop-place-test.true c.index-actors-place.is
           (ap (λ (x : Actor). is_configuration x.body) c.index-actors-place.is ∙ sym c.is_configuration.ensures ∙ w.if-is_configuration.false) c.loop-place.invariant
     ]

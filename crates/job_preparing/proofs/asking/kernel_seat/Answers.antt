@@ -13,11 +13,11 @@ use Rattle.job_preparing.proofs.asking.kernel_seat.Goals as goal
 pub returns-clause-waits : goal.returns-clause-waits
 returns-clause-waits c = λ rates one trace.
     let rates_are : c.rates_at-rates.result.now ≡ config_rates c.args.graphs.now c.args.firing.now c.args.number =
-        c.rates_at-rates.ensures ∙ ap (λ (l : List (List ℕ)). get_or l c.args.number []) (c.items.ensures ∙ ap (λ (e : EarlyView). e.outs) (c.early.view_is ∙ c.requires)) in
+    c.rates_at-rates.ensures ∙ ap (λ (l : List (List ℕ)). get_or l c.args.number []) (c.items.ensures ∙ ap (λ (e : EarlyView). e.outs) (c.early.view_is ∙ c.requires)) in
     let args_are : c.in_ok-args.args ≡ config_args c.args.graphs.now c.args.firing.now c.args.number =
-        c.in_ok-args.ensures ∙ c.tokens_at.ensures ∙ ap (λ (l : List (List ℤ)). tokens_at l c.args.number) (c.items-2.ensures ∙ ap (λ (e : EarlyView). e.args) (c.early.view_is ∙ c.requires)) in
+    c.in_ok-args.ensures ∙ c.tokens_at.ensures ∙ ap (λ (l : List (List ℤ)). tokens_at l c.args.number) (c.items-2.ensures ∙ ap (λ (e : EarlyView). e.args) (c.early.view_is ∙ c.requires)) in
     let outputs_are : lengths c.lend-frame.result.outputs ≡ config_rates c.args.graphs.now c.args.firing.now c.args.number =
-        ap lengths (c.lend-frame.ensures.outputs.cells ∙ sym c.take_back-args.ensures.outputs.cells ∙ c.in_ok-start.ensures.zeros.0) ∙ lengths_of_zeros c.rates_at-rates.result.now ∙ rates_are in
+    ap lengths (c.lend-frame.ensures.outputs.cells ∙ sym c.take_back-args.ensures.outputs.cells ∙ c.in_ok-start.ensures.zeros.0) ∙ lengths_of_zeros c.rates_at-rates.result.now ∙ rates_are in
     record {
       has = record {
         spot = record { path = c.args.firing.now.path; name = c.args.name.now; turn = 0 };

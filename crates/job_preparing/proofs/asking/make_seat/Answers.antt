@@ -25,7 +25,7 @@ pub overflow_cast-items : goal.overflow_cast-items
 overflow_cast-items c =
     let own = actor_is c.args.graph.now c.items.result.now c.args.place c.index-items-place.result c.items.ensures c.requires.is.inside c.index-items-place.is in
     let few = sets_few c.args.graphs.now c.requires.in_range c.requires.well_formed c.args.firing.now c.args.graph.now c.requires.here c.args.number c.args.place c.requires.is
-        (Config c.in-Config.kernel c.in-Config.args c.in-Config.ins c.in-Config.outs c.in-Config.sets) (ap (λ (x : Actor). x.body) own ∙ c.in-Config.is) in
+    (Config c.in-Config.kernel c.in-Config.args c.in-Config.ins c.in-Config.outs c.in-Config.sets) (ap (λ (x : Actor). x.body) own ∙ c.in-Config.is) in
     let same = ap (λ (l : List ℕ). length l) c.items-in-Config-3.ensures in
     omega arith
 
@@ -39,11 +39,11 @@ returns-in-Config-clause-stands c =
     let sets : length c.items-in-Config-3.result.now ≡ length c.in-Config.sets = ap (λ (l : List ℕ). length l) c.items-in-Config-3.ensures in
     let T : Option Configuration → Option (Task Firing words.Work) = λ o. task_of G g firing o in
     let task : T (slice_get (configurations g) c.args.number) ≡ Some (Work (kernel_work G g firing c.args.number c.args.place c.index-items-place.result.name c.in-Config.kernel (length c.items-in-Config-2.result.now) (length c.items-in-Config-3.result.now))) =
-        ap T c.requires.configuration
-        ∙ kernel_task G g firing c.args.number c.args.place c.in-Config.kernel c.in-Config.args c.in-Config.ins c.in-Config.outs c.in-Config.sets (ap (λ (x : Actor). x.body) own ∙ c.in-Config.is)
-        ∙ ap (λ (x : Actor). Some (Work (kernel_work G g firing c.args.number c.args.place x.name c.in-Config.kernel (length c.in-Config.ins) (length c.in-Config.sets)))) own
-        ∙ ap (λ (n : ℕ). Some (Work (kernel_work G g firing c.args.number c.args.place c.index-items-place.result.name c.in-Config.kernel n (length c.in-Config.sets)))) (sym ins)
-        ∙ ap (λ (n : ℕ). Some (Work (kernel_work G g firing c.args.number c.args.place c.index-items-place.result.name c.in-Config.kernel (length c.items-in-Config-2.result.now) n))) (sym sets) in
+    ap T c.requires.configuration
+    ∙ kernel_task G g firing c.args.number c.args.place c.in-Config.kernel c.in-Config.args c.in-Config.ins c.in-Config.outs c.in-Config.sets (ap (λ (x : Actor). x.body) own ∙ c.in-Config.is)
+    ∙ ap (λ (x : Actor). Some (Work (kernel_work G g firing c.args.number c.args.place x.name c.in-Config.kernel (length c.in-Config.ins) (length c.in-Config.sets)))) own
+    ∙ ap (λ (n : ℕ). Some (Work (kernel_work G g firing c.args.number c.args.place c.index-items-place.result.name c.in-Config.kernel n (length c.in-Config.sets)))) (sym ins)
+    ∙ ap (λ (n : ℕ). Some (Work (kernel_work G g firing c.args.number c.args.place c.index-items-place.result.name c.in-Config.kernel (length c.items-in-Config-2.result.now) n))) (sym sets) in
     let Q : Seat → Type 0 = λ s. (one : Configured) (trace : List TraceRow) → StandsRight G (T (slice_get (configurations g) c.args.number)) (config_rates G firing c.args.number) s.stage s.frame one trace in
     ok_more _ Q c.kernel_seat.result
     (λ s stands. λ one trace.

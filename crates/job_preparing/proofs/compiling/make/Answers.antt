@@ -41,9 +41,9 @@ returns-in_err-compiled-clause-refused c =
     let g = graph_of c.args.graphs.now.graphs c.args.firing.now in
     let resolved_is : resolved G g c.args.firing.now c.args.left.now ≡ Ok c.in_ok-values.values = sym (c.in_ok-values.ensures.values ∙ ap (λ x. resolved G x c.args.firing.now c.args.left.now) graph_is) in
     let rated_is : rated G g c.args.firing.now c.in_ok-values.values ≡ Ok c.in_ok-values.values =
-        ap (λ x. rated G x c.args.firing.now c.in_ok-values.values) (sym graph_is) ∙ ap (rated G c.index-items-firing.result c.args.firing.now) (sym c.items-2.ensures) ∙ c.in_ok-set.ensures.rated ∙ ap Ok c.items-2.ensures in
+    ap (λ x. rated G x c.args.firing.now c.in_ok-values.values) (sym graph_is) ∙ ap (rated G c.index-items-firing.result c.args.firing.now) (sym c.items-2.ensures) ∙ c.in_ok-set.ensures.rated ∙ ap Ok c.items-2.ensures in
     let level_is : c.in_ok-set.set.level ≡ level_in G g c.args.firing.now c.in_ok-values.values =
-        c.in_ok-set.ensures.set.level ∙ ap (λ x. level_in G x c.args.firing.now c.items-2.result.now) graph_is ∙ ap (level_in G g c.args.firing.now) c.items-2.ensures in
+    c.in_ok-set.ensures.set.level ∙ ap (λ x. level_in G x c.args.firing.now c.items-2.result.now) graph_is ∙ ap (level_in G g c.args.firing.now) c.items-2.ensures in
     passed_on _ c.from_residual-in_err-compiled.result c.in_err-compiled.field-0.0 c.from_residual-in_err-compiled.ensures.1
     (refused-map _ _ (λ refusal is. refused_schedule G c.args.firing.now c.args.left.now c.requires.here c.in_ok-values.values c.in_ok-set.set.level refusal resolved_is rated_is level_is
     (subst (λ (x : Graph). IsUnscheduledAs x c.args.firing.now c.in_ok-set.set.level refusal) graph_is is)) c.in_err-compiled.field-0.0 c.in_err-compiled.ensures.refused)

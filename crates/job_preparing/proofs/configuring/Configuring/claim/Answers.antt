@@ -41,7 +41,7 @@ pub unreachable-requires : goal.unreachable-requires
 unreachable-requires c =
     let f = waiting c.self.inside c.self.invariant c.args.c c.args.self.now c.self.view_is c.requires in
     let none : get_or c.self.inside.frames.items c.args.c None ≡ None =
-        sym (get_or_read c.self.inside.frames.items c.args.c c.index_mut.result.now (frames_inside c.self.inside c.self.invariant c.args.c c.args.self.now c.self.view_is c.requires) c.index_mut.ensures.value None) ∙ sym c.in-None.ensures.value in
+    sym (get_or_read c.self.inside.frames.items c.args.c c.index_mut.result.now (frames_inside c.self.inside c.self.invariant c.args.c c.args.self.now c.self.view_is c.requires) c.index_mut.ensures.value None) ∙ sym c.in-None.ensures.value in
     let e : Some f.0 ≡ None = sym f.1 ∙ none in
     cc
 
@@ -66,9 +66,9 @@ stage_is c = element c.self.inside.stages.items c.args.c c.index_mut-2.result.no
 pub invariant_of-self : goal.invariant_of-self
 invariant_of-self c =
     let kept = claim_keeps (arc_value c.self.inside.graphs) c.self.inside.firing (arc_value c.self.inside.early) c.self.inside.places.items c.self.inside.stages.items c.self.inside.frames.items c.self.inside.left.items c.self.inside.traces.items c.self.invariant c.args.c c.index_mut-2.result.now (stage_is c) c.replace.new.dest (offered c.self.inside c.self.invariant c.args.c c.args.self.now c.self.view_is c.requires) c.in-Some.frame (frame_is c)
-        c.spare_of-spare.result (ap spare_in (sym c.replace.ensures.value) ∙ c.spare_of-spare.ensures) c.told_of.result c.told_of.ensures in
+    c.spare_of-spare.result (ap spare_in (sym c.replace.ensures.value) ∙ c.spare_of-spare.ensures) c.told_of.result c.told_of.ensures in
     let P : Option FrameView → Type 0 = λ f. Keeps (arc_value c.self.inside.graphs) c.self.inside.firing (arc_value c.self.inside.early) c.self.inside.places.items
-        (set (set c.self.inside.stages.items c.args.c c.replace.new.dest) c.args.c (Busy c.told_of.result c.spare_of-spare.result)) (set c.self.inside.frames.items c.args.c f) c.self.inside.left.items c.self.inside.traces.items in
+    (set (set c.self.inside.stages.items c.args.c c.replace.new.dest) c.args.c (Busy c.told_of.result c.spare_of-spare.result)) (set c.self.inside.frames.items c.args.c f) c.self.inside.left.items c.self.inside.traces.items in
     subst P (sym c.in-Some.ensures.after) kept
 
 pub returns-clause-frame : goal.returns-clause-frame

@@ -55,13 +55,13 @@ invariant_of-self-in-Err c =
 pub returns-in-Ok : goal.returns-in-Ok
 returns-in-Ok c =
     let mark_is : mark_of c.keep-next.result ≡ mark.Done (words.answer_of (end_of c.args.end)) =
-        kept_mark c.in-Ok.given c.keep-next.result c.keep-next.ensures.stage ∙ ap (λ (e : Result JobGiven Refusal). mark.Done (words.answer_of (end_of e))) (sym c.in-Ok.is) in
+    kept_mark c.in-Ok.given c.keep-next.result c.keep-next.ensures.stage ∙ ap (λ (e : Result JobGiven Refusal). mark.Done (words.answer_of (end_of e))) (sym c.in-Ok.is) in
     ap (λ (l : List Stage). the_view (arc_value c.self.inside.graphs) c.self.inside.firing (map mark_of l) (map lent_of l)) c.put.ensures
     ∙ marks_only (arc_value c.self.inside.graphs) c.self.inside.firing (arc_value c.self.inside.early) c.self.inside.places.items c.self.inside.stages.items c.self.inside.frames.items c.self.inside.left.items c.self.inside.traces.items c.self.invariant c.args.c c.index_mut.result.now (stage_is c.self.inside c.self.invariant c.args.c c.args.self.now c.self.view_is c.requires.open.0 c.requires.open.1 c.index_mut.result.now c.index_mut.ensures.value) c.replace-stage.new.dest c.args.self.now c.self.view_is (lends_nothing c.self.inside c.self.invariant c.args.c c.args.self.now c.self.view_is c.requires.open.0 c.requires.open.1 c.index_mut.result.now c.index_mut.ensures.value c.replace-stage.new.dest) c.keep-next.result _ mark_is (kept_lent c.in-Ok.given c.keep-next.result c.keep-next.ensures.stage)
 
 pub returns-in-Err : goal.returns-in-Err
 returns-in-Err c =
     let mark_is : mark_of (Refused c.in-Err.refusal) ≡ mark.Done (words.answer_of (end_of c.args.end)) =
-        ap (λ (e : Result JobGiven Refusal). mark.Done (words.answer_of (end_of e))) (sym c.in-Err.is) in
+    ap (λ (e : Result JobGiven Refusal). mark.Done (words.answer_of (end_of e))) (sym c.in-Err.is) in
     ap (λ (l : List Stage). the_view (arc_value c.self.inside.graphs) c.self.inside.firing (map mark_of l) (map lent_of l)) c.put-in-Err.ensures
     ∙ marks_only (arc_value c.self.inside.graphs) c.self.inside.firing (arc_value c.self.inside.early) c.self.inside.places.items c.self.inside.stages.items c.self.inside.frames.items c.self.inside.left.items c.self.inside.traces.items c.self.invariant c.args.c c.index_mut.result.now (stage_is c.self.inside c.self.invariant c.args.c c.args.self.now c.self.view_is c.requires.open.0 c.requires.open.1 c.index_mut.result.now c.index_mut.ensures.value) c.replace-stage.new.dest c.args.self.now c.self.view_is (lends_nothing c.self.inside c.self.invariant c.args.c c.args.self.now c.self.view_is c.requires.open.0 c.requires.open.1 c.index_mut.result.now c.index_mut.ensures.value c.replace-stage.new.dest) (Refused c.in-Err.refusal) _ mark_is refl
