@@ -17,7 +17,7 @@ use Rattle.pisdf_program.specs.Loaded.{is_answer, FaultsOnly, NoFault, StopsRead
 use Rattle.pisdf_program.specs.Result.{Outcome, refused, told, read_graphs, read_streams, outcome_of, short_of, status_of, line_of_end, input_in, ReadsTokens, ReadsFiles, GoesOn, FromFiles, Runs, RunsFile, RunsAlone, TellsStop, ComesTo, Upgrades, upgrade_graphs, AreTold, AreToldAlone, IsTold, IsToldAfter, Knows}
 use Rattle.pisdf_program.specs.Top.{top_of}
 use Rattle.pisdf_program.specs.Texts.{iteration_text, joined, texts_from, line_of, memory_line, read_line}
-use Rattle.pisdf_program.specs.Words.{Command, Run, Plain}
+use Rattle.pisdf_program.specs.Words.{Command, Run}
 use Rattle.pisdf_program.specs.Worked.{FilesRose, ReadsNothing, StopsWith, file_among, Reports, Decided, Stopped, Works, IsThere, PutsLine, Concludes, CountRose, RoseAt, Completes, MayTell, Ended}
 use Rattle.pisdf_program.specs.declared.run.RunEnd.{RunEnd}
 use Rattle.pisdf_program.specs.declared.run.RunEnd.TheVariants as end
