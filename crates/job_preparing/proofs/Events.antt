@@ -30,7 +30,7 @@ use Rattle.job_rules.specs.Words.{Answer}
 use Rattle.job_preparing.specs.Ending.{IsKeptAs}
 use Rattle.job_preparing.specs.Handing.{IsFrameFor, ItemMarks, Lent, SuitsCall, answer_with, given_of, lent_at, mark_at}
 use Rattle.job_preparing.specs.Stages.{lent_of, line_in, mark_of, spare_in}
-use Rattle.job_preparing.specs.Standing.{HasSpare, IsCalled, IsLeft, IsOut, IsOwn, Keeps, StandsRight, nothing}
+use Rattle.job_preparing.specs.Standing.{HasLeft, HasSpare, IsCalled, IsLeft, IsOut, IsOwn, Keeps, StandsRight, nothing, task_hold}
 use Rattle.job_preparing.specs.View.{ConfiguringView, IsOfferedCall, IsOfferedWork, task, task_of}
 use Rattle.job_preparing.specs.declared.handing.JobGiven.{JobGiven}
 use Rattle.job_preparing.specs.declared.stage.Spare.{Spare}
@@ -52,16 +52,17 @@ abbrev pub kept_one : JobGiven → Configured
 kept_one given = record { outs = given.outs; sets = given.exports; state = in_line given.state; trace = [] }
 
 pub kept_stands : (graphs : List Graph) (t : Option (Task Firing words.Work)) (rates : List ℕ) (given : JobGiven) (stage : Stage) (frame : Option FrameView) (one : Configured) (trace : List TraceRow) →
-    IsKeptAs given stage → one ≡ kept_one given → trace ≡ given.trace → lengths given.outs ≡ rates → StandsRight graphs t rates stage frame one trace
-kept_stands graphs t rates given (Fires spare) frame one trace kept one_is trace_is long = absurd kept
-kept_stands graphs t rates given Calls frame one trace kept one_is trace_is long = absurd kept
-kept_stands graphs t rates given (Busy told spare) frame one trace kept one_is trace_is long = absurd kept
-kept_stands graphs t rates given (Open told line) frame one trace kept one_is trace_is long = absurd kept
-kept_stands graphs t rates given (Gave told) frame one trace kept one_is trace_is long =
-    let P : JobGiven → Type 0 = λ x. IsLeft rates x one trace in
-    let own : IsLeft rates given one trace = record { one_is = one_is; trace_is = trace_is; rates_are = long } in
+    IsKeptAs given stage → one ≡ kept_one given → trace ≡ given.trace → lengths given.outs ≡ rates → length (in_line given.state) ≡ task_hold graphs t → StandsRight graphs t rates stage frame one trace
+kept_stands graphs t rates given (Fires spare) frame one trace kept one_is trace_is long held = absurd kept
+kept_stands graphs t rates given Calls frame one trace kept one_is trace_is long held = absurd kept
+kept_stands graphs t rates given (Busy told spare) frame one trace kept one_is trace_is long held = absurd kept
+kept_stands graphs t rates given (Open told line) frame one trace kept one_is trace_is long held = absurd kept
+kept_stands graphs t rates given (Gave told) frame one trace kept one_is trace_is long held =
+    let P : JobGiven → Type 0 = λ x. HasLeft graphs t rates x one trace in
+    let kept_so : IsLeft rates given one trace = record { one_is = one_is; trace_is = trace_is; rates_are = long } in
+    let own : HasLeft graphs t rates given one trace = record { left = kept_so; state = ap (λ (x : Configured). length x.state) one_is ∙ held } in
     subst P (sym kept) own
-kept_stands graphs t rates given (Refused refusal) frame one trace kept one_is trace_is long = absurd kept
+kept_stands graphs t rates given (Refused refusal) frame one trace kept one_is trace_is long held = absurd kept
 
 pub kept_mark : (given : JobGiven) (stage : Stage) → IsKeptAs given stage → mark_of stage ≡ mark.Done (words.Gives (given_of given))
 kept_mark given (Fires spare) kept = absurd kept
@@ -220,9 +221,10 @@ module _ (graphs : Graphs) (firing : Firing) (early : EarlyView) (places : List 
       given_keeps given stage one trace given_is long kept_as one_is trace_is =
           let rates : lengths given.outs ≡ config_rates graphs.graphs firing n =
           ap (λ (x : JobGiven). lengths x.outs) given_is ∙ long ∙ out.outputs ∙ lens_are graphs.graphs (graph_of graphs.graphs firing) firing n out.has.spot out.has.asked out.has.task_is in
+          let held : length (in_line given.state) ≡ task_hold graphs.graphs (task view n) = ap (λ (x : JobGiven). length (in_line x.state)) given_is ∙ ap (task_hold graphs.graphs) (sym out.has.task_is) in
           let R : List Stage → Type 0 = λ l. Keeps graphs firing early places l frames (set left n one) (set traces n trace) in
           subst R (sym (set_twice stages n between stage))
-          (put_left graphs firing early places stages frames left traces kept n inside stage one trace (kept_stands graphs.graphs (task view n) (config_rates graphs.graphs firing n) given stage (get_or frames n None) one trace kept_as one_is trace_is rates))
+          (put_left graphs firing early places stages frames left traces kept n inside stage one trace (kept_stands graphs.graphs (task view n) (config_rates graphs.graphs firing n) given stage (get_or frames n None) one trace kept_as one_is trace_is rates held))
 
       pub given_mark : (given : JobGiven) (stage : Stage) (done : Unit {0}) → given ≡ kernel_gives frame → IsKeptAs given stage → mark_of stage ≡ mark.Done (answer_with (task view n) frame (Ok done))
       given_mark given stage done given_is kept_as =
@@ -266,6 +268,7 @@ module _ (graphs : Graphs) (firing : Firing) (early : EarlyView) (places : List 
       pub call_given_keeps : (given : JobGiven) (stage : Stage) (one : Configured) (trace : List TraceRow) → SuitsCall graphs.graphs job (given_of given) → IsKeptAs given stage → one ≡ kept_one given → trace ≡ given.trace →
           Keeps graphs firing early places (set (set stages n between) n stage) frames (set left n one) (set traces n trace)
       call_given_keeps given stage one trace suits kept_as one_is trace_is =
+          let held : length (in_line given.state) ≡ task_hold graphs.graphs (task view n) = same_line given.state (initial graphs.graphs job.graph) suits.state ∙ ap (task_hold graphs.graphs) (sym called.task_is) in
           let R : List Stage → Type 0 = λ l. Keeps graphs firing early places l frames (set left n one) (set traces n trace) in
           subst R (sym (set_twice stages n between stage))
-          (put_left graphs firing early places stages frames left traces kept n inside stage one trace (kept_stands graphs.graphs (task view n) (config_rates graphs.graphs firing n) given stage (get_or frames n None) one trace kept_as one_is trace_is (suits.outs ∙ called.rates_are)))
+          (put_left graphs firing early places stages frames left traces kept n inside stage one trace (kept_stands graphs.graphs (task view n) (config_rates graphs.graphs firing n) given stage (get_or frames n None) one trace kept_as one_is trace_is (suits.outs ∙ called.rates_are) held))

@@ -10,10 +10,16 @@ use Rattle.nested_jobs.specs.Rules.{Task, Values}
 use Rattle.param_resolver.specs.EarlyView.{EarlyView}
 use Rattle.param_resolver.specs.LevelOf.{sources_of}
 use Rattle.param_resolver.specs.Numbering.{source_inputs}
+use Rattle.pisdf_model.specs.Hold.{actor_state, initial}
+use Rattle.pisdf_model.specs.InterfaceWires.{is_configuration}
+use Rattle.pisdf_model.specs.declared.actor.Body.{Body}
+use Rattle.pisdf_model.specs.declared.actor.Body.TheVariants.{Kernel, Config, Child, ConfigChild}
 use Rattle.pisdf_model.specs.declared.graph.Graph.{Graph}
 use Rattle.pisdf_model.specs.declared.graph.Graphs.{Graphs}
-use Rattle.pisdf_meaning.specs.Configuring.{config_rates, configurations, early_in}
+use Rattle.pisdf_meaning.specs.Configuring.{Configuration, config_rates, configurations, early_in}
+use Rattle.pisdf_meaning.specs.Nested.{configuration_at}
 use Rattle.pisdf_meaning.specs.Running.{source_tokens}
+use Rattle.pisdf_meaning.specs.Sound.{actor_at}
 use Rattle.pisdf_meaning.specs.States.{tokens_at}
 use Rattle.pisdf_meaning.specs.declared.firing.Configured.{Configured}
 use Rattle.pisdf_meaning.specs.declared.firing.Firing.{Firing}
@@ -21,13 +27,13 @@ use Rattle.pisdf_meaning.specs.declared.outcome.TraceRow.{TraceRow}
 use Rattle.pisdf_meaning.proofs.Fitting.{AreFew, few_parts}
 use Rattle.pisdf_meaning.proofs.Knowing.{Unfolds, all_know}
 use Rattle.pisdf_meaning.proofs.StateSizes.{size_at}
-use Rattle.job_rules.specs.Items.{compile_number, first_refusal, graph_of, left_in}
+use Rattle.job_rules.specs.Items.{compile_number, config_task, first_refusal, graph_of, left_in}
 use Rattle.job_rules.specs.Words as words
 use Rattle.job_rules.specs.Words.{Answer}
-use Rattle.job_preparing.specs.Handing.{answers, with_traces, without_trace}
+use Rattle.job_preparing.specs.Handing.{LeftSuits, answers, with_traces, without_trace}
 use Rattle.job_preparing.specs.Stages.{has_given, is_done, lent_of, mark_of, refusal_in}
-use Rattle.job_preparing.specs.Standing.{Keeps, StandsRight, nothing}
-use Rattle.job_preparing.specs.View.{ConfiguringView, IsReady, IsSettled, left_by, task}
+use Rattle.job_preparing.specs.Standing.{Keeps, StandsRight, nothing, task_hold}
+use Rattle.job_preparing.specs.View.{ConfiguringView, IsReady, IsSettled, left_by, task, task_of}
 use Rattle.job_preparing.specs.declared.stage.Stage.{Stage}
 use Rattle.job_preparing.specs.declared.stage.Stage.TheVariants.{Fires, Calls, Busy, Open, Gave, Refused}
 use Rattle.job_preparing.proofs.Asked.{here}
@@ -54,6 +60,24 @@ outs_long (one ∷ left) (r ∷ rates) many each =
     ∙ ap (λ l. l ++ lengths (flat_map outs_of left)) (each 0 (omega arith))
     ∙ ap (λ l. r ++ l) (outs_long left rates (omega arith) (λ c inside. each (suc c) (omega arith)))
 
+abbrev state_length : Configured → ℕ
+state_length one = length one.state
+
+same_states : (left : List Configured) → map state_length (map without_trace left) ≡ map state_length left
+same_states [] = refl
+same_states (one ∷ left) = ap (λ l. length one.state ∷ l) (same_states left)
+
+-- the state of the graph that a configuration actor names
+abbrev own_length : List Graph → Configuration → ℕ
+own_length graphs c = length (actor_state (initial graphs) c.body)
+
+states_long : (graphs : List Graph) (left : List Configured) (cs : List Configuration) → length left ≡ length cs → ((j : ℕ) (c : Configuration) → slice_get cs j ≡ Some c → length (get_or left j nothing).state ≡ own_length graphs c) → map state_length left ≡ map (own_length graphs) cs
+states_long graphs [] [] many each = refl
+states_long graphs [] (c ∷ cs) many each = absurd (omega arith)
+states_long graphs (one ∷ left) [] many each = absurd (omega arith)
+states_long graphs (one ∷ left) (c ∷ cs) many each =
+    ap (λ n. n ∷ map state_length left) (each 0 c refl) ∙ ap (λ l. own_length graphs c ∷ l) (states_long graphs left cs (omega arith) (λ j x is. each (suc j) x is))
+
 inputs_long : (inputs : List (List ℤ)) (rates : List ℕ) (places : List ℕ) → lengths inputs ≡ rates → lengths (map (λ i. tokens_at inputs i) places) ≡ map (λ i. slice_index rates i) places
 inputs_long inputs rates [] same = refl
 inputs_long inputs rates (i ∷ places) same =
@@ -64,8 +88,23 @@ kept_of graphs t rates (Fires spare) frame one trace stands = tt
 kept_of graphs t rates Calls frame one trace stands = tt
 kept_of graphs t rates (Busy told spare) frame one trace stands = tt
 kept_of graphs t rates (Open told line) frame one trace stands = tt
-kept_of graphs t rates (Gave told) frame one trace stands = stands
+kept_of graphs t rates (Gave told) frame one trace stands = stands.left
 kept_of graphs t rates (Refused refusal) frame one trace stands = tt
+
+-- the state of what was given
+held_of : (graphs : List Graph) (t : Option (Task Firing words.Work)) (rates : List ℕ) (s : Stage) (frame : Option FrameView) (one : Configured) (trace : List TraceRow) → StandsRight graphs t rates s frame one trace → has_given s ≡ true → length one.state ≡ task_hold graphs t
+held_of graphs t rates (Fires spare) frame one trace stands gave = absurd (cc)
+held_of graphs t rates Calls frame one trace stands gave = absurd (cc)
+held_of graphs t rates (Busy told spare) frame one trace stands gave = absurd (cc)
+held_of graphs t rates (Open told line) frame one trace stands gave = absurd (cc)
+held_of graphs t rates (Gave told) frame one trace stands gave = stands.state
+held_of graphs t rates (Refused refusal) frame one trace stands gave = absurd (cc)
+
+task_size : (graphs : List Graph) (g : Graph) (firing : Firing) (c : Configuration) (body : Body) → is_configuration body ≡ true → task_hold graphs (config_task graphs g firing c body) ≡ length (actor_state (initial graphs) body)
+task_size graphs g firing c (Kernel kernel args ins outs) is = absurd (cc)
+task_size graphs g firing c (Config kernel args ins outs sets) is = refl
+task_size graphs g firing c (Child place args) is = absurd (cc)
+task_size graphs g firing c (ConfigChild place args sets) is = refl
 
 -- what is known where something was given
 pub record IsBare (rates : List ℕ) (one : Configured) : Type 0 where
@@ -181,11 +220,34 @@ module _ (graphs : Graphs) (firing : Firing) (early : EarlyView) (places : List 
         ap (source_tokens g firing) slim
         ∙ ap (λ l. map (λ i. tokens_at firing.inputs i) (source_inputs g) ++ l) (same_outs (left_by view))
 
-    pub rates_long : Unfolds graphs.graphs → lengths (source_tokens g firing left) ≡ sources_of g (early_in graphs.graphs firing)
-    rates_long unfolds =
+    left_long : Unfolds graphs.graphs → lengths (flat_map outs_of left) ≡ flat_map (λ (r : List ℕ). r) (early_in graphs.graphs firing).outs
+    left_long unfolds =
         let knows = all_know graphs.graphs unfolds firing.graph g firing.inherited (here graphs.graphs firing kept.fit) kept.fit.sound in
         let count = knows.one_each in
+        outs_long left (early_in graphs.graphs firing).outs (let a = kept.one_stage in let b = kept.one_left in let c = many in omega arith) (λ c inside. (bare c inside).outs)
+
+    pub rates_long : Unfolds graphs.graphs → lengths (source_tokens g firing left) ≡ sources_of g (early_in graphs.graphs firing)
+    rates_long unfolds =
         map-append (λ (l : List ℤ). length l) (map (λ i. tokens_at firing.inputs i) (source_inputs g)) (flat_map outs_of left)
         ∙ ap (λ l. l ++ lengths (flat_map outs_of left)) (inputs_long firing.inputs (early_in graphs.graphs firing).inputs (source_inputs g) kept.fit.inputs)
         ∙ ap (λ l. map (λ i. slice_index (early_in graphs.graphs firing).inputs i) (source_inputs g) ++ l)
-        (outs_long left (early_in graphs.graphs firing).outs (let a = kept.one_stage in let b = kept.one_left in let c = many in omega arith) (λ c inside. (bare c inside).outs))
+        (left_long unfolds)
+
+    state_held : (j : ℕ) (c : Configuration) → slice_get (configurations g) j ≡ Some c → length (get_or left j nothing).state ≡ own_length graphs.graphs c
+    state_held j c is =
+        let inside = slice_get_within (configurations g) j c is in
+        let at = there stages j (let m = many in omega arith) in
+        let place = there places j (let a = kept.one_stage in let m = many in omega arith) in
+        let own = kept.places_are.each j place.0 place.1 in
+        let same : configuration_at g j place.0 ≡ c = (let e : Some (configuration_at g j place.0) ≡ Some c = sym own.0 ∙ is in cc) in
+        held_of graphs.graphs (task view j) (config_rates graphs.graphs firing j) at.0 (get_or frames j None) (get_or left j nothing) (get_or traces j []) (kept.right j at.0 at.1) (each_passes has_given stages gave j at.0 at.1)
+        ∙ ap (λ (o : Option Configuration). task_hold graphs.graphs (task_of graphs.graphs g firing o)) own.0
+        ∙ task_size graphs.graphs g firing (configuration_at g j place.0) (actor_at g place.0).body own.1.is
+        ∙ ap (own_length graphs.graphs) same
+
+    pub left_suits : Unfolds graphs.graphs → LeftSuits graphs.graphs g firing (left_by view)
+    left_suits unfolds = record {
+      outs = ap lengths (sym (same_outs (left_by view)) ∙ ap (flat_map outs_of) (sym slim)) ∙ left_long unfolds;
+      states = sym (same_states (left_by view)) ∙ ap (map state_length) (sym slim)
+          ∙ states_long graphs.graphs left (configurations g) (let a = kept.one_stage in let b = kept.one_left in let m = many in omega arith) state_held;
+    }

@@ -1,13 +1,15 @@
 -- What a job hands out and takes back: where its items stand, frames, and how a firing of a graph ends.
-use Rattle.std.specs.Prelude.{◌≡◌, ℕ, ◌<◌, ℤ, List, [], ◌∷◌, length, slice_get, slice_index_or, Option, Some, None, Result, Ok, Err}
+use Rattle.std.specs.Prelude.{◌≡◌, ℕ, ◌<◌, ℤ, List, [], ◌∷◌, map, length, slice_get, slice_index_or, Option, Some, None, Result, Ok, Err}
+use Rattle.std.specs.List.{flat_map}
 use Rattle.kernel_gate.specs.Value.{FrameView, Places, lengths}
 use Rattle.kernel_gate.specs.declared.fault.KernelFault.{KernelFault}
 use Rattle.nested_jobs.specs.Marks as mark
 use Rattle.nested_jobs.specs.Marks.{Mark, Free}
 use Rattle.nested_jobs.specs.Rules.{Task, Work, Call, Values}
 use Rattle.param_resolver.specs.EarlyCheck.{early_of}
-use Rattle.pisdf_model.specs.Hold.{initial}
+use Rattle.pisdf_model.specs.Hold.{actor_state, initial}
 use Rattle.pisdf_model.specs.declared.graph.Graph.{Graph}
+use Rattle.pisdf_meaning.specs.Configuring.{Configuration, configurations, early_in}
 use Rattle.pisdf_meaning.specs.Endings.{End}
 use Rattle.pisdf_meaning.specs.declared.firing.Configured.{Configured}
 use Rattle.pisdf_meaning.specs.declared.firing.Firing.{Firing}
@@ -119,3 +121,10 @@ abbrev pub with_traces : List Configured → List (List TraceRow) → List Confi
 with_traces [] traces = []
 with_traces (one ∷ left) [] = one ∷ with_traces left []
 with_traces (one ∷ left) (trace ∷ traces) = record { outs = one.outs; sets = one.sets; state = one.state; trace = trace } ∷ with_traces left traces
+
+-- ---- how long that is
+
+-- what configuration actors left is as long as the early check says, and their states as long as those of their graphs
+pub record LeftSuits (graphs : List Graph) (g : Graph) (firing : Firing) (left : List Configured) : Type 0 where
+  pub outs : lengths (flat_map (λ (one : Configured). one.outs) left) ≡ flat_map (λ (rates : List ℕ). rates) (early_in graphs firing).outs
+  pub states : map (λ (one : Configured). length one.state) left ≡ map (λ (c : Configuration). length (actor_state (initial graphs) c.body)) (configurations g)

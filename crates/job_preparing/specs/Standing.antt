@@ -78,13 +78,24 @@ pub record IsLeft (rates : List ℕ) (given : JobGiven) (one : Configured) (trac
   pub trace_is : trace ≡ given.trace
   pub rates_are : lengths given.outs ≡ rates
 
+-- how many tokens go on from the firing that the task calls; none from a kernel's
+abbrev pub task_hold : List Graph → Option (Task Firing words.Work) → ℕ
+task_hold graphs None = 0
+task_hold graphs (Some (Work work)) = 0
+task_hold graphs (Some (Call job)) = length (in_line (initial graphs job.graph))
+
+-- so it is kept, and its state is as long as that of the graph which the task fires
+pub record HasLeft (graphs : List Graph) (t : Option (Task Firing words.Work)) (rates : List ℕ) (given : JobGiven) (one : Configured) (trace : List TraceRow) : Type 0 where
+  pub left : IsLeft rates given one trace
+  pub state : length one.state ≡ task_hold graphs t
+
 -- a configuration actor with this task and these output rates is so far; with the frame that waits, and what it left
 abbrev pub StandsRight : List Graph → Option (Task Firing words.Work) → List ℕ → Stage → Option FrameView → Configured → List TraceRow → Type 0
 StandsRight graphs t rates (Fires spare) waiting one trace = WaitsFor t spare waiting
 StandsRight graphs t rates Calls waiting one trace = IsCall t
 StandsRight graphs t rates (Busy told spare) waiting one trace = IsOut t spare told.frame.places
 StandsRight graphs t rates (Open told line) waiting one trace = IsCalled graphs t rates told.value line
-StandsRight graphs t rates (Gave told) waiting one trace = IsLeft rates told.value one trace
+StandsRight graphs t rates (Gave told) waiting one trace = HasLeft graphs t rates told.value one trace
 StandsRight graphs t rates (Refused refusal) waiting one trace = Unit {0}
 
 -- a frame that waits has blocks of its own

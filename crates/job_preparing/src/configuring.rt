@@ -67,7 +67,7 @@ impl Configuring {
     ghost use Rattle.pisdf_meaning.specs.declared.firing.Firing.{Firing as FiringOf};
     ghost use Rattle.job_rules.specs.Items.{compile_number, first_refusal};
     ghost use Rattle.job_rules.specs.Words.{answer_of};
-    ghost use Rattle.job_preparing.specs.Handing.{EndSuits, IsFrameFor, IsLeast, answer_with, answers, end_of, lent_at, mark_at, with_traces, without_trace};
+    ghost use Rattle.job_preparing.specs.Handing.{EndSuits, IsFrameFor, IsLeast, LeftSuits, answer_with, answers, end_of, lent_at, mark_at, with_traces, without_trace};
     ghost use Rattle.job_preparing.specs.View.{HasInherited, IsOfferedCall, IsOfferedWork, IsReady, IsSettled, graph_in, key_of, left_by, task};
 
     /// How many configuration actors the graph has.
@@ -242,6 +242,7 @@ impl Configuring {
         ensures left { result.now ≡ map without_trace (left_by self.now) }
         ensures sources { source_tokens (graph_in self.now) self.now.firing result.now ≡ source_tokens (graph_in self.now) self.now.firing (left_by self.now) }
         ensures rates { lengths (source_tokens (graph_in self.now) self.now.firing result.now) ≡ sources_of (graph_in self.now) (early_in self.now.graphs.graphs self.now.firing) }
+        ensures suits { LeftSuits self.now.graphs.graphs (graph_in self.now) self.now.firing (left_by self.now) }
     {
         early_unfolds();
         &self.left

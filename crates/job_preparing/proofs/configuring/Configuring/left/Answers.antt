@@ -4,9 +4,9 @@ use Rattle.kernel_gate.specs.Value.{lengths}
 use Rattle.param_resolver.specs.LevelOf.{sources_of}
 use Rattle.pisdf_meaning.specs.Configuring.{early_in}
 use Rattle.pisdf_meaning.specs.Running.{source_tokens}
-use Rattle.job_preparing.specs.Handing.{without_trace}
+use Rattle.job_preparing.specs.Handing.{LeftSuits, without_trace}
 use Rattle.job_preparing.specs.View.{ConfiguringView, IsReady, graph_in, left_by}
-use Rattle.job_preparing.proofs.Readied.{rates_long, slim, sources_same}
+use Rattle.job_preparing.proofs.Readied.{left_suits, rates_long, slim, sources_same}
 use Rattle.job_preparing.proofs.configuring.Configuring.left.Goals as goal
 
 pub returns-clause-left : goal.returns-clause-left
@@ -28,3 +28,10 @@ returns-clause-rates c =
     ∙ ap (λ l. lengths (source_tokens g c.self.inside.firing l)) c.deref.ensures.value
     ∙ rates_long (arc_value c.self.inside.graphs) c.self.inside.firing (arc_value c.self.inside.early) c.self.inside.places.items c.self.inside.stages.items c.self.inside.frames.items c.self.inside.left.items c.self.inside.traces.items c.self.invariant ready (λ place inherited inside. c.early_unfolds.ensures (arc_value c.self.inside.graphs) place inherited c.self.invariant.in_range c.self.invariant.well_formed inside)
     ∙ ap (λ (v : ConfiguringView). sources_of (graph_in v) (early_in v.graphs.graphs v.firing)) c.self.view_is
+
+pub returns-clause-suits : goal.returns-clause-suits
+returns-clause-suits c =
+    let ready = subst IsReady (sym c.self.view_is) c.requires in
+    let P : ConfiguringView → Type 0 = λ v. LeftSuits v.graphs.graphs (graph_in v) v.firing (left_by v) in
+    subst P c.self.view_is
+    (left_suits (arc_value c.self.inside.graphs) c.self.inside.firing (arc_value c.self.inside.early) c.self.inside.places.items c.self.inside.stages.items c.self.inside.frames.items c.self.inside.left.items c.self.inside.traces.items c.self.invariant ready (λ place inherited inside. c.early_unfolds.ensures (arc_value c.self.inside.graphs) place inherited c.self.invariant.in_range c.self.invariant.well_formed inside))
