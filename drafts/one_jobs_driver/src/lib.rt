@@ -1,0 +1,7 @@
+//! Scratch.
+#![tactic(auto)]
+
+mod claims;
+mod fitting;
+
+pub use claims::{Seen, claim_all, started};
