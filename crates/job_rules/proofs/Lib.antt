@@ -14,3 +14,4 @@ pub mod Answered
 pub mod Settled
 pub mod Settling
 pub mod Calls
+pub mod Fitted

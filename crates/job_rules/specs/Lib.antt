@@ -2,3 +2,4 @@ pub mod Words
 pub mod Doing
 pub mod Items
 pub mod Meant
+pub mod Fitting

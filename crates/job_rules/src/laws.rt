@@ -8,6 +8,7 @@ ghost use Rattle.pisdf_meaning.specs.Sound.{KernelsFit};
 ghost use Rattle.pisdf_model.specs.Range.{InRange};
 ghost use Rattle.pisdf_model.specs.WellFormed.{WellFormed};
 ghost use Rattle.pisdf_model.specs.declared.graph.Graphs.{Graphs};
+ghost use Rattle.job_rules.specs.Fitting.{CallsInherit, TasksFit};
 ghost use Rattle.job_rules.specs.Items.{job_rules};
 ghost use Rattle.job_rules.specs.Meant.{meanings, rank};
 
@@ -40,4 +41,14 @@ pub fn jobs_mean_firings()
     frames_told::<i64, Refusal, u64>();
     edges_have_ports::<i64>();
     jobs_end_as_runs::<i64, Refusal, u64>();
+}
+
+/// A kernel that a task fires is asked as many arguments, inputs, outputs and sets as its signature takes, whatever the items
+/// before answered, where the job's firing is given what its graph takes; and a firing that is called has a value for each
+/// inherited parameter of its graph.
+pub fn tasks_fit()
+    ensures kernels { TasksFit }
+    ensures calls { CallsInherit }
+{
+    runnable();
 }

@@ -4,4 +4,4 @@
 
 mod laws;
 
-pub use laws::{jobs_mean_firings, rules_are_lawful};
+pub use laws::{jobs_mean_firings, rules_are_lawful, tasks_fit};

@@ -1,0 +1,5 @@
+pub mod Cut
+pub mod Rules
+pub mod Ends
+pub mod Early
+pub mod Nodes
