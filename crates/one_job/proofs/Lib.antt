@@ -17,3 +17,4 @@ pub mod JobWires
 pub mod StartWires
 pub mod JobStart
 pub mod Quiet
+pub mod Firsts

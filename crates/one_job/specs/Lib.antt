@@ -8,6 +8,7 @@ pub mod Wiring
 pub mod Opening
 pub mod Faults
 pub mod View
+pub mod Pick
 pub mod Calls
 pub mod Rooms
 pub mod Kept

@@ -1,11 +1,14 @@
 -- Stages of nodes as marks, and how far a node is whose frame came back.
-use Rattle.std.specs.Prelude.{◌≡◌, ℕ, ◌<◌, Bool, true, false, ◌&&◌, List, [], ◌∷◌, slice_index_or, Option, Some, None, Result, Ok, Err}
+use Rattle.std.specs.Prelude.{◌≡◌, ℕ, ◌<◌, Bool, true, false, ◌&&◌, List, [], ◌∷◌, length, slice_index_or, Option, Some, None, Result, Ok, Err}
 use Rattle.kernel_gate.specs.declared.fault.KernelFault.{KernelFault}
 use Rattle.sdf_level.specs.declared.single_rate.Edge.{Edge}
+use Rattle.sdf_level.specs.declared.node.Node.{Node}
+use Rattle.job_flow.specs.Graphs.{node_at}
 use Rattle.one_job.specs.Marks.{Mark}
 use Rattle.one_job.specs.Marks as mark
 use Rattle.one_job.specs.Places.{edge_at}
 use Rattle.one_job.specs.Ports.{row_of}
+use Rattle.one_job.specs.Pick.{is_child_in}
 use Rattle.one_job.specs.declared.told.Told.{Told}
 use Rattle.one_job.specs.declared.stage.Stage.{Stage}
 use Rattle.one_job.specs.declared.stage.Stage.TheVariants.{Free, Claimed, Finished, Failed}
@@ -50,3 +53,9 @@ is_open edges stages ports (Failed code) = false
 -- none of the first so many nodes
 abbrev pub NoneOpen : List Edge → List Stage → List (List (Option ℕ)) → ℕ → Type 0
 NoneOpen edges stages entering count = (n : ℕ) → n < count → is_open edges stages (row_of entering n) (slice_index_or stages n Free) ≡ false
+
+-- a node that may be claimed, of this sort
+pub record MayRun (edges : List Edge) (stages : List Stage) (entering : List (List (Option ℕ))) (nodes : List Node) (kinds : List (Option ℕ)) (child : Bool) (n : ℕ) : Type 0 where
+  pub there : n < length stages
+  pub free : may_claim edges stages (row_of entering n) (slice_index_or stages n Free) ≡ true
+  pub sort : is_child_in kinds (node_at nodes n) ≡ child

@@ -1,13 +1,14 @@
 // A job and its events.
-ghost use Rattle.std.specs.Prelude.{◌≡◌, ◌≢◌, ◌⊎◌, ◌↔◌, ◌<◌, ℕ, [], map, slice_set, true, false, IsTrue, IsOk};
+ghost use Rattle.std.specs.Prelude.{◌≡◌, ◌≢◌, ◌⊎◌, ◌↔◌, ◌<◌, ℕ, [], length, map, slice_index, slice_set, true, false, IsTrue, IsOk};
 ghost use Rattle.split_block.specs.Places.{Apart, AllApart, has, window};
 ghost use Rattle.kernel_gate.specs.Value.{lengths};
 ghost use Rattle.job_flow.specs.Graphs.{node_at};
 ghost use Rattle.job_flow.specs.Frames.{inputs, lens, on_edge};
 ghost use Rattle.job_flow.specs.Events.{IsQuiet};
 
+use crate::choosing::first_enabled;
 use crate::leases::{return_leases, take_leases};
-use crate::nodes::{keep_tokens, kind_of, reads_stored, writes_stored};
+use crate::nodes::{is_child, keep_tokens, kind_of, reads_stored, writes_stored};
 use crate::picking::{Progress, is_quiet};
 use crate::rooms::spend_rooms;
 use crate::stage::{Stage, ended_stage, first_fault};
@@ -15,7 +16,7 @@ use crate::told::told_of;
 use cell_pool::Pool;
 use job_compiler::Compiled;
 use kernel_gate::{Frame, KernelFault, Lent};
-use sdf_level::List;
+use sdf_level::{List, Node};
 use single_rate::graphs_numbered;
 use split_block::Lease;
 use std::alloc::Global;
@@ -76,7 +77,76 @@ impl Model for Job {
 impl Job {
     ghost use Rattle.one_job.specs.Marks.{Claimed, IsClaimed, mark_at, phase, values};
     ghost use Rattle.one_job.specs.View.{JobView, IsEnabled, IsFiring, graph_of, kind_of, args_of};
+    ghost use Rattle.one_job.specs.Pick.{IsFirst, IsOffered, is_child as is_job};
     ghost use Rattle.one_job.specs.Calls.{LieAtBuffers, finished_with, end_of};
+
+    /// The node that a worker claims next: of the nodes that may be claimed and aren't jobs of their own one whose home is the
+    /// worker, then that of greatest priority, then that of least number. None where there is none.
+    pub fn pick(&self, worker: u32) -> Option<u32>
+        ensures { IsFirst self.now.compilation.mapping worker (IsOffered self.now false) result }
+    {
+        self.first(worker, false)
+    }
+
+    /// The same among the nodes that are jobs of their own.
+    pub fn pick_child(&self, worker: u32) -> Option<u32>
+        ensures { IsFirst self.now.compilation.mapping worker (IsOffered self.now true) result }
+    {
+        self.first(worker, true)
+    }
+
+    /// The same among the nodes that are jobs of their own, or among those that aren't.
+    fn first(&self, worker: u32, child: bool) -> Option<u32>
+        ensures { IsFirst self.now.compilation.mapping worker (IsOffered self.now child) result }
+    {
+        first_enabled(
+            &Progress {
+                edges: self.compiled.graph().edges.items(),
+                entering: &self.entering,
+                stages: &self.stages,
+            },
+            self.compiled.graph().nodes.items(),
+            self.kinds.items(),
+            self.compiled.mapping(),
+            worker,
+            child,
+        )
+    }
+
+    /// What a node is.
+    pub fn node(&self, node: u32) -> Node
+        requires { node < length self.now.compilation.graph.nodes }
+        ensures { result ≡ node_at self.now.compilation.graph.nodes node }
+    {
+        self.compiled.graph().nodes.items()[node as usize]
+    }
+
+    /// Whether a node is a job of its own: a firing of an actor that has no kernel.
+    pub fn is_child(&self, node: u32) -> bool
+        requires { node < length self.now.compilation.graph.nodes }
+        ensures { result ≡ is_job self.now node }
+    {
+        is_child(
+            self.compiled.graph().nodes.items()[node as usize],
+            self.kinds.items(),
+        )
+    }
+
+    /// The worker that is a node's home.
+    pub fn home(&self, node: u32) -> u32
+        requires { node < length self.now.compilation.graph.nodes }
+        ensures { result ≡ slice_index self.now.compilation.mapping.home node }
+    {
+        self.compiled.mapping().home.items()[node as usize]
+    }
+
+    /// A node's priority.
+    pub fn priority(&self, node: u32) -> u64
+        requires { node < length self.now.compilation.graph.nodes }
+        ensures { result ≡ slice_index self.now.compilation.mapping.priority node }
+    {
+        self.compiled.mapping().priority.items()[node as usize]
+    }
 
     /// Claims a node. Its frame has the node's kind, or 0, the arguments of its actor, or none, no sets, and for each port a
     /// lease: the inputs hold the tokens that the node reads, and the outputs any tokens. It takes no memory.

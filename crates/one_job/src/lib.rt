@@ -2,6 +2,7 @@
 //! order that its edges allow, and finished with what they wrote.
 #![tactic(auto)]
 
+mod choosing;
 mod job;
 mod leases;
 mod nodes;

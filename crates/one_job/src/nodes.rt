@@ -2,6 +2,7 @@
 ghost use Rattle.std.specs.Prelude.{◌≡◌, slice_set};
 ghost use Rattle.one_job.specs.Ports.{reads_stored as is_read, writes_stored as is_written, with_left, with_out};
 ghost use Rattle.one_job.specs.View.{kind_at};
+ghost use Rattle.one_job.specs.Pick.{is_child_in};
 
 use sdf_level::{List, Node};
 
@@ -37,6 +38,19 @@ pub(crate) fn kind_of(node: Node, kinds: &[Option<u32>]) -> u32
             _ => 0,
         },
         _ => 0,
+    }
+}
+
+/// Whether it is a firing of an actor that has no kernel.
+pub(crate) fn is_child(node: Node, kinds: &[Option<u32>]) -> bool
+    ensures { result ≡ is_child_in kinds.now node }
+{
+    match node {
+        Node::Firing { actor, turn: _ } => match kinds.get(actor as usize) {
+            Some(Some(_)) => false,
+            _ => true,
+        },
+        _ => false,
     }
 }
 

@@ -45,7 +45,7 @@ fn are_given(edges: &[Edge], stages: &[Stage], ports: &[Option<u32>]) -> bool
 }
 
 /// Whether a node may be claimed.
-fn is_enabled(at: &Progress<'_>, n: usize) -> bool
+pub(crate) fn is_enabled(at: &Progress<'_>, n: usize) -> bool
     requires stage { n < length at.now.stages.now }
     requires row { n < length at.now.entering.now }
     requires edges { (k e : ℕ) → slice_index_or (row_of at.now.entering.now n) k None ≡ Some e → e < length at.now.edges.now }
