@@ -28,6 +28,7 @@ use Rattle.pisdf_meaning.specs.Running.{child_firing}
 use Rattle.pisdf_meaning.specs.States.{tokens_at}
 use Rattle.pisdf_meaning.specs.declared.firing.Configured.{Configured}
 use Rattle.pisdf_meaning.specs.declared.firing.Firing.{Firing}
+use Rattle.pisdf_meaning.specs.declared.refusal.Refusal.{Refusal}
 use Rattle.pisdf_meaning.proofs.KeptSizes.{Levelled, args_at, body_args}
 use Rattle.pisdf_meaning.proofs.LinkSizes.{placed}
 use Rattle.pisdf_meaning.proofs.MadeLevels.{levels_made}
@@ -145,7 +146,7 @@ module _ (signatures : List Counts) (graphs : Graphs) (range : InRange graphs) (
     actor_fits (Some actor) there e = firing_fits actor there actor.body refl e
 
   module _ (p : Prepared) (m : ℕ) where
-    abbrev vs : flow.Values ℤ _
+    abbrev vs : flow.Values ℤ Refusal
     vs = node_values G g firing p v
 
     abbrev reads : Node → List (List ℤ)

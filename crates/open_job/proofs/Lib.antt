@@ -3,3 +3,6 @@ pub mod Rules
 pub mod Ends
 pub mod Early
 pub mod Nodes
+pub mod Offered
+pub mod Picks
+pub mod Steps

@@ -65,13 +65,13 @@ with_item v i m places = record v { marks = slice_set v.marks i m; lent = slice_
 abbrev pub with_mark : OpenView → ℕ → Mark Firing Answer → OpenView
 with_mark v i m = record v { marks = slice_set v.marks i m }
 
--- a node that copies can't be refused
+-- none but a kernel can be refused
 abbrev pub IsSoundFor : Option (Task Firing words.Work) → Type 0 → Type 0
-IsSoundFor None sound = Unit {0}
-IsSoundFor (Some (Call job)) sound = Unit {0}
+IsSoundFor None sound = sound
+IsSoundFor (Some (Call job)) sound = sound
 IsSoundFor (Some (Work (words.Fires spot asked))) sound = Unit {0}
 IsSoundFor (Some (Work (words.Copies node read lens))) sound = sound
-IsSoundFor (Some (Work (words.Compiles firing left))) sound = Unit {0}
+IsSoundFor (Some (Work (words.Compiles firing left))) sound = sound
 
 -- ---- the compilation
 

@@ -33,26 +33,27 @@ use Rattle.open_job.specs.declared.stage.Stage.TheVariants.{Waiting, Compiling, 
 abbrev pub early_offer : ℕ → Offer
 early_offer i = record { item = i; away = false; urgency = None }
 
--- a configuration actor, the first of those of which this holds
+-- of none this holds
+abbrev pub IsNone : (ℕ → Type 0) → Type 0
+IsNone P = (i : ℕ) → P i → ⊥
+
+-- the first configuration actor of which this holds
 pub record IsFirstActor (P : ℕ → Type 0) (offer : Offer) : Type 0 where
   pub number : ℕ
   pub offer_is : offer ≡ early_offer number
   pub offered : P number
-  pub first : (i : ℕ) → P i → number < i ⊎ (number ≡ i)
-
-abbrev pub IsNoActor : (ℕ → Type 0) → Type 0
-IsNoActor P = (i : ℕ) → P i → ⊥
+  pub first : (i : ℕ) → i < number → P i → ⊥
 
 -- the first configuration actor that fires a kernel, else the compilation, where all gave something
 abbrev pub IsFirstWaiting : ConfiguringView → Option Offer → Type 0
-IsFirstWaiting c None = IsNoActor (preparing.IsOfferedWork c) × (preparing.IsReady c → ⊥)
+IsFirstWaiting c None = IsNone (preparing.IsOfferedWork c) × (preparing.IsReady c → ⊥)
 IsFirstWaiting c (Some offer) =
     IsFirstActor (preparing.IsOfferedWork c) offer
-    ⊎ (IsNoActor (preparing.IsOfferedWork c) × preparing.IsReady c × (offer ≡ early_offer (compile_number (preparing.graph_in c))))
+    ⊎ (IsNone (preparing.IsOfferedWork c) × preparing.IsReady c × (offer ≡ early_offer (compile_number (preparing.graph_in c))))
 
 -- the first configuration actor that fires a graph
 abbrev pub IsFirstCallWaiting : ConfiguringView → Option Offer → Type 0
-IsFirstCallWaiting c None = IsNoActor (preparing.IsOfferedCall c)
+IsFirstCallWaiting c None = IsNone (preparing.IsOfferedCall c)
 IsFirstCallWaiting c (Some offer) = IsFirstActor (preparing.IsOfferedCall c) offer
 
 -- ---- nodes

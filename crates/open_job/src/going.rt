@@ -45,7 +45,7 @@ pub(crate) fn next_stage(
             set,
             values,
         } => {
-            let graphs = Arc::clone(configuring.graphs());
+            let graphs = Arc::try_clone(configuring.graphs())?;
             let running = run(alloc, graphs, configuring, compiled, set, values)?;
             Ok(Stage::Nodes(running))
         }
@@ -59,8 +59,7 @@ pub(crate) fn next_stage(
 
 /// The refusal of a configuration actor, one of which was refused.
 pub(crate) fn refused_early(configuring: Configuring) -> Refusal
-    requires unlent { IsNothingLent configuring.lent }
-    requires refused { (refusal : Refusal) × (first_refusal (answers configuring.marks) 0 (compile_number (preparing.graph_in configuring)) ≡ Some refusal) }
+    requires { (refusal : Refusal) × (first_refusal (answers configuring.marks) 0 (compile_number (preparing.graph_in configuring)) ≡ Some refusal) }
     ensures { first_refusal (answers configuring.marks) 0 (compile_number (preparing.graph_in configuring)) ≡ Some result }
 {
     match configuring.refusal() {

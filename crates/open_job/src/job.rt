@@ -214,11 +214,14 @@ impl OpenJob {
     }
 
     /// How the job ended: with the refusal of the item of the least number that was refused, else with what the firing gives.
-    /// It takes no memory.
-    pub fn outcome(self) -> Result<JobGiven, Refusal>
+    ///
+    /// # Errors
+    ///
+    /// Want of memory: the trace would have 2^63 rows or more.
+    pub fn outcome(self) -> Result<Result<JobGiven, Refusal>, AllocError>
         requires { IsQuiet self }
-        ensures outcome { answer_of (end_of result) ≡ outcome_in self }
-        ensures suits { EndSuits self.graphs.graphs self.firing (end_of result) }
+        ensures outcome { IfOk result (λ end. answer_of (end_of end) ≡ outcome_in self) }
+        ensures suits { IfOk result (λ end. EndSuits self.graphs.graphs self.firing (end_of end)) }
     {
         let OpenJob {
             configuring,
@@ -226,11 +229,11 @@ impl OpenJob {
             stage,
         } = self;
         match stage {
-            Stage::Waiting => Err(refused_early(configuring)),
-            Stage::Compiling => Err(refused_early(configuring)),
+            Stage::Waiting => Ok(Err(refused_early(configuring))),
+            Stage::Compiling => Ok(Err(refused_early(configuring))),
             Stage::Refused(refusal) => {
                 configuring.end();
-                Err(refusal)
+                Ok(Err(refusal))
             }
             Stage::Nodes(running) => running.outcome(configuring.into_left()),
         }
