@@ -45,7 +45,7 @@ pub use outcome::{Delays, Iteration, TraceRow};
 pub use parts::parts_of;
 pub use path::Path;
 pub use refusal::{Cause, Left, PlainFault, Refusal};
-pub use resolving::resolved;
+pub use resolving::{chosen_values, resolved};
 pub use scheduling::schedule_cause;
 pub use soundness::runnable;
 pub use sources::{is_kept, source_tokens};

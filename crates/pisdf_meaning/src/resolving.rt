@@ -100,7 +100,7 @@ fn add_chosen(
 }
 
 /// The values of the chosen parameters, in file order, which the configuration actors set.
-fn chosen_values(
+pub fn chosen_values(
     alloc: Global,
     graph: &Graph,
     configured: &[Configured],

@@ -1,0 +1,12 @@
+pub mod Handing
+pub mod View
+pub mod CompileTasks
+pub mod Stages
+pub mod Standing
+pub mod Kept
+pub mod Slim
+pub mod Tasked
+pub mod Seated
+pub mod Ending
+pub mod Unscheduled
+pub mod Making

@@ -1,0 +1,212 @@
+// What is asked of the configuration actors of a firing.
+ghost use Rattle.std.specs.Prelude.{◌≡◌, ◌<◌, ◌^◌, [], length, slice_get, slice_index_or, Some, IfOk, List as Seq};
+ghost use Rattle.nested_jobs.specs.Rules.{Call};
+ghost use Rattle.pisdf_model.specs.Hold.{in_line};
+ghost use Rattle.pisdf_model.specs.Ports.{inherited_count};
+ghost use Rattle.pisdf_model.specs.Range.{InRange};
+ghost use Rattle.pisdf_model.specs.WellFormed.{WellFormed};
+ghost use Rattle.pisdf_meaning.specs.Configuring.{configurations, config_rates, early_in};
+ghost use Rattle.pisdf_meaning.specs.Nested.{configuration_at};
+ghost use Rattle.pisdf_meaning.specs.Sound.{IsConfiguration};
+ghost use Rattle.pisdf_meaning.specs.States.{tokens_at};
+ghost use Rattle.job_rules.specs.Meant.{IsFit};
+ghost use Rattle.pisdf_meaning.specs.declared.firing.Configured.{Configured};
+ghost use Rattle.pisdf_meaning.specs.declared.outcome.TraceRow.{TraceRow};
+ghost use Rattle.job_preparing.specs.Standing.{ArePlaces, IsCall, IsOwn, StandsRight};
+ghost use Rattle.job_preparing.specs.View.{task_of};
+
+use crate::stage::{Spare, Stage};
+use kernel_gate::Frame;
+use param_expr::Name;
+use param_resolver::{Early, early};
+use pisdf_meaning::{Firing, config_firing, copy_name, copy_tokens, fed_to};
+use pisdf_model::{Body, Graph, Graphs, is_configuration};
+use sdf_level::List;
+use std::alloc::{AllocError, Global};
+
+/// The list at a place, or none.
+pub(crate) fn tokens_at(lists: &[List<i64>], place: usize) -> &[i64]
+    ensures { result.now ≡ tokens_at lists.now place }
+{
+    match lists.get(place) {
+        Some(tokens) => tokens.items(),
+        None => &[],
+    }
+}
+
+/// The rates at a place, or none.
+pub(crate) fn rates_at(lists: &[List<u32>], place: usize) -> &[u32]
+    ensures { result.now ≡ slice_index_or lists.now place [] }
+{
+    match lists.get(place) {
+        Some(rates) => rates.items(),
+        None => &[],
+    }
+}
+
+/// What is known of the graph of a firing before its configuration actors fire.
+pub(crate) fn known(
+    alloc: Global,
+    graphs: &Graphs,
+    firing: &Firing,
+) -> Result<Early, AllocError>
+    requires in_range { InRange graphs.now }
+    requires well_formed { WellFormed graphs.now }
+    requires fit { IsFit graphs.now.graphs firing.now }
+    requires inherited { length firing.now.inherited ≡ inherited_count (slice_get graphs.now.graphs firing.now.graph) }
+    ensures { IfOk result (λ e. e ≡ early_in graphs.now.graphs firing.now) }
+{
+    // The early check has no fault, so that only memory can be wanting.
+    match early(alloc, graphs, firing.graph, firing.inherited.items()) {
+        Ok(early) => Ok(early),
+        Err(_) => Err(AllocError),
+    }
+}
+
+/// The places of the configuration actors of a graph.
+pub(crate) fn config_places(alloc: Global, graph: &Graph) -> Result<Vec<usize>, AllocError>
+    ensures { IfOk result (λ v. ArePlaces graph.now v.items) }
+{
+    let mut places = Vec::new(alloc);
+    let actors = graph.actors.items();
+    for place in 0..actors.len() {
+        if is_configuration(&actors[place].body) {
+            places.push(place)?;
+        }
+    }
+    Ok(places)
+}
+
+/// A configuration actor that nobody claimed, with the frame of its kernel, if it fires one.
+pub(crate) struct Seat {
+    pub(crate) stage: Stage,
+    pub(crate) frame: Option<Frame>,
+}
+
+/// A kernel configuration actor with its number, which stands at a place of its graph.
+fn kernel_seat(
+    alloc: Global,
+    graph: &Graph,
+    early: &Early,
+    firing: &Firing,
+    number: usize,
+    place: usize,
+    name: &Name,
+    kernel: u32,
+    ins: usize,
+    sets: u32,
+) -> Result<Seat, AllocError>
+{
+    let rates = rates_at(early.outs.items(), number);
+    let spare = Spare {
+        path: firing.path.copy()?,
+        name: copy_name(alloc, name)?,
+        lists: Vec::with_capacity(alloc, rates.len())?,
+    };
+    let args = copy_tokens(alloc, tokens_at(early.args.items(), number))?;
+    let inputs = fed_to(alloc, graph, firing.inputs.items(), place, ins)?;
+    let frame = Frame::start(alloc, kernel, args, inputs, rates, sets)?;
+    Ok(Seat {
+        stage: Stage::Fires(spare),
+        frame: Some(frame),
+    })
+}
+
+/// The configuration actor with this number, which stands at a place of its graph.
+pub(crate) fn make_seat(
+    alloc: Global,
+    graphs: &Graphs,
+    graph: &Graph,
+    early: &Early,
+    firing: &Firing,
+    number: usize,
+    place: usize,
+) -> Result<Seat, AllocError>
+    requires in_range { InRange graphs.now }
+    requires well_formed { WellFormed graphs.now }
+    requires here { slice_get graphs.now.graphs firing.now.graph ≡ Some graph.now }
+    requires early { early.now ≡ early_in graphs.now.graphs firing.now }
+    requires configuration { slice_get (configurations graph.now) number ≡ Some (configuration_at graph.now number place) }
+    requires is { IsConfiguration graph.now number place }
+    ensures own { IfOk result (λ s. IsOwn s.frame) }
+    ensures stands { IfOk result (λ s. (one : Configured) (trace : Seq TraceRow) → StandsRight graphs.now.graphs (task_of graphs.now.graphs graph.now firing.now (slice_get (configurations graph.now) number)) (config_rates graphs.now.graphs firing.now number) s.stage s.frame one trace) }
+{
+    let actor = &graph.actors.items()[place];
+    match &actor.body {
+        Body::Config {
+            kernel,
+            ins,
+            sets,
+            ..
+        } => kernel_seat(
+            alloc,
+            graph,
+            early,
+            firing,
+            number,
+            place,
+            &actor.name,
+            *kernel,
+            ins.items().len(),
+            sets.items().len() as u32,
+        ),
+        Body::ConfigChild { .. } => Ok(Seat {
+            stage: Stage::Calls,
+            frame: None,
+        }),
+        Body::Kernel { .. } | Body::Child { .. } => unreachable!(),
+    }
+}
+
+/// The firing of the graph that the configuration actor with this number names, which stands at a place of its graph.
+pub(crate) fn child_of(
+    alloc: Global,
+    graphs: &Graphs,
+    graph: &Graph,
+    early: &Early,
+    firing: &Firing,
+    number: usize,
+    place: usize,
+) -> Result<Firing, AllocError>
+    requires in_range { InRange graphs.now }
+    requires well_formed { WellFormed graphs.now }
+    requires here { slice_get graphs.now.graphs firing.now.graph ≡ Some graph.now }
+    requires early { early.now ≡ early_in graphs.now.graphs firing.now }
+    requires is { IsConfiguration graph.now number place }
+    requires call { IsCall (task_of graphs.now.graphs graph.now firing.now (Some (configuration_at graph.now number place))) }
+    ensures { IfOk result (λ d. task_of graphs.now.graphs graph.now firing.now (Some (configuration_at graph.now number place)) ≡ Some (Call d)) }
+{
+    let actor = &graph.actors.items()[place];
+    match &actor.body {
+        Body::ConfigChild { graph: child, .. } => {
+            let inputs = graphs.graphs.items()[*child as usize].inputs.items().len();
+            config_firing(
+                alloc,
+                graphs.graphs.items(),
+                graph,
+                early,
+                firing,
+                number,
+                place,
+                &actor.name,
+                *child,
+                inputs,
+            )
+        }
+        Body::Config { .. } => unreachable!(),
+        Body::Kernel { .. } => unreachable!(),
+        Body::Child { .. } => unreachable!(),
+    }
+}
+
+/// How many tokens the lists have.
+pub(crate) fn token_count(lists: &[List<i64>]) -> usize
+    requires { length (in_line lists.now) < 2 ^ 63 }
+    ensures { result ≡ length (in_line lists.now) }
+{
+    let mut count = 0;
+    for list in lists {
+        count += list.items().len();
+    }
+    count
+}

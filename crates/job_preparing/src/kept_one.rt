@@ -1,0 +1,98 @@
+// The compilation of a level: the one that is kept, if it is of this level and these workers, else a new one.
+ghost use Rattle.std.specs.Prelude.{◌≡◌, ◌≤◌, ◌⊎◌, ◌↔◌, IfOk, IfErr, IsTrue};
+ghost use Rattle.std.specs.Arc.{arc_value};
+ghost use Rattle.job_compiler.specs.Compilation.{IsCompiled};
+ghost use Rattle.job_compiler.specs.Refusals.{IsRefused};
+ghost use Rattle.pisdf_meaning.specs.Endings.{IfRefused};
+ghost use Rattle.job_preparing.specs.Unscheduled.{IsUnscheduledAs};
+
+use job_compiler::{CompileFault, Compiled, compile};
+use level_schedule::Unscheduled;
+use pisdf_meaning::{Firing, PlainFault, refused, schedule_cause};
+use pisdf_model::Graph;
+use sdf_level::Level;
+use std::alloc::Global;
+use std::sync::Arc;
+
+/// Whether two levels are the same.
+fn is_level(level: &Level, other: &Level) -> bool
+    ensures { IsTrue result ↔ (level.now ≡ other.now) }
+{
+    level.actors == other.actors
+        && level.sources.items() == other.sources.items()
+        && level.sinks.items() == other.sinks.items()
+        && level.links.items() == other.links.items()
+}
+
+/// The refusal of the graph's firing whose level can't be compiled.
+fn compile_refused(
+    alloc: Global,
+    graph: &Graph,
+    firing: &Firing,
+    level: &Level,
+    fault: CompileFault,
+) -> PlainFault
+    requires { IsRefused level.now fault ⊎ (fault ≡ CompileFault.Memory) }
+    ensures { IfRefused (IsUnscheduledAs graph.now firing.now level.now) result }
+{
+    let fault = match fault {
+        CompileFault::Rates => Unscheduled::Rates,
+        CompileFault::Limit { what, value } => Unscheduled::Limit { what, value },
+        CompileFault::Deadlock { left } => Unscheduled::Deadlock { left },
+        CompileFault::Memory => return PlainFault::Memory,
+    };
+    match schedule_cause(alloc, graph, fault) {
+        Ok(cause) => refused(&firing.path, cause),
+        Err(_) => PlainFault::Memory,
+    }
+}
+
+/// A new compilation of the level.
+fn compiled_anew(
+    alloc: Global,
+    graph: &Graph,
+    firing: &Firing,
+    level: &Level,
+    workers: u32,
+) -> Result<Arc<Compiled>, PlainFault>
+    requires { 1 ≤ workers }
+    ensures level { IfOk result (λ c. (arc_value c).level ≡ level.now) }
+    ensures workers { IfOk result (λ c. (arc_value c).workers ≡ workers) }
+    ensures compiled { IfOk result (λ c. IsCompiled (arc_value c)) }
+    ensures refused { IfErr result (IfRefused (IsUnscheduledAs graph.now firing.now level.now)) }
+{
+    match compile(alloc, level, workers) {
+        Ok(compiled) => Ok(Arc::new(alloc, compiled)?),
+        Err(fault) => Err(compile_refused(alloc, graph, firing, level, fault)),
+    }
+}
+
+/// Whether a compilation is of this level and these workers.
+fn serves(kept: &Compiled, level: &Level, workers: u32) -> bool
+    ensures { IsTrue result ↔ ((kept.now.level ≡ level.now) × (kept.now.workers ≡ workers)) }
+{
+    kept.workers() == workers && is_level(kept.level(), level)
+}
+
+/// The compilation of the level of a graph in its firing.
+pub(crate) fn compiled_for(
+    alloc: Global,
+    graph: &Graph,
+    firing: &Firing,
+    level: &Level,
+    workers: u32,
+    kept: &Option<Arc<Compiled>>,
+) -> Result<Arc<Compiled>, PlainFault>
+    requires { 1 ≤ workers }
+    ensures level { IfOk result (λ c. (arc_value c).level ≡ level.now) }
+    ensures workers { IfOk result (λ c. (arc_value c).workers ≡ workers) }
+    ensures compiled { IfOk result (λ c. IsCompiled (arc_value c)) }
+    ensures refused { IfErr result (IfRefused (IsUnscheduledAs graph.now firing.now level.now)) }
+{
+    if let Some(one) = kept {
+        if serves(one, level, workers) {
+            return Ok(Arc::try_clone(one)?);
+        }
+    }
+    compiled_anew(alloc, graph, firing, level, workers)
+}

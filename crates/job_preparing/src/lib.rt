@@ -1,0 +1,20 @@
+//! The configuration actors of one firing of a graph, each of which fires once before the others, and the compilation of the
+//! firing, which is made apart from its job.
+#![tactic(auto)]
+
+mod asking;
+mod compile_task;
+mod compiling;
+mod configuring;
+mod ending;
+mod handing;
+mod kept_one;
+mod slim;
+mod stage;
+mod starting;
+
+pub use compile_task::CompileTask;
+pub use compiling::CompileEnd;
+pub use configuring::Configuring;
+pub use handing::{JobGiven, Left};
+pub use starting::configure;
