@@ -1,0 +1,194 @@
+// How a firing ends.
+ghost use Rattle.std.specs.Prelude.{ℕ, ◌≡◌, ◌+◌, ◌<◌, ◌≤◌, ◌++◌, List as Seq, [], drop, length, map, vec_capacity, vec_len, slice_index_or};
+ghost use Rattle.std.specs.List.{filter};
+ghost use Rattle.pisdf_meaning.specs.Running.{actor_states, fifo_states, state_after, state_of_first};
+ghost use Rattle.pisdf_meaning.specs.States.{goes_on, tokens_at};
+ghost use Rattle.param_resolver.specs.Numbering.{acting, has_state, is_kept};
+ghost use Rattle.pisdf_model.specs.declared.graph.Graph.{Graph as GraphView};
+ghost use Rattle.job_running.specs.Stages.{refusal_at, refusal_for, spot_of, stage_at};
+ghost use Rattle.one_job.specs.View.{IsFiring};
+ghost use Rattle.pisdf_model.specs.declared.actor.Actor.{Actor as ActorView};
+
+use crate::stage::Stage;
+use param_expr::Name;
+use pisdf_meaning::{Cause, Configured, Path, Refusal, is_kept};
+use pisdf_model::{Graph, Life, is_configuration};
+use sdf_level::{List, Node};
+use std::alloc::Global;
+use std::collections::VecDeque;
+
+// ---- the state
+
+/// Takes the first of these lists, which is empty where there is none.
+fn next_list(alloc: Global, lists: &mut VecDeque<List<i64>>) -> List<i64>
+    ensures taken { result ≡ tokens_at lists.old.items 0 }
+    ensures rest { lists.new.items ≡ drop 1 lists.old.items }
+{
+    match lists.pop_front() {
+        Some(list) => list,
+        None => List::new(Vec::new(alloc)),
+    }
+}
+
+/// Takes the state of the first of these configuration actors.
+fn next_state(alloc: Global, left: &mut VecDeque<Configured>) -> List<i64>
+    ensures taken { result ≡ state_of_first left.old.items }
+    ensures rest { left.new.items ≡ drop 1 left.old.items }
+{
+    match left.pop_front() {
+        Some(one) => one.state,
+        None => List::new(Vec::new(alloc)),
+    }
+}
+
+/// What goes on of the tokens that are left on the link of a FIFO.
+fn goes_on(alloc: Global, life: Life, left: List<i64>) -> List<i64>
+    ensures { result ≡ goes_on life left }
+{
+    match life {
+        Life::Firing => List::new(Vec::new(alloc)),
+        Life::Permanent => left,
+    }
+}
+
+/// Adds what goes on of each FIFO, and takes from what is left on the links that of the FIFOs that become links.
+fn push_fifo_states(
+    alloc: Global,
+    graph: &Graph,
+    left: &mut VecDeque<List<i64>>,
+    state: &mut Vec<List<i64>>,
+)
+    requires room { vec_len state.old + length graph.now.fifos ≤ vec_capacity state.old }
+    ensures state { state.new.items ≡ state.old.items ++ fifo_states graph.now graph.now.fifos left.old.items }
+    ensures left { left.new.items ≡ drop (length (filter (is_kept graph.now) graph.now.fifos)) left.old.items }
+    ensures len { vec_len state.new ≡ vec_len state.old + length graph.now.fifos }
+    ensures capacity { vec_capacity state.new ≡ vec_capacity state.old }
+{
+    for fifo in graph.fifos.items() {
+        if is_kept(graph, fifo) {
+            let tokens = next_list(alloc, left);
+            state.push_reserved(goes_on(alloc, fifo.life, tokens));
+        } else {
+            state.push_reserved(List::new(Vec::new(alloc)));
+        }
+    }
+}
+
+/// Adds the list of each actor: of a configuration actor the state that it left, of another with a state what is left on
+/// its link to itself.
+fn push_actor_states(
+    alloc: Global,
+    graph: &Graph,
+    keeps: &[bool],
+    configured: &mut VecDeque<Configured>,
+    left: &mut VecDeque<List<i64>>,
+    state: &mut Vec<List<i64>>,
+)
+    requires room { vec_len state.old + length graph.now.actors ≤ vec_capacity state.old }
+    requires many { length keeps.now ≡ length (acting graph.now) }
+    ensures { (graphs : Seq GraphView) → keeps.now ≡ map (has_state graphs) (acting graph.now) → state.new.items ≡ state.old.items ++ actor_states graphs graph.now.actors configured.old.items left.old.items }
+{
+    let mut number = 0;
+    for actor in graph.actors.items() {
+        if is_configuration(&actor.body) {
+            state.push_reserved(next_state(alloc, configured));
+        } else {
+            let list = if keeps[number] {
+                next_list(alloc, left)
+            } else {
+                List::new(Vec::new(alloc))
+            };
+            state.push_reserved(list);
+            number += 1;
+        }
+    }
+}
+
+/// The state that the firing leaves, where this is left on the links of its level. There is room for its lists.
+pub(crate) fn state_left(
+    alloc: Global,
+    graph: &Graph,
+    keeps: &[bool],
+    configured: List<Configured>,
+    left: List<List<i64>>,
+    mut state: Vec<List<i64>>,
+) -> List<List<i64>>
+    requires room { vec_len state + length graph.now.fifos + length graph.now.actors ≤ vec_capacity state }
+    requires empty { state.items ≡ [] }
+    requires many { length keeps.now ≡ length (acting graph.now) }
+    ensures { (graphs : Seq GraphView) → keeps.now ≡ map (has_state graphs) (acting graph.now) → result ≡ state_after graphs graph.now configured left }
+{
+    let mut configured = VecDeque::from_vec(configured.into_items());
+    let mut left = VecDeque::from_vec(left.into_items());
+    push_fifo_states(alloc, graph, &mut left, &mut state);
+    push_actor_states(alloc, graph, keeps, &mut configured, &mut left, &mut state);
+    List::new(state)
+}
+
+// ---- the refusal
+
+/// The name at a place of a list, which is moved out; an empty one where there is none.
+fn take_name(alloc: Global, mut names: Vec<Name>, place: u32) -> Name
+    ensures { result ≡ slice_index_or names.items place [] }
+{
+    let place = place as usize;
+    if place < names.len() {
+        names.swap_remove(place)
+    } else {
+        Name::new(String::new(alloc))
+    }
+}
+
+/// The refusal of a node whose kernel refused with this code.
+fn kernel_refusal(alloc: Global, path: Path, names: Vec<Name>, which: Node, code: u8) -> Refusal
+    requires { IsFiring which }
+    ensures { (own : Seq ActorView) → names.items ≡ map (λ a. a.name) own → result ≡ refusal_at (spot_of path own which) code }
+{
+    match which {
+        Node::Firing { actor, turn } => Refusal {
+            path,
+            cause: Cause::Kernel {
+                actor: take_name(alloc, names, actor),
+                firing: turn,
+                code,
+            },
+        },
+        _ => unreachable!(),
+    }
+}
+
+/// The refusal of a node in this stage, for which the job of leases has this code.
+pub(crate) fn refusal_of(
+    alloc: Global,
+    path: Path,
+    names: Vec<Name>,
+    which: Node,
+    stage: Stage,
+    code: u8,
+) -> Refusal
+    requires { IsFiring which }
+    ensures { (own : Seq ActorView) → names.items ≡ map (λ a. a.name) own → result ≡ refusal_for (spot_of path own which) stage code }
+{
+    match stage {
+        Stage::Refused(refusal) => refusal,
+        Stage::Free => kernel_refusal(alloc, path, names, which, code),
+        Stage::Busy(_) => kernel_refusal(alloc, path, names, which, code),
+        Stage::Lost(_) => kernel_refusal(alloc, path, names, which, code),
+        Stage::Open(_, _) => kernel_refusal(alloc, path, names, which, code),
+        Stage::Fired(_) => kernel_refusal(alloc, path, names, which, code),
+        Stage::Failed(_) => kernel_refusal(alloc, path, names, which, code),
+        Stage::Gave(_) => kernel_refusal(alloc, path, names, which, code),
+    }
+}
+
+/// The stage of a node, moved out.
+pub(crate) fn take_stage(mut stages: Vec<Stage>, node: u32) -> Stage
+    ensures { result ≡ stage_at stages.items node }
+{
+    let node = node as usize;
+    if node < stages.len() {
+        stages.swap_remove(node)
+    } else {
+        Stage::Free
+    }
+}

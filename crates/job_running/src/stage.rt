@@ -1,0 +1,49 @@
+// How far nodes are.
+ghost use Rattle.std.specs.Prelude.{◌≡◌};
+ghost use Rattle.job_running.specs.Stages.{ended_in, waiting_in};
+
+use job_preparing::JobGiven;
+use kernel_gate::{Frame, KernelFault};
+use pisdf_meaning::{Firing, Refusal};
+use std::alloc::AllocError;
+use std::snapshot::Snapshot;
+
+/// How far a node is.
+#[derive(Drop)]
+pub(crate) enum Stage {
+    Free,
+    /// Its frame is out.
+    Busy(Snapshot<Frame>),
+    /// It was to call a graph, for which there was no memory. Its frame waits.
+    Lost(Snapshot<Frame>),
+    /// It has called a graph, and its frame waits.
+    Open(Snapshot<Firing>, Snapshot<Frame>),
+    /// Its frame came back with what it gave.
+    Fired(Snapshot<Frame>),
+    /// Its kernel refused with this code.
+    Failed(u8),
+    /// What it called gave this.
+    Gave(Snapshot<JobGiven>),
+    /// What it called was refused.
+    Refused(Refusal),
+}
+
+/// How far a node is whose frame came back so.
+pub(crate) fn ended(frame: &Frame, answer: &Result<(), KernelFault>) -> Stage
+    ensures { result ≡ ended_in frame.now answer.now }
+{
+    match answer {
+        Ok(()) => Stage::Fired(Snapshot::of(frame)),
+        Err(fault) => Stage::Failed(fault.code),
+    }
+}
+
+/// How far a node is that has called this with its frame, or for whose call there was no memory.
+pub(crate) fn waiting(called: &Result<Firing, AllocError>, frame: &Frame) -> Stage
+    ensures { result ≡ waiting_in called.now frame.now }
+{
+    match called {
+        Ok(firing) => Stage::Open(Snapshot::of(firing), Snapshot::of(frame)),
+        Err(_) => Stage::Lost(Snapshot::of(frame)),
+    }
+}
