@@ -2,7 +2,11 @@ pub mod Cut
 pub mod Rules
 pub mod Ends
 pub mod Early
-pub mod Nodes
+pub mod NodeRules
 pub mod Offered
 pub mod Picks
 pub mod Steps
+pub mod Ending
+pub mod NodeEnds
+pub mod NodeSteps
+pub mod Compiling

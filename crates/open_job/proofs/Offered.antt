@@ -1,5 +1,5 @@
 -- Which items a job offers in each of its stages.
-use Rattle.std.proofs.Common.{◌≡◌, ◌≢◌, ℕ, zero, suc, ◌+◌, ◌-◌, ◌<◌, ◌≤◌, ◌⊎◌, ⊎_elim, true, false, List, [], ◌∷◌, length, slice_get, Option, Some, None, is_some, unwrap_or, refl, sym, ap, ◌∙◌, subst, arith}
+use Rattle.std.proofs.Common.{◌≡◌, ◌≢◌, ℕ, zero, suc, ◌+◌, ◌-◌, ◌<◌, ◌≤◌, ◌⊎◌, inl, inr, ⊎_elim, true, false, List, [], ◌∷◌, length, slice_get, Option, Some, None, is_some, unwrap_or, refl, sym, ap, ◌∙◌, subst, arith}
 use Rattle.std.proofs.lemmas.Bool.{cases_lt}
 use Rattle.std.proofs.lemmas.Option.{slice_get_within}
 use Rattle.level_schedule.specs.declared.scheduling.LevelSchedule.{LevelSchedule}
@@ -25,7 +25,7 @@ use Rattle.open_job.specs.Running.{RunsFor}
 use Rattle.open_job.specs.declared.stage.Stage.{Stage}
 use Rattle.open_job.specs.declared.stage.Stage.TheVariants.{Waiting, Nodes}
 use Rattle.open_job.proofs.Early as early
-use Rattle.open_job.proofs.Nodes as nodes
+use Rattle.open_job.proofs.NodeRules as nodes
 use Rattle.open_job.proofs.Rules as rules
 
 -- ---- where all configuration actors gave something
@@ -45,7 +45,7 @@ each_gave v i (c ∷ cs) left is (suc j) below =
     let e : i + suc j ≡ i + 1 + j = omega arith in
     rw e (each_gave v (i + 1) cs parts.rest parts.rest_is j (omega arith))
 
-some_is : {T : Type 0} (o : Option T) → is_some o ≡ true → (x : T) × (o ≡ Some x)
+pub some_is : {T : Type 0} (o : Option T) → is_some o ≡ true → (x : T) × (o ≡ Some x)
 some_is None is = absurd (cc)
 some_is (Some x) is = (x, refl)
 

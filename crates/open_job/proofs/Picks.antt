@@ -1,5 +1,5 @@
 -- The first item of a job is the first of those in its stage.
-use Rattle.std.proofs.Common.{◌≡◌, ◌≢◌, ℕ, zero, suc, ◌+◌, ◌-◌, ◌<◌, ◌≤◌, ◌==◌, nat_lt, ◌⊎◌, ⊎_elim, Bool, true, false, not, ◌&&◌, [], length, Option, Some, None, is_some, slice_index, refl, sym, ap, ◌∙◌, subst, arith, if◌then◌else◌}
+use Rattle.std.proofs.Common.{◌≡◌, ◌≢◌, ℕ, zero, suc, ◌+◌, ◌-◌, ◌<◌, ◌≤◌, ◌==◌, nat_lt, ◌⊎◌, inl, inr, ⊎_elim, Bool, true, false, not, ◌&&◌, [], length, Option, Some, None, is_some, slice_index, refl, sym, ap, ◌∙◌, subst, arith, if◌then◌else◌}
 use Rattle.std.proofs.lemmas.Bool.{cases_lt, le-ltb, lt-ltb}
 use Rattle.nested_jobs.specs.Marks as mark
 use Rattle.job_compiler.specs.Compilation.{IsMapped}
@@ -19,7 +19,7 @@ use Rattle.open_job.specs.Stages.{IsFirstActor, IsFirstCallWaiting, IsFirstNode,
 use Rattle.open_job.specs.declared.offer.Offer.{Offer}
 use Rattle.open_job.specs.declared.stage.Stage.TheVariants.{Waiting, Nodes}
 use Rattle.open_job.proofs.Early as early
-use Rattle.open_job.proofs.Nodes as nodes
+use Rattle.open_job.proofs.NodeRules as nodes
 use Rattle.open_job.proofs.Rules as rules
 use Rattle.open_job.proofs.Offered as offered
 use Rattle.open_job.proofs.Offered.{IsNodeOf}

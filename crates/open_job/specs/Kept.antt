@@ -1,6 +1,7 @@
 -- The fields of an open job.
-use Rattle.std.specs.Prelude.{◌≡◌, ℕ, ◌≤◌, [], ◌∷◌, ◌++◌, length, None}
-use Rattle.job_preparing.specs.Handing.{ItemMarks, Lent}
+use Rattle.std.specs.Prelude.{◌≡◌, ◌≢◌, ℕ, ◌≤◌, [], ◌∷◌, ◌++◌, length, None}
+use Rattle.job_preparing.specs.Handing.{ItemMarks, Lent, mark_at}
+use Rattle.level_schedule.specs.declared.scheduling.LevelSchedule.{LevelSchedule}
 use Rattle.job_preparing.specs.View as preparing
 use Rattle.job_preparing.specs.View.{ConfiguringView}
 use Rattle.job_rules.specs.Items.{compile_number}
@@ -62,6 +63,8 @@ pub record KeepsWith (c : ConfiguringView) (workers : ℕ) (stage : Stage) : Typ
   pub some : 1 ≤ workers
   pub marks_many : length c.marks ≡ compile_number (preparing.graph_in c)
   pub lent_many : length c.lent ≡ compile_number (preparing.graph_in c)
+  -- a configuration actor answers no schedule
+  pub gave : (i : ℕ) (s : LevelSchedule) → mark_at c.marks i ≢ Done (Schedules s)
   pub stage_fits : StageFits c workers stage
 
 abbrev pub IsOpenJob : Inside → Type 0

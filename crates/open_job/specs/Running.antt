@@ -1,5 +1,5 @@
 -- The nodes of a job, beside its configuration actors.
-use Rattle.std.specs.Prelude.{◌≡◌, ℕ, length, Some}
+use Rattle.std.specs.Prelude.{◌≡◌, ℕ, [], length, Some}
 use Rattle.job_compiler.specs.Compilation.{IsMapped}
 use Rattle.job_preparing.specs.View as preparing
 use Rattle.job_preparing.specs.View.{ConfiguringView}

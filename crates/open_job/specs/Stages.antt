@@ -8,10 +8,13 @@ use Rattle.job_preparing.specs.Handing.{answer_with, end_of, lent_at, mark_at}
 use Rattle.job_preparing.specs.View as preparing
 use Rattle.job_preparing.specs.View.{ConfiguringView}
 use Rattle.job_preparing.specs.declared.handing.JobGiven.{JobGiven}
+use Rattle.job_flow.specs.Graphs.{node_at}
+use Rattle.job_running.specs.Calls.{IsEndOfCall}
 use Rattle.job_running.specs.View as running
 use Rattle.job_running.specs.View.{RunningView}
 use Rattle.job_running.specs.declared.handed.Handed as handed
 use Rattle.job_running.specs.declared.handed.Handed.TheVariants.{Fire as Fired, Copy as Copied}
+use Rattle.one_job.specs.View.{IsFiring}
 use Rattle.job_rules.specs.Items.{compile_number}
 use Rattle.job_rules.specs.Words as words
 use Rattle.job_rules.specs.Words.{Answer, answer_of}
@@ -19,7 +22,7 @@ use Rattle.nested_jobs.specs.Marks.{Mark, Free, Busy, Done, Open}
 use Rattle.nested_jobs.specs.Rules.{Call}
 use Rattle.pisdf_meaning.specs.declared.firing.Firing.{Firing}
 use Rattle.pisdf_meaning.specs.declared.refusal.Refusal.{Refusal}
-use Rattle.open_job.specs.Calls.{IsHandedFor, IsSoundFor, compile_answer, frame_of}
+use Rattle.open_job.specs.Calls.{IsHandedFor, compile_answer, frame_of}
 use Rattle.open_job.specs.Offers.{goes_first}
 use Rattle.open_job.specs.Running.{RunsFor}
 use Rattle.open_job.specs.declared.handed.Handed.{Handed}
@@ -109,13 +112,29 @@ pub record ClaimsNode (n : ℕ) (handed : Handed) (old new : RunningView) : Type
 -- a node is opened
 abbrev pub CallsNode : ℕ → Result Firing AllocError → RunningView → RunningView → Type 0
 CallsNode n (Ok firing) old new = (running.task old n ≡ Some (Call firing)) × (new ≡ with_node_mark old n (Open firing))
-CallsNode n (Err error) old new = (new ≡ old) ⊎ (new ≡ with_node_mark old n Busy)
+CallsNode n (Err error) old new = new ≡ with_node_mark old n Busy
+
+-- a node may be claimed
+pub record MayClaim (n : ℕ) (r : RunningView) : Type 0 where
+  pub inside : n < length (running.nodes_of r)
+  pub offered : running.IsOfferedWork r n
+
+-- a node may be opened
+pub record MayCall (n : ℕ) (r : RunningView) : Type 0 where
+  pub inside : n < length (running.nodes_of r)
+  pub offered : running.IsOfferedCall r n
 
 -- a node may be finished whose frame comes back
 pub record MayFinish (n : ℕ) (frame : FrameView) (sound : Type 0) (r : RunningView) : Type 0 where
+  pub inside : n < length (running.nodes_of r)
   pub busy : mark_at r.marks n ≡ Busy
   pub lent : lent_at r.lent n ≡ Some frame.places
-  pub sound_so : IsSoundFor (running.task r n) sound
+  pub sound_so : IsFiring (node_at (running.nodes_of r) n) ⊎ sound
+
+-- a node may be finished whose job ends so
+pub record MayAnswer (n : ℕ) (end : Result JobGiven Refusal) (r : RunningView) : Type 0 where
+  pub inside : n < length (running.nodes_of r)
+  pub is_end : IsEndOfCall r n end
 
 abbrev pub FinishesNode : ℕ → FrameView → Result (Unit {0}) KernelFault → RunningView → RunningView → Type 0
 FinishesNode n frame answer old new = new ≡ with_node old n (Done (answer_with (running.task old n) frame answer)) None

@@ -7,7 +7,7 @@ use Rattle.job_preparing.specs.View.{key_of}
 use Rattle.job_rules.specs.Items.{compile_number, count, graph_of, left_in, outcome, rule}
 use Rattle.job_rules.specs.Words as words
 use Rattle.job_rules.specs.Words.{Answer}
-use Rattle.nested_jobs.specs.Marks.{Mark, Free, Busy, Open, Done}
+use Rattle.nested_jobs.specs.Marks.{Free}
 use Rattle.nested_jobs.specs.Rules.{Task, Work, Call, Values}
 use Rattle.nested_jobs.specs.Steps.{all_below, is_settled}
 use Rattle.pisdf_model.specs.declared.graph.Graph.{Graph}

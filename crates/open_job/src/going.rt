@@ -4,6 +4,9 @@ ghost use Rattle.job_preparing.specs.CompileTasks.{IsEndOf};
 ghost use Rattle.job_preparing.specs.Handing.{IsNothingLent, answers};
 ghost use Rattle.job_preparing.specs.View as preparing;
 ghost use Rattle.job_rules.specs.Items.{compile_number, first_refusal};
+ghost use Rattle.job_rules.specs.Meant.{IsFit};
+ghost use Rattle.pisdf_model.specs.Range.{InRange};
+ghost use Rattle.pisdf_model.specs.WellFormed.{WellFormed};
 ghost use Rattle.open_job.specs.Kept.{node_lent};
 ghost use Rattle.open_job.specs.Stages.{GoesOnWith, HasNoNodes};
 
@@ -24,7 +27,7 @@ pub(crate) fn go_on(stage: &mut Stage, next: Stage)
         Stage::Waiting => {}
         Stage::Compiling => {}
         Stage::Refused(_) => {}
-        Stage::Nodes(_) => unreachable!(),
+        Stage::Nodes(_nodes) => unreachable!(),
     }
 }
 
@@ -35,6 +38,9 @@ pub(crate) fn next_stage(
     workers: u32,
     end: CompileEnd,
 ) -> Result<Stage, AllocError>
+    requires range { InRange configuring.now.graphs }
+    requires well { WellFormed configuring.now.graphs }
+    requires fit { IsFit configuring.now.graphs.graphs configuring.now.firing }
     requires ready { preparing.IsReady configuring.now }
     requires end { IsEndOf configuring.now.graphs.graphs workers configuring.now.firing (preparing.left_by configuring.now) end }
     ensures { IfOk result (GoesOnWith configuring.now workers end) }
@@ -45,6 +51,7 @@ pub(crate) fn next_stage(
             set,
             values,
         } => {
+            let _left = configuring.left();
             let graphs = Arc::try_clone(configuring.graphs())?;
             let running = run(alloc, graphs, configuring, compiled, set, values)?;
             Ok(Stage::Nodes(running))

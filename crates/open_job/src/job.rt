@@ -31,6 +31,11 @@ impl Model for OpenJob {
 
     ghost Value = { OpenView };
 
+    ghost use Rattle.std.specs.Coded.{codes};
+    ghost use Rattle.param_expr.specs.Tree.{tree_code};
+
+    ghost coded = { Prim.hlevel (codes, tree_code) };
+
     ghost use Rattle.open_job.specs.Kept.{view_of, IsOpenJob};
 
     ghost view = { view_of };

@@ -1,15 +1,25 @@
 // The nodes of a job, by the stage that has them.
-ghost use Rattle.std.specs.Prelude.{◌≡◌, IsOk};
-ghost use Rattle.job_running.specs.Calls.{IsEndOfCall};
-ghost use Rattle.job_running.specs.View.{IsOfferedCall, IsOfferedWork, RunningView};
-ghost use Rattle.open_job.specs.Stages.{CallsNode, ClaimsNode, FinishesCall, FinishesNode, HasNodes, MayFinish, NodesGoOn, handed_as};
+ghost use Rattle.std.specs.Prelude.{◌≡◌, ◌<◌, length, IsOk};
+ghost use Rattle.job_running.specs.View.{nodes_of};
+ghost use Rattle.open_job.specs.Stages.{CallsNode, ClaimsNode, FinishesCall, FinishesNode, HasNodes, MayAnswer, MayCall, MayClaim, MayFinish, NodesGoOn, handed_as};
 
 use crate::handed::Handed;
 use crate::stage::Stage;
 use job_preparing::JobGiven;
+use job_running::Running;
 use kernel_gate::{Frame, KernelFault};
 use pisdf_meaning::{Firing, Refusal};
 use std::alloc::{AllocError, Global};
+
+/// A node's number as the nodes have it.
+fn number_of(running: &Running, node: usize) -> u32
+    requires { node < length (nodes_of running.now) }
+    ensures { result ≡ node }
+{
+    let count = running.count() as usize;
+    prove!(node < count);
+    node as u32
+}
 
 /// What is handed out with a node.
 fn handed_node(handed: job_running::Handed) -> Handed
@@ -23,11 +33,14 @@ fn handed_node(handed: job_running::Handed) -> Handed
 
 /// Claims a node.
 pub(crate) fn claim_node(stage: &mut Stage, node: usize) -> Handed
-    requires { HasNodes (λ (r : RunningView). IsOfferedWork r node) stage.old }
+    requires { HasNodes (MayClaim node) stage.old }
     ensures { NodesGoOn (ClaimsNode node result) stage.old stage.new }
 {
     match stage {
-        Stage::Nodes(running) => handed_node(running.claim(node as u32)),
+        Stage::Nodes(running) => {
+            let n = number_of(running, node);
+            handed_node(running.claim(n))
+        }
         Stage::Waiting => unreachable!(),
         Stage::Compiling => unreachable!(),
         Stage::Refused(_) => unreachable!(),
@@ -40,11 +53,14 @@ pub(crate) fn call_node(
     alloc: Global,
     node: usize,
 ) -> Result<Firing, AllocError>
-    requires { HasNodes (λ (r : RunningView). IsOfferedCall r node) stage.old }
+    requires { HasNodes (MayCall node) stage.old }
     ensures { NodesGoOn (CallsNode node result) stage.old stage.new }
 {
     match stage {
-        Stage::Nodes(running) => running.call(alloc, node as u32),
+        Stage::Nodes(running) => {
+            let n = number_of(running, node);
+            running.call(alloc, n)
+        }
         Stage::Waiting => unreachable!(),
         Stage::Compiling => unreachable!(),
         Stage::Refused(_) => unreachable!(),
@@ -62,7 +78,10 @@ pub(crate) fn finish_node(
     ensures { NodesGoOn (FinishesNode node frame answer) stage.old stage.new }
 {
     match stage {
-        Stage::Nodes(running) => running.finish(node as u32, frame, answer),
+        Stage::Nodes(running) => {
+            let n = number_of(running, node);
+            running.finish(n, frame, answer)
+        }
         Stage::Waiting => unreachable!(),
         Stage::Compiling => unreachable!(),
         Stage::Refused(_) => unreachable!(),
@@ -71,11 +90,14 @@ pub(crate) fn finish_node(
 
 /// Finishes a node that called a job.
 pub(crate) fn finish_node_call(stage: &mut Stage, node: usize, end: Result<JobGiven, Refusal>)
-    requires { HasNodes (λ (r : RunningView). IsEndOfCall r node end) stage.old }
+    requires { HasNodes (MayAnswer node end) stage.old }
     ensures { NodesGoOn (FinishesCall node end) stage.old stage.new }
 {
     match stage {
-        Stage::Nodes(running) => running.finish_call(node as u32, end),
+        Stage::Nodes(running) => {
+            let n = number_of(running, node);
+            running.finish_call(n, end)
+        }
         Stage::Waiting => unreachable!(),
         Stage::Compiling => unreachable!(),
         Stage::Refused(_) => unreachable!(),

@@ -1,5 +1,5 @@
 -- Nodes as items of their job.
-use Rattle.std.proofs.Common.{◌≡◌, ℕ, suc, ◌+◌, ◌<◌, List, length, Option, Some, None, refl, sym, ap, ◌∙◌, subst, arith}
+use Rattle.std.proofs.Common.{◌≡◌, ℕ, ℤ, suc, ◌+◌, ◌<◌, List, length, Option, Some, None, refl, sym, ap, ◌∙◌, subst, arith}
 use Rattle.std.specs.Option.{option_map}
 use Rattle.nested_jobs.specs.Marks as mark
 use Rattle.nested_jobs.specs.Rules.{Task, Work, Values}
@@ -45,7 +45,7 @@ module _ (c : ConfiguringView) (workers : ℕ) (r : RunningView) (long : length 
   -- ---- what the nodes are to do
 
   -- by their own answers
-  abbrev own_values : Graphs → Firing → flow.Values ℤ Refusal
+  abbrev pub own_values : Graphs → Firing → flow.Values ℤ Refusal
   own_values graphs firing n = option_map (node_result (keeps_state graphs.graphs (actor_of (graph_of graphs.graphs firing) (node_at (nodes_in graphs.graphs (graph_of graphs.graphs firing) firing r.prepared) n)))) (answers r.marks n)
 
   abbrev own_task : ℕ → Graphs → Firing → Option (Task Firing words.Work)
