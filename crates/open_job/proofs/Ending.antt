@@ -118,8 +118,8 @@ some_refused v i (c ∷ cs) all none empty = ⊎_elim
 -- ---- before the nodes are there
 
 none_of : {T : Type 0} (o : Option T) → (is_some o ≡ true → ⊥) → o ≡ None
-none_of None no = refl
-none_of (Some x) no = absurd (no refl)
+none_of None never = refl
+none_of (Some x) never = absurd (never refl)
 
 module _ (c : ConfiguringView) (workers : ℕ) (stage : Stage) (keeps : KeepsWith c workers stage) (no_schedule : schedule_of (mark.answer_of (compile_mark stage)) ≡ None) where
   abbrev v : OpenView

@@ -10,3 +10,7 @@ pub mod Ending
 pub mod NodeEnds
 pub mod NodeSteps
 pub mod Compiling
+pub mod Methods
+pub mod CompileSteps
+pub mod NodeMethods
+pub mod ActorCalls

@@ -142,8 +142,12 @@ module _ (c : ConfiguringView) (workers worker : ℕ) (r : RunningView) (long : 
 
 -- ---- the order of nodes, by homes, priorities and numbers
 
+-- what isn't less is a tie
+tie_of : (x y : ℕ) (rest : Bool) → (x < y) ⊎ ((x ≡ y) × (rest ≡ true)) → (x < y → ⊥) → (x ≡ y) × (rest ≡ true)
+tie_of x y rest first never = ⊎_elim (λ (less : x < y). absurd (never less)) (λ (tie : (x ≡ y) × (rest ≡ true)). tie) first
+
 decide_later : (b c : Bool) (first second : Bool) → first ≡ false → second ≡ false → b ≡ c → decide first second b ≡ c
-decide_later b c first second no none same = rw (no, none) same
+decide_later b c first second one two same = rw (one, two) same
 
 module _ (r : RunningView) (base worker : ℕ) where
   abbrev home_is : ℕ → Bool
@@ -162,11 +166,14 @@ module _ (r : RunningView) (base worker : ℕ) where
       decide_later (nat_lt (base + n) (base + m)) true _ _ (le-ltb (urgent m) (urgent n) (omega arith)) (le-ltb (urgent n) (urgent m) (omega arith)) (lt-ltb (base + n) (base + m) (omega arith)))
       first
 
-  by_home : (a b rest : Bool) → ((if a then 0 else 1) < (if b then 0 else 1)) ⊎ (((if a then 0 else 1) ≡ (if b then 0 else 1)) × (rest ≡ true)) → decide (not (not a) && not b) (not a && not (not b)) rest ≡ true
-  by_home true true rest first = ⊎_elim (λ (less : 0 < 0). absurd (omega arith)) (λ (tie : (0 ≡ 0) × (rest ≡ true)). tie.1) first
+  abbrev far : Bool → ℕ
+  far a = if a then 0 else 1
+
+  by_home : (a b rest : Bool) → (far a < far b) ⊎ ((far a ≡ far b) × (rest ≡ true)) → decide (not (not a) && not b) (not a && not (not b)) rest ≡ true
+  by_home true true rest first = (tie_of 0 0 rest first (λ less. omega arith)).1
   by_home true false rest first = refl
-  by_home false true rest first = ⊎_elim (λ (less : 1 < 0). absurd (omega arith)) (λ (tie : (1 ≡ 0) × (rest ≡ true)). let e = tie.0 in absurd (omega arith)) first
-  by_home false false rest first = ⊎_elim (λ (less : 1 < 1). absurd (omega arith)) (λ (tie : (1 ≡ 1) × (rest ≡ true)). tie.1) first
+  by_home false true rest first = absurd (let tie = (tie_of 1 0 rest first (λ less. omega arith)).0 in omega arith)
+  by_home false false rest first = (tie_of 1 1 rest first (λ less. omega arith)).1
 
   goes_so : (n m : ℕ) → m ≢ n → one.GoesBefore r.mapping worker n m → offer_before (node_offer r base worker n) (node_offer r base worker m) ≡ true
   goes_so n m differs before =

@@ -53,10 +53,10 @@ module _ (c : ConfiguringView) (workers : ℕ) (stage : Stage) (keeps : KeepsWit
   abbrev v : OpenView
   v = view_with c workers stage
 
-  abbrev with_actor : Mark Firing Answer → Option Places → ConfiguringView
+  abbrev pub with_actor : Mark Firing Answer → Option Places → ConfiguringView
   with_actor m p = record { graphs = c.graphs; firing = c.firing; marks = set c.marks i m; lent = set c.lent i p }
 
-  abbrev with_actor_mark : Mark Firing Answer → ConfiguringView
+  abbrev pub with_actor_mark : Mark Firing Answer → ConfiguringView
   with_actor_mark m = record { graphs = c.graphs; firing = c.firing; marks = set c.marks i m; lent = c.lent }
 
   pub item_before : (m : Mark Firing Answer) (p : Option Places) → view_with (with_actor m p) workers stage ≡ with_item v i m p

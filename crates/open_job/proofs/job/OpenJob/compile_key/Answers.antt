@@ -1,7 +1,13 @@
+use Rattle.std.proofs.Common.{◌≡◌, ◌⊎◌, inl, inr, Some, None, Ok, Err, Result, IfOk, OnErr, refl, sym, ap, ◌∙◌, subst, arith}
+use Rattle.open_job.proofs.CompileSteps.{key_of_ready, ready_so}
 use Rattle.open_job.proofs.job.OpenJob.compile_key.Goals as goal
 
 pub key-requires : goal.key-requires
-key-requires c = ?
+key-requires c =
+    let i = c.self.inside in
+    ready_so i.configuring i.workers i.stage c.self.invariant c.args.self.now c.self.view_is c.requires.ready
 
 pub returns : goal.returns
-returns c = ?
+returns c =
+    let i = c.self.inside in
+    key_of_ready i.configuring i.workers i.stage c.self.invariant c.args.self.now c.self.view_is c.key.result c.key.ensures

@@ -1,8 +1,5 @@
-use Rattle.open_job.proofs.NodeSteps.{claimed}
-use Rattle.open_job.proofs.Picks.{waiting_pick}
-use Rattle.open_job.proofs.Ending.{early_outcome}
-use Rattle.open_job.proofs.NodeEnds.{outcome_is}
-use Rattle.open_job.proofs.Compiling.{runs_for}
+use Rattle.std.proofs.Common.{◌≡◌, true, false, sym, ap, ◌∙◌, subst}
+use Rattle.open_job.proofs.Methods.{compiling_unquiet, nodes_are_quiet, quiet_nodes, quiet_waiting, refused_quiet, waiting_settled, waiting_unready}
 use Rattle.open_job.proofs.job.OpenJob.quiet.Goals as goal
 
 pub returns-then-is_settled : goal.returns-then-is_settled
