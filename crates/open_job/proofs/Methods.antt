@@ -1,6 +1,7 @@
 -- What the calls of a job do to its view, stage by stage.
-use Rattle.std.proofs.Common.{◌≡◌, ◌≢◌, ◌⊎◌, inl, inr, ⊎_elim, ◌↔◌, ℕ, zero, suc, ◌+◌, ◌-◌, ◌<◌, ◌≤◌, Bool, true, false, ℤ, List, length, slice_get, Option, Some, None, is_some, unwrap_or, Result, Ok, Err, IfOk, IsOk, IsTrue, refl, sym, ap, ◌∙◌, subst, arith}
+use Rattle.std.proofs.Common.{◌≡◌, ◌≢◌, ◌⊎◌, inl, inr, ⊎_elim, ◌↔◌, ℕ, zero, suc, ◌+◌, ◌-◌, ◌<◌, ◌≤◌, Bool, true, false, ℤ, List, [], length, slice_get, Option, Some, None, is_some, unwrap_or, Result, Ok, Err, IfOk, IsOk, IsTrue, refl, sym, ap, ◌∙◌, subst, arith}
 use Rattle.std.proofs.lemmas.Bool.{lt-ltb}
+use Rattle.std.specs.declared.alloc.AllocError.{AllocError}
 use Rattle.kernel_gate.specs.Value.{FrameView, Places}
 use Rattle.kernel_gate.specs.declared.fault.KernelFault.{KernelFault}
 use Rattle.level_schedule.specs.declared.scheduling.LevelSchedule.{LevelSchedule}
@@ -11,6 +12,7 @@ use Rattle.nested_jobs.specs.Steps.{is_settled}
 use Rattle.pisdf_model.specs.declared.actor.Body.{Body}
 use Rattle.pisdf_model.specs.declared.actor.Body.TheVariants.{Kernel, Config, Child, ConfigChild}
 use Rattle.pisdf_model.specs.declared.graph.Graph.{Graph}
+use Rattle.pisdf_model.specs.declared.graph.Graphs.{Graphs}
 use Rattle.sdf_level.specs.declared.node.Node.{Node}
 use Rattle.pisdf_meaning.specs.Configuring.{Configuration, configurations}
 use Rattle.pisdf_meaning.specs.declared.firing.Configured.{Configured}
@@ -30,6 +32,7 @@ use Rattle.open_job.specs.View.{IsOfferedCall, IsOfferedCompilation, IsOfferedWo
 use Rattle.open_job.specs.Calls.{IsHanded, IsHandedFor, FiresFor, with_item, with_mark}
 use Rattle.open_job.specs.Offers.{IsPick}
 use Rattle.open_job.specs.Kept.{KeepsWith, StageFits, node_lent, view_with}
+use Rattle.open_job.specs.Running.{RunsFor}
 use Rattle.open_job.specs.Stages.{IsFirstCallWaiting, IsFirstNode, IsFirstWaiting}
 use Rattle.open_job.specs.declared.handed.Handed.TheVariants.{Configure}
 use Rattle.open_job.specs.declared.offer.Offer.{Offer}
@@ -179,6 +182,26 @@ module _ (c : ConfiguringView) (workers : ℕ) (stage : Stage) (keeps : KeepsWit
 
   pub nodes_outcome : (r : RunningView) (end : End) → stage ≡ Nodes r → end ≡ running.outcome_of r → answer_of end ≡ outcome_in v
   nodes_outcome r end same ends = ap answer_of ends ∙ sym (nodes.outcome_is c workers r (at_stage (Nodes r) same)) ∙ ap outcome_in (view_at (Nodes r) same)
+
+  -- what a job with nodes gives up
+  pub ready_nodes : (r : RunningView) → stage ≡ Nodes r → preparing.IsReady c
+  ready_nodes r same = let runs : RunsFor c workers r = (at_stage (Nodes r) same).stage_fits in ap is_some runs.left_is
+
+  pub left_nodes : (r : RunningView) → stage ≡ Nodes r → preparing.left_by c ≡ r.prepared.left
+  left_nodes r same = let runs : RunsFor c workers r = (at_stage (Nodes r) same).stage_fits in ap (λ o. unwrap_or o []) runs.left_is
+
+  pub nodes_outcome_ok : (r : RunningView) (result : Result (Result JobGiven Refusal) AllocError) → stage ≡ Nodes r → IfOk result (λ end. end_of end ≡ running.outcome_of r) → IfOk result (λ end. answer_of (end_of end) ≡ outcome_in v)
+  nodes_outcome_ok r (Ok end) same ends = nodes_outcome r (end_of end) same ends
+  nodes_outcome_ok r (Err error) same ends = tt
+
+  pub nodes_suits : (r : RunningView) (result : Result (Result JobGiven Refusal) AllocError) → stage ≡ Nodes r → IfOk result (λ end. EndSuits r.graphs.graphs r.firing (end_of end)) → IfOk result (λ end. EndSuits v.graphs.graphs v.firing (end_of end))
+  nodes_suits r (Ok end) same suits =
+      let runs : RunsFor c workers r = (at_stage (Nodes r) same).stage_fits in
+      let P : Graphs → Type 0 = λ graphs. EndSuits graphs.graphs r.firing (end_of end) in
+      let Q : Firing → Type 0 = λ firing. EndSuits c.graphs.graphs firing (end_of end) in
+      let R : OpenView → Type 0 = λ x. EndSuits x.graphs.graphs x.firing (end_of end) in
+      subst R is (subst Q runs.firing_is (subst P runs.graphs_are suits))
+  nodes_suits r (Err error) same suits = tt
 
   -- ---- configuration actors
 

@@ -49,3 +49,8 @@ pub returns-else-item-compilation-clause-refused : goal.returns-else-item-compil
 returns-else-item-compilation-clause-refused c =
     let i = c.self.inside in
     uncalled_view i.configuring i.workers i.stage c.self.invariant c.args.self.now c.self.view_is c.args.item c.count-compilation.result c.count-compilation.ensures c.if-item-compilation.false (call_other i.configuring i.workers i.stage c.self.invariant c.args.self.now c.self.view_is c.args.item c.requires) c.call_node.new.stage c.call_node.result c.call_node.ensures
+
+pub invariant_of-self-else-item-compilation : goal.invariant_of-self-else-item-compilation
+invariant_of-self-else-item-compilation c =
+    let i = c.self.inside in
+    called_keeps i.configuring i.workers i.stage c.self.invariant c.args.self.now c.self.view_is c.args.item c.count-compilation.result c.count-compilation.ensures c.if-item-compilation.false (call_other i.configuring i.workers i.stage c.self.invariant c.args.self.now c.self.view_is c.args.item c.requires) c.call_node.new.stage c.call_node.result c.call_node.ensures

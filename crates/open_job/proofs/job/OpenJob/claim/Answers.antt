@@ -39,3 +39,8 @@ pub returns-else-item-compilation-clause-claimed : goal.returns-else-item-compil
 returns-else-item-compilation-clause-claimed c =
     let i = c.self.inside in
     claimed_view i.configuring i.workers i.stage c.self.invariant c.args.self.now c.self.view_is c.args.item c.count-compilation.result c.count-compilation.ensures c.if-item-compilation.false c.requires.framed c.claim_node.new.stage c.claim_node.result c.claim_node.ensures
+
+pub invariant_of-self-else-item-compilation : goal.invariant_of-self-else-item-compilation
+invariant_of-self-else-item-compilation c =
+    let i = c.self.inside in
+    claimed_keeps i.configuring i.workers i.stage c.self.invariant c.args.self.now c.self.view_is c.args.item c.count-compilation.result c.count-compilation.ensures c.if-item-compilation.false c.requires.framed c.claim_node.new.stage c.claim_node.result c.claim_node.ensures

@@ -27,3 +27,8 @@ pub returns-else-item-compilation : goal.returns-else-item-compilation
 returns-else-item-compilation c =
     let i = c.self.inside in
     finished_view i.configuring i.workers i.stage c.self.invariant c.args.self.now c.self.view_is c.args.item c.count-compilation.result c.count-compilation.ensures c.if-item-compilation.false (lent_other i.configuring i.workers i.stage c.self.invariant c.args.self.now c.self.view_is c.args.item c.args.frame.places c.requires.lent) c.finish_node.new.stage c.args.frame c.args.answer c.finish_node.ensures
+
+pub invariant_of-self-else-item-compilation : goal.invariant_of-self-else-item-compilation
+invariant_of-self-else-item-compilation c =
+    let i = c.self.inside in
+    finished_keeps i.configuring i.workers i.stage c.self.invariant c.args.self.now c.self.view_is c.args.item c.count-compilation.result c.count-compilation.ensures c.if-item-compilation.false (lent_other i.configuring i.workers i.stage c.self.invariant c.args.self.now c.self.view_is c.args.item c.args.frame.places c.requires.lent) c.finish_node.new.stage c.args.frame c.args.answer c.finish_node.ensures

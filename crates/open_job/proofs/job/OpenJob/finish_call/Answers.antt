@@ -27,3 +27,8 @@ pub returns-else-item-compilation : goal.returns-else-item-compilation
 returns-else-item-compilation c =
     let i = c.self.inside in
     answered_view i.configuring i.workers i.stage c.self.invariant c.args.self.now c.self.view_is c.args.item c.count-compilation.result c.count-compilation.ensures c.if-item-compilation.false (open_other i.configuring i.workers i.stage c.self.invariant c.args.self.now c.self.view_is c.args.item c.requires.0 c.requires.1) c.finish_node_call.new.stage c.args.end c.finish_node_call.ensures
+
+pub invariant_of-self-else-item-compilation : goal.invariant_of-self-else-item-compilation
+invariant_of-self-else-item-compilation c =
+    let i = c.self.inside in
+    answered_keeps i.configuring i.workers i.stage c.self.invariant c.args.self.now c.self.view_is c.args.item c.count-compilation.result c.count-compilation.ensures c.if-item-compilation.false (open_other i.configuring i.workers i.stage c.self.invariant c.args.self.now c.self.view_is c.args.item c.requires.0 c.requires.1) c.finish_node_call.new.stage c.args.end c.finish_node_call.ensures
