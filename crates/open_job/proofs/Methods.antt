@@ -22,7 +22,7 @@ use Rattle.pisdf_meaning.specs.Endings.{End}
 use Rattle.job_rules.specs.Words as words
 use Rattle.job_rules.specs.Words.{Answer, Schedules, Refuses, answer_of}
 use Rattle.job_rules.specs.Items.{compile_number, compile_rule, config_task, first_refusal}
-use Rattle.job_preparing.specs.Handing.{EndSuits, IsFrameFor, answer_with, answers, end_of, lent_at, mark_at}
+use Rattle.job_preparing.specs.Handing.{EndSuits, IsFrameFor, IsNothingLent, answer_with, answers, end_of, lent_at, mark_at}
 use Rattle.job_preparing.specs.View as preparing
 use Rattle.job_preparing.specs.View.{ConfiguringView}
 use Rattle.job_preparing.specs.declared.handing.JobGiven.{JobGiven}
@@ -38,7 +38,7 @@ use Rattle.open_job.specs.declared.handed.Handed.TheVariants.{Configure}
 use Rattle.open_job.specs.declared.offer.Offer.{Offer}
 use Rattle.open_job.specs.declared.stage.Stage.{Stage}
 use Rattle.open_job.specs.declared.stage.Stage.TheVariants.{Waiting, Compiling, Refused, Nodes}
-use Rattle.open_job.proofs.Cut.{read_before}
+use Rattle.open_job.proofs.Cut.{read_after, read_before}
 use Rattle.open_job.proofs.Early as early
 use Rattle.open_job.proofs.Ending as ending
 use Rattle.open_job.proofs.NodeEnds as nodes
@@ -202,6 +202,14 @@ module _ (c : ConfiguringView) (workers : ℕ) (stage : Stage) (keeps : KeepsWit
       let R : OpenView → Type 0 = λ x. EndSuits x.graphs.graphs x.firing (end_of end) in
       subst R is (subst Q runs.firing_is (subst P runs.graphs_are suits))
   nodes_suits r (Err error) same suits = tt
+
+  -- nothing is lent to nodes, where nothing is at all
+  pub unlent_nodes : IsNothingLent v.lent → IsNothingLent (node_lent stage)
+  unlent_nodes nothing = record {
+    each = λ n.
+        let k = compile_number (preparing.graph_in c) in
+        sym (read_after c.lent None (node_lent stage) None (k + 1) n (let long = keeps.lent_many in omega arith)) ∙ ap (λ (x : OpenView). lent_at x.lent (k + 1 + n)) is ∙ nothing.each (k + 1 + n);
+  }
 
   -- ---- configuration actors
 
