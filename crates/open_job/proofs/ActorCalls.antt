@@ -14,7 +14,7 @@ use Rattle.job_rules.specs.Words.{Answer, Schedules, answer_of}
 use Rattle.job_rules.specs.Items.{compile_number}
 use Rattle.job_preparing.specs.Handing.{answer_with, end_of, fired_with, mark_at}
 use Rattle.job_preparing.specs.View as preparing
-use Rattle.job_preparing.specs.View.{ConfiguringView}
+use Rattle.job_preparing.specs.View.{ConfiguringView, HasInherited}
 use Rattle.job_preparing.specs.declared.handing.JobGiven.{JobGiven}
 use Rattle.open_job.specs.View.{OpenView, task}
 use Rattle.open_job.specs.Calls.{with_item, with_mark}
@@ -62,6 +62,10 @@ module _ (c : ConfiguringView) (workers : ℕ) (stage : Stage) (keeps : KeepsWit
   pub call_tasks : (result : Result Firing AllocError) → IfOk result (λ firing. preparing.task c i ≡ Some (Call firing)) → IfOk result (λ firing. task v i ≡ Some (Call firing))
   call_tasks (Ok firing) called = methods.actor_task c workers stage keeps v is i below ∙ called
   call_tasks (Err error) called = tt
+
+  pub call_inherits : (result : Result Firing AllocError) → IfOk result (λ firing. HasInherited c.graphs.graphs firing) → IfOk result (λ firing. HasInherited v.graphs.graphs firing)
+  call_inherits (Ok firing) inherited = let P : OpenView → Type 0 = λ x. HasInherited x.graphs.graphs firing in subst P is inherited
+  call_inherits (Err error) inherited = tt
 
   pub call_view : (new : ConfiguringView) (result : Result Firing AllocError) → Opens new result → IfOk result (λ firing. view_with new workers stage ≡ with_mark v i (Open firing))
   call_view new (Ok firing) opened = methods.step_view_mark c workers stage keeps v is i below new (Open firing) opened

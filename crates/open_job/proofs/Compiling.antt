@@ -63,7 +63,7 @@ module _ (graphs : List Graph) (workers : ℕ) (firing : Firing) (left : List Co
   pub mapped_so : IsMapped record { nodes = nodes_in graphs g firing p; edges = edges_in graphs g firing p; ranks = [] } workers c.mapping
   mapped_so =
       let start : IsMapped record { nodes = c.graph.nodes; edges = c.graph.edges; ranks = [] } c.workers c.mapping =
-          record { costs = ready.compiled.mapped.costs; are_costs = ready.compiled.mapped.are_costs; priority = ready.compiled.mapped.priority; homes = ready.compiled.mapped.homes } in
+      record { costs = ready.compiled.mapped.costs; are_costs = ready.compiled.mapped.are_costs; priority = ready.compiled.mapped.priority; homes = ready.compiled.mapped.homes } in
       let N : List Node → Type 0 = λ ns. IsMapped record { nodes = ns; edges = c.graph.edges; ranks = [] } c.workers c.mapping in
       let E : List Edge → Type 0 = λ es. IsMapped record { nodes = nodes_in graphs g firing p; edges = es; ranks = [] } c.workers c.mapping in
       let W : ℕ → Type 0 = λ w. IsMapped record { nodes = nodes_in graphs g firing p; edges = edges_in graphs g firing p; ranks = [] } w c.mapping in

@@ -115,9 +115,9 @@ module _ (c : ConfiguringView) (workers : ℕ) (r : RunningView) (keeps : KeepsW
       let e : count_of v ≡ k + suc many = let all = counted in omega arith in
       let at : answered v (0 + k) ≡ Some (Schedules r.prepared.schedule) = (let f : 0 + k ≡ k = omega arith in ap (answered v) f) ∙ rules.answer_at G c.firing c.marks (compile_mark (Nodes r)) r.marks keeps.marks_many in
       let later = refusals_agree (answered v) (answers r.marks) (0 + k + 1) 0 many (λ j below.
-          let f : 0 + k + 1 + j ≡ k + 1 + j = omega arith in
-          let h : 0 + j ≡ j = omega arith in
-          ap (answered v) f ∙ rules.answer_after G c.firing c.marks (compile_mark (Nodes r)) r.marks keeps.marks_many j ∙ ap (answers r.marks) (sym h)) in
+      let f : 0 + k + 1 + j ≡ k + 1 + j = omega arith in
+      let h : 0 + j ≡ j = omega arith in
+      ap (answered v) f ∙ rules.answer_after G c.firing c.marks (compile_mark (Nodes r)) r.marks keeps.marks_many j ∙ ap (answers r.marks) (sym h)) in
       ap (first_refusal (answered v) 0) e
       ∙ refused_later (answered v) 0 k (suc many) (own ∙ none)
       ∙ ap (λ o. refusal_or o (first_refusal (answered v) (0 + k + 1) many)) at

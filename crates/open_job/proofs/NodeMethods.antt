@@ -13,7 +13,7 @@ use Rattle.job_rules.specs.Words.{Answer, answer_of}
 use Rattle.job_rules.specs.Items.{compile_number, compile_rule}
 use Rattle.job_preparing.specs.Handing.{EndSuits, answer_with, end_of, lent_at, mark_at}
 use Rattle.job_preparing.specs.View as preparing
-use Rattle.job_preparing.specs.View.{ConfiguringView}
+use Rattle.job_preparing.specs.View.{ConfiguringView, HasInherited}
 use Rattle.job_preparing.specs.declared.handing.JobGiven.{JobGiven}
 use Rattle.open_job.specs.View.{IsOfferedCall, IsOfferedWork, OpenView, compilation_of, task}
 use Rattle.open_job.specs.Calls.{IsHanded, IsSoundFor, frame_of, with_item, with_mark}
@@ -121,6 +121,10 @@ module _ (c : ConfiguringView) (workers : ℕ) (stage : Stage) (keeps : KeepsWit
       pub called_firing : (result : Result Firing AllocError) → NodesGoOn (CallsNode n result) stage new → IfOk result (λ firing. task v item ≡ Some (Call firing))
       called_firing (Ok firing) went = ap (λ (x : OpenView). task x item) (sym is) ∙ (steps.opened c workers n item at firing stage new keeps went).1
       called_firing (Err error) went = tt
+
+      pub called_inherited : (result : Result Firing AllocError) → NodesGoOn (CallsNode n result) stage new → IfOk result (λ firing. HasInherited v.graphs.graphs firing)
+      called_inherited (Ok firing) went = let P : OpenView → Type 0 = λ x. HasInherited x.graphs.graphs firing in subst P is (steps.opened c workers n item at firing stage new keeps went).2
+      called_inherited (Err error) went = tt
 
       pub called_view : (result : Result Firing AllocError) → NodesGoOn (CallsNode n result) stage new → IfOk result (λ firing. view_with c workers new ≡ with_mark v item (Open firing))
       called_view (Ok firing) went = (steps.opened c workers n item at firing stage new keeps went).0.view_is ∙ ap (λ (x : OpenView). with_mark x item (Open firing)) is

@@ -21,7 +21,7 @@ use Rattle.job_rules.specs.Items.{compile_number, edges_in, is_ready_by, node_ta
 use Rattle.job_rules.proofs.Parts.{passed}
 use Rattle.job_preparing.specs.Handing.{EndSuits, answer_with, end_of, lent_at, mark_at}
 use Rattle.job_preparing.specs.View as preparing
-use Rattle.job_preparing.specs.View.{ConfiguringView}
+use Rattle.job_preparing.specs.View.{ConfiguringView, HasInherited}
 use Rattle.job_preparing.specs.declared.handing.JobGiven.{JobGiven}
 use Rattle.job_running.specs.View as running
 use Rattle.job_running.specs.View.{RunningView}
@@ -188,14 +188,17 @@ module _ (c : ConfiguringView) (workers n item : ℕ) (at : item ≡ compile_num
   answered end (Nodes r) (Nodes new) keeps went = marked_so r new (Done (answer_of (end_of end))) keeps went
 
   -- a call that found its memory, and one that didn't
-  pub opened : (firing : Firing) (old new : Stage) → KeepsWith c workers old → NodesGoOn (CallsNode n (Ok firing)) old new → MarkedSo old new (Open firing) × (task (v old) item ≡ Some (Call firing))
+  pub opened : (firing : Firing) (old new : Stage) → KeepsWith c workers old → NodesGoOn (CallsNode n (Ok firing)) old new → MarkedSo old new (Open firing) × (task (v old) item ≡ Some (Call firing)) × HasInherited c.graphs.graphs firing
   opened firing Waiting new keeps went = absurd went
   opened firing Compiling new keeps went = absurd went
   opened firing (Refused refusal) new keeps went = absurd went
   opened firing (Nodes r) Waiting keeps went = absurd went
   opened firing (Nodes r) Compiling keeps went = absurd went
   opened firing (Nodes r) (Refused refusal) keeps went = absurd went
-  opened firing (Nodes r) (Nodes new) keeps went = (marked_so r new (Open firing) keeps went.1, task_is r keeps ∙ went.0)
+  opened firing (Nodes r) (Nodes new) keeps went =
+      let runs : RunsFor c workers r = keeps.stage_fits in
+      let P : Graphs → Type 0 = λ graphs. HasInherited graphs.graphs firing in
+      (marked_so r new (Open firing) keeps went.2, task_is r keeps ∙ went.0, subst P runs.graphs_are went.1)
 
   pub unopened : (error : AllocError) (old new : Stage) → KeepsWith c workers old → NodesGoOn (CallsNode n (Err error)) old new → MarkedSo old new Busy
   unopened error Waiting new keeps went = absurd went

@@ -6,7 +6,7 @@ use Rattle.kernel_gate.specs.declared.fault.KernelFault.{KernelFault}
 use Rattle.job_preparing.specs.declared.compiling.CompileEnd.{CompileEnd}
 use Rattle.job_preparing.specs.Handing.{answer_with, end_of, lent_at, mark_at}
 use Rattle.job_preparing.specs.View as preparing
-use Rattle.job_preparing.specs.View.{ConfiguringView}
+use Rattle.job_preparing.specs.View.{ConfiguringView, HasInherited}
 use Rattle.job_preparing.specs.declared.handing.JobGiven.{JobGiven}
 use Rattle.job_flow.specs.Graphs.{node_at}
 use Rattle.job_running.specs.Calls.{IsEndOfCall}
@@ -111,7 +111,7 @@ pub record ClaimsNode (n : ℕ) (handed : Handed) (old new : RunningView) : Type
 
 -- a node is opened
 abbrev pub CallsNode : ℕ → Result Firing AllocError → RunningView → RunningView → Type 0
-CallsNode n (Ok firing) old new = (running.task old n ≡ Some (Call firing)) × (new ≡ with_node_mark old n (Open firing))
+CallsNode n (Ok firing) old new = (running.task old n ≡ Some (Call firing)) × HasInherited old.graphs.graphs firing × (new ≡ with_node_mark old n (Open firing))
 CallsNode n (Err error) old new = new ≡ with_node_mark old n Busy
 
 -- a node may be claimed

@@ -46,6 +46,7 @@ impl Model for OpenJob {
 impl OpenJob {
     ghost use Rattle.job_preparing.specs.Handing.{answer_with, end_of, lent_at, mark_at, EndSuits, IsNothingLent};
     ghost use Rattle.job_preparing.specs.CompileTasks.{IsEndOf};
+    ghost use Rattle.job_preparing.specs.View.{HasInherited};
     ghost use Rattle.job_rules.specs.Words.{answer_of};
     ghost use Rattle.nested_jobs.specs.Marks.{Busy, Done, Open};
     ghost use Rattle.nested_jobs.specs.Rules.{Call};
@@ -150,6 +151,7 @@ impl OpenJob {
     pub fn call(&mut self, alloc: Global, item: usize) -> Result<Firing, AllocError>
         requires { IsOfferedCall self.old item }
         ensures firing { IfOk result (λ firing. task self.old item ≡ Some (Call firing)) }
+        ensures inherited { IfOk result (HasInherited self.old.graphs.graphs) }
         ensures opened { IfOk result (λ firing. self.new ≡ with_mark self.old item (Open firing)) }
         ensures refused { OnErr result ((self.new ≡ self.old) ⊎ (self.new ≡ with_mark self.old item Busy)) }
     {

@@ -48,11 +48,7 @@ pub(crate) fn claim_node(stage: &mut Stage, node: usize) -> Handed
 }
 
 /// Opens a node that fires a graph.
-pub(crate) fn call_node(
-    stage: &mut Stage,
-    alloc: Global,
-    node: usize,
-) -> Result<Firing, AllocError>
+pub(crate) fn call_node(stage: &mut Stage, alloc: Global, node: usize) -> Result<Firing, AllocError>
     requires { HasNodes (MayCall node) stage.old }
     ensures { NodesGoOn (CallsNode node result) stage.old stage.new }
 {

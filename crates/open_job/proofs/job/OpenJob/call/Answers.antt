@@ -1,8 +1,8 @@
 use Rattle.std.proofs.Common.{◌≡◌, ◌⊎◌, inl, inr, Some, None, Ok, Err, Result, IfOk, OnErr, refl, sym, ap, ◌∙◌, subst, arith}
 use Rattle.nested_jobs.specs.Marks as mark
 use Rattle.open_job.proofs.Methods.{actor_call, actor_task}
-use Rattle.open_job.proofs.NodeMethods.{above, call_ok, call_other, called_firing, called_keeps, called_view, uncalled_view}
-use Rattle.open_job.proofs.ActorCalls.{call_keeps, call_tasks, call_view}
+use Rattle.open_job.proofs.NodeMethods.{above, call_ok, call_other, called_firing, called_inherited, called_keeps, called_view, uncalled_view}
+use Rattle.open_job.proofs.ActorCalls.{call_inherits, call_keeps, call_tasks, call_view}
 use Rattle.open_job.proofs.job.OpenJob.call.Goals as goal
 
 pub call-requires : goal.call-requires
@@ -54,3 +54,13 @@ pub invariant_of-self-else-item-compilation : goal.invariant_of-self-else-item-c
 invariant_of-self-else-item-compilation c =
     let i = c.self.inside in
     called_keeps i.configuring i.workers i.stage c.self.invariant c.args.self.now c.self.view_is c.args.item c.count-compilation.result c.count-compilation.ensures c.if-item-compilation.false (call_other i.configuring i.workers i.stage c.self.invariant c.args.self.now c.self.view_is c.args.item c.requires) c.call_node.new.stage c.call_node.result c.call_node.ensures
+
+pub returns-then-item-compilation-clause-inherited : goal.returns-then-item-compilation-clause-inherited
+returns-then-item-compilation-clause-inherited c =
+    let i = c.self.inside in
+    call_inherits i.configuring i.workers i.stage c.self.invariant c.args.self.now c.self.view_is c.args.item (omega (arith, c.count-compilation.ensures)) c.call.result c.call.ensures.inherited
+
+pub returns-else-item-compilation-clause-inherited : goal.returns-else-item-compilation-clause-inherited
+returns-else-item-compilation-clause-inherited c =
+    let i = c.self.inside in
+    called_inherited i.configuring i.workers i.stage c.self.invariant c.args.self.now c.self.view_is c.args.item c.count-compilation.result c.count-compilation.ensures c.if-item-compilation.false (call_other i.configuring i.workers i.stage c.self.invariant c.args.self.now c.self.view_is c.args.item c.requires) c.call_node.new.stage c.call_node.result c.call_node.ensures

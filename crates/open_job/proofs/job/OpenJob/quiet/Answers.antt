@@ -12,9 +12,10 @@ so_not false never = refl
 
 pub returns-then-is_settled : goal.returns-then-is_settled
 returns-then-is_settled c =
-    let i = c.self.inside in
-    ((λ e. quiet_waiting i.configuring i.workers i.stage c.self.invariant c.args.self.now c.self.view_is c.in-Waiting.is (c.is_settled.ensures.0 c.if-is_settled.true) (λ ready. not_so c.is_ready.result e (c.is_ready.ensures.1 ready))),
-     (λ quiet. so_not c.is_ready.result (λ ready. waiting_unready i.configuring i.workers i.stage c.self.invariant c.args.self.now c.self.view_is c.in-Waiting.is quiet (c.is_ready.ensures.0 ready))))
+    let i = c.self.inside in (
+      (λ e. quiet_waiting i.configuring i.workers i.stage c.self.invariant c.args.self.now c.self.view_is c.in-Waiting.is (c.is_settled.ensures.0 c.if-is_settled.true) (λ ready. not_so c.is_ready.result e (c.is_ready.ensures.1 ready))),
+      (λ quiet. so_not c.is_ready.result (λ ready. waiting_unready i.configuring i.workers i.stage c.self.invariant c.args.self.now c.self.view_is c.in-Waiting.is quiet (c.is_ready.ensures.0 ready))),
+    )
 
 pub returns-else-is_settled : goal.returns-else-is_settled
 returns-else-is_settled c =
