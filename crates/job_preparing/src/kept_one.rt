@@ -10,18 +10,36 @@ use job_compiler::{CompileFault, Compiled, compile};
 use level_schedule::Unscheduled;
 use pisdf_meaning::{Firing, PlainFault, refused, schedule_cause};
 use pisdf_model::Graph;
-use sdf_level::Level;
+use sdf_level::{Level, Link};
 use std::alloc::Global;
 use std::sync::Arc;
+
+fn same_rates(rates: &[u32], other: &[u32]) -> bool
+    ensures { IsTrue result ↔ (rates.now ≡ other.now) }
+{
+    rates == other
+}
+
+fn same_links(links: &[Link], other: &[Link]) -> bool
+    ensures { IsTrue result ↔ (links.now ≡ other.now) }
+{
+    links == other
+}
 
 /// Whether two levels are the same.
 fn is_level(level: &Level, other: &Level) -> bool
     ensures { IsTrue result ↔ (level.now ≡ other.now) }
 {
-    level.actors == other.actors
-        && level.sources.items() == other.sources.items()
-        && level.sinks.items() == other.sinks.items()
-        && level.links.items() == other.links.items()
+    if level.actors != other.actors {
+        return false;
+    }
+    if !same_rates(level.sources.items(), other.sources.items()) {
+        return false;
+    }
+    if !same_rates(level.sinks.items(), other.sinks.items()) {
+        return false;
+    }
+    same_links(level.links.items(), other.links.items())
 }
 
 /// The refusal of the graph's firing whose level can't be compiled.
@@ -69,9 +87,14 @@ fn compiled_anew(
 
 /// Whether a compilation is of this level and these workers.
 fn serves(kept: &Compiled, level: &Level, workers: u32) -> bool
-    ensures { IsTrue result ↔ ((kept.now.level ≡ level.now) × (kept.now.workers ≡ workers)) }
+    ensures serves { IsTrue result ↔ ((kept.now.level ≡ level.now) × (kept.now.workers ≡ workers)) }
+    ensures kept { IsCompiled kept.now }
 {
-    kept.workers() == workers && is_level(kept.level(), level)
+    let own = kept.level();
+    if kept.workers() != workers {
+        return false;
+    }
+    is_level(own, level)
 }
 
 /// The compilation of the level of a graph in its firing.

@@ -1,0 +1,13 @@
+pub mod Reading
+pub mod Writing
+pub mod Places
+pub mod Offered
+pub mod Leaving
+pub mod Slimmed
+pub mod Ends
+pub mod Asked
+pub mod Frames
+pub mod Seating
+pub mod Events
+pub mod Readied
+pub mod Started
