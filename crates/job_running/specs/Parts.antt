@@ -2,7 +2,7 @@
 use Rattle.std.specs.Prelude.{◌≡◌, ◌≢◌, ℕ, ◌+◌, ◌<◌, ◌≤◌, ℤ, Bool, false, List, [], map, length, slice_get, slice_index, slice_index_or, Option, Some, None, vec_capacity, vec_len, Vec}
 use Rattle.std.specs.Global.{Global}
 use Rattle.std.specs.List.{flat_map}
-use Rattle.sdf_level.specs.LevelRun.{HaveDelays}
+use Rattle.sdf_level.specs.Lists.{lists_of}
 use Rattle.sdf_level.specs.declared.node.Node.{Node}
 use Rattle.sdf_level.specs.declared.node.Node.TheVariants as node
 use Rattle.job_compiler.specs.Compilation.{Compilation, IsCompiled}
@@ -30,7 +30,7 @@ use Rattle.job_rules.specs.Items.{Prepared, actor_of, graph_of, job_graph, keeps
 use Rattle.job_rules.specs.Meant.{IsFit}
 use Rattle.one_job.specs.Marks as one
 use Rattle.one_job.specs.Pick.{is_child_in}
-use Rattle.one_job.specs.View as one
+use Rattle.one_job.specs.View as leased
 use Rattle.job_running.specs.Sizes.{LeftSuits}
 use Rattle.job_running.specs.Stages.{FitsLens, FitsSort, held_by, job_mark, stage_at, trace_in}
 use Rattle.job_running.specs.declared.stage.Stage.{Stage}
@@ -45,7 +45,7 @@ pub record Start : Type 0 where
   pub sources : List (List ℤ)
   pub stored : List (List ℤ)
 
-abbrev pub start_of : one.JobView → Start
+abbrev pub start_of : leased.JobView → Start
 start_of j = record { compilation = j.compilation; kinds = j.kinds; args = j.args; sources = j.sources; stored = j.stored }
 
 abbrev pub kernel_in : Body → Option ℕ
@@ -71,7 +71,7 @@ pub record IsSetUp (graphs : Graphs) (firing : Firing) (left : List Configured) 
   pub suits : LeftSuits graphs.graphs (graph_of graphs.graphs firing) firing left
   pub rated : level_faults graphs.graphs (graph_of graphs.graphs firing) (values_in (graph_of graphs.graphs firing) firing (prepared_with left s.compilation)) ≡ []
   pub compiled : IsCompiled s.compilation
-  pub graph_is : one.job_graph s.compilation s.sources s.stored ≡ job_graph graphs.graphs (graph_of graphs.graphs firing) firing (prepared_with left s.compilation)
+  pub graph_is : leased.job_graph s.compilation s.sources s.stored ≡ job_graph graphs.graphs (graph_of graphs.graphs firing) firing (prepared_with left s.compilation)
   pub is_job : IsJobGraph s.compilation.counts s.compilation.order (job_graph graphs.graphs (graph_of graphs.graphs firing) firing (prepared_with left s.compilation))
   pub kinds : s.kinds ≡ map kind_of_actor (acting (graph_of graphs.graphs firing))
   pub args : s.args ≡ level_args (graph_of graphs.graphs firing) (values_in (graph_of graphs.graphs firing) firing (prepared_with left s.compilation))
@@ -104,11 +104,11 @@ pub record AllStand (graphs : List Graph) (g : Graph) (kinds : List (Option ℕ)
 -- ---- what is kept for the end
 
 abbrev pub row_at : List (Vec (List TraceRow) Global) → ℕ → List (List TraceRow)
-row_at rows a = slice_index_or (map (λ (row : Vec (List TraceRow) Global). row.items) rows) a []
+row_at rows a = slice_index_or (lists_of rows) a []
 
 -- for each firing of each actor the trace of what it called
 pub record AreTraces (nodes : List Node) (counts : List ℕ) (stages : List Stage) (rows : List (Vec (List TraceRow) Global)) : Type 0 where
-  pub one_each : length rows ≡ length counts
+  pub one_each : length (lists_of rows) ≡ length counts
   pub many : (a : ℕ) → length (row_at rows a) ≡ slice_index counts a
   pub each : (n a k : ℕ) → n < length nodes → node_at nodes n ≡ node.Firing a k → slice_index_or (row_at rows a) k [] ≡ trace_in (stage_at stages n)
 
@@ -121,7 +121,7 @@ abbrev pub HaveTraces : List ℕ → Traces → List (Vec (List TraceRow) Global
 HaveTraces counts traces rows = (b : ℕ) → flat (row_at rows b) ≡ traces_below (traces b) (slice_index counts b)
 
 -- what is handed out or moved at the end
-pub record AreParts (graphs : Graphs) (firing : Firing) (left : List Configured) (c : Compilation) (set : LevelSet) (place : ℕ) (path : List ℕ) (keeps : List Bool) (names : List (List ℕ)) (rows : List TraceRow) (exports : List ℤ) (room : Vec (List ℤ) Global) : Type 0 where
+pub record AreParts (graphs : Graphs) (firing : Firing) (left : List Configured) (c : Compilation) (set : LevelSet) (place : ℕ) (path : List ℕ) (keeps : List Bool) (names : List (List ℕ)) (rows : List TraceRow) (exports : List ℤ) (state : Vec (List ℤ) Global) : Type 0 where
   pub place_is : place ≡ firing.graph
   pub path_is : path ≡ firing.path
   pub set_is : IsLevelSet graphs.graphs (graph_of graphs.graphs firing) firing (values_in (graph_of graphs.graphs firing) firing (prepared_with left c)) set
@@ -129,6 +129,6 @@ pub record AreParts (graphs : Graphs) (firing : Firing) (left : List Configured)
   pub names_are : names ≡ map (λ (a : Actor). a.name) (acting (graph_of graphs.graphs firing))
   pub rows_are : rows ≡ chosen_rows firing.path (values_in (graph_of graphs.graphs firing) firing (prepared_with left c)) 0 (graph_of graphs.graphs firing).params
   pub exports_are : exports ≡ map (value_at (values_in (graph_of graphs.graphs firing) firing (prepared_with left c))) (graph_of graphs.graphs firing).exports
-  pub empty : room.items ≡ []
-  pub none : vec_len room ≡ 0
-  pub room : length (graph_of graphs.graphs firing).fifos + length (graph_of graphs.graphs firing).actors ≤ vec_capacity room
+  pub empty : state.items ≡ []
+  pub none : vec_len state ≡ 0
+  pub room : length (graph_of graphs.graphs firing).fifos + length (graph_of graphs.graphs firing).actors ≤ vec_capacity state

@@ -114,15 +114,45 @@ trace_in (Failed code) = []
 trace_in (Gave told) = told.value.trace
 trace_in (Refused refusal) = []
 
--- how far a node is whose frame came back so
-abbrev pub ended_in : FrameView → Result (Unit {0}) KernelFault → Stage
-ended_in frame (Ok done) = Fired record { value = frame }
-ended_in frame (Err fault) = Failed fault.code
+-- a node whose frame came back so
+abbrev pub IsFired : FrameView → Stage → Type 0
+IsFired frame Free = ⊥
+IsFired frame (Busy told) = ⊥
+IsFired frame (Lost told) = ⊥
+IsFired frame (Open job told) = ⊥
+IsFired frame (Fired told) = told.value ≡ frame
+IsFired frame (Failed code) = ⊥
+IsFired frame (Gave told) = ⊥
+IsFired frame (Refused refusal) = ⊥
 
--- how far it is when it has called this, or when there was no memory for that
-abbrev pub waiting_in : Result Firing AllocError → FrameView → Stage
-waiting_in (Ok job) frame = Open record { value = job } record { value = frame }
-waiting_in (Err error) frame = Lost record { value = frame }
+abbrev pub IsEnded : FrameView → Result (Unit {0}) KernelFault → Stage → Type 0
+IsEnded frame (Ok done) stage = IsFired frame stage
+IsEnded frame (Err fault) stage = stage ≡ Failed fault.code
+
+-- a node that has called this, or for whose call there was no memory
+abbrev pub IsOpened : Firing → FrameView → Stage → Type 0
+IsOpened job frame Free = ⊥
+IsOpened job frame (Busy told) = ⊥
+IsOpened job frame (Lost told) = ⊥
+IsOpened job frame (Open own told) = (own.value ≡ job) × (told.value ≡ frame)
+IsOpened job frame (Fired told) = ⊥
+IsOpened job frame (Failed code) = ⊥
+IsOpened job frame (Gave told) = ⊥
+IsOpened job frame (Refused refusal) = ⊥
+
+abbrev pub IsLost : FrameView → Stage → Type 0
+IsLost frame Free = ⊥
+IsLost frame (Busy told) = ⊥
+IsLost frame (Lost told) = told.value ≡ frame
+IsLost frame (Open job told) = ⊥
+IsLost frame (Fired told) = ⊥
+IsLost frame (Failed code) = ⊥
+IsLost frame (Gave told) = ⊥
+IsLost frame (Refused refusal) = ⊥
+
+abbrev pub IsWaiting : Result Firing AllocError → FrameView → Stage → Type 0
+IsWaiting (Ok job) frame stage = IsOpened job frame stage
+IsWaiting (Err error) frame stage = IsLost frame stage
 
 -- ---- what is so of stages
 

@@ -12,7 +12,7 @@ ghost use Rattle.pisdf_meaning.specs.Running.{child_firing as firing_of};
 ghost use Rattle.pisdf_meaning.specs.States.{tokens_at};
 
 use kernel_gate::Frame;
-use param_resolver::LevelSet;
+use param_resolver::{LevelSet, level_by_actor};
 use pisdf_meaning::{ChildCall, Firing, Path, child_firing, copy_tokens};
 use pisdf_model::{Actor, Body, Graph, input_count};
 use sdf_level::{List, Node};
@@ -73,6 +73,16 @@ pub(crate) fn firing_of(which: Node) -> (u32, u32)
     }
 }
 
+/// The actor with this number in the level of a graph, whose actors stand at these places.
+pub(crate) fn acting_at<'a>(graph: &'a Graph, places: &[u32], number: usize) -> &'a Actor
+    requires places { places.now ≡ acting_places graph.now }
+    requires inside { number < length (acting graph.now) }
+    ensures { slice_get (acting graph.now) number ≡ Some result.now }
+{
+    level_by_actor();
+    &graph.actors.items()[places[number] as usize]
+}
+
 /// What an actor of the level of the graph at this place calls with.
 pub(crate) fn caller_of<'a>(
     graphs: &'a [Graph],
@@ -91,15 +101,13 @@ pub(crate) fn caller_of<'a>(
     ensures number { (result.number ≡ actor) × (result.turn ≡ turn) }
     ensures keeps { slice_get keeps.now actor ≡ Some result.keeps }
 {
-    let number = actor as usize;
-    let at = set.places.items()[number] as usize;
     Caller {
         graphs,
-        actor: &graphs[place as usize].actors.items()[at],
+        actor: acting_at(&graphs[place as usize], set.places.items(), actor as usize),
         set,
         number: actor,
         turn,
-        keeps: keeps[number],
+        keeps: keeps[actor as usize],
     }
 }
 

@@ -6,6 +6,7 @@ ghost use Rattle.job_flow.specs.Graphs.{node_at};
 ghost use Rattle.job_rules.specs.Words.{answer_of};
 ghost use Rattle.one_job.specs.Pick.{IsFirst};
 ghost use Rattle.one_job.specs.View.{IsFiring};
+ghost use Rattle.job_preparing.specs.View.{HasInherited};
 ghost use Rattle.job_preparing.specs.Handing.{EndSuits, IsNothingLent, answer_with, end_of, lent_at, mark_at};
 
 use crate::calling::{called, caller_of, firing_of};
@@ -143,6 +144,7 @@ impl Running {
     pub fn call(&mut self, alloc: Global, node: u32) -> Result<Firing, AllocError>
         requires { IsOfferedCall self.old node }
         ensures called { IfOk result (λ d. task self.old node ≡ Some (Call d)) }
+        ensures inherited { IfOk result (HasInherited self.old.graphs.graphs) }
         ensures ok { IfOk result (λ d. self.new ≡ record self.old { marks = slice_set self.old.marks node (Open d) }) }
         ensures err { OnErr result (self.new ≡ record self.old { marks = slice_set self.old.marks node Busy }) }
     {

@@ -1,6 +1,5 @@
 // How far nodes are.
-ghost use Rattle.std.specs.Prelude.{◌≡◌};
-ghost use Rattle.job_running.specs.Stages.{ended_in, waiting_in};
+ghost use Rattle.job_running.specs.Stages.{IsEnded, IsWaiting};
 
 use job_preparing::JobGiven;
 use kernel_gate::{Frame, KernelFault};
@@ -30,7 +29,7 @@ pub(crate) enum Stage {
 
 /// How far a node is whose frame came back so.
 pub(crate) fn ended(frame: &Frame, answer: &Result<(), KernelFault>) -> Stage
-    ensures { result ≡ ended_in frame.now answer.now }
+    ensures { IsEnded frame.now answer.now result }
 {
     match answer {
         Ok(()) => Stage::Fired(Snapshot::of(frame)),
@@ -40,7 +39,7 @@ pub(crate) fn ended(frame: &Frame, answer: &Result<(), KernelFault>) -> Stage
 
 /// How far a node is that has called this with its frame, or for whose call there was no memory.
 pub(crate) fn waiting(called: &Result<Firing, AllocError>, frame: &Frame) -> Stage
-    ensures { result ≡ waiting_in called.now frame.now }
+    ensures { IsWaiting called.now frame.now result }
 {
     match called {
         Ok(firing) => Stage::Open(Snapshot::of(firing), Snapshot::of(frame)),
