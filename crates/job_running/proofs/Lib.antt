@@ -1,6 +1,9 @@
 pub mod HeldFrames
+pub mod WrittenOuts
 pub mod NodeMarks
 pub mod NodeTies
 pub mod NodeSteps
 pub mod OutputRates
 pub mod NodeTasks
+pub mod ClaimedNodes
+pub mod FinishedNodes

@@ -1,6 +1,7 @@
 -- One node of a running firing steps on.
 use Rattle.std.proofs.Common.{◌≡◌, ◌≢◌, ℕ, ◌<◌, ◌≤◌, ⊎_elim, ℤ, List, [], length, set, get_or, slice_index, Option, Some, None, Result, Ok, Err, refl, sym, ap, ◌∙◌, subst, arith}
-use Rattle.std.specs.Prelude.{slice_index_or}
+use Rattle.std.specs.Prelude.{Vec, slice_index_or}
+use Rattle.std.specs.Global.{Global}
 use Rattle.std.proofs.lemmas.Bool.{cases_eq, cases_lt}
 use Rattle.std.proofs.lemmas.List.{get_or-set_other, get_or-set_same, length-set, get_or_past}
 use Rattle.kernel_gate.specs.Value.{FrameView}
@@ -58,7 +59,7 @@ module _ (graphs : List Graph) (g : Graph) (kinds : List (Option ℕ)) (job : Jo
 
 -- ---- traces
 
-module _ (nodes : List Node) (counts : List ℕ) (stages : List Stage) (rows : List (Rattle.std.specs.Prelude.Vec (List TraceRow) Rattle.std.specs.Global.Global)) (traces : AreTraces nodes counts stages rows) (n : ℕ) (long : length stages ≡ length nodes) where
+module _ (nodes : List Node) (counts : List ℕ) (stages : List Stage) (rows : List (Vec (List TraceRow) Global)) (traces : AreTraces nodes counts stages rows) (n : ℕ) (long : length stages ≡ length nodes) where
   pub same_traces : (s : Stage) → trace_in s ≡ trace_in (stage_at stages n) → AreTraces nodes counts (set stages n s) rows
   same_traces s same = record {
     one_each = traces.one_each;

@@ -30,7 +30,8 @@ use Rattle.job_running.specs.Parts.{AllStand, kernel_in, kind_of_actor}
 use Rattle.job_running.specs.Stages.{job_mark, mark_of, marks_of, refusal_for, spot_of, stage_at}
 use Rattle.job_running.specs.View.{results}
 use Rattle.job_running.specs.declared.stage.Stage.{Stage}
-use Rattle.job_running.proofs.NodeMarks.{mark_here, value_tie}
+use Rattle.job_running.specs.declared.stage.Stage.TheVariants.{Free}
+use Rattle.job_running.proofs.NodeMarks.{free_job, free_stage, mark_here, value_tie}
 
 -- ---- nodes that fire graphs
 
@@ -83,7 +84,7 @@ module _ (graphs : List Graph) (g : Graph) (path : List ℕ) (kinds : List (Opti
       ∙ value_tie keeps (is_child_in kinds (node_at job.nodes n)) (spot_of path (acting g) (node_at job.nodes n)) (stage_at stages n) s.sort (stateless graphs g kinds kinds_are (node_at job.nodes n))
       ∙ ap (λ m. renamed_answer (words n) (one.value_of m)) (sym s.mark_is))
       (λ (past : length job.nodes ≤ n).
-      let a : stage_at stages n ≡ Rattle.job_running.specs.declared.stage.Stage.TheVariants.Free = get_or_past stages n Rattle.job_running.specs.declared.stage.Stage.TheVariants.Free (let l = stand.one_stage in omega arith) in
+      let a : stage_at stages n ≡ Free = get_or_past stages n Free (let l = stand.one_stage in omega arith) in
       let b : one.mark_at marks n ≡ one.Free = get_or_past marks n one.Free (let l = stand.one_mark in omega arith) in
       let free : mark_at items n ≡ mark.Free = item_is n ∙ ap (mark_of (spot_of path (acting g) (node_at job.nodes n))) a in
       ap (λ m. option_map (node_result (keeps_state graphs (actor_of g (node_at job.nodes n)))) (mark.answer_of m)) free ∙ ap (λ m. renamed_answer (words n) (one.value_of m)) (sym b))
@@ -108,15 +109,15 @@ module _ (graphs : List Graph) (g : Graph) (path : List ℕ) (kinds : List (Opti
   free_item n free = ⊎_elim
       (λ (inside : n < length job.nodes).
       let s = stand.each n inside in
-      item_is n ∙ Rattle.job_running.proofs.NodeMarks.free_job (keeps_state graphs (actor_of g (node_at job.nodes n))) (spot_of path (acting g) (node_at job.nodes n)) (stage_at stages n) (sym s.mark_is ∙ free))
+      item_is n ∙ free_job (keeps_state graphs (actor_of g (node_at job.nodes n))) (spot_of path (acting g) (node_at job.nodes n)) (stage_at stages n) (sym s.mark_is ∙ free))
       (λ (past : length job.nodes ≤ n).
-      item_is n ∙ ap (mark_of (spot_of path (acting g) (node_at job.nodes n))) (get_or_past stages n Rattle.job_running.specs.declared.stage.Stage.TheVariants.Free (let l = stand.one_stage in omega arith)))
+      item_is n ∙ ap (mark_of (spot_of path (acting g) (node_at job.nodes n))) (get_or_past stages n Free (let l = stand.one_stage in omega arith)))
       (cases_lt n (length job.nodes))
 
   pub free_mark : (n : ℕ) → mark_at items n ≡ mark.Free → one.mark_at marks n ≡ one.Free
   free_mark n free = ⊎_elim
       (λ (inside : n < length job.nodes).
       let s = stand.each n inside in
-      s.mark_is ∙ ap (job_mark (keeps_state graphs (actor_of g (node_at job.nodes n)))) (Rattle.job_running.proofs.NodeMarks.free_stage (spot_of path (acting g) (node_at job.nodes n)) (stage_at stages n) (sym (item_is n) ∙ free)))
+      s.mark_is ∙ ap (job_mark (keeps_state graphs (actor_of g (node_at job.nodes n)))) (free_stage (spot_of path (acting g) (node_at job.nodes n)) (stage_at stages n) (sym (item_is n) ∙ free)))
       (λ (past : length job.nodes ≤ n). get_or_past marks n one.Free (let l = stand.one_mark in omega arith))
       (cases_lt n (length job.nodes))

@@ -115,20 +115,20 @@ pub(crate) fn caller_of<'a>(
 fn call_graph(
     alloc: Global,
     path: &Path,
-    caller: Caller<'_>,
+    caller: &Caller<'_>,
     place: u32,
     read: List<List<i64>>,
 ) -> Result<Firing, AllocError>
-    requires args { caller.number < length caller.set.now.args }
-    requires known { (early : EarlyView) × (slice_get caller.set.now.children caller.number ≡ Some (Some early)) }
-    ensures { (firing : FiringView) → firing.path ≡ path.now → IfOk result (λ d. d ≡ firing_of caller.graphs.now firing caller.actor.now.name caller.turn (tokens_at caller.set.now.args caller.number) caller.keeps place (input_count caller.graphs.now caller.actor.now.body) read) }
+    requires args { caller.now.number < length caller.now.set.now.args }
+    requires known { (early : EarlyView) × (slice_get caller.now.set.now.children caller.now.number ≡ Some (Some early)) }
+    ensures { (firing : FiringView) → firing.path ≡ path.now → IfOk result (λ d. d ≡ firing_of caller.now.graphs.now firing caller.now.actor.now.name caller.now.turn (tokens_at caller.now.set.now.args caller.now.number) caller.now.keeps place (input_count caller.now.graphs.now caller.now.actor.now.body) read) }
 {
     let here = at_path(alloc, path)?;
     let inputs = input_count(caller.graphs, &caller.actor.body);
     let number = caller.number as usize;
-    let early = match caller.set.children.items().get(number) {
-        Some(Some(early)) => early,
-        _ => unreachable!(),
+    let early = match &caller.set.children.items()[number] {
+        Some(early) => early,
+        None => unreachable!(),
     };
     let call = ChildCall {
         actor: caller.actor,
@@ -144,14 +144,14 @@ fn call_graph(
 pub(crate) fn called(
     alloc: Global,
     path: &Path,
-    caller: Caller<'_>,
+    caller: &Caller<'_>,
     frame: &Frame,
 ) -> Result<Firing, AllocError>
-    requires args { caller.number < length caller.set.now.args }
-    requires known { (early : EarlyView) × (slice_get caller.set.now.children caller.number ≡ Some (Some early)) }
-    requires child { (place : ℕ) × (exprs : Seq Tree) × (caller.actor.now.body ≡ Child place exprs) }
+    requires args { caller.now.number < length caller.now.set.now.args }
+    requires known { (early : EarlyView) × (slice_get caller.now.set.now.children caller.now.number ≡ Some (Some early)) }
+    requires child { (place : ℕ) × (exprs : Seq Tree) × (caller.now.actor.now.body ≡ Child place exprs) }
     requires few { length frame.now.inputs < 2 ^ 32 }
-    ensures { (firing : FiringView) (place : ℕ) (exprs : Seq Tree) → firing.path ≡ path.now → caller.actor.now.body ≡ Child place exprs → IfOk result (λ d. d ≡ firing_of caller.graphs.now firing caller.actor.now.name caller.turn (tokens_at caller.set.now.args caller.number) caller.keeps place (input_count caller.graphs.now caller.actor.now.body) frame.now.inputs) }
+    ensures { (firing : FiringView) (place : ℕ) (exprs : Seq Tree) → firing.path ≡ path.now → caller.now.actor.now.body ≡ Child place exprs → IfOk result (λ d. d ≡ firing_of caller.now.graphs.now firing caller.now.actor.now.name caller.now.turn (tokens_at caller.now.set.now.args caller.now.number) caller.now.keeps place (input_count caller.now.graphs.now caller.now.actor.now.body) frame.now.inputs) }
 {
     let read = read_from(alloc, frame)?;
     match &caller.actor.body {

@@ -63,11 +63,11 @@ impl Model for Running {
 
     ghost Value = { RunningView };
 
-    ghost use Rattle.job_running.specs.Kept.{Keeps, view_of};
+    ghost use Rattle.job_running.specs.Kept.{IsRunning, view_of};
 
     ghost view = { view_of };
 
-    ghost invariant = { Keeps };
+    ghost invariant = { IsRunning };
 }
 
 impl Running {
@@ -159,7 +159,7 @@ impl Running {
             actor,
             turn,
         );
-        let result = called(alloc, &self.path, caller, &frame);
+        let result = called(alloc, &self.path, &caller, &frame);
         self.stages[node as usize] = waiting(&result, &frame);
         put_frame(&mut self.frames, node as usize, frame);
         result
