@@ -1,7 +1,6 @@
 -- How far configuration actors are, as the code has it.
-use Rattle.std.specs.Prelude.{ℕ, suc, ℤ, Bool, true, false, List, [], ◌∷◌, Option, Some, None, if◌then◌else◌, Vec}
+use Rattle.std.specs.Prelude.{ℤ, Bool, true, false, List, [], ◌∷◌, Option, Some, None, Vec}
 use Rattle.std.specs.Global.{Global}
-use Rattle.std.specs.Option.{option_map}
 use Rattle.kernel_gate.specs.Value.{Places}
 use Rattle.nested_jobs.specs.Marks as mark
 use Rattle.nested_jobs.specs.Marks.{Mark}
@@ -26,7 +25,7 @@ mark_of (Refused refusal) = mark.Done (words.Refuses refusal)
 abbrev pub lent_of : Stage → Option Places
 lent_of (Fires spare) = None
 lent_of Calls = None
-lent_of (Busy told spare) = Some told.value.places
+lent_of (Busy told spare) = Some told.frame.places
 lent_of (Open told line) = None
 lent_of (Gave told) = None
 lent_of (Refused refusal) = None
@@ -91,11 +90,7 @@ refusal_of (Open told line) = None
 refusal_of (Gave told) = None
 refusal_of (Refused refusal) = Some refusal
 
--- the first place of a stage of which this holds
-abbrev pub first_of : (Stage → Bool) → List Stage → Option ℕ
-first_of test [] = None
-first_of test (stage ∷ stages) = if test stage then Some 0 else option_map (λ n. suc n) (first_of test stages)
-
+-- the first of the two that is there
 abbrev pub or_else : {T : Type 0} → Option T → Option T → Option T
 or_else None later = later
 or_else (Some one) later = Some one

@@ -11,6 +11,7 @@ use Rattle.pisdf_model.specs.Range.{InRange}
 use Rattle.pisdf_model.specs.WellFormed.{WellFormed}
 use Rattle.pisdf_model.specs.declared.graph.Graph.{Graph}
 use Rattle.pisdf_model.specs.declared.graph.Graphs.{Graphs}
+use Rattle.param_resolver.specs.EarlyCheck.{early_of}
 use Rattle.param_resolver.specs.EarlyView.{EarlyView}
 use Rattle.pisdf_meaning.specs.Configuring.{configurations, config_rates, early_in}
 use Rattle.pisdf_meaning.specs.Nested.{configuration_at}
@@ -51,6 +52,7 @@ pub record WaitsFor (t : Option (Task Firing words.Work)) (spare : Spare) (waiti
   pub frame : FrameView
   pub frame_is : waiting ≡ Some frame
   pub asks : AsksFor has.asked frame
+  pub outputs : map (λ (p : LeasePlace). p.len) frame.places.outputs ≡ has.asked.lens
 
 -- its frame is out
 pub record IsOut (t : Option (Task Firing words.Work)) (spare : Spare) (places : Places) : Type 0 where
@@ -63,9 +65,10 @@ pub record IsCall (t : Option (Task Firing words.Work)) : Type 0 where
   pub job : Firing
   pub task_is : t ≡ Some (Call job)
 
--- the graph that the task names is fired, and there is room for the state that this leaves
-pub record IsCalled (graphs : List Graph) (t : Option (Task Firing words.Work)) (job : Firing) (line : Vec ℤ Global) : Type 0 where
+-- the graph that the task names is fired, which gives tokens at these rates, and there is room for the state that this leaves
+pub record IsCalled (graphs : List Graph) (t : Option (Task Firing words.Work)) (rates : List ℕ) (job : Firing) (line : Vec ℤ Global) : Type 0 where
   pub task_is : t ≡ Some (Call job)
+  pub rates_are : (early_of graphs job.graph job.inherited).outputs ≡ rates
   pub empty : line.items ≡ []
   pub room : length (in_line (initial graphs job.graph)) ≤ vec_capacity line
 
@@ -79,8 +82,8 @@ pub record IsLeft (rates : List ℕ) (given : JobGiven) (one : Configured) (trac
 abbrev pub StandsRight : List Graph → Option (Task Firing words.Work) → List ℕ → Stage → Option FrameView → Configured → List TraceRow → Type 0
 StandsRight graphs t rates (Fires spare) waiting one trace = WaitsFor t spare waiting
 StandsRight graphs t rates Calls waiting one trace = IsCall t
-StandsRight graphs t rates (Busy told spare) waiting one trace = IsOut t spare told.value.places
-StandsRight graphs t rates (Open told line) waiting one trace = IsCalled graphs t told.value line
+StandsRight graphs t rates (Busy told spare) waiting one trace = IsOut t spare told.frame.places
+StandsRight graphs t rates (Open told line) waiting one trace = IsCalled graphs t rates told.value line
 StandsRight graphs t rates (Gave told) waiting one trace = IsLeft rates told.value one trace
 StandsRight graphs t rates (Refused refusal) waiting one trace = Unit {0}
 

@@ -1,7 +1,9 @@
 // What is asked of the configuration actors of a firing.
-ghost use Rattle.std.specs.Prelude.{◌≡◌, ◌<◌, ◌^◌, [], length, slice_get, slice_index_or, Some, IfOk, List as Seq};
-ghost use Rattle.nested_jobs.specs.Rules.{Call};
-ghost use Rattle.pisdf_model.specs.Hold.{in_line};
+ghost use Rattle.std.specs.Prelude.{◌≡◌, [], length, vec_capacity, slice_get, slice_index_or, Some, IfOk, ℕ, List as Seq};
+ghost use Rattle.nested_jobs.specs.Rules.{Call, Work};
+ghost use Rattle.kernel_gate.specs.Value.{lengths};
+ghost use Rattle.param_resolver.specs.EarlyCheck.{early_of};
+ghost use Rattle.pisdf_model.specs.Hold.{in_line, initial};
 ghost use Rattle.pisdf_model.specs.Ports.{inherited_count};
 ghost use Rattle.pisdf_model.specs.Range.{InRange};
 ghost use Rattle.pisdf_model.specs.WellFormed.{WellFormed};
@@ -13,12 +15,13 @@ ghost use Rattle.job_rules.specs.Meant.{IsFit};
 ghost use Rattle.pisdf_meaning.specs.declared.firing.Configured.{Configured};
 ghost use Rattle.pisdf_meaning.specs.declared.outcome.TraceRow.{TraceRow};
 ghost use Rattle.job_preparing.specs.Standing.{ArePlaces, IsCall, IsOwn, StandsRight};
-ghost use Rattle.job_preparing.specs.View.{task_of};
+ghost use Rattle.job_preparing.specs.Seated.{kernel_work};
+ghost use Rattle.job_preparing.specs.View.{HasInherited, task_of};
 
 use crate::stage::{Spare, Stage};
-use kernel_gate::Frame;
+use kernel_gate::{Frame, Lent};
 use param_expr::Name;
-use param_resolver::{Early, early};
+use param_resolver::{Early, early, early_unfolds};
 use pisdf_meaning::{Firing, config_firing, copy_name, copy_tokens, fed_to};
 use pisdf_model::{Body, Graph, Graphs, is_configuration};
 use sdf_level::List;
@@ -86,6 +89,7 @@ pub(crate) struct Seat {
 /// A kernel configuration actor with its number, which stands at a place of its graph.
 fn kernel_seat(
     alloc: Global,
+    graphs: &[Graph],
     graph: &Graph,
     early: &Early,
     firing: &Firing,
@@ -96,6 +100,9 @@ fn kernel_seat(
     ins: usize,
     sets: u32,
 ) -> Result<Seat, AllocError>
+    requires { early.now ≡ early_in graphs.now firing.now }
+    ensures own { IfOk result (λ s. IsOwn s.frame) }
+    ensures waits { IfOk result (λ s. (rates : Seq ℕ) (one : Configured) (trace : Seq TraceRow) → StandsRight graphs.now (Some (Work (kernel_work graphs.now graph.now firing.now number place name.now kernel ins sets))) rates s.stage s.frame one trace) }
 {
     let rates = rates_at(early.outs.items(), number);
     let spare = Spare {
@@ -105,7 +112,14 @@ fn kernel_seat(
     };
     let args = copy_tokens(alloc, tokens_at(early.args.items(), number))?;
     let inputs = fed_to(alloc, graph, firing.inputs.items(), place, ins)?;
-    let frame = Frame::start(alloc, kernel, args, inputs, rates, sets)?;
+    // Lent anew, since a lent frame tells how long its leases are.
+    let Lent {
+        args,
+        inputs,
+        outputs,
+        sets,
+    } = Frame::start(alloc, kernel, args, inputs, rates, sets)?.take_back();
+    let frame = Frame::lend(kernel, args, inputs, outputs, sets);
     Ok(Seat {
         stage: Stage::Fires(spare),
         frame: Some(frame),
@@ -140,6 +154,7 @@ pub(crate) fn make_seat(
             ..
         } => kernel_seat(
             alloc,
+            graphs.graphs.items(),
             graph,
             early,
             firing,
@@ -174,8 +189,13 @@ pub(crate) fn child_of(
     requires early { early.now ≡ early_in graphs.now.graphs firing.now }
     requires is { IsConfiguration graph.now number place }
     requires call { IsCall (task_of graphs.now.graphs graph.now firing.now (Some (configuration_at graph.now number place))) }
-    ensures { IfOk result (λ d. task_of graphs.now.graphs graph.now firing.now (Some (configuration_at graph.now number place)) ≡ Some (Call d)) }
+    requires fit { IsFit graphs.now.graphs firing.now }
+    ensures rates { IfOk result (λ d. (early_of graphs.now.graphs d.graph d.inherited).outputs ≡ config_rates graphs.now.graphs firing.now number) }
+    ensures state { IfOk result (λ d. lengths d.state ≡ lengths (initial graphs.now.graphs d.graph)) }
+    ensures inherited { IfOk result (HasInherited graphs.now.graphs) }
+    ensures task { IfOk result (λ d. task_of graphs.now.graphs graph.now firing.now (Some (configuration_at graph.now number place)) ≡ Some (Call d)) }
 {
+    early_unfolds();
     let actor = &graph.actors.items()[place];
     match &actor.body {
         Body::ConfigChild { graph: child, .. } => {
@@ -200,13 +220,27 @@ pub(crate) fn child_of(
 }
 
 /// How many tokens the lists have.
-pub(crate) fn token_count(lists: &[List<i64>]) -> usize
-    requires { length (in_line lists.now) < 2 ^ 63 }
-    ensures { result ≡ length (in_line lists.now) }
+///
+/// # Errors
+///
+/// More than any list can have.
+fn token_count(lists: &[List<i64>]) -> Result<usize, AllocError>
+    ensures { IfOk result (λ count. count ≡ length (in_line lists.now)) }
 {
-    let mut count = 0;
+    let mut count: usize = 0;
     for list in lists {
-        count += list.items().len();
+        match count.checked_add(list.items().len()) {
+            Some(more) => count = more,
+            None => return Err(AllocError),
+        }
     }
-    count
+    Ok(count)
+}
+
+/// An empty list with room for these lists in one line.
+pub(crate) fn line_for(alloc: Global, lists: &[List<i64>]) -> Result<Vec<i64>, AllocError>
+    ensures empty { IfOk result (λ line. line.items ≡ []) }
+    ensures room { IfOk result (λ line. vec_capacity line ≡ length (in_line lists.now)) }
+{
+    Vec::with_capacity(alloc, token_count(lists)?)
 }

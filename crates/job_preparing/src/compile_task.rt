@@ -33,6 +33,11 @@ impl Model for CompileTask {
 
     ghost Value = { CompileView };
 
+    ghost use Rattle.std.specs.Coded.{codes};
+    ghost use Rattle.param_expr.specs.Tree.{tree_code};
+
+    ghost coded = { Prim.hlevel (codes, tree_code) };
+
     ghost use Rattle.job_preparing.specs.Tasked.{IsTask, task_view};
 
     ghost view = { task_view };

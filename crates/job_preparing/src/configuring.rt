@@ -1,5 +1,5 @@
 // The configuration actors of a firing.
-use crate::asking::{child_of, token_count};
+use crate::asking::{child_of, line_for};
 use crate::compile_task::CompileTask;
 use crate::ending::{keep, kernel_given};
 use crate::handing::{JobGiven, Left};
@@ -8,9 +8,10 @@ use crate::stage::{
     Stage, all_finished, all_gave, first_call, first_kernel, first_refused, line_of, spare_of,
 };
 use crate::starting::spend_frames;
+use crate::told::told_of;
 use job_compiler::{Compiled, Key};
 use kernel_gate::{Frame, KernelFault};
-use param_resolver::Early;
+use param_resolver::{Early, early_unfolds};
 use pisdf_meaning::{Cause, Configured, Firing, Refusal, TraceRow, chosen_values, copy_tokens};
 use pisdf_model::Graphs;
 use sdf_level::List;
@@ -40,6 +41,11 @@ impl Model for Configuring {
     ghost use Rattle.job_preparing.specs.View.{ConfiguringView};
 
     ghost Value = { ConfiguringView };
+
+    ghost use Rattle.std.specs.Coded.{codes};
+    ghost use Rattle.param_expr.specs.Tree.{tree_code};
+
+    ghost coded = { Prim.hlevel (codes, tree_code) };
 
     ghost use Rattle.job_preparing.specs.Kept.{IsConfiguring, view_of};
 
@@ -124,7 +130,7 @@ impl Configuring {
             None => unreachable!(),
         };
         let spare = spare_of(mem::replace(&mut self.stages[n], Stage::Calls));
-        self.stages[n] = Stage::Busy(Snapshot::of(&frame), spare);
+        self.stages[n] = Stage::Busy(told_of(&frame), spare);
         frame
     }
 
@@ -151,7 +157,7 @@ impl Configuring {
             n,
             self.places[n],
         )?;
-        let line = Vec::with_capacity(alloc, token_count(firing.state.items()))?;
+        let line = line_for(alloc, firing.state.items())?;
         self.stages[n] = Stage::Open(Snapshot::of(&firing), line);
         Ok(firing)
     }
@@ -234,6 +240,7 @@ impl Configuring {
         ensures sources { source_tokens (graph_in self.now) self.now.firing result.now ≡ source_tokens (graph_in self.now) self.now.firing (left_by self.now) }
         ensures rates { lengths (source_tokens (graph_in self.now) self.now.firing result.now) ≡ sources_of (graph_in self.now) (early_in self.now.graphs.graphs self.now.firing) }
     {
+        early_unfolds();
         &self.left
     }
 

@@ -1,41 +1,26 @@
 // What becomes of what configuration actors give.
 ghost use Rattle.std.specs.Prelude.{◌≡◌, ◌≤◌, ◌+◌, ◌++◌, [], length, map, vec_capacity};
-ghost use Rattle.kernel_gate.specs.Leased.{AllWhole, AreWhole};
+ghost use Rattle.kernel_gate.specs.Leased.{AreWhole};
+ghost use Rattle.kernel_gate.specs.Value.{lengths};
 ghost use Rattle.pisdf_model.specs.Hold.{in_line};
-ghost use Rattle.split_block.specs.View.{cells_of, lease_place};
 ghost use Rattle.job_preparing.specs.Ending.{IsKeptAs};
 
 use crate::handing::JobGiven;
 use crate::stage::Stage;
 use kernel_gate::{Frame, Lent};
-use pisdf_meaning::{Configured, TraceRow};
+use pisdf_meaning::{Configured, TraceRow, lists_of_leases};
 use sdf_level::List;
-use split_block::Lease;
 use std::alloc::Global;
 use std::collections::LinkedList;
 use std::snapshot::Snapshot;
-
-/// The tokens of leases that are whole blocks, in their order: `lists` is empty, and has room for them.
-fn lists_of_leases(mut leases: Vec<Lease>, mut lists: Vec<List<i64>>) -> List<List<i64>>
-    requires whole { AllWhole (map lease_place leases.items) }
-    requires empty { lists.items ≡ [] }
-    requires room { length leases.items ≤ vec_capacity lists }
-    ensures { result ≡ map cells_of leases.items }
-{
-    while let Some(lease) = leases.pop() {
-        lists.push_reserved(List::new(lease.into_vec()));
-    }
-    leases.destroy_empty();
-    lists.reverse();
-    List::new(lists)
-}
 
 /// What stands in a fired frame, which is given up: `lists` is empty, and has room for the outputs.
 pub(crate) fn kernel_given(alloc: Global, frame: Frame, lists: Vec<List<i64>>) -> JobGiven
     requires whole { AreWhole frame.places }
     requires empty { lists.items ≡ [] }
-    requires room { length frame.outputs ≤ vec_capacity lists }
-    ensures { result ≡ record { outs = frame.outputs; state = []; trace = []; exports = frame.sets } }
+    requires room { length frame.places.outputs ≤ vec_capacity lists }
+    ensures given { result ≡ record { outs = frame.outputs; state = []; trace = []; exports = frame.sets } }
+    ensures long { lengths frame.outputs ≡ map (λ p. p.len) frame.places.outputs }
 {
     let Lent {
         args,

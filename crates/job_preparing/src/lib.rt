@@ -12,6 +12,7 @@ mod kept_one;
 mod slim;
 mod stage;
 mod starting;
+mod told;
 
 pub use compile_task::CompileTask;
 pub use compiling::CompileEnd;

@@ -1,10 +1,10 @@
 // How far configuration actors are.
-ghost use Rattle.std.specs.Prelude.{◌≡◌, Some, IsSome, List as Seq};
+ghost use Rattle.std.specs.Prelude.{◌≡◌, Some, IsSome, position};
 ghost use Rattle.std.specs.List.{list_all};
-ghost use Rattle.job_preparing.specs.Stages.{first_of, has_given, is_call, is_done, is_kernel, line_in, refusal_in, spare_in};
+ghost use Rattle.job_preparing.specs.Stages.{has_given, is_call, is_done, is_kernel, line_in, or_else, refusal_in, refusal_of, spare_in};
 
 use crate::handing::JobGiven;
-use kernel_gate::Frame;
+use crate::told::Told;
 use param_expr::Name;
 use pisdf_meaning::{Firing, Path, Refusal};
 use sdf_level::List;
@@ -29,7 +29,7 @@ pub(crate) enum Stage {
     /// It fires a graph.
     Calls,
     /// Its frame is out.
-    Busy(Snapshot<Frame>, Spare),
+    Busy(Told, Spare),
     /// Its graph is fired; with an empty list that has room for the state which this leaves.
     Open(Snapshot<Firing>, Vec<i64>),
     /// It gave something.
@@ -122,26 +122,16 @@ fn finished(stage: &Stage) -> bool
 
 /// The first actor that fires a kernel and isn't claimed.
 pub(crate) fn first_kernel(stages: &[Stage]) -> Option<usize>
-    ensures { result ≡ first_of is_kernel stages.now }
+    ensures { result ≡ position is_kernel stages.now }
 {
-    for n in 0..stages.len() {
-        if fires_kernel(&stages[n]) {
-            return Some(n);
-        }
-    }
-    None
+    stages.iter().position(|stage| fires_kernel(stage))
 }
 
 /// The first actor that fires a graph and isn't called.
 pub(crate) fn first_call(stages: &[Stage]) -> Option<usize>
-    ensures { result ≡ first_of is_call stages.now }
+    ensures { result ≡ position is_call stages.now }
 {
-    for n in 0..stages.len() {
-        if calls_graph(&stages[n]) {
-            return Some(n);
-        }
-    }
-    None
+    stages.iter().position(|stage| calls_graph(stage))
 }
 
 pub(crate) fn all_gave(stages: &[Stage]) -> bool
@@ -156,14 +146,30 @@ pub(crate) fn all_finished(stages: &[Stage]) -> bool
     stages.iter().all(|stage| finished(stage))
 }
 
+/// The refusal that was found, or else that of the next actor.
+fn refusal_after(found: Option<Refusal>, next: Stage) -> Option<Refusal>
+    ensures { result ≡ or_else found (refusal_of next) }
+{
+    match found {
+        Some(refusal) => Some(refusal),
+        None => match next {
+            Stage::Refused(refusal) => Some(refusal),
+            Stage::Fires(_) => None,
+            Stage::Calls => None,
+            Stage::Busy(_, _) => None,
+            Stage::Open(_, _) => None,
+            Stage::Gave(_) => None,
+        },
+    }
+}
+
 /// The first refusal.
 pub(crate) fn first_refused(stages: Vec<Stage>) -> Option<Refusal>
     ensures { result ≡ refusal_in stages.items }
 {
+    let mut found = None;
     for stage in stages {
-        if let Stage::Refused(refusal) = stage {
-            return Some(refusal);
-        }
+        found = refusal_after(found, stage);
     }
-    None
+    found
 }

@@ -41,7 +41,7 @@ fn nothing_left(alloc: Global, count: usize) -> Result<Vec<Configured>, AllocErr
     ensures { IfOk result (λ v. v.items ≡ replicate count nothing) }
 {
     let mut left = Vec::with_capacity(alloc, count)?;
-    for _ in 0..count {
+    for number in 0..count {
         left.push(Configured {
             outs: List::new(Vec::new(alloc)),
             sets: List::new(Vec::new(alloc)),
@@ -57,7 +57,7 @@ fn no_traces(alloc: Global, count: usize) -> Result<Vec<LinkedList<TraceRow>>, A
     ensures { IfOk result (λ v. v.items ≡ replicate count []) }
 {
     let mut traces = Vec::with_capacity(alloc, count)?;
-    for _ in 0..count {
+    for number in 0..count {
         traces.push(LinkedList::new(alloc))?;
     }
     Ok(traces)

@@ -80,7 +80,7 @@ sets_inside version graphs params (Child place args) range = λ k d h. absurd (o
 sets_inside version graphs params (ConfigChild place args sets) range = range.3
 
 module _ (graphs : Graphs) (range : InRange graphs) (well : WellFormed graphs) where
-  few_parts : (k : ℕ) (d : Graph) → k < length graphs.graphs → AreFew (get_or graphs.graphs k d)
+  pub few_parts : (k : ℕ) (d : Graph) → k < length graphs.graphs → AreFew (get_or graphs.graphs k d)
   few_parts k d inside =
       let each = right_none (unless (leb (length graphs.graphs) 32) _) (of_each (graph_counts graphs.graphs) graphs.graphs) (no_faults graphs well).counts in
       few_of (has_large_hold graphs.graphs (0 + k)) (get_or graphs.graphs k d) (each_none 0 (graph_counts graphs.graphs) graphs.graphs each k d inside)
@@ -95,7 +95,7 @@ module _ (graphs : Graphs) (range : InRange graphs) (well : WellFormed graphs) w
     abbrev g : Graph
     g = get_or graphs.graphs k d
 
-    actor_fits : (a : ℕ) (e : Actor) → a < length g.actors → body_fits (λ b. true) graphs.graphs (get_or g.actors a e).body ≡ true
+    pub actor_fits : (a : ℕ) (e : Actor) → a < length g.actors → body_fits (λ b. true) graphs.graphs (get_or g.actors a e).body ≡ true
     actor_fits a e there =
         let actors = left_none (of_each (λ n (actor : Actor). actor_ports (λ b. true) graphs.graphs actor) g.actors) _ (no_ports k d inside) in
         unless_none _ _ (each_none 0 (λ n (actor : Actor). actor_ports (λ b. true) graphs.graphs actor) g.actors actors a e there)
@@ -114,7 +114,7 @@ module _ (graphs : Graphs) (range : InRange graphs) (well : WellFormed graphs) w
         first [] some = absurd (omega arith)
         first (p ∷ params) some = p
 
-    few_sets : (a : ℕ) (e : Actor) → a < length g.actors → length (sets_of (get_or g.actors a e).body) < 2 ^ 32
+    pub few_sets : (a : ℕ) (e : Actor) → a < length g.actors → length (sets_of (get_or g.actors a e).body) < 2 ^ 32
     few_sets a e there =
         let body = (get_or g.actors a e).body in
         let once : (i : ℕ) → i < length g.params → count_by (λ s. eqb s i) (sets_of body) ≤ 1 = λ i h.

@@ -85,7 +85,7 @@ one_fault level a b f h =
     (λ (e : faulted a ≡ faulted Memory). let m : a ≡ Memory = cc in absurd (subst (IsUnscheduled level) m f))
     (answers_fault level (faulted a) tt (inl f) b h)
 
-schedules_once : (g : Graph) (firing : Firing) (level : LevelView) (a b : Result LevelSchedule Refusal) → Schedules g firing level a → Schedules g firing level b → a ≡ b
+pub schedules_once : (g : Graph) (firing : Firing) (level : LevelView) (a b : Result LevelSchedule Refusal) → Schedules g firing level a → Schedules g firing level b → a ≡ b
 schedules_once g firing level (Ok s) (Ok r) f h = ap Ok (one_schedule level s r f h)
 schedules_once g firing level (Ok s) (Err refusal) f h = absurd (no_fault level s h.0 f h.1)
 schedules_once g firing level (Err refusal) (Ok r) f h = absurd (no_fault level r f.0 h f.1)

@@ -26,7 +26,7 @@ pub(crate) enum KernelEnd {
 }
 
 /// The tokens of leases that are whole blocks, in their order. It takes no memory: `lists` is empty, and has room for them.
-fn lists_of_leases(mut leases: Vec<Lease>, mut lists: Vec<List<i64>>) -> List<List<i64>>
+pub fn lists_of_leases(mut leases: Vec<Lease>, mut lists: Vec<List<i64>>) -> List<List<i64>>
     requires whole { AllWhole (map lease_place leases.items) }
     requires empty { lists.items ≡ [] }
     requires room { length leases.items ≤ vec_capacity lists }
