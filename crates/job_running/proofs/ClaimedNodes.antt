@@ -3,6 +3,7 @@ use Rattle.std.proofs.Common.{◌≡◌, ◌≢◌, ℕ, zero, suc, ◌+◌, ◌
 use Rattle.std.specs.Prelude.{Vec, is_none, unwrap_or, ◌↔◌, ◌⊎◌, IsOk}
 use Rattle.std.specs.Global.{Global}
 use Rattle.std.specs.declared.snapshot.Snapshot.{Snapshot}
+use Rattle.job_running.specs.declared.told.Told.{Told}
 use Rattle.std.proofs.lemmas.Bool.{cases_lt}
 use Rattle.std.proofs.lemmas.List.{get_or-set_other, get_or-set_same, get_or_past, length-set, map-set}
 use Rattle.kernel_gate.specs.Value.{FrameView, Places, lengths}
@@ -135,7 +136,7 @@ module _ (f : Fixed) (stages : List Stage) (frames : List (Option FrameView)) (r
           let so = handed_so f stages frames rows j keeps node_here _ (lens (job_in f) n) offered.work frame t.is (λ a k at actor own none. kernel_lens f stages frames rows j keeps n a k actor at own none) has_frame in
           subst (λ o. IsHanded o (handed_out (node_at j.compilation.graph.nodes n) frame)) (sym offered.task_is) (subst (λ nd. IsHanded (Some (Work offered.work)) (handed_out nd frame)) (sym same_node) so)
 
-      pub keeps_claimed : (told : Snapshot FrameView) → told.value ≡ frame → lengths frame.outputs ≡ place_lens frame.places → KeepsAll f (set stages n (Busy told)) frames rows (record j { marks = set j.marks n (one.Claimed frame.places) })
+      pub keeps_claimed : (told : Told) → told.frame ≡ frame → lengths frame.outputs ≡ place_lens frame.places → KeepsAll f (set stages n (Busy told)) frames rows (record j { marks = set j.marks n (one.Claimed frame.places) })
       keeps_claimed told told_is measured =
           let t = has_task f stages frames rows j keeps n (Work offered.work) offered.task_is in
           keeps_on stays (was_ready offered.free (Work offered.work) offered.task_is).there (Busy told) (one.Claimed frame.places) frames (no_value offered.free (Work offered.work) offered.task_is) (was_ready offered.free (Work offered.work) offered.task_is)
@@ -147,5 +148,5 @@ module _ (f : Fixed) (stages : List Stage) (frames : List (Option FrameView)) (r
           }
           refl (λ k other. refl) (sym (no_trace offered.free (Work offered.work) offered.task_is))
 
-      pub view_claimed : (told : Snapshot FrameView) → told.value ≡ frame → view_with f (set stages n (Busy told)) ≡ record (view_with f stages) { marks = set (view_with f stages).marks n mark.Busy; lent = set (view_with f stages).lent n (Some frame.places) }
+      pub view_claimed : (told : Told) → told.frame ≡ frame → view_with f (set stages n (Busy told)) ≡ record (view_with f stages) { marks = set (view_with f stages).marks n mark.Busy; lent = set (view_with f stages).lent n (Some frame.places) }
       view_claimed told told_is = view_step f stages n (Busy told) ∙ ap (λ (x : FrameView). record (view_with f stages) { marks = set (view_with f stages).marks n mark.Busy; lent = set (view_with f stages).lent n (Some x.places) }) told_is

@@ -1,3 +1,4 @@
+pub mod ActingPlaces
 pub mod HeldFrames
 pub mod WrittenOuts
 pub mod NodeMarks

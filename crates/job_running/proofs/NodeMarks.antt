@@ -4,6 +4,7 @@ use Rattle.std.specs.Option.{option_map}
 use Rattle.std.proofs.lemmas.List.{get_or-set_other, get_or-set_same, length-set, length-map, append-nil, get_or_past}
 use Rattle.std.proofs.lemmas.Bool.{cases_eq, cases_lt}
 use Rattle.std.specs.declared.snapshot.Snapshot.{Snapshot}
+use Rattle.job_running.specs.declared.told.Told.{Told}
 use Rattle.kernel_gate.specs.Value.{FrameView, Places}
 use Rattle.nested_jobs.specs.Marks as mark
 use Rattle.nested_jobs.specs.Marks.{Mark}
@@ -77,9 +78,9 @@ free_job keeps spot (Refused refusal) is = absurd (cc)
 
 -- what a stage with a lent frame is
 pub record IsBusy (s : Stage) (places : Places) : Type 0 where
-  pub told : Snapshot FrameView
+  pub told : Told
   pub stage_is : s ≡ Busy told
-  pub places_are : told.value.places ≡ places
+  pub places_are : told.frame.places ≡ places
 
 pub lent_busy : (s : Stage) (places : Places) → lent_of s ≡ Some places → IsBusy s places
 lent_busy Free places is = absurd (cc)
@@ -93,7 +94,7 @@ lent_busy (Refused refusal) places is = absurd (cc)
 
 pub record IsOpen (s : Stage) (job : Firing) : Type 0 where
   pub own : Snapshot Firing
-  pub told : Snapshot FrameView
+  pub told : Told
   pub stage_is : s ≡ Open own told
   pub job_is : own.value ≡ job
 
@@ -123,7 +124,7 @@ value_tie keeps child spot Free sort none = refl
 value_tie keeps child spot (Busy told) sort none = refl
 value_tie keeps child spot (Lost told) sort none = refl
 value_tie keeps child spot (Open job told) sort none = refl
-value_tie keeps child spot (Fired told) sort none = fired_tie keeps spot told.value (none sort)
+value_tie keeps child spot (Fired told) sort none = fired_tie keeps spot told.frame (none sort)
 value_tie keeps child spot (Failed code) sort none = failed_tie keeps spot code
 value_tie keeps child spot (Gave told) sort none = refl
 value_tie keeps child spot (Refused refusal) sort none = refl
@@ -131,9 +132,9 @@ value_tie keeps child spot (Refused refusal) sort none = refl
 -- ---- stages of nodes whose frames came back
 
 pub record IsFiredWith (s : Stage) (frame : FrameView) : Type 0 where
-  pub told : Snapshot FrameView
+  pub told : Told
   pub stage_is : s ≡ Fired told
-  pub frame_is : told.value ≡ frame
+  pub frame_is : told.frame ≡ frame
 
 pub fired_stage : (s : Stage) (frame : FrameView) → IsFired frame s → IsFiredWith s frame
 fired_stage Free frame is = absurd is
@@ -147,10 +148,10 @@ fired_stage (Refused refusal) frame is = absurd is
 
 pub record IsOpenedWith (s : Stage) (job : Firing) (frame : FrameView) : Type 0 where
   pub own : Snapshot Firing
-  pub told : Snapshot FrameView
+  pub told : Told
   pub stage_is : s ≡ Open own told
   pub job_is : own.value ≡ job
-  pub frame_is : told.value ≡ frame
+  pub frame_is : told.frame ≡ frame
 
 pub opened_stage : (s : Stage) (job : Firing) (frame : FrameView) → IsOpened job frame s → IsOpenedWith s job frame
 opened_stage Free job frame is = absurd is
@@ -163,9 +164,9 @@ opened_stage (Gave told) job frame is = absurd is
 opened_stage (Refused refusal) job frame is = absurd is
 
 pub record IsLostWith (s : Stage) (frame : FrameView) : Type 0 where
-  pub told : Snapshot FrameView
+  pub told : Told
   pub stage_is : s ≡ Lost told
-  pub frame_is : told.value ≡ frame
+  pub frame_is : told.frame ≡ frame
 
 pub lost_stage : (s : Stage) (frame : FrameView) → IsLost frame s → IsLostWith s frame
 lost_stage Free frame is = absurd is

@@ -13,7 +13,7 @@ abbrev pub fixed_of : Inside → Fixed
 fixed_of i = record {
   graphs = arc_value i.graphs;
   firing = i.firing.value;
-  left = left_by i.preparing.value;
+  left = left_by i.preparing.actors;
   compilation = arc_value i.compiled;
   set = i.set;
   place = i.place;

@@ -55,14 +55,14 @@ mark_of spot Free = mark.Free
 mark_of spot (Busy told) = mark.Busy
 mark_of spot (Lost told) = mark.Busy
 mark_of spot (Open job told) = mark.Open job.value
-mark_of spot (Fired told) = mark.Done (fired_in spot told.value)
+mark_of spot (Fired told) = mark.Done (fired_in spot told.frame)
 mark_of spot (Failed code) = mark.Done (words.Refuses (refusal_at spot code))
 mark_of spot (Gave told) = mark.Done (words.Gives (given_of told.value))
 mark_of spot (Refused refusal) = mark.Done (words.Refuses refusal)
 
 abbrev pub lent_of : Stage → Option Places
 lent_of Free = None
-lent_of (Busy told) = Some told.value.places
+lent_of (Busy told) = Some told.frame.places
 lent_of (Lost told) = None
 lent_of (Open job told) = None
 lent_of (Fired told) = None
@@ -74,8 +74,8 @@ lent_of (Refused refusal) = None
 abbrev pub held_by : Stage → Option FrameView
 held_by Free = None
 held_by (Busy told) = None
-held_by (Lost told) = Some told.value
-held_by (Open job told) = Some told.value
+held_by (Lost told) = Some told.frame
+held_by (Open job told) = Some told.frame
 held_by (Fired told) = None
 held_by (Failed code) = None
 held_by (Gave told) = None
@@ -84,10 +84,10 @@ held_by (Refused refusal) = None
 -- the mark of the node in the job of leases
 abbrev pub job_mark : Bool → Stage → one.Mark
 job_mark keeps Free = one.Free
-job_mark keeps (Busy told) = one.Claimed told.value.places
-job_mark keeps (Lost told) = one.Claimed told.value.places
-job_mark keeps (Open job told) = one.Claimed told.value.places
-job_mark keeps (Fired told) = one.Finished told.value.outputs
+job_mark keeps (Busy told) = one.Claimed told.frame.places
+job_mark keeps (Lost told) = one.Claimed told.frame.places
+job_mark keeps (Open job told) = one.Claimed told.frame.places
+job_mark keeps (Fired told) = one.Finished told.frame.outputs
 job_mark keeps (Failed code) = one.Failed code
 job_mark keeps (Gave told) = one.Finished (child_outs keeps told.value.outs told.value.state)
 job_mark keeps (Refused refusal) = one.Failed 0
@@ -120,7 +120,7 @@ IsFired frame Free = ⊥
 IsFired frame (Busy told) = ⊥
 IsFired frame (Lost told) = ⊥
 IsFired frame (Open job told) = ⊥
-IsFired frame (Fired told) = told.value ≡ frame
+IsFired frame (Fired told) = told.frame ≡ frame
 IsFired frame (Failed code) = ⊥
 IsFired frame (Gave told) = ⊥
 IsFired frame (Refused refusal) = ⊥
@@ -134,7 +134,7 @@ abbrev pub IsOpened : Firing → FrameView → Stage → Type 0
 IsOpened job frame Free = ⊥
 IsOpened job frame (Busy told) = ⊥
 IsOpened job frame (Lost told) = ⊥
-IsOpened job frame (Open own told) = (own.value ≡ job) × (told.value ≡ frame)
+IsOpened job frame (Open own told) = (own.value ≡ job) × (told.frame ≡ frame)
 IsOpened job frame (Fired told) = ⊥
 IsOpened job frame (Failed code) = ⊥
 IsOpened job frame (Gave told) = ⊥
@@ -143,7 +143,7 @@ IsOpened job frame (Refused refusal) = ⊥
 abbrev pub IsLost : FrameView → Stage → Type 0
 IsLost frame Free = ⊥
 IsLost frame (Busy told) = ⊥
-IsLost frame (Lost told) = told.value ≡ frame
+IsLost frame (Lost told) = told.frame ≡ frame
 IsLost frame (Open job told) = ⊥
 IsLost frame (Fired told) = ⊥
 IsLost frame (Failed code) = ⊥
@@ -170,10 +170,10 @@ FitsSort child (Refused refusal) = child ≡ true
 -- outputs are as long as the node writes
 abbrev pub FitsLens : List Graph → List ℕ → Bool → Stage → Type 0
 FitsLens graphs lens keeps Free = Unit {0}
-FitsLens graphs lens keeps (Busy told) = place_lens told.value.places ≡ lens
-FitsLens graphs lens keeps (Lost told) = lengths told.value.outputs ≡ lens
-FitsLens graphs lens keeps (Open job told) = (lengths told.value.outputs ≡ lens) × (call_lens graphs keeps job.value ≡ lens)
-FitsLens graphs lens keeps (Fired told) = lengths told.value.outputs ≡ lens
+FitsLens graphs lens keeps (Busy told) = place_lens told.frame.places ≡ lens
+FitsLens graphs lens keeps (Lost told) = lengths told.frame.outputs ≡ lens
+FitsLens graphs lens keeps (Open job told) = (lengths told.frame.outputs ≡ lens) × (call_lens graphs keeps job.value ≡ lens)
+FitsLens graphs lens keeps (Fired told) = lengths told.frame.outputs ≡ lens
 FitsLens graphs lens keeps (Failed code) = Unit {0}
 FitsLens graphs lens keeps (Gave told) = lengths (child_outs keeps told.value.outs told.value.state) ≡ lens
 FitsLens graphs lens keeps (Refused refusal) = Unit {0}

@@ -15,10 +15,12 @@ use crate::frames::{end_frames, measured, put_frame, spend_frames, take_frame};
 use crate::given::put_trace;
 use crate::handed::{Handed, hand_out};
 use crate::stage::{Stage, ended, waiting};
+use crate::told::{ToldBefore, told_of};
 use crate::tracing::append_traces;
 use crate::writing::write_child;
 use job_compiler::Compiled;
-use job_preparing::{Configuring, JobGiven, Left};
+use job_preparing::{JobGiven, Left};
+use job_flow::{faults_renamed, ready_stays};
 use kernel_gate::{Frame, KernelFault};
 use one_job::{Job, JobEnd};
 use param_expr::Name;
@@ -38,7 +40,7 @@ pub struct Running {
     pub(crate) graphs: Arc<Graphs>,
     pub(crate) compiled: Arc<Compiled>,
     pub(crate) firing: Snapshot<Firing>,
-    pub(crate) preparing: Snapshot<Configuring>,
+    pub(crate) preparing: ToldBefore,
     // The place of the graph in its file.
     pub(crate) place: u32,
     pub(crate) path: Path,
@@ -63,6 +65,11 @@ impl Model for Running {
 
     ghost Value = { RunningView };
 
+    ghost use Rattle.std.specs.Coded.{codes};
+    ghost use Rattle.param_expr.specs.Tree.{tree_code};
+
+    ghost coded = { Prim.hlevel (codes, tree_code) };
+
     ghost use Rattle.job_running.specs.Kept.{IsRunning, view_of};
 
     ghost view = { view_of };
@@ -86,6 +93,7 @@ impl Running {
     pub fn pick(&self, worker: u32) -> Option<u32>
         ensures { IsFirst self.now.mapping worker (IsOfferedWork self.now) result }
     {
+        faults_renamed::<i64, u8, Refusal>();
         self.job.pick(worker)
     }
 
@@ -93,6 +101,7 @@ impl Running {
     pub fn pick_call(&self, worker: u32) -> Option<u32>
         ensures { IsFirst self.now.mapping worker (IsOfferedCall self.now) result }
     {
+        faults_renamed::<i64, u8, Refusal>();
         self.job.pick_child(worker)
     }
 
@@ -118,9 +127,11 @@ impl Running {
         ensures handed { IsHanded (task self.old node) result }
         ensures claimed { self.new ≡ record self.old { marks = slice_set self.old.marks node Busy; lent = slice_set self.old.lent node (Some (frame_of result).places) } }
     {
+        faults_renamed::<i64, u8, Refusal>();
+        ready_stays::<i64, u8, ()>();
         let which = self.job.node(node);
         let frame = measured(self.job.claim(node));
-        self.stages[node as usize] = Stage::Busy(Snapshot::of(&frame));
+        self.stages[node as usize] = Stage::Busy(told_of(&frame));
         hand_out(which, frame)
     }
 
@@ -131,6 +142,8 @@ impl Running {
         requires sound { IsFiring (node_at (nodes_of self.old) node) ⊎ IsOk answer }
         ensures { self.new ≡ record self.old { marks = slice_set self.old.marks node (Done (answer_with (task self.old node) frame answer)); lent = slice_set self.old.lent node None } }
     {
+        faults_renamed::<i64, u8, Refusal>();
+        ready_stays::<i64, u8, ()>();
         let frame = measured(frame);
         self.stages[node as usize] = ended(&frame, &answer);
         self.job.finish(node, frame, answer);
@@ -148,6 +161,8 @@ impl Running {
         ensures ok { IfOk result (λ d. self.new ≡ record self.old { marks = slice_set self.old.marks node (Open d) }) }
         ensures err { OnErr result (self.new ≡ record self.old { marks = slice_set self.old.marks node Busy }) }
     {
+        faults_renamed::<i64, u8, Refusal>();
+        ready_stays::<i64, u8, ()>();
         let which = self.job.node(node);
         let (actor, turn) = firing_of(which);
         let frame = self.job.claim(node);
@@ -170,6 +185,7 @@ impl Running {
         requires { IsEndOfCall self.old node end }
         ensures { self.new ≡ record self.old { marks = slice_set self.old.marks node (Done (answer_of (end_of end))) } }
     {
+        ready_stays::<i64, u8, ()>();
         let which = self.job.node(node);
         let mut frame = take_frame(&mut self.frames, node as usize);
         match end {
@@ -198,6 +214,7 @@ impl Running {
     pub fn quiet(&self) -> bool
         ensures { result ≡ is_quiet self.now }
     {
+        faults_renamed::<i64, u8, Refusal>();
         self.job.quiet()
     }
 

@@ -1,6 +1,7 @@
 // How far nodes are.
 ghost use Rattle.job_running.specs.Stages.{IsEnded, IsWaiting};
 
+use crate::told::{Told, told_of};
 use job_preparing::JobGiven;
 use kernel_gate::{Frame, KernelFault};
 use pisdf_meaning::{Firing, Refusal};
@@ -12,13 +13,13 @@ use std::snapshot::Snapshot;
 pub(crate) enum Stage {
     Free,
     /// Its frame is out.
-    Busy(Snapshot<Frame>),
+    Busy(Told),
     /// It was to call a graph, for which there was no memory. Its frame waits.
-    Lost(Snapshot<Frame>),
+    Lost(Told),
     /// It has called a graph, and its frame waits.
-    Open(Snapshot<Firing>, Snapshot<Frame>),
+    Open(Snapshot<Firing>, Told),
     /// Its frame came back with what it gave.
-    Fired(Snapshot<Frame>),
+    Fired(Told),
     /// Its kernel refused with this code.
     Failed(u8),
     /// What it called gave this.
@@ -32,7 +33,7 @@ pub(crate) fn ended(frame: &Frame, answer: &Result<(), KernelFault>) -> Stage
     ensures { IsEnded frame.now answer.now result }
 {
     match answer {
-        Ok(()) => Stage::Fired(Snapshot::of(frame)),
+        Ok(()) => Stage::Fired(told_of(frame)),
         Err(fault) => Stage::Failed(fault.code),
     }
 }
@@ -42,7 +43,7 @@ pub(crate) fn waiting(called: &Result<Firing, AllocError>, frame: &Frame) -> Sta
     ensures { IsWaiting called.now frame.now result }
 {
     match called {
-        Ok(firing) => Stage::Open(Snapshot::of(firing), Snapshot::of(frame)),
-        Err(_) => Stage::Lost(Snapshot::of(frame)),
+        Ok(firing) => Stage::Open(Snapshot::of(firing), told_of(frame)),
+        Err(_) => Stage::Lost(told_of(frame)),
     }
 }

@@ -20,6 +20,7 @@ use crate::frames::no_frames;
 use crate::given::empty_rows;
 use crate::running::Running;
 use crate::stage::Stage;
+use crate::told::told_before;
 use job_compiler::Compiled;
 use job_preparing::Configuring;
 use one_job::start;
@@ -234,7 +235,7 @@ pub fn run(
             graphs,
             compiled: own,
             firing: told,
-            preparing: Snapshot::of(preparing),
+            preparing: told_before(preparing),
             place,
             path,
             set,
