@@ -8,3 +8,6 @@ pub mod OutputRates
 pub mod NodeTasks
 pub mod ClaimedNodes
 pub mod FinishedNodes
+pub mod CalledNodes
+pub mod OfferedNodes
+pub mod AnsweredNodes

@@ -2,7 +2,6 @@
 use Rattle.std.specs.Prelude.{List}
 use Rattle.std.specs.Arc.{arc_value}
 use Rattle.param_resolver.specs.Numbering.{acting}
-use Rattle.job_preparing.specs.View.{left_by}
 use Rattle.job_running.specs.Parts.{Fixed, KeepsAll, fired, job_in, prepared_of}
 use Rattle.job_running.specs.Stages.{lents_of, marks_of}
 use Rattle.job_running.specs.View.{RunningView}
@@ -13,7 +12,7 @@ abbrev pub fixed_of : Inside → Fixed
 fixed_of i = record {
   graphs = arc_value i.graphs;
   firing = i.firing.value;
-  left = left_by i.preparing.actors;
+  left = i.preparing.left;
   compilation = arc_value i.compiled;
   set = i.set;
   place = i.place;

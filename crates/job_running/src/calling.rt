@@ -76,6 +76,7 @@ pub(crate) fn firing_of(which: Node) -> (u32, u32)
 /// The actor with this number in the level of a graph, whose actors stand at these places.
 pub(crate) fn acting_at<'a>(graph: &'a Graph, places: &[u32], number: usize) -> &'a Actor
     requires places { places.now ≡ acting_places graph.now }
+    requires there { number < length places.now }
     requires inside { number < length (acting graph.now) }
     ensures { slice_get (acting graph.now) number ≡ Some result.now }
 {
@@ -94,6 +95,7 @@ pub(crate) fn caller_of<'a>(
 ) -> Caller<'a>
     requires graph { place < length graphs.now }
     requires keeps { actor < length keeps.now }
+    requires set { actor < length set.now.places }
     requires places { (g : GraphView) → slice_get graphs.now place ≡ Some g → set.now.places ≡ acting_places g }
     requires there { (g : GraphView) → slice_get graphs.now place ≡ Some g → actor < length (acting g) }
     ensures actor { (g : GraphView) → slice_get graphs.now place ≡ Some g → slice_get (acting g) actor ≡ Some result.actor.now }

@@ -28,6 +28,7 @@ use param_resolver::LevelSet;
 use pisdf_meaning::{Firing, Path, Refusal, TraceRow};
 use pisdf_model::Graphs;
 use sdf_level::List;
+use single_rate::graphs_numbered;
 use std::alloc::{AllocError, Global};
 use std::collections::LinkedList;
 use std::marker::Model;
@@ -93,6 +94,7 @@ impl Running {
     pub fn pick(&self, worker: u32) -> Option<u32>
         ensures { IsFirst self.now.mapping worker (IsOfferedWork self.now) result }
     {
+        graphs_numbered();
         faults_renamed::<i64, u8, Refusal>();
         self.job.pick(worker)
     }
@@ -101,6 +103,7 @@ impl Running {
     pub fn pick_call(&self, worker: u32) -> Option<u32>
         ensures { IsFirst self.now.mapping worker (IsOfferedCall self.now) result }
     {
+        graphs_numbered();
         faults_renamed::<i64, u8, Refusal>();
         self.job.pick_child(worker)
     }
@@ -185,6 +188,7 @@ impl Running {
         requires { IsEndOfCall self.old node end }
         ensures { self.new ≡ record self.old { marks = slice_set self.old.marks node (Done (answer_of (end_of end))) } }
     {
+        graphs_numbered();
         ready_stays::<i64, u8, ()>();
         let which = self.job.node(node);
         let mut frame = take_frame(&mut self.frames, node as usize);
@@ -214,6 +218,7 @@ impl Running {
     pub fn quiet(&self) -> bool
         ensures { result ≡ is_quiet self.now }
     {
+        graphs_numbered();
         faults_renamed::<i64, u8, Refusal>();
         self.job.quiet()
     }
