@@ -67,7 +67,7 @@ use Rattle.job_running.specs.Calls.{IsEndOfCall}
 use Rattle.job_running.specs.Parts.{AreTraces, row_at}
 use Rattle.job_running.specs.Sizes.{call_lens, child_outs}
 use Rattle.job_running.proofs.CalledNodes.{child_sizes}
-use Rattle.job_running.proofs.ClaimedNodes.{inside, is_call, item_is, keeps_on, spot, stage, state_kept, view_step}
+use Rattle.job_running.proofs.ClaimedNodes.{Fires, inside, is_call, item_is, keeps_on, spot, stage, state_kept, view_step}
 use Rattle.job_running.proofs.NodeMarks.{IsOpen, open_stage}
 use Rattle.job_running.proofs.NodeSteps.{step}
 use Rattle.job_running.proofs.OfferedNodes.{IsInside, firing_inside}
@@ -142,7 +142,7 @@ module _ (f : Fixed) (stages : List Stage) (frames : List (Option FrameView)) (r
   there = inside f stages frames rows j keeps n (λ free. let e : Free ≡ Open open.own open.told = sym free ∙ open.stage_is in absurd (cc))
 
   abbrev StandsSo : Stage → one.Mark → Option FrameView → Type 0
-  StandsSo s m o = Stands G (lens (job_in f) n) (state_kept f stages frames rows j keeps n) (is_call f stages frames rows j keeps n) s m o
+  StandsSo s m o = Stands G (lens (job_in f) n) (state_kept f stages frames rows j keeps n) (is_call f stages frames rows j keeps n) (Fires f stages frames rows j keeps n) s m o
 
   stands : StandsSo (Open open.own open.told) (one.mark_at j.marks n) (frame_at frames n)
   stands = subst (λ x. StandsSo x (one.mark_at j.marks n) (frame_at frames n)) open.stage_is (keeps.stand.each n there)

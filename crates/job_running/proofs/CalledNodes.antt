@@ -74,7 +74,7 @@ use Rattle.job_running.specs.Sizes.{call_lens, child_outs}
 use Rattle.job_running.specs.Stages.{IsLost, IsOpened, IsWaiting}
 use Rattle.job_running.specs.View.{IsOfferedCall}
 use Rattle.job_running.proofs.ActingPlaces.{EachPlaced, OneEach}
-use Rattle.job_running.proofs.ClaimedNodes.{inside, is_call, item_is, job_was_free, keeps_on, no_frame, no_trace, no_value, spot, stage, state_kept, view_step, was_free, was_ready}
+use Rattle.job_running.proofs.ClaimedNodes.{Fires, inside, is_call, item_is, job_was_free, keeps_on, no_frame, no_trace, no_value, spot, stage, state_kept, view_step, was_free, was_ready}
 use Rattle.job_running.proofs.NodeMarks.{lost_stage, opened_stage}
 use Rattle.job_running.proofs.NodeTasks.{here, lens_written}
 use Rattle.job_running.proofs.OutputRates.{own_rate}
@@ -209,7 +209,7 @@ module _ (f : Fixed) (stages : List Stage) (frames : List (Option FrameView)) (r
         frame_here : frame_at (set frames n (Some frame)) n ≡ Some frame
         frame_here = get_or-set_same frames n (Some frame) None (let l = keeps.stand.one_frame in let i = ready_now.there in omega arith)
 
-        go : (s : Stage) → Stands G (lens (job_in f) n) (state_kept f stages frames rows j keeps n) (is_call f stages frames rows j keeps n) s (one.Claimed frame.places) (frame_at (set frames n (Some frame)) n) → trace_in s ≡ [] →
+        go : (s : Stage) → Stands G (lens (job_in f) n) (state_kept f stages frames rows j keeps n) (is_call f stages frames rows j keeps n) (Fires f stages frames rows j keeps n) s (one.Claimed frame.places) (frame_at (set frames n (Some frame)) n) → trace_in s ≡ [] →
             KeepsAll f (set stages n s) (set frames n (Some frame)) rows (record j { marks = set j.marks n (one.Claimed frame.places) })
         go s stands traced = keeps_on f stages frames rows j keeps n stays ready_now.there s (one.Claimed frame.places) (set frames n (Some frame)) (no_value f stages frames rows j keeps n ready_words input_words stays offered.free (Call offered.job) offered.task_is) ready_now
             stands (length-set frames n (Some frame)) (λ k other. get_or-set_other frames n k (Some frame) None other) (traced ∙ sym (no_trace f stages frames rows j keeps n ready_words input_words stays offered.free (Call offered.job) offered.task_is))

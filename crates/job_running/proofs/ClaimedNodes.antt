@@ -35,7 +35,7 @@ use Rattle.one_job.specs.Pick.{is_child_in}
 use Rattle.one_job.specs.View as leased
 use Rattle.one_job.specs.View.{IsFiring}
 use Rattle.job_preparing.specs.Handing.{answer_with, lent_at, mark_at}
-use Rattle.job_running.specs.Calls.{IsHanded, handed_out}
+use Rattle.job_running.specs.Calls.{IsHanded, frame_of, handed_out}
 use Rattle.job_running.specs.Kept.{view_with}
 use Rattle.job_running.specs.Parts.{AllStand, Fixed, KeepsAll, Stands, fired, frame_at, job_in, kernel_in, kind_of_actor, values_of}
 use Rattle.job_running.specs.Sizes.{place_lens}
@@ -68,6 +68,9 @@ module _ (f : Fixed) (stages : List Stage) (frames : List (Option FrameView)) (r
   abbrev pub is_call : Bool
   is_call = is_child_in j.kinds (node_at (job_in f).nodes n)
 
+  abbrev pub Fires : Type 0
+  Fires = IsFiring (node_at (job_in f).nodes n)
+
   pub item_is : mark_at (view_with f stages).marks n ≡ mark_of spot stage
   item_is = mark_here f.firing.path (acting (fired f)) (job_in f).nodes stages n keeps.stand.one_stage
 
@@ -80,7 +83,7 @@ module _ (f : Fixed) (stages : List Stage) (frames : List (Option FrameView)) (r
 
   -- all that is kept once the node steps on
   pub keeps_on : (stays : ReadyStays ℤ ℕ) (there : n < length (job_in f).nodes) (s : Stage) (m : one.Mark) (frames' : List (Option FrameView)) → one.value_of (one.mark_at j.marks n) ≡ None → IsReady (job_in f) (one.values j.marks) n →
-      Stands f.graphs.graphs (lens (job_in f) n) state_kept is_call s m (frame_at frames' n) → length frames' ≡ length frames → ((k : ℕ) → k ≢ n → frame_at frames' k ≡ frame_at frames k) → trace_in s ≡ trace_in stage →
+      Stands f.graphs.graphs (lens (job_in f) n) state_kept is_call Fires s m (frame_at frames' n) → length frames' ≡ length frames → ((k : ℕ) → k ≢ n → frame_at frames' k ≡ frame_at frames k) → trace_in s ≡ trace_in stage →
       KeepsAll f (set stages n s) frames' rows (record j { marks = set j.marks n m })
   keeps_on stays there s m frames' none ready stands long others traced = record {
     set_up = keeps.set_up;
@@ -150,3 +153,14 @@ module _ (f : Fixed) (stages : List Stage) (frames : List (Option FrameView)) (r
 
       pub view_claimed : (told : Told) → told.frame ≡ frame → view_with f (set stages n (Busy told)) ≡ record (view_with f stages) { marks = set (view_with f stages).marks n mark.Busy; lent = set (view_with f stages).lent n (Some frame.places) }
       view_claimed told told_is = view_step f stages n (Busy told) ∙ ap (λ (x : FrameView). record (view_with f stages) { marks = set (view_with f stages).marks n mark.Busy; lent = set (view_with f stages).lent n (Some x.places) }) told_is
+
+pub frame_out : (nd : Node) (frame : FrameView) → frame_of (handed_out nd frame) ≡ frame
+frame_out (node.Source s) frame = refl
+frame_out (node.Init l) frame = refl
+frame_out (node.Firing a k) frame = refl
+frame_out (node.End l) frame = refl
+frame_out (node.Sink t) frame = refl
+frame_out (node.Broadcast l) frame = refl
+frame_out (node.Fork l i) frame = refl
+frame_out (node.Join l i) frame = refl
+frame_out (node.Round l) frame = refl

@@ -48,7 +48,7 @@ use Rattle.job_running.specs.declared.stage.Stage.TheVariants.{Free, Busy, Lost,
 use Rattle.job_running.proofs.NodeMarks.{IsBusy, fired_stage, free_stage, lent_busy, lent_here, mark_here, marks_set}
 use Rattle.job_running.proofs.NodeSteps.{same_traces, step}
 use Rattle.job_running.proofs.NodeTasks.{HasFrame, enabled, free_job, handed_so, has_task, kernel_lens, nodes_are, own_ready, ready_task, results, same_inputs, sort_of, told_ready}
-use Rattle.job_running.proofs.ClaimedNodes.{inside, is_call, item_is, keeps_on, spot, stage, state_kept, view_step}
+use Rattle.job_running.proofs.ClaimedNodes.{Fires, inside, is_call, item_is, keeps_on, spot, stage, state_kept, view_step}
 
 -- an actor of the level with a kernel
 record HasKernel (own : List Actor) (a : ℕ) : Type 0 where
@@ -94,6 +94,9 @@ module _ (f : Fixed) (stages : List Stage) (frames : List (Option FrameView)) (r
     is_sound : (nd : Node) → (IsFiring nd → ⊥) → IsFiring nd ⊎ IsOk answer → IsOk answer
     is_sound nd no sound = ⊎_elim (λ (is : IsFiring nd). absurd (no is)) (λ (ok : IsOk answer). ok) sound
 
+    abbrev asks : Actor → ℕ → ℕ → ℕ → Option (Task Firing words.Work)
+    asks actor kernel k a = Some (Work (words.Fires record { path = path; name = actor.name; turn = k } record { kind = kernel; args = tokens_at (level_args (fired f) (values_of f)) a; inputs = read; lens = out_rates f.graphs.graphs (values_of f) actor.body; sets = 0 }))
+
     kernel_answers : (a k : ℕ) → is_none (get_or (map kind_of_actor own) a None) ≡ false → AnswersSo (node.Firing a k)
     kernel_answers a k is =
         let has = has_kernel own a is in
@@ -101,9 +104,6 @@ module _ (f : Fixed) (stages : List Stage) (frames : List (Option FrameView)) (r
         let spot_is : spot_of path own (node.Firing a k) ≡ Some sp = ap (λ o. Some record { path = path; name = name_in o; turn = k }) has.is in
         ap (λ o. mark_of o s) spot_is ∙ fired_mark sp answer ended ∙ ap (λ o. mark.Done (answer_with o frame answer)) (sym (ap (λ o. actor_task f.graphs.graphs (fired f) f.firing (values_of f) a k read o) has.is ∙ body_task has.actor has.actor.body refl has.kernel has.has k a))
       where
-        abbrev asks : Actor → ℕ → ℕ → ℕ → Option (Task Firing words.Work)
-        asks actor kernel k a = Some (Work (words.Fires record { path = path; name = actor.name; turn = k } record { kind = kernel; args = tokens_at (level_args (fired f) (values_of f)) a; inputs = read; lens = out_rates f.graphs.graphs (values_of f) actor.body; sets = 0 }))
-
         body_task : (actor : Actor) (body : Body) → actor.body ≡ body → (kernel : ℕ) → kernel_in body ≡ Some kernel → (k a : ℕ) → firing_task f.graphs.graphs (fired f) f.firing (values_of f) a k read actor body ≡ asks actor kernel k a
         body_task actor (Kernel kernel exprs ins outs) same found has k a = let e : kernel ≡ found = cc in ap (λ i. asks actor i k a) e
         body_task actor (Config kernel exprs ins outs sets) same found has k a = absurd (cc)
@@ -130,8 +130,8 @@ module _ (f : Fixed) (stages : List Stage) (frames : List (Option FrameView)) (r
     pub there : n < length (job_in f).nodes
     there = inside f stages frames rows j keeps n (λ free. let e : Free ≡ Busy busy.told = sym free ∙ busy.stage_is in absurd (cc))
 
-    stands : Stands f.graphs.graphs (lens (job_in f) n) (state_kept f stages frames rows j keeps n) (is_call f stages frames rows j keeps n) (Busy busy.told) (one.mark_at j.marks n) (frame_at frames n)
-    stands = subst (λ x. Stands f.graphs.graphs (lens (job_in f) n) (state_kept f stages frames rows j keeps n) (is_call f stages frames rows j keeps n) x (one.mark_at j.marks n) (frame_at frames n)) busy.stage_is (keeps.stand.each n there)
+    stands : Stands f.graphs.graphs (lens (job_in f) n) (state_kept f stages frames rows j keeps n) (is_call f stages frames rows j keeps n) (Fires f stages frames rows j keeps n) (Busy busy.told) (one.mark_at j.marks n) (frame_at frames n)
+    stands = subst (λ x. Stands f.graphs.graphs (lens (job_in f) n) (state_kept f stages frames rows j keeps n) (is_call f stages frames rows j keeps n) (Fires f stages frames rows j keeps n) x (one.mark_at j.marks n) (frame_at frames n)) busy.stage_is (keeps.stand.each n there)
 
     pub claimed : one.mark_at j.marks n ≡ one.Claimed frame.places
     claimed = stands.mark_is ∙ ap one.Claimed busy.places_are
@@ -142,25 +142,25 @@ module _ (f : Fixed) (stages : List Stage) (frames : List (Option FrameView)) (r
     was_ready : IsReady (job_in f) (one.values j.marks) n
     was_ready = keeps.stand.ready n (λ free. let e : one.Free ≡ one.Claimed frame.places = sym free ∙ claimed in absurd (cc))
 
-    ended_sizes : (answer : Result (Unit {0}) KernelFault) (s : Stage) → IsEnded frame answer s → lengths frame.outputs ≡ place_lens frame.places →
-        Stands f.graphs.graphs (lens (job_in f) n) (state_kept f stages frames rows j keeps n) (is_call f stages frames rows j keeps n) s (finished_with frame answer) (frame_at frames n) × (trace_in s ≡ [])
-    ended_sizes (Ok done) s is measured =
+    ended_sizes : (answer : Result (Unit {0}) KernelFault) (s : Stage) → IsEnded frame answer s → IsFiring (node_at (job_in f).nodes n) ⊎ IsOk answer → lengths frame.outputs ≡ place_lens frame.places →
+        Stands f.graphs.graphs (lens (job_in f) n) (state_kept f stages frames rows j keeps n) (is_call f stages frames rows j keeps n) (Fires f stages frames rows j keeps n) s (finished_with frame answer) (frame_at frames n) × (trace_in s ≡ [])
+    ended_sizes (Ok done) s is sound measured =
         let e = fired_stage s frame is in
-        let P : Stage → Type 0 = λ x. Stands f.graphs.graphs (lens (job_in f) n) (state_kept f stages frames rows j keeps n) (is_call f stages frames rows j keeps n) x (one.Finished frame.outputs) (frame_at frames n) × (trace_in x ≡ []) in
+        let P : Stage → Type 0 = λ x. Stands f.graphs.graphs (lens (job_in f) n) (state_kept f stages frames rows j keeps n) (is_call f stages frames rows j keeps n) (Fires f stages frames rows j keeps n) x (one.Finished frame.outputs) (frame_at frames n) × (trace_in x ≡ []) in
         subst P (sym e.stage_is) (record {
           mark_is = ap (λ (x : FrameView). one.Finished x.outputs) (sym e.frame_is);
           held = stands.held;
           sort = stands.sort;
           sizes = ap (λ (x : FrameView). lengths x.outputs) e.frame_is ∙ measured ∙ ap place_lens (sym busy.places_are) ∙ stands.sizes;
         }, refl)
-    ended_sizes (Err fault) s is measured =
-        let P : Stage → Type 0 = λ x. Stands f.graphs.graphs (lens (job_in f) n) (state_kept f stages frames rows j keeps n) (is_call f stages frames rows j keeps n) x (one.Failed fault.code) (frame_at frames n) × (trace_in x ≡ []) in
-        subst P (sym is) (record { mark_is = refl; held = stands.held; sort = stands.sort; sizes = tt }, refl)
+    ended_sizes (Err fault) s is sound measured =
+        let P : Stage → Type 0 = λ x. Stands f.graphs.graphs (lens (job_in f) n) (state_kept f stages frames rows j keeps n) (is_call f stages frames rows j keeps n) (Fires f stages frames rows j keeps n) x (one.Failed fault.code) (frame_at frames n) × (trace_in x ≡ []) in
+        subst P (sym is) (record { mark_is = refl; held = stands.held; sort = (stands.sort, ⊎_elim (λ (fires : IsFiring (node_at (job_in f).nodes n)). fires) (λ (ok : IsOk (Err {T = Unit {0}} fault)). absurd ok) sound); sizes = tt }, refl)
 
     module _ (ready_words : ReadyInAnyWords ℤ ℕ Refusal) (input_words : InputsInAnyWords ℤ ℕ Refusal) (stays : ReadyStays ℤ ℕ) (answer : Result (Unit {0}) KernelFault) (s : Stage) (ended : IsEnded frame answer s) where
-      pub keeps_finished : lengths frame.outputs ≡ place_lens frame.places → KeepsAll f (set stages n s) frames rows (record j { marks = set j.marks n (finished_with frame answer) })
-      keeps_finished measured =
-          let so = ended_sizes answer s ended measured in
+      pub keeps_finished : IsFiring (node_at (nodes_of (view_with f stages)) n) ⊎ IsOk answer → lengths frame.outputs ≡ place_lens frame.places → KeepsAll f (set stages n s) frames rows (record j { marks = set j.marks n (finished_with frame answer) })
+      keeps_finished sound measured =
+          let so = ended_sizes answer s ended sound measured in
           keeps_on f stages frames rows j keeps n stays there s (finished_with frame answer) frames (ap one.value_of claimed) was_ready so.0 refl (λ k other. refl) (so.1 ∙ sym (ap trace_in busy.stage_is))
 
       no_lease : (a : Result (Unit {0}) KernelFault) → IsEnded frame a s → lent_of s ≡ None

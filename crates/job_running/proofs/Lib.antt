@@ -11,3 +11,4 @@ pub mod FinishedNodes
 pub mod CalledNodes
 pub mod OfferedNodes
 pub mod AnsweredNodes
+pub mod EndedFiring

@@ -118,16 +118,16 @@ failed_tie : (keeps : Bool) (spot : Option Spot) (code : ℕ) → option_map (no
 failed_tie keeps None code = refl
 failed_tie keeps (Some spot) code = refl
 
-pub value_tie : (keeps child : Bool) (spot : Option Spot) (s : Stage) → FitsSort child s → (child ≡ false → keeps ≡ false) →
+pub value_tie : (keeps child : Bool) (fires : Type 0) (spot : Option Spot) (s : Stage) → FitsSort child fires s → (child ≡ false → keeps ≡ false) →
     option_map (node_result keeps) (mark.answer_of (mark_of spot s)) ≡ renamed_answer (refusal_for spot s) (one.value_of (job_mark keeps s))
-value_tie keeps child spot Free sort none = refl
-value_tie keeps child spot (Busy told) sort none = refl
-value_tie keeps child spot (Lost told) sort none = refl
-value_tie keeps child spot (Open job told) sort none = refl
-value_tie keeps child spot (Fired told) sort none = fired_tie keeps spot told.frame (none sort)
-value_tie keeps child spot (Failed code) sort none = failed_tie keeps spot code
-value_tie keeps child spot (Gave told) sort none = refl
-value_tie keeps child spot (Refused refusal) sort none = refl
+value_tie keeps child fires spot Free sort none = refl
+value_tie keeps child fires spot (Busy told) sort none = refl
+value_tie keeps child fires spot (Lost told) sort none = refl
+value_tie keeps child fires spot (Open job told) sort none = refl
+value_tie keeps child fires spot (Fired told) sort none = fired_tie keeps spot told.frame (none sort)
+value_tie keeps child fires spot (Failed code) sort none = failed_tie keeps spot code
+value_tie keeps child fires spot (Gave told) sort none = refl
+value_tie keeps child fires spot (Refused refusal) sort none = refl
 
 -- ---- stages of nodes whose frames came back
 

@@ -16,6 +16,7 @@ use Rattle.job_flow.specs.Laws.{ReadyStays}
 use Rattle.job_rules.specs.Items.{actor_of, keeps_state}
 use Rattle.one_job.specs.Marks as one
 use Rattle.one_job.specs.Pick.{is_child_in}
+use Rattle.one_job.specs.View.{IsFiring}
 use Rattle.job_running.specs.Parts.{AllStand, AreTraces, Stands, frame_at, row_at}
 use Rattle.job_running.specs.Stages.{job_mark, stage_at, trace_in}
 use Rattle.job_running.specs.declared.stage.Stage.{Stage}
@@ -31,7 +32,7 @@ values_grow marks n m none k answer is = ⊎_elim
 module _ (graphs : List Graph) (g : Graph) (kinds : List (Option ℕ)) (job : JobGraph ℤ) (stages : List Stage) (marks : List one.Mark) (frames : List (Option FrameView))
     (stand : AllStand graphs g kinds job stages marks frames) (stays : ReadyStays ℤ ℕ) (n : ℕ) (inside : n < length job.nodes) where
   abbrev StandsSo : Stage → one.Mark → Option FrameView → Type 0
-  StandsSo s m f = Stands graphs (lens job n) (keeps_state graphs (actor_of g (node_at job.nodes n))) (is_child_in kinds (node_at job.nodes n)) s m f
+  StandsSo s m f = Stands graphs (lens job n) (keeps_state graphs (actor_of g (node_at job.nodes n))) (is_child_in kinds (node_at job.nodes n)) (IsFiring (node_at job.nodes n)) s m f
 
   pub step : (s : Stage) (m : one.Mark) (frames' : List (Option FrameView)) → one.value_of (one.mark_at marks n) ≡ None → IsReady job (one.values marks) n → StandsSo s m (frame_at frames' n) →
       length frames' ≡ length frames → ((k : ℕ) → k ≢ n → frame_at frames' k ≡ frame_at frames k) → AllStand graphs g kinds job (set stages n s) (set marks n m) frames'
@@ -43,12 +44,12 @@ module _ (graphs : List Graph) (g : Graph) (kinds : List (Option ℕ)) (job : Jo
         (λ (same : k ≡ n).
         let stage_is : stage_at (set stages n s) n ≡ s = get_or-set_same stages n s Free (let l = stand.one_stage in omega arith) in
         let mark_is : one.mark_at (set marks n m) n ≡ m = get_or-set_same marks n m one.Free (let l = stand.one_mark in omega arith) in
-        let P : ℕ → Type 0 = λ i. Stands graphs (lens job i) (keeps_state graphs (actor_of g (node_at job.nodes i))) (is_child_in kinds (node_at job.nodes i)) (stage_at (set stages n s) i) (one.mark_at (set marks n m) i) (frame_at frames' i) in
+        let P : ℕ → Type 0 = λ i. Stands graphs (lens job i) (keeps_state graphs (actor_of g (node_at job.nodes i))) (is_child_in kinds (node_at job.nodes i)) (IsFiring (node_at job.nodes i)) (stage_at (set stages n s) i) (one.mark_at (set marks n m) i) (frame_at frames' i) in
         subst P (sym same) (subst (λ x. StandsSo x (one.mark_at (set marks n m) n) (frame_at frames' n)) (sym stage_is) (subst (λ x. StandsSo s x (frame_at frames' n)) (sym mark_is) stands)))
         (λ (other : k ≡ n → ⊥).
         let stage_is : stage_at (set stages n s) k ≡ stage_at stages k = get_or-set_other stages n k s Free other in
         let mark_is : one.mark_at (set marks n m) k ≡ one.mark_at marks k = get_or-set_other marks n k m one.Free other in
-        let S : Stage → one.Mark → Option FrameView → Type 0 = λ x y z. Stands graphs (lens job k) (keeps_state graphs (actor_of g (node_at job.nodes k))) (is_child_in kinds (node_at job.nodes k)) x y z in
+        let S : Stage → one.Mark → Option FrameView → Type 0 = λ x y z. Stands graphs (lens job k) (keeps_state graphs (actor_of g (node_at job.nodes k))) (is_child_in kinds (node_at job.nodes k)) (IsFiring (node_at job.nodes k)) x y z in
         subst (λ x. S x (one.mark_at (set marks n m) k) (frame_at frames' k)) (sym stage_is) (subst (λ x. S (stage_at stages k) x (frame_at frames' k)) (sym mark_is) (subst (λ x. S (stage_at stages k) (one.mark_at marks k) x) (sym (others k other)) (stand.each k k_in))))
         (cases_eq k n);
     ready = λ k claimed. stays job (one.values marks) (one.values (set marks n m)) k (values_grow marks n m none) (⊎_elim

@@ -182,7 +182,7 @@ module _ (f : Fixed) (stages : List Stage) (frames : List (Option FrameView)) (r
       of_body (Config kernel exprs ins outs sets) same is = absurd (cc)
       of_body (ConfigChild place exprs sets) same is = absurd (cc)
 
-  copy_handed : (nd : Node) (read : List (List ℤ)) (ls : List ℕ) (w : words.Work) (frame : FrameView) → Some (Work (words.Copies nd read ls)) ≡ Some (Work w) → HasFrame 0 [] read ls frame → IsHanded (Some (Work w)) (Copy nd frame)
+  copy_handed : (nd : Node) (read : List (List ℤ)) (ls : List ℕ) (w : words.Work) (frame : FrameView) → (let t : Option (Task Firing words.Work) = Some (Work (words.Copies nd read ls)) in t ≡ Some (Work w)) → HasFrame 0 [] read ls frame → IsHanded (Some (Work w)) (Copy nd frame)
   copy_handed nd read ls w frame is has =
       let w_is : words.Copies nd read ls ≡ w = cc in
       subst (λ x. IsHanded (Some (Work x)) (Copy nd frame)) w_is

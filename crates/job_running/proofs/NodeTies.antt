@@ -25,6 +25,7 @@ use Rattle.job_rules.specs.Items.{actor_of, keeps_state, node_result}
 use Rattle.job_rules.specs.Words.{Answer}
 use Rattle.one_job.specs.Marks as one
 use Rattle.one_job.specs.Pick.{is_child_in}
+use Rattle.one_job.specs.View.{IsFiring}
 use Rattle.job_preparing.specs.Handing.{ItemMarks, answers, mark_at}
 use Rattle.job_running.specs.Parts.{AllStand, kernel_in, kind_of_actor}
 use Rattle.job_running.specs.Stages.{job_mark, mark_of, marks_of, refusal_for, spot_of, stage_at}
@@ -81,7 +82,7 @@ module _ (graphs : List Graph) (g : Graph) (path : List ℕ) (kinds : List (Opti
       let s = stand.each n inside in
       let keeps = keeps_state graphs (actor_of g (node_at job.nodes n)) in
       ap (λ m. option_map (node_result keeps) (mark.answer_of m)) (item_is n)
-      ∙ value_tie keeps (is_child_in kinds (node_at job.nodes n)) (spot_of path (acting g) (node_at job.nodes n)) (stage_at stages n) s.sort (stateless graphs g kinds kinds_are (node_at job.nodes n))
+      ∙ value_tie keeps (is_child_in kinds (node_at job.nodes n)) (IsFiring (node_at job.nodes n)) (spot_of path (acting g) (node_at job.nodes n)) (stage_at stages n) s.sort (stateless graphs g kinds kinds_are (node_at job.nodes n))
       ∙ ap (λ m. renamed_answer (words n) (one.value_of m)) (sym s.mark_is))
       (λ (past : length job.nodes ≤ n).
       let a : stage_at stages n ≡ Free = get_or_past stages n Free (let l = stand.one_stage in omega arith) in

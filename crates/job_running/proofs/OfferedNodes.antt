@@ -94,6 +94,12 @@ is_called : (t : Task Firing words.Work) → (elim t as (λ x. Bool) [ Work w �
 is_called (Work w) is = absurd (cc)
 is_called (Call d) is = (d, refl)
 
+-- where nothing more will come, no node is claimed
+pub never_claimed : (f : Fixed) (stages : List Stage) (frames : List (Option FrameView)) (rows : List (Vec (List TraceRow) Global)) (j : leased.JobView) → KeepsAll f stages frames rows j → IsQuiet (leased.graph_of j) (one.values j.marks) → (n : ℕ) (places : Places) → one.mark_at j.marks n ≡ one.Claimed places → ⊥
+never_claimed f stages frames rows j keeps quiet n places is =
+    let ready = keeps.stand.ready n (λ free. let e : one.Free ≡ one.Claimed places = sym free ∙ is in absurd (cc)) in
+    subst (λ (m : one.Mark). IsFinished (one.value_of m)) is (quiet n (subst (λ (x : JobGraph ℤ). IsReady x (one.values j.marks) n) (sym keeps.set_up.graph_is) ready))
+
 module _ (f : Fixed) (stages : List Stage) (frames : List (Option FrameView)) (rows : List (Vec (List TraceRow) Global)) (j : leased.JobView) (keeps : KeepsAll f stages frames rows j) (all : FiringsAreAll) (in_order : FiringsStandInOrder) where
   abbrev G : List Graph
   G = f.graphs.graphs
@@ -196,7 +202,7 @@ module _ (f : Fixed) (stages : List Stage) (frames : List (Option FrameView)) (r
       finished_of n ready = quiet n (leased_ready f stages frames rows j keeps ready_words input_words n ready)
 
       claimed_never : (n : ℕ) (places : Places) → one.mark_at j.marks n ≡ one.Claimed places → ⊥
-      claimed_never n places is = subst (λ (m : one.Mark). IsFinished (one.value_of m)) is (finished_of n (keeps.stand.ready n (λ free. let e : one.Free ≡ one.Claimed places = sym free ∙ is in absurd (cc))))
+      claimed_never n places is = never_claimed f stages frames rows j keeps quiet n places is
 
       settled_stage : (n : ℕ) (s : Stage) → stage_at stages n ≡ s → one.mark_at j.marks n ≡ job_mark (state_kept f stages frames rows j keeps n) s → is_settled (mark_of (spot f stages frames rows j keeps n) s) (task (view_with f stages) n) ≡ true
       settled_stage n Free at is = ap is_none (no_task n (λ ready. subst (λ (m : one.Mark). IsFinished (one.value_of m)) is (finished_of n (own_ready f stages frames rows j keeps ready_words input_words n ready))))
@@ -234,9 +240,9 @@ module _ (f : Fixed) (stages : List Stage) (frames : List (Option FrameView)) (r
         subst (λ (m : one.Mark). IsFinished (one.value_of m)) (sym s.mark_is) (some_finished (state_kept f stages frames rows j keeps n) (spot f stages frames rows j keeps n) (stage_at stages n) a.t at)
 
     pub quiet_is : (b : Bool) → (IsTrue b → IsQuiet (leased.graph_of j) (one.values j.marks)) → (IsQuiet (leased.graph_of j) (one.values j.marks) → IsTrue b) → b ≡ is_quiet (view_with f stages)
-    quiet_is true to from = sym (quiet_told (to tt))
+    quiet_is true to from = sym (quiet_told (to refl))
     quiet_is false to from = go (is_quiet (view_with f stages)) refl
       where
         go : (b : Bool) → is_quiet (view_with f stages) ≡ b → false ≡ is_quiet (view_with f stages)
-        go true is = absurd (from (told_quiet is))
+        go true is = absurd (let e : false ≡ true = from (told_quiet is) in cc)
         go false is = sym is

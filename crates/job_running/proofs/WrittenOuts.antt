@@ -21,7 +21,7 @@ from_here [] i d inside = absurd (omega arith)
 from_here (x ∷ xs) zero d inside = refl
 from_here (x ∷ xs) (suc i) d inside = from_here xs i d (omega arith)
 
-take_one : {X : Type 0} (xs : List X) (i : ℕ) (d : X) → i < length xs → take (suc i) xs ≡ take i xs ++ get_or xs i d ∷ []
+pub take_one : {X : Type 0} (xs : List X) (i : ℕ) (d : X) → i < length xs → take (suc i) xs ≡ take i xs ++ get_or xs i d ∷ []
 take_one [] i d inside = absurd (omega arith)
 take_one (x ∷ xs) zero d inside = refl
 take_one (x ∷ xs) (suc i) d inside = ap (λ l. x ∷ l) (take_one xs i d (omega arith))

@@ -113,10 +113,10 @@ pub record IsSetUp (f : Fixed) (s : Start) : Type 0 where
 -- ---- nodes
 
 -- what is so of one node: its stage, its mark in the job of leases and its frame that waits tell the same
-pub record Stands (graphs : List Graph) (lens_are : List ℕ) (keeps child : Bool) (stage : Stage) (mark : one.Mark) (frame : Option FrameView) : Type 0 where
+pub record Stands (graphs : List Graph) (lens_are : List ℕ) (keeps child : Bool) (fires : Type 0) (stage : Stage) (mark : one.Mark) (frame : Option FrameView) : Type 0 where
   pub mark_is : mark ≡ job_mark keeps stage
   pub held : frame ≡ held_by stage
-  pub sort : FitsSort child stage
+  pub sort : FitsSort child fires stage
   pub sizes : FitsLens graphs lens_are keeps stage
 
 abbrev pub frame_at : List (Option FrameView) → ℕ → Option FrameView
@@ -131,7 +131,7 @@ pub record AllStand (graphs : List Graph) (g : Graph) (kinds : List (Option ℕ)
   pub one_stage : length stages ≡ length job.nodes
   pub one_mark : length marks ≡ length job.nodes
   pub one_frame : length frames ≡ length job.nodes
-  pub each : (n : ℕ) → n < length job.nodes → Stands graphs (lens job n) (keeps_state graphs (actor_of g (node_at job.nodes n))) (is_child_in kinds (node_at job.nodes n)) (stage_at stages n) (one.mark_at marks n) (frame_at frames n)
+  pub each : (n : ℕ) → n < length job.nodes → Stands graphs (lens job n) (keeps_state graphs (actor_of g (node_at job.nodes n))) (is_child_in kinds (node_at job.nodes n)) (leased.IsFiring (node_at job.nodes n)) (stage_at stages n) (one.mark_at marks n) (frame_at frames n)
   -- a node that isn't free was ready when it was claimed
   pub ready : (n : ℕ) → one.mark_at marks n ≢ one.Free → IsReady job (one.values marks) n
 

@@ -156,16 +156,16 @@ IsWaiting (Err error) frame stage = IsLost frame stage
 
 -- ---- what is so of stages
 
--- nodes that fire graphs are called, the others are claimed
-abbrev pub FitsSort : Bool → Stage → Type 0
-FitsSort child Free = Unit {0}
-FitsSort child (Busy told) = child ≡ false
-FitsSort child (Lost told) = child ≡ true
-FitsSort child (Open job told) = child ≡ true
-FitsSort child (Fired told) = child ≡ false
-FitsSort child (Failed code) = child ≡ false
-FitsSort child (Gave told) = child ≡ true
-FitsSort child (Refused refusal) = child ≡ true
+-- nodes that fire graphs are called, the others are claimed, and of these firings alone fail
+abbrev pub FitsSort : Bool → Type 0 → Stage → Type 0
+FitsSort child fires Free = Unit {0}
+FitsSort child fires (Busy told) = child ≡ false
+FitsSort child fires (Lost told) = child ≡ true
+FitsSort child fires (Open job told) = child ≡ true
+FitsSort child fires (Fired told) = child ≡ false
+FitsSort child fires (Failed code) = (child ≡ false) × fires
+FitsSort child fires (Gave told) = child ≡ true
+FitsSort child fires (Refused refusal) = child ≡ true
 
 -- outputs are as long as the node writes
 abbrev pub FitsLens : List Graph → List ℕ → Bool → Stage → Type 0
