@@ -135,35 +135,35 @@ module _ (f : Fixed) (stages : List Stage) (frames : List (Option FrameView)) (r
   abbrev G : List Graph
   G = f.graphs.graphs
 
-  pub open : IsOpen (stage f stages frames rows j keeps n) d
-  open = open_stage (spot f stages frames rows j keeps n) (stage f stages frames rows j keeps n) d (sym (item_is f stages frames rows j keeps n) ∙ open_is)
+  pub opened : IsOpen (stage f stages frames rows j keeps n) d
+  opened = open_stage (spot f stages frames rows j keeps n) (stage f stages frames rows j keeps n) d (sym (item_is f stages frames rows j keeps n) ∙ open_is)
 
   pub there : n < length (job_in f).nodes
-  there = inside f stages frames rows j keeps n (λ free. let e : Free ≡ Open open.own open.told = sym free ∙ open.stage_is in absurd (cc))
+  there = inside f stages frames rows j keeps n (λ free. let e : Free ≡ Open opened.own opened.told = sym free ∙ opened.stage_is in absurd (cc))
 
   abbrev StandsSo : Stage → one.Mark → Option FrameView → Type 0
   StandsSo s m o = Stands G (lens (job_in f) n) (state_kept f stages frames rows j keeps n) (is_call f stages frames rows j keeps n) (Fires f stages frames rows j keeps n) s m o
 
-  stands : StandsSo (Open open.own open.told) (one.mark_at j.marks n) (frame_at frames n)
-  stands = subst (λ x. StandsSo x (one.mark_at j.marks n) (frame_at frames n)) open.stage_is (keeps.stand.each n there)
+  stands : StandsSo (Open opened.own opened.told) (one.mark_at j.marks n) (frame_at frames n)
+  stands = subst (λ x. StandsSo x (one.mark_at j.marks n) (frame_at frames n)) opened.stage_is (keeps.stand.each n there)
 
-  pub waits : frame_at frames n ≡ Some open.told.frame
+  pub waits : frame_at frames n ≡ Some opened.told.frame
   waits = stands.held
 
   pub frame_inside : n < length frames
   frame_inside = let l = keeps.stand.one_frame in let i = there in omega arith
 
-  pub claimed : one.mark_at j.marks n ≡ one.Claimed open.told.frame.places
+  pub claimed : one.mark_at j.marks n ≡ one.Claimed opened.told.frame.places
   claimed = stands.mark_is
 
   pub firing : IsFiring (node_at j.compilation.graph.nodes n)
   firing = subst (λ (l : List Node). IsFiring (node_at l n)) (sym (nodes_are f stages frames rows j keeps)) (is_firing j.kinds (node_at (job_in f).nodes n) stands.sort)
 
   pub lens_are : call_lens G (state_kept f stages frames rows j keeps n) d ≡ lens (job_in f) n
-  lens_are = ap (call_lens G (state_kept f stages frames rows j keeps n)) (sym open.job_is) ∙ stands.sizes.1
+  lens_are = ap (call_lens G (state_kept f stages frames rows j keeps n)) (sym opened.job_is) ∙ stands.sizes.1
 
   -- what suits the call fits the frame
-  pub fits_frame : (given : JobGiven) → SuitsCall G d (given_of given) → (frame : FrameView) → frame ≡ open.told.frame → lengths frame.outputs ≡ lengths (child_outs (state_kept f stages frames rows j keeps n) given.outs given.state)
+  pub fits_frame : (given : JobGiven) → SuitsCall G d (given_of given) → (frame : FrameView) → frame ≡ opened.told.frame → lengths frame.outputs ≡ lengths (child_outs (state_kept f stages frames rows j keeps n) given.outs given.state)
   fits_frame given suits frame same =
       ap (λ (x : FrameView). lengths x.outputs) same ∙ stands.sizes.0 ∙ sym (child_sizes G (state_kept f stages frames rows j keeps n) d given.outs given.state suits.outs suits.state ∙ lens_are)
 
@@ -180,7 +180,7 @@ module _ (f : Fixed) (stages : List Stage) (frames : List (Option FrameView)) (r
       few_of (Some h) is = let m = (well_wired f.graphs keeps.set_up.well (resolvable f.graphs keeps.set_up.range keeps.set_up.well) d.graph h is).few_outputs in omega arith
 
   ready_then : IsReady (job_in f) (one.values j.marks) n
-  ready_then = keeps.stand.ready n (λ free. let e : one.Free ≡ one.Claimed open.told.frame.places = sym free ∙ claimed in absurd (cc))
+  ready_then = keeps.stand.ready n (λ free. let e : one.Free ≡ one.Claimed opened.told.frame.places = sym free ∙ claimed in absurd (cc))
 
   none_waits : frame_at (set frames n None) n ≡ None
   none_waits = get_or-set_same frames n None None frame_inside
@@ -228,11 +228,11 @@ module _ (f : Fixed) (stages : List Stage) (frames : List (Option FrameView)) (r
     keeps_refused refusal =
         keeps_on f stages frames rows j keeps n stays there (Refused refusal) (one.Failed 0) (set frames n None) (ap one.value_of claimed) ready_then
         record { mark_is = refl; held = none_waits; sort = stands.sort; sizes = tt }
-        (length-set frames n None) (λ i other. get_or-set_other frames n i None None other) (sym (ap trace_in open.stage_is))
+        (length-set frames n None) (λ i other. get_or-set_other frames n i None None other) (sym (ap trace_in opened.stage_is))
 
     lent_same : set (view_with f stages).lent n None ≡ (view_with f stages).lent
     lent_same =
-        let none : lent_at (view_with f stages).lent n ≡ None = lent_here stages n ∙ ap lent_of open.stage_is in
+        let none : lent_at (view_with f stages).lent n ≡ None = lent_here stages n ∙ ap lent_of opened.stage_is in
         ap (set (view_with f stages).lent n) (sym none) ∙ set-get_or (view_with f stages).lent n None
 
     pub view_gave : (told : Snapshot JobGiven) (given : JobGiven) → told.value ≡ given → view_with f (set stages n (Gave told)) ≡ record (view_with f stages) { marks = set (view_with f stages).marks n (mark.Done (answer_of (end_of (Ok given)))) }

@@ -89,10 +89,10 @@ module _ (f : Fixed) (stages : List Stage) (frames : List (Option FrameView)) (r
     copied_mark (Ok done) ok is =
         let e = fired_stage s frame is in
         ap (mark_of None) e.stage_is ∙ ap (λ (x : FrameView). mark.Done (words.Gives (given_outs x.outputs))) e.frame_is
-    copied_mark (Err fault) ok is = absurd ok
+    copied_mark (Err fault) ok is = absurd (let e : false ≡ true = ok in cc)
 
     is_sound : (nd : Node) → (IsFiring nd → ⊥) → IsFiring nd ⊎ IsOk answer → IsOk answer
-    is_sound nd no sound = ⊎_elim (λ (is : IsFiring nd). absurd (no is)) (λ (ok : IsOk answer). ok) sound
+    is_sound nd never sound = ⊎_elim (λ (is : IsFiring nd). absurd (never is)) (λ (ok : IsOk answer). ok) sound
 
     abbrev asks : Actor → ℕ → ℕ → ℕ → Option (Task Firing words.Work)
     asks actor kernel k a = Some (Work (words.Fires record { path = path; name = actor.name; turn = k } record { kind = kernel; args = tokens_at (level_args (fired f) (values_of f)) a; inputs = read; lens = out_rates f.graphs.graphs (values_of f) actor.body; sets = 0 }))
@@ -111,15 +111,15 @@ module _ (f : Fixed) (stages : List Stage) (frames : List (Option FrameView)) (r
         body_task actor (ConfigChild place exprs sets) same found has k a = absurd (cc)
 
     pub answers_so : (nd : Node) → is_child_in j.kinds nd ≡ false → IsFiring nd ⊎ IsOk answer → AnswersSo nd
-    answers_so (node.Source i) own_work sound = copied_mark answer (is_sound (node.Source i) (λ no. no) sound) ended
-    answers_so (node.Init l) own_work sound = copied_mark answer (is_sound (node.Init l) (λ no. no) sound) ended
+    answers_so (node.Source i) own_work sound = copied_mark answer (is_sound (node.Source i) (λ x. x) sound) ended
+    answers_so (node.Init l) own_work sound = copied_mark answer (is_sound (node.Init l) (λ x. x) sound) ended
     answers_so (node.Firing a k) own_work sound = kernel_answers a k (ap (λ (l : List (Option ℕ)). is_none (get_or l a None)) (sym keeps.set_up.kinds) ∙ own_work)
-    answers_so (node.End l) own_work sound = copied_mark answer (is_sound (node.End l) (λ no. no) sound) ended
-    answers_so (node.Sink t) own_work sound = copied_mark answer (is_sound (node.Sink t) (λ no. no) sound) ended
-    answers_so (node.Broadcast l) own_work sound = copied_mark answer (is_sound (node.Broadcast l) (λ no. no) sound) ended
-    answers_so (node.Fork l i) own_work sound = copied_mark answer (is_sound (node.Fork l i) (λ no. no) sound) ended
-    answers_so (node.Join l i) own_work sound = copied_mark answer (is_sound (node.Join l i) (λ no. no) sound) ended
-    answers_so (node.Round l) own_work sound = copied_mark answer (is_sound (node.Round l) (λ no. no) sound) ended
+    answers_so (node.End l) own_work sound = copied_mark answer (is_sound (node.End l) (λ x. x) sound) ended
+    answers_so (node.Sink t) own_work sound = copied_mark answer (is_sound (node.Sink t) (λ x. x) sound) ended
+    answers_so (node.Broadcast l) own_work sound = copied_mark answer (is_sound (node.Broadcast l) (λ x. x) sound) ended
+    answers_so (node.Fork l i) own_work sound = copied_mark answer (is_sound (node.Fork l i) (λ x. x) sound) ended
+    answers_so (node.Join l i) own_work sound = copied_mark answer (is_sound (node.Join l i) (λ x. x) sound) ended
+    answers_so (node.Round l) own_work sound = copied_mark answer (is_sound (node.Round l) (λ x. x) sound) ended
 
   -- ---- a frame that was lent
 
@@ -155,7 +155,7 @@ module _ (f : Fixed) (stages : List Stage) (frames : List (Option FrameView)) (r
         }, refl)
     ended_sizes (Err fault) s is sound measured =
         let P : Stage → Type 0 = λ x. Stands f.graphs.graphs (lens (job_in f) n) (state_kept f stages frames rows j keeps n) (is_call f stages frames rows j keeps n) (Fires f stages frames rows j keeps n) x (one.Failed fault.code) (frame_at frames n) × (trace_in x ≡ []) in
-        subst P (sym is) (record { mark_is = refl; held = stands.held; sort = (stands.sort, ⊎_elim (λ (fires : IsFiring (node_at (job_in f).nodes n)). fires) (λ (ok : IsOk (Err {T = Unit {0}} fault)). absurd ok) sound); sizes = tt }, refl)
+        subst P (sym is) (record { mark_is = refl; held = stands.held; sort = (stands.sort, ⊎_elim (λ (fires : IsFiring (node_at (job_in f).nodes n)). fires) (λ (ok : IsOk {T = Unit {0}} {E = KernelFault} (Err fault)). absurd (let e : false ≡ true = ok in cc)) sound); sizes = tt }, refl)
 
     module _ (ready_words : ReadyInAnyWords ℤ ℕ Refusal) (input_words : InputsInAnyWords ℤ ℕ Refusal) (stays : ReadyStays ℤ ℕ) (answer : Result (Unit {0}) KernelFault) (s : Stage) (ended : IsEnded frame answer s) where
       pub keeps_finished : IsFiring (node_at (nodes_of (view_with f stages)) n) ⊎ IsOk answer → lengths frame.outputs ≡ place_lens frame.places → KeepsAll f (set stages n s) frames rows (record j { marks = set j.marks n (finished_with frame answer) })

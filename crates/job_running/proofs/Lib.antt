@@ -12,3 +12,6 @@ pub mod CalledNodes
 pub mod OfferedNodes
 pub mod AnsweredNodes
 pub mod EndedFiring
+pub mod StartedFiring
+pub mod GivenStates
+pub mod FiringEnds
