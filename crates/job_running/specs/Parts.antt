@@ -2,7 +2,7 @@
 use Rattle.std.specs.Prelude.{◌≡◌, ◌≢◌, ℕ, ◌+◌, ◌<◌, ◌≤◌, ℤ, Bool, false, List, [], map, length, slice_get, slice_index, slice_index_or, Option, Some, None, vec_capacity, vec_len, Vec}
 use Rattle.std.specs.Global.{Global}
 use Rattle.std.specs.List.{flat_map}
-use Rattle.sdf_level.specs.LevelRun.{HaveDelays}
+use Rattle.sdf_level.specs.Lists.{lists_of}
 use Rattle.sdf_level.specs.declared.node.Node.{Node}
 use Rattle.sdf_level.specs.declared.node.Node.TheVariants as node
 use Rattle.job_compiler.specs.Compilation.{Compilation, IsCompiled}
@@ -30,7 +30,7 @@ use Rattle.job_rules.specs.Items.{Prepared, actor_of, graph_of, job_graph, keeps
 use Rattle.job_rules.specs.Meant.{IsFit}
 use Rattle.one_job.specs.Marks as one
 use Rattle.one_job.specs.Pick.{is_child_in}
-use Rattle.one_job.specs.View as one
+use Rattle.one_job.specs.View as leased
 use Rattle.job_running.specs.Sizes.{LeftSuits}
 use Rattle.job_running.specs.Stages.{FitsLens, FitsSort, held_by, job_mark, stage_at, trace_in}
 use Rattle.job_running.specs.declared.stage.Stage.{Stage}
@@ -45,7 +45,7 @@ pub record Start : Type 0 where
   pub sources : List (List ℤ)
   pub stored : List (List ℤ)
 
-abbrev pub start_of : one.JobView → Start
+abbrev pub start_of : leased.JobView → Start
 start_of j = record { compilation = j.compilation; kinds = j.kinds; args = j.args; sources = j.sources; stored = j.stored }
 
 abbrev pub kernel_in : Body → Option ℕ
@@ -63,26 +63,60 @@ schedule_in c = record { counts = c.counts; order = c.order }
 abbrev pub prepared_with : List Configured → Compilation → Prepared
 prepared_with left c = record { left = left; schedule = schedule_in c }
 
--- the job of leases is that of the firing, whose configuration actors left this
-pub record IsSetUp (graphs : Graphs) (firing : Firing) (left : List Configured) (s : Start) : Type 0 where
-  pub range : InRange graphs
-  pub well : WellFormed graphs
-  pub fit : IsFit graphs.graphs firing
-  pub suits : LeftSuits graphs.graphs (graph_of graphs.graphs firing) firing left
-  pub rated : level_faults graphs.graphs (graph_of graphs.graphs firing) (values_in (graph_of graphs.graphs firing) firing (prepared_with left s.compilation)) ≡ []
-  pub compiled : IsCompiled s.compilation
-  pub graph_is : one.job_graph s.compilation s.sources s.stored ≡ job_graph graphs.graphs (graph_of graphs.graphs firing) firing (prepared_with left s.compilation)
-  pub is_job : IsJobGraph s.compilation.counts s.compilation.order (job_graph graphs.graphs (graph_of graphs.graphs firing) firing (prepared_with left s.compilation))
-  pub kinds : s.kinds ≡ map kind_of_actor (acting (graph_of graphs.graphs firing))
-  pub args : s.args ≡ level_args (graph_of graphs.graphs firing) (values_in (graph_of graphs.graphs firing) firing (prepared_with left s.compilation))
+-- what stays as it is while the firing runs
+pub record Fixed : Type 0 where
+  pub graphs : Graphs
+  pub firing : Firing
+  pub left : List Configured
+  pub compilation : Compilation
+  -- its level, and with what its actors fire
+  pub set : LevelSet
+  pub place : ℕ
+  pub path : List ℕ
+  -- of each actor of the level whether its state goes on, and its name
+  pub keeps : List Bool
+  pub names : List (List ℕ)
+  -- what is moved at the end
+  pub rows : List TraceRow
+  pub exports : List ℤ
+  pub state : Vec (List ℤ) Global
+
+abbrev pub all_graphs : Fixed → List Graph
+all_graphs f = f.graphs.graphs
+
+abbrev pub fired : Fixed → Graph
+fired f = graph_of f.graphs.graphs f.firing
+
+abbrev pub prepared_of : Fixed → Prepared
+prepared_of f = prepared_with f.left f.compilation
+
+abbrev pub values_of : Fixed → List ℤ
+values_of f = values_in (fired f) f.firing (prepared_of f)
+
+abbrev pub job_in : Fixed → JobGraph ℤ
+job_in f = job_graph f.graphs.graphs (fired f) f.firing (prepared_of f)
+
+-- the job of leases is that of the firing
+pub record IsSetUp (f : Fixed) (s : Start) : Type 0 where
+  pub range : InRange f.graphs
+  pub well : WellFormed f.graphs
+  pub fit : IsFit f.graphs.graphs f.firing
+  pub suits : LeftSuits f.graphs.graphs (fired f) f.firing f.left
+  pub rated : level_faults f.graphs.graphs (fired f) (values_of f) ≡ []
+  pub compiled : IsCompiled f.compilation
+  pub compilation_is : s.compilation ≡ f.compilation
+  pub graph_is : leased.job_graph s.compilation s.sources s.stored ≡ job_in f
+  pub is_job : IsJobGraph f.compilation.counts f.compilation.order (job_in f)
+  pub kinds : s.kinds ≡ map kind_of_actor (acting (fired f))
+  pub args : s.args ≡ level_args (fired f) (values_of f)
 
 -- ---- nodes
 
 -- what is so of one node: its stage, its mark in the job of leases and its frame that waits tell the same
-pub record Stands (graphs : List Graph) (lens_are : List ℕ) (keeps child : Bool) (stage : Stage) (mark : one.Mark) (frame : Option FrameView) : Type 0 where
+pub record Stands (graphs : List Graph) (lens_are : List ℕ) (keeps child : Bool) (fires : Type 0) (stage : Stage) (mark : one.Mark) (frame : Option FrameView) : Type 0 where
   pub mark_is : mark ≡ job_mark keeps stage
   pub held : frame ≡ held_by stage
-  pub sort : FitsSort child stage
+  pub sort : FitsSort child fires stage
   pub sizes : FitsLens graphs lens_are keeps stage
 
 abbrev pub frame_at : List (Option FrameView) → ℕ → Option FrameView
@@ -97,18 +131,18 @@ pub record AllStand (graphs : List Graph) (g : Graph) (kinds : List (Option ℕ)
   pub one_stage : length stages ≡ length job.nodes
   pub one_mark : length marks ≡ length job.nodes
   pub one_frame : length frames ≡ length job.nodes
-  pub each : (n : ℕ) → n < length job.nodes → Stands graphs (lens job n) (keeps_state graphs (actor_of g (node_at job.nodes n))) (is_child_in kinds (node_at job.nodes n)) (stage_at stages n) (one.mark_at marks n) (frame_at frames n)
+  pub each : (n : ℕ) → n < length job.nodes → Stands graphs (lens job n) (keeps_state graphs (actor_of g (node_at job.nodes n))) (is_child_in kinds (node_at job.nodes n)) (leased.IsFiring (node_at job.nodes n)) (stage_at stages n) (one.mark_at marks n) (frame_at frames n)
   -- a node that isn't free was ready when it was claimed
   pub ready : (n : ℕ) → one.mark_at marks n ≢ one.Free → IsReady job (one.values marks) n
 
 -- ---- what is kept for the end
 
 abbrev pub row_at : List (Vec (List TraceRow) Global) → ℕ → List (List TraceRow)
-row_at rows a = slice_index_or (map (λ (row : Vec (List TraceRow) Global). row.items) rows) a []
+row_at rows a = slice_index_or (lists_of rows) a []
 
 -- for each firing of each actor the trace of what it called
 pub record AreTraces (nodes : List Node) (counts : List ℕ) (stages : List Stage) (rows : List (Vec (List TraceRow) Global)) : Type 0 where
-  pub one_each : length rows ≡ length counts
+  pub one_each : length (lists_of rows) ≡ length counts
   pub many : (a : ℕ) → length (row_at rows a) ≡ slice_index counts a
   pub each : (n a k : ℕ) → n < length nodes → node_at nodes n ≡ node.Firing a k → slice_index_or (row_at rows a) k [] ≡ trace_in (stage_at stages n)
 
@@ -121,14 +155,22 @@ abbrev pub HaveTraces : List ℕ → Traces → List (Vec (List TraceRow) Global
 HaveTraces counts traces rows = (b : ℕ) → flat (row_at rows b) ≡ traces_below (traces b) (slice_index counts b)
 
 -- what is handed out or moved at the end
-pub record AreParts (graphs : Graphs) (firing : Firing) (left : List Configured) (c : Compilation) (set : LevelSet) (place : ℕ) (path : List ℕ) (keeps : List Bool) (names : List (List ℕ)) (rows : List TraceRow) (exports : List ℤ) (room : Vec (List ℤ) Global) : Type 0 where
-  pub place_is : place ≡ firing.graph
-  pub path_is : path ≡ firing.path
-  pub set_is : IsLevelSet graphs.graphs (graph_of graphs.graphs firing) firing (values_in (graph_of graphs.graphs firing) firing (prepared_with left c)) set
-  pub keeps_are : keeps ≡ map (has_state graphs.graphs) (acting (graph_of graphs.graphs firing))
-  pub names_are : names ≡ map (λ (a : Actor). a.name) (acting (graph_of graphs.graphs firing))
-  pub rows_are : rows ≡ chosen_rows firing.path (values_in (graph_of graphs.graphs firing) firing (prepared_with left c)) 0 (graph_of graphs.graphs firing).params
-  pub exports_are : exports ≡ map (value_at (values_in (graph_of graphs.graphs firing) firing (prepared_with left c))) (graph_of graphs.graphs firing).exports
-  pub empty : room.items ≡ []
-  pub none : vec_len room ≡ 0
-  pub room : length (graph_of graphs.graphs firing).fifos + length (graph_of graphs.graphs firing).actors ≤ vec_capacity room
+pub record AreParts (f : Fixed) : Type 0 where
+  pub place_is : f.place ≡ f.firing.graph
+  pub path_is : f.path ≡ f.firing.path
+  pub set_is : IsLevelSet f.graphs.graphs (fired f) f.firing (values_of f) f.set
+  pub keeps_are : f.keeps ≡ map (has_state f.graphs.graphs) (acting (fired f))
+  pub names_are : f.names ≡ map (λ (a : Actor). a.name) (acting (fired f))
+  pub rows_are : f.rows ≡ chosen_rows f.firing.path (values_of f) 0 (fired f).params
+  pub exports_are : f.exports ≡ map (value_at (values_of f)) (fired f).exports
+  pub empty : f.state.items ≡ []
+  pub none : vec_len f.state ≡ 0
+  pub room : length (fired f).fifos + length (fired f).actors ≤ vec_capacity f.state
+
+-- ---- all
+
+pub record KeepsAll (f : Fixed) (stages : List Stage) (frames : List (Option FrameView)) (rows : List (Vec (List TraceRow) Global)) (job : leased.JobView) : Type 0 where
+  pub set_up : IsSetUp f (start_of job)
+  pub stand : AllStand f.graphs.graphs (fired f) job.kinds (job_in f) stages job.marks frames
+  pub traces : AreTraces (job_in f).nodes f.compilation.counts stages rows
+  pub parts : AreParts f

@@ -55,14 +55,14 @@ mark_of spot Free = mark.Free
 mark_of spot (Busy told) = mark.Busy
 mark_of spot (Lost told) = mark.Busy
 mark_of spot (Open job told) = mark.Open job.value
-mark_of spot (Fired told) = mark.Done (fired_in spot told.value)
+mark_of spot (Fired told) = mark.Done (fired_in spot told.frame)
 mark_of spot (Failed code) = mark.Done (words.Refuses (refusal_at spot code))
 mark_of spot (Gave told) = mark.Done (words.Gives (given_of told.value))
 mark_of spot (Refused refusal) = mark.Done (words.Refuses refusal)
 
 abbrev pub lent_of : Stage → Option Places
 lent_of Free = None
-lent_of (Busy told) = Some told.value.places
+lent_of (Busy told) = Some told.frame.places
 lent_of (Lost told) = None
 lent_of (Open job told) = None
 lent_of (Fired told) = None
@@ -74,8 +74,8 @@ lent_of (Refused refusal) = None
 abbrev pub held_by : Stage → Option FrameView
 held_by Free = None
 held_by (Busy told) = None
-held_by (Lost told) = Some told.value
-held_by (Open job told) = Some told.value
+held_by (Lost told) = Some told.frame
+held_by (Open job told) = Some told.frame
 held_by (Fired told) = None
 held_by (Failed code) = None
 held_by (Gave told) = None
@@ -84,10 +84,10 @@ held_by (Refused refusal) = None
 -- the mark of the node in the job of leases
 abbrev pub job_mark : Bool → Stage → one.Mark
 job_mark keeps Free = one.Free
-job_mark keeps (Busy told) = one.Claimed told.value.places
-job_mark keeps (Lost told) = one.Claimed told.value.places
-job_mark keeps (Open job told) = one.Claimed told.value.places
-job_mark keeps (Fired told) = one.Finished told.value.outputs
+job_mark keeps (Busy told) = one.Claimed told.frame.places
+job_mark keeps (Lost told) = one.Claimed told.frame.places
+job_mark keeps (Open job told) = one.Claimed told.frame.places
+job_mark keeps (Fired told) = one.Finished told.frame.outputs
 job_mark keeps (Failed code) = one.Failed code
 job_mark keeps (Gave told) = one.Finished (child_outs keeps told.value.outs told.value.state)
 job_mark keeps (Refused refusal) = one.Failed 0
@@ -114,36 +114,66 @@ trace_in (Failed code) = []
 trace_in (Gave told) = told.value.trace
 trace_in (Refused refusal) = []
 
--- how far a node is whose frame came back so
-abbrev pub ended_in : FrameView → Result (Unit {0}) KernelFault → Stage
-ended_in frame (Ok done) = Fired record { value = frame }
-ended_in frame (Err fault) = Failed fault.code
+-- a node whose frame came back so
+abbrev pub IsFired : FrameView → Stage → Type 0
+IsFired frame Free = ⊥
+IsFired frame (Busy told) = ⊥
+IsFired frame (Lost told) = ⊥
+IsFired frame (Open job told) = ⊥
+IsFired frame (Fired told) = told.frame ≡ frame
+IsFired frame (Failed code) = ⊥
+IsFired frame (Gave told) = ⊥
+IsFired frame (Refused refusal) = ⊥
 
--- how far it is when it has called this, or when there was no memory for that
-abbrev pub waiting_in : Result Firing AllocError → FrameView → Stage
-waiting_in (Ok job) frame = Open record { value = job } record { value = frame }
-waiting_in (Err error) frame = Lost record { value = frame }
+abbrev pub IsEnded : FrameView → Result (Unit {0}) KernelFault → Stage → Type 0
+IsEnded frame (Ok done) stage = IsFired frame stage
+IsEnded frame (Err fault) stage = stage ≡ Failed fault.code
+
+-- a node that has called this, or for whose call there was no memory
+abbrev pub IsOpened : Firing → FrameView → Stage → Type 0
+IsOpened job frame Free = ⊥
+IsOpened job frame (Busy told) = ⊥
+IsOpened job frame (Lost told) = ⊥
+IsOpened job frame (Open own told) = (own.value ≡ job) × (told.frame ≡ frame)
+IsOpened job frame (Fired told) = ⊥
+IsOpened job frame (Failed code) = ⊥
+IsOpened job frame (Gave told) = ⊥
+IsOpened job frame (Refused refusal) = ⊥
+
+abbrev pub IsLost : FrameView → Stage → Type 0
+IsLost frame Free = ⊥
+IsLost frame (Busy told) = ⊥
+IsLost frame (Lost told) = told.frame ≡ frame
+IsLost frame (Open job told) = ⊥
+IsLost frame (Fired told) = ⊥
+IsLost frame (Failed code) = ⊥
+IsLost frame (Gave told) = ⊥
+IsLost frame (Refused refusal) = ⊥
+
+abbrev pub IsWaiting : Result Firing AllocError → FrameView → Stage → Type 0
+IsWaiting (Ok job) frame stage = IsOpened job frame stage
+IsWaiting (Err error) frame stage = IsLost frame stage
 
 -- ---- what is so of stages
 
--- nodes that fire graphs are called, the others are claimed
-abbrev pub FitsSort : Bool → Stage → Type 0
-FitsSort child Free = Unit {0}
-FitsSort child (Busy told) = child ≡ false
-FitsSort child (Lost told) = child ≡ true
-FitsSort child (Open job told) = child ≡ true
-FitsSort child (Fired told) = child ≡ false
-FitsSort child (Failed code) = child ≡ false
-FitsSort child (Gave told) = child ≡ true
-FitsSort child (Refused refusal) = child ≡ true
+-- nodes that fire graphs are called, the others are claimed, and of these firings alone fail
+abbrev pub FitsSort : Bool → Type 0 → Stage → Type 0
+FitsSort child fires Free = Unit {0}
+FitsSort child fires (Busy told) = child ≡ false
+FitsSort child fires (Lost told) = child ≡ true
+FitsSort child fires (Open job told) = child ≡ true
+FitsSort child fires (Fired told) = child ≡ false
+FitsSort child fires (Failed code) = (child ≡ false) × fires
+FitsSort child fires (Gave told) = child ≡ true
+FitsSort child fires (Refused refusal) = child ≡ true
 
 -- outputs are as long as the node writes
 abbrev pub FitsLens : List Graph → List ℕ → Bool → Stage → Type 0
 FitsLens graphs lens keeps Free = Unit {0}
-FitsLens graphs lens keeps (Busy told) = place_lens told.value.places ≡ lens
-FitsLens graphs lens keeps (Lost told) = lengths told.value.outputs ≡ lens
-FitsLens graphs lens keeps (Open job told) = (lengths told.value.outputs ≡ lens) × (call_lens graphs keeps job.value ≡ lens)
-FitsLens graphs lens keeps (Fired told) = lengths told.value.outputs ≡ lens
+FitsLens graphs lens keeps (Busy told) = place_lens told.frame.places ≡ lens
+FitsLens graphs lens keeps (Lost told) = lengths told.frame.outputs ≡ lens
+FitsLens graphs lens keeps (Open job told) = (lengths told.frame.outputs ≡ lens) × (call_lens graphs keeps job.value ≡ lens)
+FitsLens graphs lens keeps (Fired told) = lengths told.frame.outputs ≡ lens
 FitsLens graphs lens keeps (Failed code) = Unit {0}
 FitsLens graphs lens keeps (Gave told) = lengths (child_outs keeps told.value.outs told.value.state) ≡ lens
 FitsLens graphs lens keeps (Refused refusal) = Unit {0}

@@ -12,7 +12,7 @@ ghost use Rattle.pisdf_meaning.specs.Running.{child_firing as firing_of};
 ghost use Rattle.pisdf_meaning.specs.States.{tokens_at};
 
 use kernel_gate::Frame;
-use param_resolver::LevelSet;
+use param_resolver::{LevelSet, level_by_actor};
 use pisdf_meaning::{ChildCall, Firing, Path, child_firing, copy_tokens};
 use pisdf_model::{Actor, Body, Graph, input_count};
 use sdf_level::{List, Node};
@@ -73,6 +73,17 @@ pub(crate) fn firing_of(which: Node) -> (u32, u32)
     }
 }
 
+/// The actor with this number in the level of a graph, whose actors stand at these places.
+pub(crate) fn acting_at<'a>(graph: &'a Graph, places: &[u32], number: usize) -> &'a Actor
+    requires places { places.now ≡ acting_places graph.now }
+    requires there { number < length places.now }
+    requires inside { number < length (acting graph.now) }
+    ensures { slice_get (acting graph.now) number ≡ Some result.now }
+{
+    level_by_actor();
+    &graph.actors.items()[places[number] as usize]
+}
+
 /// What an actor of the level of the graph at this place calls with.
 pub(crate) fn caller_of<'a>(
     graphs: &'a [Graph],
@@ -84,6 +95,7 @@ pub(crate) fn caller_of<'a>(
 ) -> Caller<'a>
     requires graph { place < length graphs.now }
     requires keeps { actor < length keeps.now }
+    requires set { actor < length set.now.places }
     requires places { (g : GraphView) → slice_get graphs.now place ≡ Some g → set.now.places ≡ acting_places g }
     requires there { (g : GraphView) → slice_get graphs.now place ≡ Some g → actor < length (acting g) }
     ensures actor { (g : GraphView) → slice_get graphs.now place ≡ Some g → slice_get (acting g) actor ≡ Some result.actor.now }
@@ -91,15 +103,13 @@ pub(crate) fn caller_of<'a>(
     ensures number { (result.number ≡ actor) × (result.turn ≡ turn) }
     ensures keeps { slice_get keeps.now actor ≡ Some result.keeps }
 {
-    let number = actor as usize;
-    let at = set.places.items()[number] as usize;
     Caller {
         graphs,
-        actor: &graphs[place as usize].actors.items()[at],
+        actor: acting_at(&graphs[place as usize], set.places.items(), actor as usize),
         set,
         number: actor,
         turn,
-        keeps: keeps[number],
+        keeps: keeps[actor as usize],
     }
 }
 
@@ -107,20 +117,20 @@ pub(crate) fn caller_of<'a>(
 fn call_graph(
     alloc: Global,
     path: &Path,
-    caller: Caller<'_>,
+    caller: &Caller<'_>,
     place: u32,
     read: List<List<i64>>,
 ) -> Result<Firing, AllocError>
-    requires args { caller.number < length caller.set.now.args }
-    requires known { (early : EarlyView) × (slice_get caller.set.now.children caller.number ≡ Some (Some early)) }
-    ensures { (firing : FiringView) → firing.path ≡ path.now → IfOk result (λ d. d ≡ firing_of caller.graphs.now firing caller.actor.now.name caller.turn (tokens_at caller.set.now.args caller.number) caller.keeps place (input_count caller.graphs.now caller.actor.now.body) read) }
+    requires args { caller.now.number < length caller.now.set.now.args }
+    requires known { (early : EarlyView) × (slice_get caller.now.set.now.children caller.now.number ≡ Some (Some early)) }
+    ensures { (firing : FiringView) → firing.path ≡ path.now → IfOk result (λ d. d ≡ firing_of caller.now.graphs.now firing caller.now.actor.now.name caller.now.turn (tokens_at caller.now.set.now.args caller.now.number) caller.now.keeps place (input_count caller.now.graphs.now caller.now.actor.now.body) read) }
 {
     let here = at_path(alloc, path)?;
     let inputs = input_count(caller.graphs, &caller.actor.body);
     let number = caller.number as usize;
-    let early = match caller.set.children.items().get(number) {
-        Some(Some(early)) => early,
-        _ => unreachable!(),
+    let early = match &caller.set.children.items()[number] {
+        Some(early) => early,
+        None => unreachable!(),
     };
     let call = ChildCall {
         actor: caller.actor,
@@ -136,14 +146,14 @@ fn call_graph(
 pub(crate) fn called(
     alloc: Global,
     path: &Path,
-    caller: Caller<'_>,
+    caller: &Caller<'_>,
     frame: &Frame,
 ) -> Result<Firing, AllocError>
-    requires args { caller.number < length caller.set.now.args }
-    requires known { (early : EarlyView) × (slice_get caller.set.now.children caller.number ≡ Some (Some early)) }
-    requires child { (place : ℕ) × (exprs : Seq Tree) × (caller.actor.now.body ≡ Child place exprs) }
+    requires args { caller.now.number < length caller.now.set.now.args }
+    requires known { (early : EarlyView) × (slice_get caller.now.set.now.children caller.now.number ≡ Some (Some early)) }
+    requires child { (place : ℕ) × (exprs : Seq Tree) × (caller.now.actor.now.body ≡ Child place exprs) }
     requires few { length frame.now.inputs < 2 ^ 32 }
-    ensures { (firing : FiringView) (place : ℕ) (exprs : Seq Tree) → firing.path ≡ path.now → caller.actor.now.body ≡ Child place exprs → IfOk result (λ d. d ≡ firing_of caller.graphs.now firing caller.actor.now.name caller.turn (tokens_at caller.set.now.args caller.number) caller.keeps place (input_count caller.graphs.now caller.actor.now.body) frame.now.inputs) }
+    ensures { (firing : FiringView) (place : ℕ) (exprs : Seq Tree) → firing.path ≡ path.now → caller.now.actor.now.body ≡ Child place exprs → IfOk result (λ d. d ≡ firing_of caller.now.graphs.now firing caller.now.actor.now.name caller.now.turn (tokens_at caller.now.set.now.args caller.now.number) caller.now.keeps place (input_count caller.now.graphs.now caller.now.actor.now.body) frame.now.inputs) }
 {
     let read = read_from(alloc, frame)?;
     match &caller.actor.body {

@@ -1,5 +1,5 @@
 // How a firing ends.
-ghost use Rattle.std.specs.Prelude.{ℕ, ◌≡◌, ◌+◌, ◌<◌, ◌≤◌, ◌++◌, List as Seq, [], drop, length, map, vec_capacity, vec_len, slice_index_or};
+ghost use Rattle.std.specs.Prelude.{ℕ, ◌≡◌, ◌+◌, ◌<◌, ◌≤◌, ◌++◌, List as Seq, [], drop, length, map, vec_capacity, vec_len, slice_index_or, if◌then◌else◌};
 ghost use Rattle.std.specs.List.{filter};
 ghost use Rattle.pisdf_meaning.specs.Running.{actor_states, fifo_states, state_after, state_of_first};
 ghost use Rattle.pisdf_meaning.specs.States.{goes_on, tokens_at};
@@ -38,6 +38,18 @@ fn next_state(alloc: Global, left: &mut VecDeque<Configured>) -> List<i64>
     match left.pop_front() {
         Some(one) => one.state,
         None => List::new(Vec::new(alloc)),
+    }
+}
+
+/// Takes the first of these lists for an actor whose state goes on, else an empty one.
+fn kept_list(alloc: Global, keeps: bool, left: &mut VecDeque<List<i64>>) -> List<i64>
+    ensures taken { result ≡ (if keeps then tokens_at left.old.items 0 else []) }
+    ensures rest { left.new.items ≡ (if keeps then drop 1 left.old.items else left.old.items) }
+{
+    if keeps {
+        next_list(alloc, left)
+    } else {
+        List::new(Vec::new(alloc))
     }
 }
 
@@ -93,12 +105,7 @@ fn push_actor_states(
         if is_configuration(&actor.body) {
             state.push_reserved(next_state(alloc, configured));
         } else {
-            let list = if keeps[number] {
-                next_list(alloc, left)
-            } else {
-                List::new(Vec::new(alloc))
-            };
-            state.push_reserved(list);
+            state.push_reserved(kept_list(alloc, keeps[number], left));
             number += 1;
         }
     }

@@ -82,8 +82,12 @@ pub(crate) fn end_frames(mut job: Job, mut frames: Vec<Option<Frame>>) -> Job
     ensures { (n : ℕ) → phase result.marks n ≢ IsClaimed }
 {
     while let Some(place) = frames.pop() {
-        if let Some(frame) = place {
-            job.finish(frames.len() as u32, frame, Ok(()));
+        match place {
+            Some(frame) => {
+                let node = frames.len() as u32;
+                job.finish(node, frame, Ok(()));
+            }
+            None => {}
         }
     }
     frames.destroy_empty();

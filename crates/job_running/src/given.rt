@@ -1,5 +1,6 @@
 // Traces of what was called, by actor and firing.
-ghost use Rattle.std.specs.Prelude.{◌≡◌, ◌≢◌, ◌<◌, ℕ, [], length, map, replicate, slice_index, slice_index_or, slice_set, IfOk};
+ghost use Rattle.std.specs.Prelude.{◌≡◌, ◌<◌, [], length, map, replicate, slice_set, IfOk};
+ghost use Rattle.sdf_level.specs.Lists.{lists_of};
 ghost use Rattle.job_running.specs.Parts.{row_at};
 
 use pisdf_meaning::TraceRow;
@@ -22,8 +23,7 @@ pub(crate) fn empty_rows(
     alloc: Global,
     counts: &[u32],
 ) -> Result<Vec<Vec<LinkedList<TraceRow>>>, AllocError>
-    ensures one_each { IfOk result (λ rows. length rows.items ≡ length counts.now) }
-    ensures each { IfOk result (λ rows. (a : ℕ) → row_at rows.items a ≡ replicate (slice_index counts.now a) []) }
+    ensures { IfOk result (λ rows. lists_of rows.items ≡ map (λ n. replicate n []) counts.now) }
 {
     let mut rows = Vec::with_capacity(alloc, counts.len())?;
     for count in counts {
@@ -41,9 +41,7 @@ pub(crate) fn put_trace(
 )
     requires actor { actor < length rows.old }
     requires turn { turn < length (row_at rows.old actor) }
-    ensures one_each { length rows.new ≡ length rows.old }
-    ensures here { row_at rows.new actor ≡ slice_set (row_at rows.old actor) turn trace }
-    ensures others { (b : ℕ) → b ≢ actor → row_at rows.new b ≡ row_at rows.old b }
+    ensures { lists_of rows.new ≡ slice_set (lists_of rows.old) actor (slice_set (row_at rows.old actor) turn trace) }
 {
     let row = &mut rows[actor as usize];
     row[turn as usize] = trace;

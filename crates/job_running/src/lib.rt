@@ -11,6 +11,7 @@ mod handed;
 mod running;
 mod stage;
 mod starting;
+mod told;
 mod writing;
 
 pub use handed::Handed;

@@ -6,6 +6,7 @@ ghost use Rattle.job_flow.specs.Graphs.{node_at};
 ghost use Rattle.job_rules.specs.Words.{answer_of};
 ghost use Rattle.one_job.specs.Pick.{IsFirst};
 ghost use Rattle.one_job.specs.View.{IsFiring};
+ghost use Rattle.job_preparing.specs.View.{HasInherited};
 ghost use Rattle.job_preparing.specs.Handing.{EndSuits, IsNothingLent, answer_with, end_of, lent_at, mark_at};
 
 use crate::calling::{called, caller_of, firing_of};
@@ -14,10 +15,12 @@ use crate::frames::{end_frames, measured, put_frame, spend_frames, take_frame};
 use crate::given::put_trace;
 use crate::handed::{Handed, hand_out};
 use crate::stage::{Stage, ended, waiting};
+use crate::told::{ToldBefore, told_of};
 use crate::tracing::append_traces;
 use crate::writing::write_child;
 use job_compiler::Compiled;
-use job_preparing::{Configuring, JobGiven, Left};
+use job_preparing::{JobGiven, Left};
+use job_flow::{faults_renamed, ready_stays};
 use kernel_gate::{Frame, KernelFault};
 use one_job::{Job, JobEnd};
 use param_expr::Name;
@@ -25,6 +28,7 @@ use param_resolver::LevelSet;
 use pisdf_meaning::{Firing, Path, Refusal, TraceRow};
 use pisdf_model::Graphs;
 use sdf_level::List;
+use single_rate::graphs_numbered;
 use std::alloc::{AllocError, Global};
 use std::collections::LinkedList;
 use std::marker::Model;
@@ -37,7 +41,7 @@ pub struct Running {
     pub(crate) graphs: Arc<Graphs>,
     pub(crate) compiled: Arc<Compiled>,
     pub(crate) firing: Snapshot<Firing>,
-    pub(crate) preparing: Snapshot<Configuring>,
+    pub(crate) preparing: ToldBefore,
     // The place of the graph in its file.
     pub(crate) place: u32,
     pub(crate) path: Path,
@@ -62,11 +66,16 @@ impl Model for Running {
 
     ghost Value = { RunningView };
 
-    ghost use Rattle.job_running.specs.Kept.{Keeps, view_of};
+    ghost use Rattle.std.specs.Coded.{codes};
+    ghost use Rattle.param_expr.specs.Tree.{tree_code};
+
+    ghost coded = { Prim.hlevel (codes, tree_code) };
+
+    ghost use Rattle.job_running.specs.Kept.{IsRunning, view_of};
 
     ghost view = { view_of };
 
-    ghost invariant = { Keeps };
+    ghost invariant = { IsRunning };
 }
 
 impl Running {
@@ -85,6 +94,8 @@ impl Running {
     pub fn pick(&self, worker: u32) -> Option<u32>
         ensures { IsFirst self.now.mapping worker (IsOfferedWork self.now) result }
     {
+        graphs_numbered();
+        faults_renamed::<i64, u8, Refusal>();
         self.job.pick(worker)
     }
 
@@ -92,6 +103,8 @@ impl Running {
     pub fn pick_call(&self, worker: u32) -> Option<u32>
         ensures { IsFirst self.now.mapping worker (IsOfferedCall self.now) result }
     {
+        graphs_numbered();
+        faults_renamed::<i64, u8, Refusal>();
         self.job.pick_child(worker)
     }
 
@@ -117,9 +130,11 @@ impl Running {
         ensures handed { IsHanded (task self.old node) result }
         ensures claimed { self.new ≡ record self.old { marks = slice_set self.old.marks node Busy; lent = slice_set self.old.lent node (Some (frame_of result).places) } }
     {
+        faults_renamed::<i64, u8, Refusal>();
+        ready_stays::<i64, u8, ()>();
         let which = self.job.node(node);
         let frame = measured(self.job.claim(node));
-        self.stages[node as usize] = Stage::Busy(Snapshot::of(&frame));
+        self.stages[node as usize] = Stage::Busy(told_of(&frame));
         hand_out(which, frame)
     }
 
@@ -130,6 +145,8 @@ impl Running {
         requires sound { IsFiring (node_at (nodes_of self.old) node) ⊎ IsOk answer }
         ensures { self.new ≡ record self.old { marks = slice_set self.old.marks node (Done (answer_with (task self.old node) frame answer)); lent = slice_set self.old.lent node None } }
     {
+        faults_renamed::<i64, u8, Refusal>();
+        ready_stays::<i64, u8, ()>();
         let frame = measured(frame);
         self.stages[node as usize] = ended(&frame, &answer);
         self.job.finish(node, frame, answer);
@@ -143,9 +160,12 @@ impl Running {
     pub fn call(&mut self, alloc: Global, node: u32) -> Result<Firing, AllocError>
         requires { IsOfferedCall self.old node }
         ensures called { IfOk result (λ d. task self.old node ≡ Some (Call d)) }
+        ensures inherited { IfOk result (HasInherited self.old.graphs.graphs) }
         ensures ok { IfOk result (λ d. self.new ≡ record self.old { marks = slice_set self.old.marks node (Open d) }) }
         ensures err { OnErr result (self.new ≡ record self.old { marks = slice_set self.old.marks node Busy }) }
     {
+        faults_renamed::<i64, u8, Refusal>();
+        ready_stays::<i64, u8, ()>();
         let which = self.job.node(node);
         let (actor, turn) = firing_of(which);
         let frame = self.job.claim(node);
@@ -157,7 +177,7 @@ impl Running {
             actor,
             turn,
         );
-        let result = called(alloc, &self.path, caller, &frame);
+        let result = called(alloc, &self.path, &caller, &frame);
         self.stages[node as usize] = waiting(&result, &frame);
         put_frame(&mut self.frames, node as usize, frame);
         result
@@ -168,6 +188,8 @@ impl Running {
         requires { IsEndOfCall self.old node end }
         ensures { self.new ≡ record self.old { marks = slice_set self.old.marks node (Done (answer_of (end_of end))) } }
     {
+        graphs_numbered();
+        ready_stays::<i64, u8, ()>();
         let which = self.job.node(node);
         let mut frame = take_frame(&mut self.frames, node as usize);
         match end {
@@ -196,6 +218,8 @@ impl Running {
     pub fn quiet(&self) -> bool
         ensures { result ≡ is_quiet self.now }
     {
+        graphs_numbered();
+        faults_renamed::<i64, u8, Refusal>();
         self.job.quiet()
     }
 

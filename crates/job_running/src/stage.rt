@@ -1,7 +1,7 @@
 // How far nodes are.
-ghost use Rattle.std.specs.Prelude.{◌≡◌};
-ghost use Rattle.job_running.specs.Stages.{ended_in, waiting_in};
+ghost use Rattle.job_running.specs.Stages.{IsEnded, IsWaiting};
 
+use crate::told::{Told, told_of};
 use job_preparing::JobGiven;
 use kernel_gate::{Frame, KernelFault};
 use pisdf_meaning::{Firing, Refusal};
@@ -13,13 +13,13 @@ use std::snapshot::Snapshot;
 pub(crate) enum Stage {
     Free,
     /// Its frame is out.
-    Busy(Snapshot<Frame>),
+    Busy(Told),
     /// It was to call a graph, for which there was no memory. Its frame waits.
-    Lost(Snapshot<Frame>),
+    Lost(Told),
     /// It has called a graph, and its frame waits.
-    Open(Snapshot<Firing>, Snapshot<Frame>),
+    Open(Snapshot<Firing>, Told),
     /// Its frame came back with what it gave.
-    Fired(Snapshot<Frame>),
+    Fired(Told),
     /// Its kernel refused with this code.
     Failed(u8),
     /// What it called gave this.
@@ -30,20 +30,20 @@ pub(crate) enum Stage {
 
 /// How far a node is whose frame came back so.
 pub(crate) fn ended(frame: &Frame, answer: &Result<(), KernelFault>) -> Stage
-    ensures { result ≡ ended_in frame.now answer.now }
+    ensures { IsEnded frame.now answer.now result }
 {
     match answer {
-        Ok(()) => Stage::Fired(Snapshot::of(frame)),
+        Ok(()) => Stage::Fired(told_of(frame)),
         Err(fault) => Stage::Failed(fault.code),
     }
 }
 
 /// How far a node is that has called this with its frame, or for whose call there was no memory.
 pub(crate) fn waiting(called: &Result<Firing, AllocError>, frame: &Frame) -> Stage
-    ensures { result ≡ waiting_in called.now frame.now }
+    ensures { IsWaiting called.now frame.now result }
 {
     match called {
-        Ok(firing) => Stage::Open(Snapshot::of(firing), Snapshot::of(frame)),
-        Err(_) => Stage::Lost(Snapshot::of(frame)),
+        Ok(firing) => Stage::Open(Snapshot::of(firing), told_of(frame)),
+        Err(_) => Stage::Lost(told_of(frame)),
     }
 }

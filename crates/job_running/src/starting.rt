@@ -15,15 +15,17 @@ ghost use Rattle.job_running.specs.Sizes.{LeftSuits};
 ghost use Rattle.job_running.specs.Parts.{kernel_in, kind_of_actor, prepared_with};
 ghost use Rattle.job_running.specs.View.{nodes_of};
 
+use crate::calling::acting_at;
 use crate::frames::no_frames;
 use crate::given::empty_rows;
 use crate::running::Running;
 use crate::stage::Stage;
+use crate::told::told_before;
 use job_compiler::Compiled;
 use job_preparing::Configuring;
 use one_job::start;
 use param_expr::Name;
-use param_resolver::LevelSet;
+use param_resolver::{LevelSet, level_by_actor};
 use pisdf_meaning::{
     Path, TraceRow, copy_lists, copy_name, has_state, holds_for, link_starts, source_tokens,
 };
@@ -45,10 +47,10 @@ fn kinds_at(
     requires { places.now ≡ acting_places graph.now }
     ensures { IfOk result (λ kinds. kinds ≡ map kind_of_actor (acting graph.now)) }
 {
-    let actors = graph.actors.items();
+    level_by_actor();
     let mut kinds = Vec::with_capacity(alloc, places.len())?;
-    for place in places {
-        kinds.push(kind_of(&actors[*place as usize].body))?;
+    for n in 0..places.len() {
+        kinds.push(kind_of(&acting_at(graph, places, n).body))?;
     }
     Ok(List::new(kinds))
 }
@@ -68,10 +70,10 @@ fn names_at(alloc: Global, graph: &Graph, places: &[u32]) -> Result<Vec<Name>, A
     requires { places.now ≡ acting_places graph.now }
     ensures { IfOk result (λ names. names.items ≡ map (λ (a : ActorView). a.name) (acting graph.now)) }
 {
-    let actors = graph.actors.items();
+    level_by_actor();
     let mut names = Vec::with_capacity(alloc, places.len())?;
-    for place in places {
-        names.push(copy_name(alloc, &actors[*place as usize].name)?)?;
+    for n in 0..places.len() {
+        names.push(copy_name(alloc, &acting_at(graph, places, n).name)?)?;
     }
     Ok(names)
 }
@@ -86,11 +88,11 @@ fn keeps_at(
     requires { places.now ≡ acting_places graph.now }
     ensures { IfOk result (λ keeps. keeps.items ≡ map (has_state graphs.now) (acting graph.now)) }
 {
-    let actors = graph.actors.items();
-    let holds = holds_for(alloc, graphs, actors)?;
+    level_by_actor();
+    let holds = holds_for(alloc, graphs, graph.actors.items())?;
     let mut keeps = Vec::with_capacity(alloc, places.len())?;
-    for place in places {
-        keeps.push(has_state(&holds, &actors[*place as usize]))?;
+    for n in 0..places.len() {
+        keeps.push(has_state(&holds, acting_at(graph, places, n)))?;
     }
     Ok(keeps)
 }
@@ -233,7 +235,7 @@ pub fn run(
             graphs,
             compiled: own,
             firing: told,
-            preparing: Snapshot::of(preparing),
+            preparing: told_before(preparing),
             place,
             path,
             set,

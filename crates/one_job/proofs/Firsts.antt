@@ -50,19 +50,19 @@ first_more mapping worker Old New None next r more there less is found =
     let at : r ≡ next = ⊎_elim (λ (bad : None ≡ Some r). absurd (cc)) (λ (same : r ≡ next). same) found.0 in (
       subst New (sym at) there,
       λ n offered. ⊎_elim
-      (λ (old : Old n). absurd (is n old))
-      (λ (after : GoesBefore mapping worker next n). subst (λ q. GoesBefore mapping worker q n) (sym at) after)
-      (less n offered),
+          (λ (old : Old n). absurd (is n old))
+          (λ (after : GoesBefore mapping worker next n). subst (λ q. GoesBefore mapping worker q n) (sym at) after)
+          (less n offered),
     )
 first_more mapping worker Old New (Some b) next r more there less is found = (
   ⊎_elim
-  (λ (same : Some b ≡ Some r). let at : b ≡ r = cc in subst New at (more b is.0))
-  (λ (same : r ≡ next). subst New (sym same) there)
-  found.0,
+      (λ (same : Some b ≡ Some r). let at : b ≡ r = cc in subst New at (more b is.0))
+      (λ (same : r ≡ next). subst New (sym same) there)
+      found.0,
   λ n offered. ⊎_elim
-  (λ (old : Old n). before_trans mapping worker r b n (found.1 b (inl refl)) (is.1 n old))
-  (λ (after : GoesBefore mapping worker next n). before_trans mapping worker r next n (found.1 next (inr refl)) after)
-  (less n offered),
+      (λ (old : Old n). before_trans mapping worker r b n (found.1 b (inl refl)) (is.1 n old))
+      (λ (after : GoesBefore mapping worker next n). before_trans mapping worker r next n (found.1 next (inr refl)) after)
+      (less n offered),
 )
 
 -- those on offer below a number

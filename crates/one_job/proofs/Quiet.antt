@@ -10,8 +10,9 @@ use Rattle.one_job.specs.Marks.{mark_at, IsFree, phase, phase_of, values, value_
 use Rattle.one_job.specs.Marks as mark
 use Rattle.one_job.specs.Places.{no_edge, edge_at}
 use Rattle.one_job.specs.Ports.{row_of}
-use Rattle.one_job.specs.Staged.{mark_of, is_finished, all_given, is_open, NoneOpen}
+use Rattle.one_job.specs.Staged.{mark_of, is_finished, all_given, may_claim, is_open, NoneOpen, MayRun}
 use Rattle.one_job.specs.View.{JobView, graph_of}
+use Rattle.one_job.specs.Pick.{IsOffered}
 use Rattle.one_job.specs.Kept.{Parts, Keeps}
 use Rattle.one_job.specs.declared.stage.Stage.{Stage}
 use Rattle.one_job.specs.declared.stage.Stage.TheVariants.{Free, Claimed, Finished, Failed}
@@ -110,3 +111,29 @@ module _ (j : JobView) (p : Parts) (pool : PoolView) (outs left : List (List ℤ
 
   pub edges_there : (n k e : ℕ) → n < length stages → get_or (row_of p.entering n) k None ≡ Some e → e < length edges
   edges_there n k e inside is = (enters_at edges n 0 (row_of p.entering n) k e (keeps.wired.enters n (subst (λ m. n < m) long inside)) is).0
+
+  -- ---- a node that may be claimed, by its stage
+
+  free_stage : (n : ℕ) (s : Stage) → get_or stages n Free ≡ s → may_claim edges stages (row_of p.entering n) s ≡ true → (mark_at j.marks n ≡ mark.Free) × (all_given edges stages (row_of p.entering n) ≡ true)
+  free_stage n Free at may = (mark_here n ∙ ap mark_of at, may)
+  free_stage n (Claimed told) at may = absurd (false≢true may)
+  free_stage n (Finished told) at may = absurd (false≢true may)
+  free_stage n (Failed code) at may = absurd (false≢true may)
+
+  stage_free : (n : ℕ) (s : Stage) → get_or stages n Free ≡ s → mark_at j.marks n ≡ mark.Free → all_given edges stages (row_of p.entering n) ≡ true → may_claim edges stages (row_of p.entering n) s ≡ true
+  stage_free n Free at free all = all
+  stage_free n (Claimed told) at free all = let bad : mark.Free ≡ mark.Claimed told.frame.places = sym free ∙ (mark_here n ∙ ap mark_of at) in absurd (cc)
+  stage_free n (Finished told) at free all = let bad : mark.Free ≡ mark.Finished told.frame.outputs = sym free ∙ (mark_here n ∙ ap mark_of at) in absurd (cc)
+  stage_free n (Failed code) at free all = let bad : mark.Free ≡ mark.Failed code = sym free ∙ (mark_here n ∙ ap mark_of at) in absurd (cc)
+
+  pub offered_of : (child : Bool) (n : ℕ) → MayRun edges stages p.entering j.compilation.graph.nodes j.kinds child n → IsOffered j child n
+  offered_of child n may =
+      let both = free_stage n (get_or stages n Free) refl may.free in
+      record { enabled = record { ready = all_ready n (subst (λ k. n < k) long may.there) both.1; unclaimed = both.0 }; sort = may.sort }
+
+  pub may_run : (child : Bool) (n : ℕ) → IsOffered j child n → MayRun edges stages p.entering j.compilation.graph.nodes j.kinds child n
+  may_run child n offered = record {
+    there = subst (λ k. n < k) (sym long) offered.enabled.ready.there;
+    free = stage_free n (get_or stages n Free) refl offered.enabled.unclaimed (ready_all n offered.enabled.ready offered.enabled.unclaimed);
+    sort = offered.sort;
+  }

@@ -1,5 +1,5 @@
 -- Which of the nodes that may be claimed a worker is handed.
-use Rattle.std.specs.Prelude.{◌≡◌, ℕ, ◌<◌, ◌⊎◌, ◌==◌, Bool, true, false, Option, Some, None, List, is_none, slice_index, slice_index_or, if◌then◌else◌}
+use Rattle.std.specs.Prelude.{◌≡◌, ℕ, ◌<◌, ◌⊎◌, ◌==◌, Bool, false, Option, Some, None, List, is_none, slice_index, slice_index_or, if◌then◌else◌}
 use Rattle.sdf_level.specs.declared.node.Node.{Node}
 use Rattle.sdf_level.specs.declared.node.Node.TheVariants as node
 use Rattle.worker_mapping.specs.Schedule.{GoesFirst}

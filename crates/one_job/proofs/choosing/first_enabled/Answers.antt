@@ -1,4 +1,5 @@
-use Rattle.std.proofs.Common.{◌≡◌, ◌<◌, ◌≤◌, length, arith}
+use Rattle.std.proofs.Common.{◌+◌, refl, sym, subst, arith}
+use Rattle.one_job.specs.Pick.{IsFirst}
 use Rattle.one_job.specs.Staged.{MayRun}
 use Rattle.one_job.proofs.Firsts.{Below, first_there, first_same, first_skip, first_step}
 use Rattle.one_job.proofs.choosing.first_enabled.Goals as goal
@@ -22,10 +23,16 @@ first_of-requires-clause-best_priority c = λ b is.
 pub loop-n-preserved : goal.loop-n-preserved
 loop-n-preserved c =
     let at = c.args.at.now in
+    let m = c.args.mapping.now in
+    let Offered = MayRun at.edges.now at.stages.now at.entering.now c.args.nodes.now c.args.kinds.now c.args.child in
     elim c.if-offered.branch [
-      | then-offered w ↦ ?
-      | else-offered w ↦ ?
+      | then-offered w ↦ subst (IsFirst m c.args.worker (Below Offered (c.loop-n.n + 1))) (sym w.best-is) (first_step m c.args.worker Offered c.loop-n.n c.loop-n.best w.first_of.result (w.if-offered.ensures.yes refl) c.loop-n.invariant w.first_of.ensures)
+      | else-offered w ↦ subst (IsFirst m c.args.worker (Below Offered (c.loop-n.n + 1))) (sym w.best-is) (first_skip m c.args.worker Offered c.loop-n.n c.loop-n.best (w.if-offered.ensures.no refl) c.loop-n.invariant)
     ]
 
 pub returns : goal.returns
-returns c = ?
+returns c =
+    let at = c.args.at.now in
+    let Offered = MayRun at.edges.now at.stages.now at.entering.now c.args.nodes.now c.args.kinds.now c.args.child in
+    first_same c.args.mapping.now c.args.worker (Below Offered c.loop-n.n) Offered c.loop-n.best
+    (λ n below. below.1) (λ n offered. (let there = offered.there in omega arith, offered)) c.loop-n.invariant

@@ -1,0 +1,17 @@
+pub mod ActingPlaces
+pub mod HeldFrames
+pub mod WrittenOuts
+pub mod NodeMarks
+pub mod NodeTies
+pub mod NodeSteps
+pub mod OutputRates
+pub mod NodeTasks
+pub mod ClaimedNodes
+pub mod FinishedNodes
+pub mod CalledNodes
+pub mod OfferedNodes
+pub mod AnsweredNodes
+pub mod EndedFiring
+pub mod StartedFiring
+pub mod GivenStates
+pub mod FiringEnds

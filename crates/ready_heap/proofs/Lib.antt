@@ -1,0 +1,3 @@
+pub mod Heaping
+pub mod HeldSteps
+pub mod GroupSteps
