@@ -14,3 +14,4 @@ pub mod Methods
 pub mod CompileSteps
 pub mod NodeMethods
 pub mod ActorCalls
+pub mod Placed

@@ -1,4 +1,5 @@
 pub mod View
+pub mod Places
 pub mod Offers
 pub mod Calls
 pub mod Running

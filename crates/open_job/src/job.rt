@@ -1,5 +1,5 @@
 // One open job and its events.
-ghost use Rattle.std.specs.Prelude.{◌≡◌, ◌≢◌, ◌⊎◌, ◌↔◌, ◌<◌, ℕ, None, Some, All, IfOk, IsErr, IsOk, IsTrue, OnErr, OnOk};
+ghost use Rattle.std.specs.Prelude.{◌≡◌, ◌≢◌, ◌⊎◌, ◌↔◌, ◌<◌, ℕ, None, Some, IfOk, IsOk, IsTrue, OnErr, OnOk, slice_index};
 ghost use Rattle.std.specs.Arc.{arc_value};
 ghost use Rattle.std.specs.Option.{option_map};
 
@@ -8,6 +8,7 @@ use crate::handed::Handed;
 use crate::nodes::{call_node, claim_node, finish_node, finish_node_call};
 use crate::offer::Offer;
 use crate::picking::{first_call, first_call_waiting, first_node, first_waiting};
+use crate::places::nth_configuration;
 use crate::stage::Stage;
 use job_compiler::{Compiled, Key};
 use job_preparing::{CompileEnd, CompileTask, Configuring, JobGiven};
@@ -50,7 +51,8 @@ impl OpenJob {
     ghost use Rattle.job_rules.specs.Words.{answer_of};
     ghost use Rattle.nested_jobs.specs.Marks.{Busy, Done, Open};
     ghost use Rattle.nested_jobs.specs.Rules.{Call};
-    ghost use Rattle.open_job.specs.View.{IsOfferedCall, IsOfferedCompilation, IsOfferedWork, IsQuiet, compilation_of, key_in, left_by, outcome_in, task};
+    ghost use Rattle.open_job.specs.View.{IsOfferedCall, IsOfferedCompilation, IsOfferedWork, IsQuiet, compilation_of, graph_in, key_in, left_by, outcome_in, task};
+    ghost use Rattle.open_job.specs.Places.{config_places};
     ghost use Rattle.open_job.specs.Offers.{IsPick};
     ghost use Rattle.open_job.specs.Calls.{FinishesCompilation, IsHanded, IsSoundFor, frame_of, with_item, with_mark};
 
@@ -66,6 +68,16 @@ impl OpenJob {
         ensures { result ≡ compilation_of self.now }
     {
         self.configuring.count() as usize
+    }
+
+    /// The place of a configuration actor among all actors of its graph.
+    pub fn config_place(&self, item: usize) -> usize
+        requires { item < compilation_of self.now }
+        ensures { result ≡ slice_index (config_places (graph_in self.now)) item }
+    {
+        let graph = self.configuring.firing().graph as usize;
+        let graphs = self.configuring.graphs();
+        nth_configuration(graphs.graphs.items()[graph].actors.items(), item)
     }
 
     /// Which of the items that are free and have work of their own goes first for a worker.

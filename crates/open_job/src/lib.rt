@@ -9,6 +9,7 @@ mod nodes;
 mod offer;
 mod opening;
 mod picking;
+mod places;
 mod stage;
 
 pub use handed::Handed;
