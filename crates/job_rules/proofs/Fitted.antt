@@ -1,13 +1,11 @@
 -- Kernels are asked what fits their signatures, and firings that are called have a value for each inherited parameter.
-use Rattle.std.proofs.Common.{◌≡◌, ℕ, zero, suc, ◌+◌, ◌≤◌, ◌&&◌, nat_lt, ℤ, List, [], ◌∷◌, ◌++◌, length, map, slice_get, Option, Some, None, if◌then◌else◌, refl, sym, ap, ◌∙◌, subst, arith, length-append}
+use Rattle.std.proofs.Common.{◌≡◌, ℕ, zero, suc, ◌+◌, ◌&&◌, nat_lt, ℤ, List, [], ◌∷◌, length, slice_get, Option, Some, None, if◌then◌else◌, refl, sym, ap, ◌∙◌, subst, arith, length-append}
 use Rattle.std.specs.List.{range_with_len}
 use Rattle.std.proofs.lemmas.List.{length-map}
 use Rattle.std.proofs.lemmas.Option.{get_or_from_slice_get, slice_get_within}
 use Rattle.kernel_gate.specs.Signed.{Counts}
-use Rattle.param_expr.specs.Tree.{Tree}
-use Rattle.param_resolver.specs.LevelOf.{in_rates, level_args, links_of, out_rates}
+use Rattle.param_resolver.specs.LevelOf.{level_args, links_of, out_rates}
 use Rattle.param_resolver.specs.Numbering.{acting, has_state, state_size}
-use Rattle.param_resolver.specs.Rates.{arg_values}
 use Rattle.pisdf_model.specs.Parts.{input_count}
 use Rattle.pisdf_model.specs.Range.{InRange}
 use Rattle.pisdf_model.specs.WellFormed.{WellFormed}
