@@ -1,5 +1,5 @@
 -- The claim and the finish of a job's compilation.
-use Rattle.std.proofs.Common.{◌≡◌, ◌≢◌, ◌⊎◌, ⊎_elim, ℕ, zero, suc, ◌+◌, ◌<◌, ◌≤◌, ℤ, List, [], ◌∷◌, ◌++◌, length, replicate, get_or, set, Option, Some, None, is_some, true, unwrap_or, Result, Ok, Err, IfOk, refl, sym, ap, ◌∙◌, subst, arith}
+use Rattle.std.proofs.Common.{◌≡◌, ◌≢◌, ◌⊎◌, ⊎_elim, ℕ, zero, suc, ◌+◌, ◌<◌, List, [], ◌∷◌, ◌++◌, length, replicate, get_or, set, Option, Some, None, is_some, true, unwrap_or, Result, Ok, Err, IfOk, refl, sym, ap, ◌∙◌, subst, arith}
 use Rattle.std.specs.Arc.{arc_value}
 use Rattle.std.specs.Global.{Global}
 use Rattle.std.specs.Option.{option_map}
@@ -7,16 +7,13 @@ use Rattle.std.specs.declared.alloc.AllocError.{AllocError}
 use Rattle.std_alloc.specs.declared.arc.Arc.{Arc}
 use Rattle.job_compiler.specs.declared.compiled.Compiled.{Compiled}
 use Rattle.kernel_gate.specs.Value.{Places}
-use Rattle.nested_jobs.specs.Marks as mark
-use Rattle.nested_jobs.specs.Marks.{Mark, Free, Busy, Open, Done}
+use Rattle.nested_jobs.specs.Marks.{Mark, Free, Busy, Done}
 use Rattle.pisdf_meaning.specs.declared.firing.Configured.{Configured}
 use Rattle.pisdf_meaning.specs.declared.firing.Firing.{Firing}
-use Rattle.pisdf_meaning.specs.declared.refusal.Refusal.{Refusal}
 use Rattle.pisdf_model.specs.declared.graph.Graph.{Graph}
 use Rattle.job_compiler.specs.declared.key.Key.{Key}
 use Rattle.job_rules.specs.Doing as doing
 use Rattle.job_rules.specs.Meant.{IsFit}
-use Rattle.job_rules.specs.Words as words
 use Rattle.job_rules.specs.Words.{Answer, Schedules, Refuses}
 use Rattle.job_rules.specs.Items.{compile_number}
 use Rattle.job_preparing.specs.CompileTasks.{CompileView, IsEndOf}
@@ -26,11 +23,10 @@ use Rattle.job_preparing.specs.View.{ConfiguringView}
 use Rattle.job_preparing.specs.declared.compiling.CompileEnd.{CompileEnd}
 use Rattle.job_preparing.specs.declared.compiling.CompileEnd.TheVariants as compiling
 use Rattle.job_running.specs.View as running
-use Rattle.job_running.specs.View.{RunningView}
 use Rattle.open_job.specs.View.{OpenView, compilation_of, key_in, left_by, left_if_ready}
 use Rattle.open_job.specs.Calls.{FinishesCompilation, compile_answer, with_mark}
 use Rattle.open_job.specs.Kept.{KeepsWith, StageFits, compile_mark, node_lent, node_marks, view_with}
-use Rattle.open_job.specs.Stages.{AreFresh, GoesOnWith, HasNoNodes}
+use Rattle.open_job.specs.Stages.{GoesOnWith, HasNoNodes}
 use Rattle.open_job.specs.declared.stage.Stage.{Stage}
 use Rattle.open_job.specs.declared.stage.Stage.TheVariants.{Waiting, Compiling, Refused, Nodes}
 use Rattle.open_job.proofs.Compiling.{schedules_so}

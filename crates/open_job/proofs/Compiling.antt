@@ -1,9 +1,8 @@
 -- The nodes of a job at their start, by the compilation that it came to.
-use Rattle.std.proofs.Common.{◌≡◌, ℕ, ℤ, List, [], ◌∷◌, length, map, replicate, slice_get, Option, Some, None, is_some, true, unwrap_or, Result, Ok, Err, refl, sym, ap, ◌∙◌, subst, arith}
+use Rattle.std.proofs.Common.{◌≡◌, ℕ, ℤ, List, [], ◌∷◌, length, map, replicate, Option, Some, None, is_some, true, unwrap_or, Result, Ok, refl, sym, ap, ◌∙◌, subst}
 use Rattle.std.proofs.lemmas.Option.{get_or_from_slice_get}
 use Rattle.std.proofs.lemmas.List.{length-replicate}
-use Rattle.job_compiler.specs.Compilation.{Compilation, IsCompiled, IsMapped}
-use Rattle.level_schedule.specs.declared.scheduling.LevelSchedule.{LevelSchedule}
+use Rattle.job_compiler.specs.Compilation.{Compilation, IsMapped}
 use Rattle.nested_jobs.specs.Marks.{Free}
 use Rattle.param_resolver.specs.Assignment.{numbers, param_faults, values_of}
 use Rattle.param_resolver.specs.EarlyCheck.{as_refusal}
@@ -17,7 +16,7 @@ use Rattle.single_rate.specs.Expanded.{edges, nodes}
 use Rattle.worker_mapping.specs.declared.mapping.Mapping.{Mapping}
 use Rattle.pisdf_meaning.specs.Causes.{unless_refused}
 use Rattle.pisdf_meaning.specs.Endings.{Then}
-use Rattle.pisdf_meaning.specs.Preparing.{Schedules, given_values, level_in, rated, resolved}
+use Rattle.pisdf_meaning.specs.Preparing.{Schedules, given_values, level_in, rated}
 use Rattle.pisdf_meaning.specs.declared.firing.Configured.{Configured}
 use Rattle.pisdf_meaning.specs.declared.firing.Firing.{Firing}
 use Rattle.pisdf_meaning.specs.declared.refusal.Refusal.{Refusal}

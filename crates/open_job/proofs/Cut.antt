@@ -1,15 +1,10 @@
 -- The marks of a job, cut at its compilation: before it those of the configuration actors, after it those of the nodes.
-use Rattle.std.proofs.Common.{◌≡◌, ℕ, zero, suc, ◌+◌, ◌-◌, ◌<◌, ◌&&◌, Bool, true, List, [], ◌∷◌, ◌++◌, length, get_or, set, Option, Some, None, refl, sym, ap, ◌∙◌, arith}
+use Rattle.std.proofs.Common.{◌≡◌, ℕ, zero, suc, ◌+◌, ◌-◌, ◌<◌, Bool, true, List, ◌∷◌, ◌++◌, length, get_or, set, refl, sym, ap, ◌∙◌, arith}
 use Rattle.std.proofs.Math.ListN.{get_or-append}
 use Rattle.std.proofs.Math.Seq.{get_or-append_seam, set-append_seam}
 use Rattle.std.proofs.lemmas.Bool.{and_from}
 use Rattle.std.proofs.lemmas.List.{get_or-append-add, set-append_left, set-append_right}
-use Rattle.nested_jobs.specs.Marks as mark
-use Rattle.nested_jobs.specs.Marks.{Mark, Free}
 use Rattle.nested_jobs.specs.Steps.{all_below}
-use Rattle.pisdf_meaning.specs.declared.firing.Firing.{Firing}
-use Rattle.job_rules.specs.Words.{Answer}
-use Rattle.job_preparing.specs.Handing.{ItemMarks, answers, mark_at}
 
 -- functions that agree everywhere are one
 pub same_function : {A B : Type 0} (f h : A → B) → ((a : A) → f a ≡ h a) → f ≡ h

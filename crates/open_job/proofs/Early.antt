@@ -1,24 +1,13 @@
 -- Configuration actors as items of their job, and the compilation.
-use Rattle.std.proofs.Common.{◌≡◌, ◌≢◌, ℕ, zero, suc, ◌+◌, ◌<◌, ◌≤◌, ◌⊎◌, ⊎_elim, List, [], ◌∷◌, ◌++◌, length, slice_get, Option, Some, None, IsSome, unwrap_or, refl, sym, ap, ◌∙◌, subst, arith}
-use Rattle.std.proofs.lemmas.Bool.{cases_lt}
-use Rattle.std.proofs.Math.ListN.{get_or}
-use Rattle.nested_jobs.specs.Marks as mark
-use Rattle.nested_jobs.specs.Marks.{Mark, Free}
-use Rattle.nested_jobs.specs.Rules.{Task, Work, Call}
-use Rattle.pisdf_model.specs.declared.actor.Body.{Body}
-use Rattle.pisdf_model.specs.declared.actor.Body.TheVariants as body
+use Rattle.std.proofs.Common.{◌≡◌, ℕ, ◌+◌, ◌<◌, length, sym, ◌∙◌, arith}
+use Rattle.nested_jobs.specs.Marks.{Free}
 use Rattle.pisdf_model.specs.declared.graph.Graph.{Graph}
-use Rattle.pisdf_meaning.specs.Configuring.{Configuration, configurations}
-use Rattle.pisdf_meaning.specs.declared.firing.Configured.{Configured}
-use Rattle.pisdf_meaning.specs.declared.firing.Firing.{Firing}
-use Rattle.job_rules.specs.Words as words
-use Rattle.job_rules.specs.Words.{Answer}
-use Rattle.job_rules.specs.Items.{compile_number, compile_rule, left_in, node_base, rule, schedule_of}
-use Rattle.job_preparing.specs.Handing.{answers, mark_at}
+use Rattle.job_rules.specs.Items.{compile_number, compile_rule, left_in, node_base}
+use Rattle.job_preparing.specs.Handing.{mark_at}
 use Rattle.job_preparing.specs.View as preparing
-use Rattle.job_preparing.specs.View.{ConfiguringView, task_of}
-use Rattle.open_job.specs.View.{IsOfferedCall, IsOfferedWork, OpenView, answered, compilation_of, graph_in, left_if_ready, task}
-use Rattle.open_job.specs.Kept.{compile_mark, marks_with, node_marks, view_with}
+use Rattle.job_preparing.specs.View.{ConfiguringView}
+use Rattle.open_job.specs.View.{IsOfferedCall, IsOfferedWork, OpenView, answered, left_if_ready, task}
+use Rattle.open_job.specs.Kept.{compile_mark, node_marks, view_with}
 use Rattle.open_job.specs.declared.stage.Stage.{Stage}
 use Rattle.open_job.proofs.Cut.{read_before, read_seam, read_after}
 use Rattle.open_job.proofs.Rules as rules

@@ -1,11 +1,11 @@
 -- When a job is quiet, and how it ends.
-use Rattle.std.proofs.Common.{◌≡◌, ◌≢◌, ◌↔◌, ℕ, zero, suc, ◌+◌, ◌<◌, ◌≤◌, ◌⊎◌, inl, inr, ⊎_elim, Bool, true, false, ℤ, List, [], ◌∷◌, length, get_or, slice_get, Option, Some, None, is_none, is_some, unwrap_or, Result, Ok, Err, refl, sym, ap, ◌∙◌, subst, arith}
+use Rattle.std.proofs.Common.{◌≡◌, ◌≢◌, ℕ, suc, ◌+◌, ◌<◌, ◌⊎◌, inl, inr, ⊎_elim, true, List, [], ◌∷◌, length, get_or, Option, Some, None, is_some, refl, sym, ap, ◌∙◌, subst, arith}
 use Rattle.std.proofs.lemmas.Option.{get_or_from_slice_get, slice_get-get_or}
 use Rattle.level_schedule.specs.declared.scheduling.LevelSchedule.{LevelSchedule}
 use Rattle.nested_jobs.specs.Marks as mark
 use Rattle.nested_jobs.specs.Marks.{Mark, Free, Busy, Open, Done}
-use Rattle.nested_jobs.specs.Rules.{Task, Work, Call, Values}
-use Rattle.nested_jobs.specs.Steps.{all_below, is_settled}
+use Rattle.nested_jobs.specs.Rules.{Task, Values}
+use Rattle.nested_jobs.specs.Steps.{is_settled}
 use Rattle.nested_jobs.proofs.Nesting.{below_all}
 use Rattle.pisdf_model.specs.InterfaceWires.{is_configuration}
 use Rattle.pisdf_model.specs.declared.actor.Actor.{Actor}
@@ -13,27 +13,26 @@ use Rattle.pisdf_model.specs.declared.actor.Body.{Body}
 use Rattle.pisdf_model.specs.declared.actor.Body.TheVariants.{Kernel, Config, Child, ConfigChild}
 use Rattle.pisdf_model.specs.declared.graph.Graph.{Graph}
 use Rattle.pisdf_meaning.specs.Configuring.{Configuration, configurations}
-use Rattle.pisdf_meaning.specs.Sound.{actor_at, no_actor}
+use Rattle.pisdf_meaning.specs.Sound.{no_actor}
 use Rattle.pisdf_meaning.specs.declared.firing.Configured.{Configured}
 use Rattle.pisdf_meaning.specs.declared.firing.Firing.{Firing}
 use Rattle.pisdf_meaning.specs.declared.refusal.Refusal.{Refusal}
 use Rattle.job_rules.specs.Words as words
 use Rattle.job_rules.specs.Words.{Answer, Gives, Schedules, Refuses}
-use Rattle.job_rules.specs.Items.{Prepared, both, compile_number, compile_rule, config_task, count, first_refusal, graph_of, leaves, left_from, left_in, node_base, nodes_in, outcome, outcome_of, prepared_by, refusal_or, schedule_of}
+use Rattle.job_rules.specs.Items.{both, compile_number, compile_rule, config_task, count, first_refusal, leaves, left_from, node_base, outcome_of, refusal_or, schedule_of}
 use Rattle.job_rules.proofs.Parts.{both_are}
-use Rattle.job_rules.proofs.Sources.{Found, found}
+use Rattle.job_rules.proofs.Sources.{found}
 use Rattle.job_preparing.specs.Handing.{answers, mark_at}
 use Rattle.job_preparing.specs.View as preparing
 use Rattle.job_preparing.specs.View.{ConfiguringView, task_of}
 use Rattle.open_job.specs.View.{IsQuiet, OpenView, answered, count_of, outcome_in, task}
 use Rattle.open_job.specs.Kept.{KeepsWith, compile_mark, node_marks, view_with}
 use Rattle.open_job.specs.declared.stage.Stage.{Stage}
-use Rattle.open_job.specs.declared.stage.Stage.TheVariants.{Waiting, Compiling, Refused, Nodes}
 use Rattle.open_job.proofs.Cut.{all_from}
 use Rattle.open_job.proofs.Early as early
 use Rattle.open_job.proofs.Ends.{refusals_agree, refused_early, refused_later}
 use Rattle.open_job.proofs.Offered as offered
-use Rattle.open_job.proofs.Offered.{IsAfter, all_done, where_is}
+use Rattle.open_job.proofs.Offered.{IsAfter, where_is}
 use Rattle.open_job.proofs.Rules as rules
 
 -- ---- settled items

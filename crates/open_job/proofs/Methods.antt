@@ -1,9 +1,8 @@
 -- What the calls of a job do to its view, stage by stage.
-use Rattle.std.proofs.Common.{◌≡◌, ◌≢◌, ◌⊎◌, inl, inr, ⊎_elim, ◌↔◌, ℕ, zero, suc, ◌+◌, ◌-◌, ◌<◌, ◌≤◌, Bool, true, false, ℤ, List, [], length, slice_get, Option, Some, None, is_some, unwrap_or, Result, Ok, Err, IfOk, IsOk, IsTrue, refl, sym, ap, ◌∙◌, subst, arith}
+use Rattle.std.proofs.Common.{◌≡◌, ◌≢◌, ℕ, ◌+◌, ◌<◌, Bool, true, ℤ, List, [], slice_get, Option, Some, None, is_some, unwrap_or, Result, Ok, Err, IfOk, refl, sym, ap, ◌∙◌, subst, arith}
 use Rattle.std.proofs.lemmas.Bool.{lt-ltb}
 use Rattle.std.specs.declared.alloc.AllocError.{AllocError}
 use Rattle.kernel_gate.specs.Value.{FrameView, Places}
-use Rattle.kernel_gate.specs.declared.fault.KernelFault.{KernelFault}
 use Rattle.level_schedule.specs.declared.scheduling.LevelSchedule.{LevelSchedule}
 use Rattle.nested_jobs.specs.Marks as mark
 use Rattle.nested_jobs.specs.Marks.{Mark, Free, Busy, Open, Done}
@@ -22,16 +21,16 @@ use Rattle.pisdf_meaning.specs.Endings.{End}
 use Rattle.job_rules.specs.Words as words
 use Rattle.job_rules.specs.Words.{Answer, Schedules, Refuses, answer_of}
 use Rattle.job_rules.specs.Items.{compile_number, compile_rule, config_task, first_refusal}
-use Rattle.job_preparing.specs.Handing.{EndSuits, IsFrameFor, IsNothingLent, answer_with, answers, end_of, lent_at, mark_at}
+use Rattle.job_preparing.specs.Handing.{EndSuits, IsFrameFor, IsNothingLent, answers, end_of, lent_at, mark_at}
 use Rattle.job_preparing.specs.View as preparing
 use Rattle.job_preparing.specs.View.{ConfiguringView}
 use Rattle.job_preparing.specs.declared.handing.JobGiven.{JobGiven}
 use Rattle.job_running.specs.View as running
 use Rattle.job_running.specs.View.{RunningView}
-use Rattle.open_job.specs.View.{IsOfferedCall, IsOfferedCompilation, IsOfferedWork, IsQuiet, OpenView, compilation_of, left_by, left_if_ready, outcome_in, task}
-use Rattle.open_job.specs.Calls.{IsHanded, IsHandedFor, FiresFor, with_item, with_mark}
+use Rattle.open_job.specs.View.{IsOfferedCall, IsOfferedWork, IsQuiet, OpenView, outcome_in, task}
+use Rattle.open_job.specs.Calls.{IsHanded, IsHandedFor, with_item, with_mark}
 use Rattle.open_job.specs.Offers.{IsPick}
-use Rattle.open_job.specs.Kept.{KeepsWith, StageFits, node_lent, view_with}
+use Rattle.open_job.specs.Kept.{KeepsWith, node_lent, view_with}
 use Rattle.open_job.specs.Running.{RunsFor}
 use Rattle.open_job.specs.Stages.{IsFirstCallWaiting, IsFirstNode, IsFirstWaiting}
 use Rattle.open_job.specs.declared.handed.Handed.TheVariants.{Configure}

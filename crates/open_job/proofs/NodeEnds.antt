@@ -1,16 +1,14 @@
 -- When a job with nodes is quiet, and how it ends.
-use Rattle.std.proofs.Common.{◌≡◌, ℕ, zero, suc, ◌+◌, ◌<◌, ◌≤◌, ◌⊎◌, ⊎_elim, Bool, true, false, ℤ, List, [], ◌∷◌, length, Option, Some, None, is_some, unwrap_or, Result, Ok, Err, refl, sym, ap, ◌∙◌, subst, arith}
-use Rattle.nested_jobs.specs.Marks as mark
-use Rattle.nested_jobs.specs.Marks.{Mark, Free, Done}
-use Rattle.nested_jobs.specs.Rules.{Task, Work, Values}
-use Rattle.nested_jobs.specs.Steps.{all_below, is_settled}
+use Rattle.std.proofs.Common.{◌≡◌, ℕ, suc, ◌+◌, ◌<◌, ◌⊎◌, ⊎_elim, true, ℤ, List, length, Option, Some, None, is_some, unwrap_or, refl, sym, ap, ◌∙◌, subst, arith}
+use Rattle.nested_jobs.specs.Marks.{Mark}
+use Rattle.nested_jobs.specs.Rules.{Task}
+use Rattle.nested_jobs.specs.Steps.{is_settled}
 use Rattle.nested_jobs.proofs.Nesting.{below_all}
 use Rattle.pisdf_model.specs.declared.graph.Graph.{Graph}
 use Rattle.pisdf_model.specs.declared.graph.Graphs.{Graphs}
 use Rattle.sdf_level.specs.declared.node.Node.TheVariants as node
 use Rattle.single_rate.specs.Expanded.{place_of}
 use Rattle.pisdf_meaning.specs.Configuring.{configurations}
-use Rattle.pisdf_meaning.specs.Endings.{End}
 use Rattle.pisdf_meaning.specs.Running.{Traces, given_by}
 use Rattle.pisdf_meaning.specs.declared.firing.Firing.{Firing}
 use Rattle.pisdf_meaning.specs.declared.firing.Given.{Given}
@@ -18,8 +16,8 @@ use Rattle.pisdf_meaning.specs.declared.refusal.Refusal.{Refusal}
 use Rattle.job_flow.specs.Frames as flow
 use Rattle.job_flow.specs.Outcomes.{ended}
 use Rattle.job_rules.specs.Words as words
-use Rattle.job_rules.specs.Words.{Answer, Gives, Schedules, Refuses, answer_of}
-use Rattle.job_rules.specs.Items.{Prepared, compile_number, first_refusal, given_in, graph_of, job_graph, no_schedule, node_base, node_values, nodes_in, outcome_of, prepared_in, refusal_or, trace_of, traces_in, values_in}
+use Rattle.job_rules.specs.Words.{Answer, Gives, Schedules, answer_of}
+use Rattle.job_rules.specs.Items.{compile_number, first_refusal, given_in, graph_of, job_graph, no_schedule, node_values, nodes_in, outcome_of, refusal_or, trace_of, traces_in, values_in}
 use Rattle.job_preparing.specs.Handing.{answers, mark_at}
 use Rattle.job_preparing.specs.View as preparing
 use Rattle.job_preparing.specs.View.{ConfiguringView}
@@ -34,7 +32,6 @@ use Rattle.open_job.proofs.Early as early
 use Rattle.open_job.proofs.Ending.{none_refused}
 use Rattle.open_job.proofs.Ends.{refusals_agree, refused_later}
 use Rattle.open_job.proofs.NodeRules as nodes
-use Rattle.open_job.proofs.Offered as offered
 use Rattle.open_job.proofs.Offered.{IsAfter, all_done, where_is}
 use Rattle.open_job.proofs.Rules as rules
 

@@ -1,15 +1,14 @@
 -- Steps of nodes by the numbers of items.
-use Rattle.std.proofs.Common.{◌≡◌, ◌≢◌, ◌⊎◌, inl, inr, ℕ, suc, ◌+◌, ◌-◌, ◌<◌, ◌≤◌, List, [], length, Option, Some, None, Result, Ok, Err, IfOk, OnErr, refl, sym, ap, ◌∙◌, subst, arith}
+use Rattle.std.proofs.Common.{◌≡◌, ◌≢◌, ◌⊎◌, inr, ℕ, ◌+◌, ◌-◌, ◌≤◌, List, Option, Some, None, Result, Ok, Err, IfOk, OnErr, sym, ap, ◌∙◌, subst, arith}
 use Rattle.std.specs.declared.alloc.AllocError.{AllocError}
 use Rattle.kernel_gate.specs.Value.{FrameView, Places}
 use Rattle.kernel_gate.specs.declared.fault.KernelFault.{KernelFault}
-use Rattle.nested_jobs.specs.Marks.{Mark, Free, Busy, Open, Done}
-use Rattle.nested_jobs.specs.Rules.{Task, Work, Call}
+use Rattle.nested_jobs.specs.Marks.{Busy, Open, Done}
+use Rattle.nested_jobs.specs.Rules.{Call}
 use Rattle.pisdf_meaning.specs.declared.firing.Configured.{Configured}
 use Rattle.pisdf_meaning.specs.declared.firing.Firing.{Firing}
 use Rattle.pisdf_meaning.specs.declared.refusal.Refusal.{Refusal}
-use Rattle.job_rules.specs.Words as words
-use Rattle.job_rules.specs.Words.{Answer, answer_of}
+use Rattle.job_rules.specs.Words.{answer_of}
 use Rattle.job_rules.specs.Items.{compile_number, compile_rule}
 use Rattle.job_preparing.specs.Handing.{EndSuits, answer_with, end_of, lent_at, mark_at}
 use Rattle.job_preparing.specs.View as preparing

@@ -1,8 +1,8 @@
 -- Nodes as items of their job.
-use Rattle.std.proofs.Common.{◌≡◌, ℕ, ℤ, suc, ◌+◌, ◌<◌, List, length, Option, Some, None, refl, sym, ap, ◌∙◌, subst, arith}
+use Rattle.std.proofs.Common.{◌≡◌, ℕ, ℤ, ◌+◌, length, Option, Some, sym, ap, ◌∙◌}
 use Rattle.std.specs.Option.{option_map}
 use Rattle.nested_jobs.specs.Marks as mark
-use Rattle.nested_jobs.specs.Rules.{Task, Work, Values}
+use Rattle.nested_jobs.specs.Rules.{Task}
 use Rattle.job_flow.specs.Frames as flow
 use Rattle.job_flow.specs.Graphs.{node_at}
 use Rattle.pisdf_model.specs.declared.graph.Graph.{Graph}
@@ -10,14 +10,13 @@ use Rattle.pisdf_model.specs.declared.graph.Graphs.{Graphs}
 use Rattle.pisdf_meaning.specs.declared.firing.Firing.{Firing}
 use Rattle.pisdf_meaning.specs.declared.refusal.Refusal.{Refusal}
 use Rattle.job_rules.specs.Words as words
-use Rattle.job_rules.specs.Words.{Answer}
-use Rattle.job_rules.specs.Items.{Prepared, actor_of, compile_number, count, graph_of, keeps_state, node_base, node_result, node_values, nodes_in, prepared_by, prepared_in, ready_task, schedule_of}
+use Rattle.job_rules.specs.Items.{actor_of, compile_number, graph_of, keeps_state, node_base, node_result, node_values, nodes_in, prepared_by, prepared_in, ready_task, schedule_of}
 use Rattle.job_preparing.specs.Handing.{answers, mark_at}
 use Rattle.job_preparing.specs.View as preparing
 use Rattle.job_preparing.specs.View.{ConfiguringView}
 use Rattle.job_running.specs.View as running
 use Rattle.job_running.specs.View.{RunningView}
-use Rattle.open_job.specs.View.{IsOfferedCall, IsOfferedWork, OpenView, answered, count_of, graph_in, task}
+use Rattle.open_job.specs.View.{IsOfferedCall, IsOfferedWork, OpenView, answered, count_of, task}
 use Rattle.open_job.specs.Kept.{compile_mark, view_with}
 use Rattle.open_job.specs.Running.{RunsFor}
 use Rattle.open_job.specs.declared.stage.Stage.TheVariants.{Nodes}

@@ -1,12 +1,11 @@
 -- Steps of nodes, as steps of their job.
-use Rattle.std.proofs.Common.{◌≡◌, ◌≢◌, ℕ, zero, suc, ◌+◌, ◌<◌, ◌≤◌, ◌&&◌, nat_lt, ◌⊎◌, inl, inr, Bool, true, false, ℤ, List, [], ◌∷◌, length, Option, Some, None, Result, Ok, Err, IsOk, if◌then◌else◌, refl, sym, ap, ◌∙◌, subst, arith, ltb-true}
+use Rattle.std.proofs.Common.{◌≡◌, ℕ, ◌+◌, ◌<◌, ◌&&◌, nat_lt, ◌⊎◌, inl, inr, Bool, true, false, ℤ, List, length, Option, Some, None, Result, Ok, Err, if◌then◌else◌, refl, sym, ap, ◌∙◌, subst, arith, ltb-true}
 use Rattle.std.proofs.lemmas.Bool.{and_parts, le-ltb}
 use Rattle.std.specs.declared.alloc.AllocError.{AllocError}
 use Rattle.kernel_gate.specs.Value.{FrameView, Places}
 use Rattle.kernel_gate.specs.declared.fault.KernelFault.{KernelFault}
-use Rattle.nested_jobs.specs.Marks as mark
 use Rattle.nested_jobs.specs.Marks.{Mark, Free, Busy, Open, Done}
-use Rattle.nested_jobs.specs.Rules.{Task, Work, Call}
+use Rattle.nested_jobs.specs.Rules.{Task, Call}
 use Rattle.pisdf_model.specs.declared.graph.Graph.{Graph}
 use Rattle.pisdf_model.specs.declared.graph.Graphs.{Graphs}
 use Rattle.sdf_level.specs.declared.node.Node.{Node}
@@ -17,7 +16,7 @@ use Rattle.job_flow.specs.Graphs.{node_at}
 use Rattle.one_job.specs.View.{IsFiring}
 use Rattle.job_rules.specs.Words as words
 use Rattle.job_rules.specs.Words.{Answer, answer_of}
-use Rattle.job_rules.specs.Items.{compile_number, edges_in, is_ready_by, node_task, nodes_in}
+use Rattle.job_rules.specs.Items.{compile_number, edges_in, is_ready_by, node_task}
 use Rattle.job_rules.proofs.Parts.{passed}
 use Rattle.job_preparing.specs.Handing.{EndSuits, answer_with, end_of, lent_at, mark_at}
 use Rattle.job_preparing.specs.View as preparing
@@ -25,10 +24,9 @@ use Rattle.job_preparing.specs.View.{ConfiguringView, HasInherited}
 use Rattle.job_preparing.specs.declared.handing.JobGiven.{JobGiven}
 use Rattle.job_running.specs.View as running
 use Rattle.job_running.specs.View.{RunningView}
-use Rattle.job_running.specs.Calls.{IsEndOfCall}
 use Rattle.open_job.specs.View.{IsOfferedCall, IsOfferedWork, OpenView, task}
 use Rattle.open_job.specs.Calls.{IsHanded, IsHandedFor, IsSoundFor, frame_of, with_item, with_mark}
-use Rattle.open_job.specs.Kept.{KeepsWith, compile_mark, node_lent, node_marks, view_with}
+use Rattle.open_job.specs.Kept.{KeepsWith, node_lent, node_marks, view_with}
 use Rattle.open_job.specs.Running.{RunsFor}
 use Rattle.open_job.specs.Stages.{CallsNode, ClaimsNode, FinishesCall, FinishesNode, HasNodes, MayAnswer, MayCall, MayClaim, MayFinish, NodesGoOn, with_node, with_node_mark}
 use Rattle.open_job.specs.declared.handed.Handed.{Handed}

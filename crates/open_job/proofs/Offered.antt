@@ -1,8 +1,7 @@
 -- Which items a job offers in each of its stages.
-use Rattle.std.proofs.Common.{◌≡◌, ◌≢◌, ℕ, zero, suc, ◌+◌, ◌-◌, ◌<◌, ◌≤◌, ◌⊎◌, inl, inr, ⊎_elim, true, false, List, [], ◌∷◌, length, slice_get, Option, Some, None, is_some, unwrap_or, refl, sym, ap, ◌∙◌, subst, arith}
+use Rattle.std.proofs.Common.{◌≡◌, ℕ, zero, suc, ◌+◌, ◌-◌, ◌<◌, ◌≤◌, ◌⊎◌, inl, inr, ⊎_elim, true, List, [], ◌∷◌, length, slice_get, Option, Some, None, is_some, refl, sym, ap, ◌∙◌, subst, arith}
 use Rattle.std.proofs.lemmas.Bool.{cases_lt}
 use Rattle.std.proofs.lemmas.Option.{slice_get_within}
-use Rattle.level_schedule.specs.declared.scheduling.LevelSchedule.{LevelSchedule}
 use Rattle.nested_jobs.specs.Marks as mark
 use Rattle.nested_jobs.specs.Marks.{Mark, Free}
 use Rattle.nested_jobs.specs.Rules.{Task, Work, Call, Values}
@@ -12,7 +11,7 @@ use Rattle.pisdf_meaning.specs.declared.firing.Configured.{Configured}
 use Rattle.pisdf_meaning.specs.declared.firing.Firing.{Firing}
 use Rattle.job_rules.specs.Words as words
 use Rattle.job_rules.specs.Words.{Answer}
-use Rattle.job_rules.specs.Items.{Prepared, compile_number, compile_rule, graph_of, leaves, left_from, left_in, node_base, nodes_in, prepared_by, schedule_of}
+use Rattle.job_rules.specs.Items.{compile_number, compile_rule, leaves, left_from, left_in, node_base, prepared_by, schedule_of}
 use Rattle.job_rules.proofs.Parts.{both_are}
 use Rattle.job_preparing.specs.Handing.{answers, mark_at}
 use Rattle.job_preparing.specs.View as preparing

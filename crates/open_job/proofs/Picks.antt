@@ -1,19 +1,17 @@
 -- The first item of a job is the first of those in its stage.
-use Rattle.std.proofs.Common.{◌≡◌, ◌≢◌, ℕ, zero, suc, ◌+◌, ◌-◌, ◌<◌, ◌≤◌, ◌==◌, nat_lt, ◌⊎◌, inl, inr, ⊎_elim, Bool, true, false, not, ◌&&◌, [], length, Option, Some, None, is_some, slice_index, refl, sym, ap, ◌∙◌, subst, arith, if◌then◌else◌}
+use Rattle.std.proofs.Common.{◌≡◌, ◌≢◌, ℕ, ◌+◌, ◌-◌, ◌<◌, ◌≤◌, ◌==◌, nat_lt, ◌⊎◌, inl, inr, ⊎_elim, Bool, true, false, not, ◌&&◌, [], length, Option, Some, None, slice_index, refl, sym, ap, ◌∙◌, subst, arith, if◌then◌else◌}
 use Rattle.std.proofs.lemmas.Bool.{cases_lt, le-ltb, lt-ltb}
 use Rattle.nested_jobs.specs.Marks as mark
-use Rattle.job_compiler.specs.Compilation.{IsMapped}
-use Rattle.job_rules.specs.Items.{Prepared, compile_number, edges_in, node_base, nodes_in, prepared_by, prepared_in, schedule_of}
+use Rattle.job_rules.specs.Items.{Prepared, compile_number, node_base, prepared_in}
 use Rattle.job_preparing.specs.View as preparing
 use Rattle.job_preparing.specs.View.{ConfiguringView}
 use Rattle.job_running.specs.View as running
 use Rattle.job_running.specs.View.{RunningView}
 use Rattle.one_job.specs.Pick as one
 use Rattle.worker_mapping.specs.Schedule.{GoesFirst}
-use Rattle.worker_mapping.specs.declared.mapping.Mapping.{Mapping}
 use Rattle.open_job.specs.View.{IsOfferedCall, IsOfferedWork, OpenView, answered}
-use Rattle.open_job.specs.Offers.{GoesBefore, IsFirst, IsPick, ItemStands, NodeStands, Stands, StandsAsNode, decide, goes_first, is_more_urgent}
-use Rattle.open_job.specs.Kept.{compile_mark, node_marks, view_with}
+use Rattle.open_job.specs.Offers.{GoesBefore, IsFirst, IsPick, ItemStands, NodeStands, Stands, StandsAsNode, decide}
+use Rattle.open_job.specs.Kept.{view_with}
 use Rattle.open_job.specs.Running.{RunsFor}
 use Rattle.open_job.specs.Stages.{IsFirstActor, IsFirstCallWaiting, IsFirstNode, IsFirstWaiting, IsNodeFirst, early_offer, node_offer, offer_before}
 use Rattle.open_job.specs.declared.offer.Offer.{Offer}

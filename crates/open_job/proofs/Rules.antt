@@ -1,20 +1,15 @@
 -- What the items of a job are to do, part by part: its configuration actors, its compilation, its nodes.
-use Rattle.std.proofs.Common.{◌≡◌, ℕ, zero, suc, ◌+◌, ◌<◌, List, [], ◌∷◌, ◌++◌, length, slice_get, Option, Some, None, refl, sym, ap, ◌∙◌, arith}
-use Rattle.std.specs.Option.{option_map}
-use Rattle.level_schedule.specs.declared.scheduling.LevelSchedule.{LevelSchedule}
+use Rattle.std.proofs.Common.{◌≡◌, ℕ, zero, suc, ◌+◌, ◌<◌, List, [], ◌∷◌, ◌++◌, length, slice_get, Some, None, refl, ap, ◌∙◌, arith}
 use Rattle.nested_jobs.specs.Marks as mark
 use Rattle.nested_jobs.specs.Marks.{Mark}
-use Rattle.nested_jobs.specs.Rules.{Task, Values}
-use Rattle.job_flow.specs.Frames as flow
+use Rattle.nested_jobs.specs.Rules.{Values}
 use Rattle.pisdf_model.specs.declared.graph.Graph.{Graph}
 use Rattle.pisdf_meaning.specs.Configuring.{Configuration, configurations}
-use Rattle.pisdf_meaning.specs.declared.firing.Configured.{Configured}
 use Rattle.pisdf_meaning.specs.declared.firing.Firing.{Firing}
-use Rattle.job_rules.specs.Words as words
 use Rattle.job_rules.specs.Words.{Answer}
-use Rattle.job_rules.specs.Items.{Prepared, both, compile_number, compile_rule, count, given_in, graph_of, leaves, left_from, left_in, node_base, node_result, node_rule, node_values, nodes_after, nodes_in, prepared_by, prepared_in, ready_task, rule, rule_from, schedule_of}
+use Rattle.job_rules.specs.Items.{Prepared, both, compile_number, compile_rule, count, graph_of, leaves, left_from, left_in, node_base, node_rule, node_values, nodes_after, nodes_in, prepared_by, prepared_in, ready_task, rule, rule_from, schedule_of}
 use Rattle.job_rules.proofs.Numbers.{rule_of_compilation, rule_of_node}
-use Rattle.job_preparing.specs.Handing.{ItemMarks, answers, mark_at}
+use Rattle.job_preparing.specs.Handing.{ItemMarks, answers}
 use Rattle.job_preparing.specs.View.{task_of}
 use Rattle.open_job.proofs.Cut.{read_after, read_before, read_seam, same_function}
 

@@ -1,35 +1,26 @@
 -- What a step of one item keeps of its job.
-use Rattle.std.proofs.Common.{◌≡◌, ◌≢◌, ℕ, zero, suc, ◌+◌, ◌-◌, ◌<◌, ◌≤◌, ◌⊎◌, inl, inr, ⊎_elim, Bool, true, false, ℤ, List, [], ◌∷◌, ◌++◌, length, set, get_or, Option, Some, None, is_some, if◌then◌else◌, refl, sym, ap, ◌∙◌, subst, arith}
-use Rattle.std.proofs.lemmas.Bool.{cases_eq}
+use Rattle.std.proofs.Common.{◌≡◌, ◌≢◌, ℕ, zero, suc, ◌+◌, ◌<◌, ◌⊎◌, inl, inr, ⊎_elim, List, [], ◌∷◌, length, set, get_or, Option, Some, None, is_some, refl, sym, ap, ◌∙◌, arith}
 use Rattle.std.proofs.lemmas.List.{length-set}
-use Rattle.kernel_gate.specs.Value.{FrameView, Places}
+use Rattle.kernel_gate.specs.Value.{Places}
 use Rattle.level_schedule.specs.declared.scheduling.LevelSchedule.{LevelSchedule}
 use Rattle.nested_jobs.specs.Marks as mark
-use Rattle.nested_jobs.specs.Marks.{Mark, Free, Busy, Open, Done}
-use Rattle.nested_jobs.specs.Rules.{Task, Work, Call}
-use Rattle.pisdf_model.specs.declared.graph.Graph.{Graph}
-use Rattle.pisdf_model.specs.declared.graph.Graphs.{Graphs}
+use Rattle.nested_jobs.specs.Marks.{Mark, Free, Done}
 use Rattle.pisdf_meaning.specs.declared.firing.Firing.{Firing}
-use Rattle.job_rules.specs.Words as words
 use Rattle.job_rules.specs.Words.{Answer, Schedules}
-use Rattle.job_rules.specs.Items.{compile_number, graph_of, node_base, nodes_in}
-use Rattle.job_preparing.specs.Handing.{Lent, ItemMarks, lent_at, mark_at}
+use Rattle.job_rules.specs.Items.{compile_number, node_base}
+use Rattle.job_preparing.specs.Handing.{mark_at}
 use Rattle.job_preparing.specs.View as preparing
 use Rattle.job_preparing.specs.View.{ConfiguringView}
-use Rattle.job_running.specs.View as running
 use Rattle.job_running.specs.View.{RunningView}
-use Rattle.open_job.specs.View.{IsOfferedCall, IsOfferedWork, OpenView, task}
+use Rattle.open_job.specs.View.{OpenView}
 use Rattle.open_job.specs.Calls.{with_item, with_mark}
 use Rattle.open_job.specs.Kept.{KeepsWith, StageFits, compile_mark, node_lent, node_marks, view_with}
 use Rattle.open_job.specs.Running.{RunsFor}
-use Rattle.open_job.specs.Stages.{HasNodes, MayCall, MayClaim, with_node, with_node_mark}
+use Rattle.open_job.specs.Stages.{with_node, with_node_mark}
 use Rattle.open_job.specs.declared.stage.Stage.{Stage}
 use Rattle.open_job.specs.declared.stage.Stage.TheVariants.{Waiting, Compiling, Refused, Nodes}
-use Rattle.open_job.proofs.Cut.{put_after, put_before, read_after, read_before, read_seam}
-use Rattle.open_job.proofs.Early as early
-use Rattle.open_job.proofs.NodeRules as nodes
-use Rattle.open_job.proofs.Offered as offered
-use Rattle.open_job.proofs.Offered.{IsAfter, all_done}
+use Rattle.open_job.proofs.Cut.{put_after, put_before}
+use Rattle.open_job.proofs.Offered.{all_done}
 
 -- ---- lists that are written at one place
 

@@ -1,6 +1,6 @@
-use Rattle.std.proofs.Common.{◌≡◌, ◌⊎◌, inl, inr, Some, None, Ok, Err, Result, IfOk, OnErr, refl, sym, ap, ◌∙◌, subst, arith}
+use Rattle.std.proofs.Common.{ap, arith}
 use Rattle.nested_jobs.specs.Marks as mark
-use Rattle.open_job.proofs.Methods.{actor_call, actor_task}
+use Rattle.open_job.proofs.Methods.{actor_call}
 use Rattle.open_job.proofs.NodeMethods.{above, call_ok, call_other, called_firing, called_inherited, called_keeps, called_view, uncalled_view}
 use Rattle.open_job.proofs.ActorCalls.{call_inherits, call_keeps, call_tasks, call_view}
 use Rattle.open_job.proofs.job.OpenJob.call.Goals as goal

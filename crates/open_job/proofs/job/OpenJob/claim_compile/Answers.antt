@@ -1,6 +1,5 @@
-use Rattle.std.proofs.Common.{◌≡◌, ◌⊎◌, inl, inr, Some, None, Ok, Err, Result, IfOk, OnErr, refl, sym, ap, ◌∙◌, subst, arith}
+use Rattle.std.proofs.Common.{sym, ap, ◌∙◌, subst}
 use Rattle.open_job.proofs.CompileSteps.{claim_keeps, claim_view, no_nodes_waiting, ready_so, task_view, waits}
-use Rattle.job_preparing.specs.View as preparing
 use Rattle.open_job.specs.Kept.{KeepsWith, view_with}
 use Rattle.open_job.specs.declared.stage.Stage.{Stage}
 use Rattle.open_job.proofs.job.OpenJob.claim_compile.Goals as goal

@@ -1,4 +1,3 @@
-use Rattle.std.proofs.Common.{◌≡◌, ◌⊎◌, inl, inr, Some, None, Ok, Err, Result, IfOk, OnErr, refl, sym, ap, ◌∙◌, subst, arith}
 use Rattle.open_job.proofs.CompileSteps.{key_of_ready, ready_so}
 use Rattle.open_job.proofs.job.OpenJob.compile_key.Goals as goal
 

@@ -1,5 +1,4 @@
-use Rattle.std.proofs.Common.{◌≡◌, ◌⊎◌, inl, inr, Some, None, Ok, Err, Result, IfOk, OnErr, refl, sym, ap, ◌∙◌, subst, arith}
-use Rattle.job_preparing.specs.CompileTasks.{IsEndOf}
+use Rattle.std.proofs.Common.{sym, subst}
 use Rattle.open_job.specs.Calls.{FinishesCompilation}
 use Rattle.open_job.specs.Kept.{KeepsWith, view_with}
 use Rattle.open_job.specs.declared.stage.Stage.{Stage}

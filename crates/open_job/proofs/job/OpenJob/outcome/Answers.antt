@@ -1,4 +1,4 @@
-use Rattle.std.proofs.Common.{◌≡◌, ◌∙◌, refl, sym, ap}
+use Rattle.std.proofs.Common.{◌∙◌}
 use Rattle.open_job.proofs.Methods.{compiling_unquiet, left_nodes, nodes_outcome_ok, nodes_suits, quiet_nodes, ready_nodes, refused_outcome, waiting_outcome, waiting_refused}
 use Rattle.open_job.proofs.job.OpenJob.outcome.Goals as goal
 

@@ -1,4 +1,4 @@
-use Rattle.std.proofs.Common.{◌≡◌, Bool, true, false, not, IsTrue, refl, sym, ap, ◌∙◌, subst}
+use Rattle.std.proofs.Common.{◌≡◌, Bool, true, false, not, IsTrue, refl, sym, ◌∙◌}
 use Rattle.open_job.proofs.Methods.{compiling_unquiet, nodes_are_quiet, quiet_nodes, quiet_waiting, refused_quiet, waiting_settled, waiting_unready}
 use Rattle.open_job.proofs.job.OpenJob.quiet.Goals as goal
 
