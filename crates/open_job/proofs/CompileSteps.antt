@@ -4,7 +4,7 @@ use Rattle.std.specs.Arc.{arc_value}
 use Rattle.std.specs.Global.{Global}
 use Rattle.std.specs.Option.{option_map}
 use Rattle.std.specs.declared.alloc.AllocError.{AllocError}
-use Rattle.std_alloc.specs.declared.arc.Arc.{Arc}
+use Rattle.std.specs.declared.sync.Arc.{Arc}
 use Rattle.job_compiler.specs.declared.compiled.Compiled.{Compiled}
 use Rattle.kernel_gate.specs.Value.{Places}
 use Rattle.nested_jobs.specs.Marks.{Mark, Free, Busy, Done}
