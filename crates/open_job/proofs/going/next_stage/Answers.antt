@@ -2,7 +2,6 @@ use Rattle.std.proofs.Common.{◌≡◌, Some, sym, ap, ◌∙◌, subst}
 use Rattle.std.specs.Arc.{arc_value}
 use Rattle.job_preparing.specs.CompileTasks.{IsEndOf}
 use Rattle.job_preparing.specs.View as preparing
-use Rattle.job_preparing.specs.LeftSizes.{LeftSuits}
 use Rattle.job_preparing.specs.declared.compiling.CompileEnd.{CompileEnd}
 use Rattle.job_rules.specs.Items.{Prepared}
 use Rattle.job_rules.specs.Meant.{IsFit}
@@ -33,8 +32,7 @@ run-requires-clause-fit c =
 pub run-requires-clause-suits : goal.run-requires-clause-suits
 run-requires-clause-suits c =
     let same : arc_value c.in_ok-graphs-in-Ready.graphs ≡ c.args.configuring.now.graphs = c.in_ok-graphs-in-Ready.ensures ∙ c.graphs.ensures in
-    let P : Graphs → Type 0 = λ graphs. LeftSuits graphs.graphs (preparing.graph_in c.args.configuring.now) c.args.configuring.now.firing (preparing.left_by c.args.configuring.now) in
-    subst P (sym same) c.left-left.ensures.suits
+    rw same c.left-left.ensures.suits
 
 pub returns-in_ok-running-in-Ready : goal.returns-in_ok-running-in-Ready
 returns-in_ok-running-in-Ready c =
