@@ -22,7 +22,13 @@ use Rattle.pisdf_meaning.specs.declared.refusal.Refusal.{Refusal}
 use Rattle.sdf_level.specs.declared.node.Node.{Node}
 use Rattle.sdf_level.specs.declared.node.Node.TheVariants as node
 use Rattle.job_flow.specs.Frames as flow
-use Rattle.job_flow.specs.Frames.{inputs, lens}
+use Rattle.job_flow.specs.Frames.{arriving, arriving_below, inputs, lens, reads}
+use Rattle.param_resolver.specs.declared.level_set.LevelSet.{LevelSet}
+use Rattle.param_resolver.specs.LevelOf.{child_of}
+use Rattle.sdf_level.specs.Kept.{how_many}
+use Rattle.sdf_level.specs.Run.{is_into_actor}
+use Rattle.sdf_level.specs.declared.link.Link.{Link}
+use Rattle.sdf_level.specs.declared.single_rate.Edge.{Edge}
 use Rattle.job_flow.specs.Graphs.{JobGraph, node_at}
 use Rattle.job_flow.specs.Events.{IsReady}
 use Rattle.job_flow.specs.Laws.{InputsInAnyWords, ReadyInAnyWords, ReadyStays}
@@ -95,6 +101,19 @@ keeps_at : (graphs : List Graph) (own : List Actor) (a : ℕ) (actor : Actor) (b
 keeps_at graphs [] a actor b is at = absurd (cc)
 keeps_at graphs (x ∷ own) zero actor b is at = let same : x ≡ actor = cc in let e : has_state graphs x ≡ b = cc in sym e ∙ ap (has_state graphs) same
 keeps_at graphs (x ∷ own) (suc a) actor b is at = keeps_at graphs own a actor b is at
+
+-- a node reads few lists
+long_below : {T : Type 0} (edges : List Edge) (tokens : List (List T)) (n k : ℕ) → length (arriving_below edges tokens n k) ≡ k
+long_below edges tokens n zero = refl
+long_below edges tokens n (suc k) = let l = length-append (arriving_below edges tokens n k) (arriving edges tokens n k ∷ []) in let i = long_below edges tokens n k in omega arith
+
+one_or_none : (b : Bool) → (if b then 1 else 0) ≤ 1
+one_or_none true = omega arith
+one_or_none false = omega arith
+
+many_within : (test : Link → Bool) (links : List Link) → how_many test links ≤ length links
+many_within test [] = omega arith
+many_within test (link ∷ links) = let i = many_within test links in let b = one_or_none (test link) in omega arith
 
 module _ (f : Fixed) (stages : List Stage) (frames : List (Option FrameView)) (rows : List (Vec (List TraceRow) Global)) (j : leased.JobView) (keeps : KeepsAll f stages frames rows j) (n : ℕ) where
   abbrev G : List Graph
@@ -186,6 +205,98 @@ module _ (f : Fixed) (stages : List Stage) (frames : List (Option FrameView)) (r
     pub node_is : node_at j.compilation.graph.nodes n ≡ node.Firing calls.a calls.k
     node_is = ap (λ (l : List Node). node_at l n) (nodes_are f stages frames rows j keeps) ∙ calls.at
 
+    -- ---- what it calls with
+
+    pub numbers : (which : Node) (a k : ℕ) → which ≡ node_at j.compilation.graph.nodes n → which ≡ node.Firing a k → (a ≡ calls.a) × (k ≡ calls.k)
+    numbers which a k at is =
+        let e : node.Firing a k ≡ node.Firing calls.a calls.k = sym is ∙ at ∙ node_is in
+        let x : a ≡ calls.a = cc in
+        let y : k ≡ calls.k = cc in
+        (x, y)
+
+    pub fires_here : (which : Node) → which ≡ node_at j.compilation.graph.nodes n → IsFiring which
+    fires_here which at = subst IsFiring (sym (at ∙ node_is)) tt
+
+    pub actor_inside : (a : ℕ) → a ≡ calls.a → a < length (acting g)
+    actor_inside a same = let i = slice_get_within (acting g) calls.a calls.actor calls.own in let s = same in omega arith
+
+    pub keeps_inside : (a : ℕ) (kept : List Bool) → a ≡ calls.a → kept ≡ f.keeps → a < length kept
+    keeps_inside a kept same are =
+        let i = actor_inside a same in
+        let l : length kept ≡ length (acting g) = ap (λ (l : List Bool). length l) (are ∙ keeps.parts.keeps_are) ∙ length-map (acting g) (has_state G) in
+        omega arith
+
+    pub set_inside : OneEach → (a : ℕ) → a ≡ calls.a → a < length f.set.places
+    set_inside many a same =
+        let i = actor_inside a same in
+        let l : length f.set.places ≡ length (acting g) = ap (λ (l : List ℕ). length l) keeps.parts.set_is.places ∙ (many G g (values_of f)).places in
+        omega arith
+
+    pub fired_is : (graphs : List Graph) (h : Graph) → graphs ≡ G → slice_get graphs f.place ≡ Some h → h ≡ g
+    fired_is graphs h are at =
+        let e : Some h ≡ Some g = sym at ∙ ap₂ (λ (l : List Graph) p. slice_get l p) are keeps.parts.place_is ∙ here f stages frames rows j keeps in
+        cc
+
+    pub place_inside : (graphs : List Graph) → graphs ≡ G → f.place < length graphs
+    place_inside graphs are = slice_get_within graphs f.place g (ap₂ (λ (l : List Graph) p. slice_get l p) are keeps.parts.place_is ∙ here f stages frames rows j keeps)
+
+    pub places_are : (graphs : List Graph) (h : Graph) → graphs ≡ G → slice_get graphs f.place ≡ Some h → f.set.places ≡ acting_places h
+    places_are graphs h are at = keeps.parts.set_is.places ∙ ap acting_places (sym (fired_is graphs h are at))
+
+    pub inside_of : (a : ℕ) (graphs : List Graph) (h : Graph) → a ≡ calls.a → graphs ≡ G → slice_get graphs f.place ≡ Some h → a < length (acting h)
+    inside_of a graphs h same are at = subst (λ (x : Graph). a < length (acting x)) (sym (fired_is graphs h are at)) (actor_inside a same)
+
+    pub args_inside : OneEach → (own : LevelSet) (a : ℕ) → a ≡ calls.a → own ≡ f.set → a < length own.args
+    args_inside many own a same is =
+        let i = actor_inside a same in
+        let l : length own.args ≡ length (acting g) = ap (λ (x : LevelSet). length x.args) is ∙ ap (λ (l : List (List ℤ)). length l) keeps.parts.set_is.args ∙ (many G g (values_of f)).args in
+        omega arith
+
+    pub child_known : EachPlaced → (own : LevelSet) (a : ℕ) → a ≡ calls.a → own ≡ f.set → (early : EarlyView) × (slice_get own.children a ≡ Some (Some early))
+    child_known each own a same is =
+        (early_of G calls.place (arg_values (values_of f) calls.exprs),
+        ap (λ (x : LevelSet). slice_get x.children a) is ∙ ap₂ (λ (l : List (Option EarlyView)) b. slice_get l b) keeps.parts.set_is.children same ∙ (each G g (values_of f) calls.a calls.actor calls.own).child
+        ∙ ap (λ b. Some (child_of G (values_of f) b)) calls.body_is)
+
+    pub caller_is : (graphs : List Graph) (caller : Actor) (a : ℕ) → graphs ≡ G → a ≡ calls.a → ((h : Graph) → slice_get graphs f.place ≡ Some h → slice_get (acting h) a ≡ Some caller) → slice_get (acting g) a ≡ Some caller
+    caller_is graphs caller a are same at = at g (ap₂ (λ (l : List Graph) p. slice_get l p) are keeps.parts.place_is ∙ here f stages frames rows j keeps)
+
+    pub calls_graph : (caller : Actor) (a : ℕ) → a ≡ calls.a → slice_get (acting g) a ≡ Some caller → caller.body ≡ Child calls.place calls.exprs
+    calls_graph caller a same at =
+        let e : Some caller ≡ Some calls.actor = sym at ∙ ap (slice_get (acting g)) same ∙ calls.own in
+        let is : caller ≡ calls.actor = cc in
+        ap (λ (x : Actor). x.body) is ∙ calls.body_is
+
+    -- it reads few lists
+    pub few_read : (read : List (List ℤ)) → read ≡ inputs (leased.graph_of j) (one.values j.marks) n → length read < 2 ^ 32
+    few_read read are =
+        let l : length read ≡ length (inputs (job_in f) (one.values j.marks) n) = ap (λ (l : List (List ℤ)). length l) are ∙ ap (λ (x : JobGraph ℤ). length (inputs x (one.values j.marks) n)) keeps.set_up.graph_is in
+        let r : length (inputs (job_in f) (one.values j.marks) n) ≡ how_many (is_into_actor calls.a) (job_in f).level.links =
+        ap (λ x. length (reads (job_in f) (one.values j.marks) x n)) calls.at ∙ long_below (job_in f).edges _ n (how_many (is_into_actor calls.a) (job_in f).level.links) in
+        let m = many_within (is_into_actor calls.a) (job_in f).level.links in
+        let k = keeps.set_up.is_job.level_kept.few_links in
+        omega arith
+
+    -- what it calls with, as the code found it
+    pub record IsCaller (graphs : List Graph) (own : LevelSet) (caller : Actor) (number turn : ℕ) (kept : Bool) : Type 0 where
+      pub graphs_are : graphs ≡ G
+      pub set_is : own ≡ f.set
+      pub number_is : number ≡ calls.a
+      pub turn_is : turn ≡ calls.k
+      pub found : slice_get (acting g) number ≡ Some caller
+      pub kept_at : slice_get f.keeps number ≡ Some kept
+
+    pub caller_so : (graphs items : List Graph) (own : LevelSet) (caller : Actor) (number turn a k : ℕ) (kept : Bool) (all_kept : List Bool) (which : Node) → which ≡ node_at j.compilation.graph.nodes n → which ≡ node.Firing a k → items ≡ G → all_kept ≡ f.keeps →
+        ((h : Graph) → slice_get items f.place ≡ Some h → slice_get (acting h) a ≡ Some caller) → (graphs ≡ items) × (own ≡ f.set) → (number ≡ a) × (turn ≡ k) → slice_get all_kept a ≡ Some kept → IsCaller graphs own caller number turn kept
+    caller_so graphs items own caller number turn a k kept all_kept which at is items_are kept_are actor_at places numbered kept_at = record {
+      graphs_are = places.0 ∙ items_are;
+      set_is = places.1;
+      number_is = numbered.0 ∙ (numbers which a k at is).0;
+      turn_is = numbered.1 ∙ (numbers which a k at is).1;
+      found = ap (slice_get (acting g)) numbered.0 ∙ actor_at g (ap₂ (λ (l : List Graph) p. slice_get l p) items_are keeps.parts.place_is ∙ here f stages frames rows j keeps);
+      kept_at = ap₂ (λ (l : List Bool) x. slice_get l x) (sym kept_are) numbered.0 ∙ kept_at;
+    }
+
     -- the firing with what the frame reads is the one that it calls
     pub called_is : (d : Firing) (caller : Actor) (number turn : ℕ) (kept : Bool) (args : List (List ℤ)) (graphs : List Graph) (read : List (List ℤ)) → graphs ≡ G → slice_get (acting g) number ≡ Some caller → number ≡ calls.a → turn ≡ calls.k → slice_get f.keeps number ≡ Some kept →
         args ≡ level_args g (values_of f) → read ≡ inputs (leased.graph_of j) (one.values j.marks) n →
@@ -195,6 +306,20 @@ module _ (f : Fixed) (stages : List Stage) (frames : List (Option FrameView)) (r
         let kept_is' : kept ≡ has_state G calls.actor = keeps_at G (acting g) number calls.actor kept (ap (slice_get (acting g)) number_is ∙ calls.own) (ap (λ (l : List Bool). slice_get l number) (sym keeps.parts.keeps_are) ∙ kept_at) in
         let reads' : read ≡ read_told = reads ∙ ap (λ (x : JobGraph ℤ). inputs x (one.values j.marks) n) keeps.set_up.graph_is ∙ sym (same_inputs f stages frames rows j keeps ready_words input_words n) in
         is ∙ rw (graphs_are, actor_is, turn_is, number_is, kept_is', args_are', reads') (sym calls.job_is)
+
+    pub called_ok : (r : Result Firing AllocError) (graphs : List Graph) (own : LevelSet) (caller : Actor) (number turn : ℕ) (kept : Bool) (read : List (List ℤ)) → IsCaller graphs own caller number turn kept → read ≡ inputs (leased.graph_of j) (one.values j.marks) n →
+        IfOk r (λ d. d ≡ child_firing graphs f.firing caller.name turn (tokens_at own.args number) kept calls.place (input_count graphs caller.body) read) → IfOk r (λ d. d ≡ offered.job)
+    called_ok (Ok d) graphs own caller number turn kept read is reads made =
+        called_is d caller number turn kept own.args graphs read is.graphs_are is.found is.number_is is.turn_is is.kept_at (ap (λ (x : LevelSet). x.args) is.set_is ∙ keeps.parts.set_is.args) reads made
+    called_ok (Err e) graphs own caller number turn kept read is reads made = tt
+
+    pub task_of : (r : Result Firing AllocError) (v : RunningView) → view_with f stages ≡ v → IfOk r (λ d. d ≡ offered.job) → IfOk r (λ d. task v n ≡ Some (Call d))
+    task_of (Ok d) v is same = ap (λ (x : RunningView). task x n) (sym is) ∙ offered.task_is ∙ ap (λ x. Some (Call x)) (sym same)
+    task_of (Err e) v is same = tt
+
+    pub inherits_of : (r : Result Firing AllocError) (v : RunningView) → view_with f stages ≡ v → IfOk r (λ d. d ≡ offered.job) → IfOk r (HasInherited v.graphs.graphs)
+    inherits_of (Ok d) v is same = subst (λ (x : RunningView). HasInherited x.graphs.graphs d) is (subst (HasInherited G) (sym same) (inherits offered.job calls))
+    inherits_of (Err e) v is same = tt
 
     pub keeps_waiting : (r : Result Firing AllocError) (frame : FrameView) (s : Stage) → IsWaiting r frame s → IfOk r (λ d. d ≡ offered.job) → lengths frame.outputs ≡ lens (leased.graph_of j) n →
         KeepsAll f (set stages n s) (set frames n (Some frame)) rows (record j { marks = set j.marks n (one.Claimed frame.places) })
@@ -252,3 +377,11 @@ module _ (f : Fixed) (stages : List Stage) (frames : List (Option FrameView)) (r
         let m : mark_of (spot f stages frames rows j keeps n) s ≡ mark.Busy = ap (mark_of (spot f stages frames rows j keeps n)) o.stage_is in
         let l : set (view_with f stages).lent n (lent_of s) ≡ (view_with f stages).lent = ap (λ x. set (view_with f stages).lent n (lent_of x)) o.stage_is ∙ lent_same in
         view_step f stages n s ∙ (λ i. record (view_with f stages) { marks = set (view_with f stages).marks n (m i); lent = l i })
+
+    pub view_ok : (r : Result Firing AllocError) (v : RunningView) → view_with f stages ≡ v → (frame : FrameView) (s : Stage) → IsWaiting r frame s → IfOk r (λ d. view_with f (set stages n s) ≡ record v { marks = set v.marks n (mark.Open d) })
+    view_ok (Ok d) v is frame s waits = view_opened d frame s waits ∙ ap (λ (x : RunningView). record x { marks = set x.marks n (mark.Open d) }) is
+    view_ok (Err e) v is frame s waits = tt
+
+    pub view_err : (r : Result Firing AllocError) (v : RunningView) → view_with f stages ≡ v → (frame : FrameView) (s : Stage) → IsWaiting r frame s → OnErr r (view_with f (set stages n s) ≡ record v { marks = set v.marks n mark.Busy })
+    view_err (Ok d) v is frame s waits = tt
+    view_err (Err e) v is frame s waits = view_lost frame s waits ∙ ap (λ (x : RunningView). record x { marks = set x.marks n mark.Busy }) is

@@ -15,3 +15,5 @@ pub mod EndedFiring
 pub mod StartedFiring
 pub mod GivenStates
 pub mod FiringEnds
+pub mod EndSizes
+pub mod SuitedEnds

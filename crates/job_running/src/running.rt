@@ -24,11 +24,11 @@ use job_flow::{faults_renamed, ready_stays};
 use kernel_gate::{Frame, KernelFault};
 use one_job::{Job, JobEnd};
 use param_expr::Name;
-use param_resolver::LevelSet;
+use param_resolver::{LevelSet, level_by_actor};
 use pisdf_meaning::{Firing, Path, Refusal, TraceRow};
 use pisdf_model::Graphs;
-use sdf_level::List;
-use single_rate::graphs_numbered;
+use sdf_level::{List, TokenName};
+use single_rate::{graphs_numbered, tokens_delivered};
 use std::alloc::{AllocError, Global};
 use std::collections::LinkedList;
 use std::marker::Model;
@@ -164,6 +164,7 @@ impl Running {
         ensures ok { IfOk result (λ d. self.new ≡ record self.old { marks = slice_set self.old.marks node (Open d) }) }
         ensures err { OnErr result (self.new ≡ record self.old { marks = slice_set self.old.marks node Busy }) }
     {
+        level_by_actor();
         faults_renamed::<i64, u8, Refusal>();
         ready_stays::<i64, u8, ()>();
         let which = self.job.node(node);
@@ -235,6 +236,9 @@ impl Running {
         ensures end { IfOk result (λ end. end_of end ≡ outcome_of self) }
         ensures suits { IfOk result (λ end. EndSuits self.graphs.graphs self.firing (end_of end)) }
     {
+        graphs_numbered();
+        tokens_delivered::<TokenName, TokenName, TokenName>();
+        faults_renamed::<i64, u8, Refusal>();
         let Running {
             graphs,
             compiled,

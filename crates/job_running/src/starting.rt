@@ -208,6 +208,7 @@ pub fn run(
     ensures free { IfOk result (λ r. r.marks ≡ replicate (length (nodes_of r)) Free) }
     ensures nothing { IfOk result (λ r. r.lent ≡ replicate (length (nodes_of r)) None) }
 {
+    level_by_actor();
     let firing = preparing.firing();
     let all = graphs.graphs.items();
     let graph = &all[firing.graph as usize];
