@@ -4,7 +4,7 @@ use Rattle.std.specs.Prelude.{Vec, is_none, unwrap_or, ◌↔◌, ◌⊎◌, IsO
 use Rattle.std.specs.Global.{Global}
 use Rattle.std.specs.declared.snapshot.Snapshot.{Snapshot}
 use Rattle.job_running.specs.declared.told.Told.{Told}
-use Rattle.std.proofs.lemmas.Bool.{cases_lt}
+use Rattle.std.proofs.lemmas.Bool.{cases_Bool, cases_lt}
 use Rattle.std.proofs.lemmas.List.{get_or-set_other, get_or-set_same, get_or_past, length-set, map-set}
 use Rattle.kernel_gate.specs.Value.{FrameView, Places, lengths}
 use Rattle.kernel_gate.specs.declared.fault.KernelFault.{KernelFault}
@@ -182,15 +182,12 @@ module _ (f : Fixed) (stages : List Stage) (frames : List (Option FrameView)) (r
 
   failed_below : (v : flow.Values ℤ ℕ) (i m : ℕ) (first : Failure ℕ) → failure_from v i m ≡ Some first → (first.node < i + m) × (v first.node ≡ Some (Err first.fault))
   failed_below v i zero first is = absurd (cc)
-  failed_below v i (suc m) first is = go (v i) refl is
+  failed_below v i (suc m) first is = go (v i) refl (λ e. let again = failed_below v (i + 1) m first e in (let l = again.0 in omega arith, again.1)) is
     where
-      later : failure_from v (i + 1) m ≡ Some first → (first.node < i + suc m) × (v first.node ≡ Some (Err first.fault))
-      later e = let again = failed_below v (i + 1) m first e in (let l = again.0 in omega arith, again.1)
-
-      go : (o : Option (Result (List (List ℤ)) ℕ)) → v i ≡ o → failure_or i o (failure_from v (i + 1) m) ≡ Some first → (first.node < i + suc m) × (v first.node ≡ Some (Err first.fault))
-      go None at e = later e
-      go (Some (Ok outs)) at e = later e
-      go (Some (Err fault)) at e =
+      go : (o : Option (Result (List (List ℤ)) ℕ)) → v i ≡ o → (failure_from v (i + 1) m ≡ Some first → (first.node < i + suc m) × (v first.node ≡ Some (Err first.fault))) → failure_or i o (failure_from v (i + 1) m) ≡ Some first → (first.node < i + suc m) × (v first.node ≡ Some (Err first.fault))
+      go None at later e = later e
+      go (Some (Ok outs)) at later e = later e
+      go (Some (Err fault)) at later e =
           let same : record { node = i; fault = fault } ≡ first = cc in
           let P : Failure ℕ → Type 0 = λ x. (x.node < i + suc m) × (v x.node ≡ Some (Err x.fault)) in
           subst P same (omega arith, at)
@@ -254,22 +251,24 @@ state_first [] traces = refl
 state_first (one ∷ configured) [] = refl
 state_first (one ∷ configured) (t ∷ traces) = refl
 
+module _ (graphs : List Graph) (actors : List Actor) (x : Actor) (more : (configured : List Configured) (traces : List (List TraceRow)) (left : List (List ℤ)) → actor_states graphs actors (with_traces configured traces) left ≡ actor_states graphs actors configured left) where
+  rest_same : (left : List (List ℤ)) (configured : List Configured) (traces : List (List TraceRow)) → actor_states graphs actors (drop 1 (with_traces configured traces)) left ≡ actor_states graphs actors (drop 1 configured) left
+  rest_same left [] traces = refl
+  rest_same left (one ∷ configured) [] = more configured [] left
+  rest_same left (one ∷ configured) (t ∷ traces) = more configured traces left
+
+  one_same : (configured : List Configured) (traces : List (List TraceRow)) (left : List (List ℤ)) → actor_states graphs (x ∷ actors) (with_traces configured traces) left ≡ actor_states graphs (x ∷ actors) configured left
+  one_same configured traces left = ⊎_elim
+      (λ (is : is_configuration x.body ≡ true). rw is (ap₂ (λ a l. a ∷ l) (state_first configured traces) (rest_same left configured traces)))
+      (λ (is : is_configuration x.body ≡ false). ⊎_elim
+      (λ (has : has_state graphs x ≡ true). rw (is, has) (ap (λ l. tokens_at left 0 ∷ l) (more configured traces (drop 1 left))))
+      (λ (has : has_state graphs x ≡ false). rw (is, has) (ap (λ l. [] ∷ l) (more configured traces left)))
+      (cases_Bool (has_state graphs x)))
+      (cases_Bool (is_configuration x.body))
+
 states_same : (graphs : List Graph) (actors : List Actor) (configured : List Configured) (traces : List (List TraceRow)) (left : List (List ℤ)) → actor_states graphs actors (with_traces configured traces) left ≡ actor_states graphs actors configured left
 states_same graphs [] configured traces left = refl
-states_same graphs (x ∷ actors) configured traces left = go (is_configuration x.body) refl
-  where
-    rest : (configured : List Configured) (traces : List (List TraceRow)) → actor_states graphs actors (drop 1 (with_traces configured traces)) left ≡ actor_states graphs actors (drop 1 configured) left
-    rest [] traces = refl
-    rest (one ∷ configured) [] = states_same graphs actors configured [] left
-    rest (one ∷ configured) (t ∷ traces) = states_same graphs actors configured traces left
-
-    go : (b : Bool) → is_configuration x.body ≡ b → actor_states graphs (x ∷ actors) (with_traces configured traces) left ≡ actor_states graphs (x ∷ actors) configured left
-    go true is = rw is (ap₂ (λ a l. a ∷ l) (state_first configured traces) (rest configured traces))
-    go false is = level (has_state graphs x) refl
-      where
-        level : (h : Bool) → has_state graphs x ≡ h → actor_states graphs (x ∷ actors) (with_traces configured traces) left ≡ actor_states graphs (x ∷ actors) configured left
-        level true has = rw (is, has) (ap (λ l. tokens_at left 0 ∷ l) (states_same graphs actors configured traces (drop 1 left)))
-        level false has = rw (is, has) (ap (λ l. [] ∷ l) (states_same graphs actors configured traces left))
+states_same graphs (x ∷ actors) configured traces left = one_same graphs actors x (λ c t l. states_same graphs actors c t l) configured traces left
 
 pub state_same : (graphs : List Graph) (g : Graph) (configured : List Configured) (traces : List (List TraceRow)) (left : List (List ℤ)) → state_after graphs g (with_traces configured traces) left ≡ state_after graphs g configured left
 state_same graphs g configured traces left = ap (λ l. fifo_states g g.fifos left ++ l) (states_same graphs g.actors configured traces (drop (length (filter (is_kept g) g.fifos)) left))
