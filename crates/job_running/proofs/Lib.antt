@@ -13,6 +13,7 @@ pub mod OfferedNodes
 pub mod AnsweredNodes
 pub mod EndedFiring
 pub mod StartedFiring
+pub mod NamedKernels
 pub mod GivenStates
 pub mod FiringEnds
 pub mod EndSizes
