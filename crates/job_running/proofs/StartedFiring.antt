@@ -3,7 +3,7 @@ use Rattle.std.proofs.Common.{◌≡◌, ◌≢◌, ℕ, zero, suc, ◌+◌, ◌
 use Rattle.std.specs.Prelude.{slice_index}
 use Rattle.std.proofs.lemmas.Bool.{cases_lt}
 use Rattle.std.proofs.lemmas.List.{get_or-replicate, get_or_past, length-map, length-replicate}
-use Rattle.std.proofs.lemmas.Option.{get_or_from_slice_get}
+use Rattle.std.proofs.lemmas.Option.{get_or_from_slice_get, slice_get_within}
 use Rattle.kernel_gate.specs.Value.{FrameView, lengths}
 use Rattle.param_resolver.specs.EarlyCheck.{as_refusal}
 use Rattle.param_resolver.specs.LevelOf.{AreOneEach, level_args, level_faults, links_of, sources_of}
@@ -19,6 +19,7 @@ use Rattle.pisdf_meaning.specs.Preparing.{level_in, rated, resolved}
 use Rattle.pisdf_meaning.specs.Running.{link_starts, source_tokens}
 use Rattle.pisdf_meaning.specs.TopLevel.{IsLevelSet}
 use Rattle.pisdf_meaning.specs.declared.outcome.TraceRow.{TraceRow}
+use Rattle.pisdf_meaning.specs.declared.firing.Firing.{Firing}
 use Rattle.pisdf_meaning.specs.declared.refusal.Refusal.{Refusal}
 use Rattle.pisdf_meaning.proofs.KeptSizes.{Levelled}
 use Rattle.pisdf_meaning.proofs.MadeLevels.{levels_made}
@@ -34,7 +35,7 @@ use Rattle.sdf_level.specs.declared.node.Node.{Node}
 use Rattle.single_rate.specs.Expanded.{edges, nodes}
 use Rattle.job_compiler.specs.Compilation.{Compilation}
 use Rattle.job_flow.specs.Graphs.{IsJobGraph, JobGraph}
-use Rattle.job_rules.specs.Items.{no_graph}
+use Rattle.job_rules.specs.Items.{graph_of, no_graph}
 use Rattle.job_rules.specs.Meant.{IsFit}
 use Rattle.one_job.specs.Marks as one
 use Rattle.one_job.specs.View as leased
@@ -57,6 +58,16 @@ row_of_empty : (counts : List ℕ) (a : ℕ) → get_or (map (λ (n : ℕ). let 
 row_of_empty [] a = refl
 row_of_empty (n ∷ counts) zero = refl
 row_of_empty (n ∷ counts) (suc a) = row_of_empty counts a
+
+-- ---- the graph that is fired
+
+module _ (graphs : List Graph) (firing : Firing) (fit : IsFit graphs firing) (all : List Graph) (same : all ≡ graphs) (place : ℕ) (place_is : place ≡ firing.graph) where
+  pub graph_inside : place < length all
+  graph_inside = rw (place_is, same) (slice_get_within graphs firing.graph fit.g fit.here)
+
+  pub graph_is : (x : Graph) → x ≡ get_or all place x → x ≡ graph_of graphs firing
+  graph_is x is =
+      is ∙ rw (place_is, same) (get_or_from_slice_get graphs firing.graph fit.g x fit.here ∙ sym (get_or_from_slice_get graphs firing.graph fit.g no_graph fit.here))
 
 -- ---- what isn't refused
 

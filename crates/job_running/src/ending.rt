@@ -1,21 +1,25 @@
 // How a firing ends.
-ghost use Rattle.std.specs.Prelude.{ℕ, ◌≡◌, ◌+◌, ◌<◌, ◌≤◌, ◌++◌, List as Seq, [], drop, length, map, vec_capacity, vec_len, slice_index_or, if◌then◌else◌};
+ghost use Rattle.std.specs.Prelude.{ℕ, ◌≡◌, ◌+◌, ◌<◌, ◌≤◌, ◌++◌, List as Seq, [], drop, length, map, vec_capacity, vec_len, slice_index_or, if◌then◌else◌, IfOk};
 ghost use Rattle.std.specs.List.{filter};
-ghost use Rattle.pisdf_meaning.specs.Running.{actor_states, fifo_states, state_after, state_of_first};
+ghost use Rattle.pisdf_meaning.specs.Running.{Traces, actor_states, child_rows, fifo_states, state_after, state_of_first};
 ghost use Rattle.pisdf_meaning.specs.States.{goes_on, tokens_at};
 ghost use Rattle.param_resolver.specs.Numbering.{acting, has_state, is_kept};
 ghost use Rattle.pisdf_model.specs.declared.graph.Graph.{Graph as GraphView};
+ghost use Rattle.job_preparing.specs.Handing.{with_traces};
+ghost use Rattle.job_running.specs.Parts.{HaveTraces};
 ghost use Rattle.job_running.specs.Stages.{refusal_at, refusal_for, spot_of, stage_at};
 ghost use Rattle.one_job.specs.View.{IsFiring};
 ghost use Rattle.pisdf_model.specs.declared.actor.Actor.{Actor as ActorView};
 
 use crate::stage::Stage;
+use crate::tracing::append_traces;
+use job_preparing::{JobGiven, Left};
 use param_expr::Name;
-use pisdf_meaning::{Cause, Configured, Path, Refusal, is_kept};
+use pisdf_meaning::{Cause, Configured, Path, Refusal, TraceRow, is_kept};
 use pisdf_model::{Graph, Life, is_configuration};
 use sdf_level::{List, Node};
-use std::alloc::Global;
-use std::collections::VecDeque;
+use std::alloc::{AllocError, Global};
+use std::collections::{LinkedList, VecDeque};
 
 // ---- the state
 
@@ -130,6 +134,58 @@ pub(crate) fn state_left(
     push_fifo_states(alloc, graph, &mut left, &mut state);
     push_actor_states(alloc, graph, keeps, &mut configured, &mut left, &mut state);
     List::new(state)
+}
+
+// ---- what is given
+
+/// What a running firing has for its end: of each actor of the level whether its state goes on, the rows of its own
+/// parameters, the values of its exports, room for the state that it leaves, and the traces of what it called.
+#[derive(Drop)]
+pub(crate) struct Ending {
+    pub keeps: Vec<bool>,
+    pub rows: LinkedList<TraceRow>,
+    pub exports: List<i64>,
+    pub state: Vec<List<i64>>,
+    pub traces: Vec<Vec<LinkedList<TraceRow>>>,
+}
+
+/// What a firing of a graph gives, whose configuration actors left this, and whose level gave this on its sinks and left
+/// this on its links.
+pub(crate) fn job_given(
+    alloc: Global,
+    graph: &Graph,
+    own: Ending,
+    left: Left,
+    outs: List<List<i64>>,
+    stored: List<List<i64>>,
+) -> Result<JobGiven, AllocError>
+    requires room { vec_len own.state + length graph.now.fifos + length graph.now.actors ≤ vec_capacity own.state }
+    requires empty { own.state.items ≡ [] }
+    requires many { length own.keeps.items ≡ length (acting graph.now) }
+    ensures same { IfOk result (λ given. (given.outs ≡ outs) × (given.exports ≡ own.exports)) }
+    ensures state { (graphs : Seq GraphView) → own.keeps.items ≡ map (has_state graphs) (acting graph.now) → IfOk result (λ given. given.state ≡ state_after graphs graph.now left.configured stored) }
+    ensures trace { (counts : Seq ℕ) (traces : Traces) → length left.traces ≡ length left.configured → HaveTraces counts traces own.traces.items → IfOk result (λ given. given.trace ≡ own.rows ++ child_rows counts traces 0 graph.now.actors (with_traces left.configured left.traces)) }
+{
+    let Ending {
+        keeps,
+        mut rows,
+        exports,
+        state,
+        traces: own_traces,
+    } = own;
+    let Left {
+        firing: _,
+        configured,
+        traces,
+    } = left;
+    append_traces(alloc, graph.actors.items(), traces.into_items(), own_traces, &mut rows)?;
+    let state = state_left(alloc, graph, &keeps, configured, stored, state);
+    Ok(JobGiven {
+        outs,
+        state,
+        trace: rows,
+        exports,
+    })
 }
 
 // ---- the refusal

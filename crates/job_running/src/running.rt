@@ -10,13 +10,12 @@ ghost use Rattle.job_preparing.specs.View.{HasInherited};
 ghost use Rattle.job_preparing.specs.Handing.{EndSuits, IsNothingLent, answer_with, end_of, lent_at, mark_at};
 
 use crate::calling::{called, caller_of, firing_of};
-use crate::ending::{refusal_of, state_left, take_stage};
+use crate::ending::{Ending, job_given, refusal_of, take_stage};
 use crate::frames::{end_frames, measured, put_frame, spend_frames, take_frame};
 use crate::given::put_trace;
 use crate::handed::{Handed, hand_out};
 use crate::stage::{Stage, ended, waiting};
 use crate::told::{ToldBefore, told_of};
-use crate::tracing::append_traces;
 use crate::writing::write_child;
 use job_compiler::Compiled;
 use job_preparing::{JobGiven, Left};
@@ -249,7 +248,7 @@ impl Running {
             set: _,
             keeps,
             names,
-            mut rows,
+            rows,
             exports,
             state,
             stages,
@@ -266,20 +265,18 @@ impl Running {
                 Ok(Err(refusal_of(alloc, path, names, which, stage, code)))
             }
             JobEnd::Done { outs, stored } => {
-                let Left {
-                    firing: _,
-                    configured,
-                    traces: own,
-                } = left;
                 let graph = &graphs.graphs.items()[place as usize];
-                append_traces(alloc, graph.actors.items(), own.into_items(), traces, &mut rows)?;
-                let state = state_left(alloc, graph, &keeps, configured, stored, state);
-                Ok(Ok(JobGiven {
-                    outs,
-                    state,
-                    trace: rows,
+                let own = Ending {
+                    keeps,
+                    rows,
                     exports,
-                }))
+                    state,
+                    traces,
+                };
+                match job_given(alloc, graph, own, left, outs, stored) {
+                    Ok(given) => Ok(Ok(given)),
+                    Err(error) => Err(error),
+                }
             }
         }
     }

@@ -2,12 +2,14 @@
 ghost use Rattle.std.specs.Prelude.{ℤ, List as Seq, ◌≡◌, ◌+◌, ◌<◌, ◌≤◌, ◌++◌, [], map, length, replicate, None, Ok, IfOk, OnOk, slice_index, vec_capacity, vec_len};
 ghost use Rattle.std.specs.Arc.{arc_value};
 ghost use Rattle.sdf_level.specs.Lists.{lists_of};
+ghost use Rattle.sdf_level.specs.LevelRun.{HaveDelays};
 ghost use Rattle.nested_jobs.specs.Marks.{Free};
+ghost use Rattle.one_job.specs.Marks.{Free as Unclaimed};
 ghost use Rattle.param_resolver.specs.Numbering.{acting, acting_places, has_state};
 ghost use Rattle.pisdf_model.specs.Range.{InRange};
 ghost use Rattle.pisdf_model.specs.WellFormed.{WellFormed};
 ghost use Rattle.pisdf_model.specs.declared.actor.Actor.{Actor as ActorView};
-ghost use Rattle.pisdf_meaning.specs.Running.{chosen_row, chosen_rows, value_at};
+ghost use Rattle.pisdf_meaning.specs.Running.{chosen_row, chosen_rows, link_starts, source_tokens, value_at};
 ghost use Rattle.job_rules.specs.Meant.{IsFit};
 ghost use Rattle.job_preparing.specs.CompileTasks.{IsReadyWith};
 ghost use Rattle.job_preparing.specs.View.{IsReady, graph_in, left_by};
@@ -23,11 +25,12 @@ use crate::stage::Stage;
 use crate::told::told_before;
 use job_compiler::Compiled;
 use job_preparing::Configuring;
-use one_job::start;
+use kernel_gate::Frame;
+use one_job::{Job, start};
 use param_expr::Name;
 use param_resolver::{LevelSet, level_by_actor};
 use pisdf_meaning::{
-    Path, TraceRow, copy_lists, copy_name, has_state, holds_for, link_starts, source_tokens,
+    Configured, Firing, Path, TraceRow, copy_lists, copy_name, has_state, holds_for, link_starts, source_tokens,
 };
 use pisdf_model::{Body, Graph, Graphs, Param, ParamKind};
 use sdf_level::List;
@@ -181,6 +184,157 @@ fn free_stages(alloc: Global, count: usize) -> Result<Vec<Stage>, AllocError>
     Ok(stages)
 }
 
+// ---- what a firing is set up with
+
+/// What the job of leases of a firing is started with, beside its compilation.
+#[derive(Drop)]
+struct JobLists {
+    kinds: List<Option<u32>>,
+    args: List<List<i64>>,
+    sources: List<List<i64>>,
+    stored: List<List<i64>>,
+}
+
+/// What the job of leases of a firing is started with, whose configuration actors left this.
+fn job_lists(
+    alloc: Global,
+    all: &[Graph],
+    graph: &Graph,
+    firing: &Firing,
+    left: &[Configured],
+    set: &LevelSet,
+) -> Result<JobLists, AllocError>
+    requires { set.now.places ≡ acting_places graph.now }
+    ensures kinds { IfOk result (λ lists. lists.kinds ≡ map kind_of_actor (acting graph.now)) }
+    ensures args { IfOk result (λ lists. lists.args ≡ set.now.args) }
+    ensures sources { IfOk result (λ lists. lists.sources ≡ source_tokens graph.now firing.now left.now) }
+    ensures stored { IfOk result (λ lists. lists.stored ≡ link_starts all.now graph.now firing.now) }
+{
+    let kinds = kinds_at(alloc, graph, set.places.items())?;
+    let args = copy_lists(alloc, set.args.items())?;
+    let sources = source_tokens(alloc, graph, firing, left)?;
+    let stored = as_lists(alloc, link_starts(alloc, all, graph, firing)?)?;
+    Ok(JobLists {
+        kinds,
+        args,
+        sources,
+        stored,
+    })
+}
+
+/// What the trace of a firing begins with, and the values that it exports.
+#[derive(Drop)]
+struct OwnRows {
+    path: Path,
+    rows: LinkedList<TraceRow>,
+    exports: List<i64>,
+}
+
+/// The rows of a firing's own parameters, its path, and the values that it exports.
+fn own_rows(
+    alloc: Global,
+    graph: &Graph,
+    path: &Path,
+    values: &[i64],
+) -> Result<OwnRows, AllocError>
+    ensures path { IfOk result (λ own. own.path ≡ path.now) }
+    ensures rows { IfOk result (λ own. own.rows ≡ chosen_rows path.now values.now 0 graph.now.params) }
+    ensures exports { IfOk result (λ own. own.exports ≡ map (value_at values.now) graph.now.exports) }
+{
+    let rows = chosen_rows(alloc, path, graph.params.items(), values)?;
+    let exports = exports_of(alloc, graph, values)?;
+    let path = path.copy()?;
+    Ok(OwnRows {
+        path,
+        rows,
+        exports,
+    })
+}
+
+/// Of each actor of the level whether its state goes on, and its name; and room for the state that the firing leaves.
+#[derive(Drop)]
+struct LevelParts {
+    keeps: Vec<bool>,
+    names: Vec<Name>,
+    state: Vec<List<i64>>,
+}
+
+/// These of the graph whose actors of the level stand at these places.
+fn level_parts(
+    alloc: Global,
+    all: &[Graph],
+    graph: &Graph,
+    places: &[u32],
+) -> Result<LevelParts, AllocError>
+    requires { places.now ≡ acting_places graph.now }
+    ensures keeps { IfOk result (λ parts. parts.keeps.items ≡ map (has_state all.now) (acting graph.now)) }
+    ensures names { IfOk result (λ parts. parts.names.items ≡ map (λ (a : ActorView). a.name) (acting graph.now)) }
+    ensures empty { IfOk result (λ parts. (parts.state.items ≡ []) × (vec_len parts.state ≡ 0)) }
+    ensures room { IfOk result (λ parts. length graph.now.fifos + length graph.now.actors ≤ vec_capacity parts.state) }
+{
+    let names = names_at(alloc, graph, places)?;
+    let keeps = keeps_at(alloc, all, graph, places)?;
+    let lists = graph.fifos.items().len().saturating_add(graph.actors.items().len());
+    let state = Vec::with_capacity(alloc, lists)?;
+    Ok(LevelParts {
+        keeps,
+        names,
+        state,
+    })
+}
+
+/// Of each node how far it is, and of each firing of each actor the trace of what it called.
+#[derive(Drop)]
+struct FreeNodes {
+    stages: Vec<Stage>,
+    traces: Vec<Vec<LinkedList<TraceRow>>>,
+}
+
+/// So many free nodes, where actors fire so often.
+fn free_nodes(alloc: Global, counts: &[u32], nodes: usize) -> Result<FreeNodes, AllocError>
+    ensures stages { IfOk result (λ free. free.stages.items ≡ replicate nodes Stage.Free) }
+    ensures traces { IfOk result (λ free. lists_of free.traces.items ≡ map (λ n. replicate n []) counts.now) }
+{
+    let traces = empty_rows(alloc, counts)?;
+    let stages = free_stages(alloc, nodes)?;
+    Ok(FreeNodes { stages, traces })
+}
+
+/// A job of leases, and a place for the frame of each of its nodes.
+struct Started {
+    job: Job,
+    frames: Vec<Option<Frame>>,
+}
+
+/// The job of leases of a firing at its start, where no frame waits.
+fn start_job(
+    alloc: Global,
+    compiled: Arc<Compiled>,
+    lists: JobLists,
+) -> Result<Started, AllocError>
+    requires kinds { length lists.kinds ≡ (arc_value compiled).level.actors }
+    requires args { length lists.args ≡ (arc_value compiled).level.actors }
+    requires sources { map length lists.sources ≡ (arc_value compiled).level.sources }
+    requires stored { HaveDelays (arc_value compiled).level.links lists.stored }
+    ensures compilation { IfOk result (λ s. s.job.compilation ≡ arc_value compiled) }
+    ensures given { IfOk result (λ s. (s.job.kinds ≡ lists.kinds) × (s.job.args ≡ lists.args) × (s.job.sources ≡ lists.sources) × (s.job.stored ≡ lists.stored)) }
+    ensures free { IfOk result (λ s. s.job.marks ≡ replicate (length (arc_value compiled).graph.nodes) Unclaimed) }
+    ensures frames { IfOk result (λ s. s.frames.items ≡ replicate (length (arc_value compiled).graph.nodes) None) }
+{
+    let nodes = compiled.graph().nodes.items().len();
+    let frames = Vec::with_capacity(alloc, nodes)?;
+    match start(alloc, compiled, lists.kinds, lists.args, lists.sources, lists.stored) {
+        Ok(job) => Ok(Started {
+            job,
+            frames: no_frames(frames, nodes),
+        }),
+        Err(error) => {
+            frames.destroy_empty();
+            Err(error)
+        }
+    }
+}
+
 /// The nodes of a firing, in which each is free: its graphs, its configuration actors, which are ready, and what its
 /// compilation ended with: the compilation, the level and the values of the parameters. All memory of the firing but that
 /// of the calls is taken here.
@@ -212,48 +366,31 @@ pub fn run(
     let firing = preparing.firing();
     let all = graphs.graphs.items();
     let graph = &all[firing.graph as usize];
-    let places = set.places.items();
-    let kinds = kinds_at(alloc, graph, places)?;
-    let names = names_at(alloc, graph, places)?;
-    let keeps = keeps_at(alloc, all, graph, places)?;
-    let args = copy_lists(alloc, set.args.items())?;
-    let sources = source_tokens(alloc, graph, firing, preparing.left())?;
-    let stored = as_lists(alloc, link_starts(alloc, all, graph, firing)?)?;
-    let rows = chosen_rows(alloc, &firing.path, graph.params.items(), values.items())?;
-    let exports = exports_of(alloc, graph, values.items())?;
-    let path = firing.path.copy()?;
-    let lists = graph.fifos.items().len().saturating_add(graph.actors.items().len());
-    let state = Vec::with_capacity(alloc, lists)?;
-    let nodes = compiled.graph().nodes.items().len();
-    let traces = empty_rows(alloc, compiled.counts())?;
-    let stages = free_stages(alloc, nodes)?;
+    let lists = job_lists(alloc, all, graph, firing, preparing.left(), &set)?;
+    let own = own_rows(alloc, graph, &firing.path, values.items())?;
+    let parts = level_parts(alloc, all, graph, set.places.items())?;
+    let free = free_nodes(alloc, compiled.counts(), compiled.graph().nodes.items().len())?;
     let told = Snapshot::of(firing);
     let place = firing.graph;
-    let own = Arc::try_clone(&compiled)?;
-    let frames = Vec::with_capacity(alloc, nodes)?;
-    match start(alloc, compiled, kinds, args, sources, stored) {
-        Ok(job) => Ok(Running {
-            graphs,
-            compiled: own,
-            firing: told,
-            preparing: told_before(preparing),
-            place,
-            path,
-            set,
-            keeps,
-            names,
-            rows,
-            exports,
-            state,
-            stages,
-            frames: no_frames(frames, nodes),
-            traces,
-            job,
-            alloc,
-        }),
-        Err(error) => {
-            frames.destroy_empty();
-            Err(error)
-        }
-    }
+    let shared = Arc::try_clone(&compiled)?;
+    let Started { job, frames } = start_job(alloc, compiled, lists)?;
+    Ok(Running {
+        graphs,
+        compiled: shared,
+        firing: told,
+        preparing: told_before(preparing),
+        place,
+        path: own.path,
+        set,
+        keeps: parts.keeps,
+        names: parts.names,
+        rows: own.rows,
+        exports: own.exports,
+        state: parts.state,
+        stages: free.stages,
+        frames,
+        traces: free.traces,
+        job,
+        alloc,
+    })
 }
