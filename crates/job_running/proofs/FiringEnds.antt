@@ -59,7 +59,7 @@ use Rattle.job_preparing.specs.declared.handing.JobGiven.{JobGiven}
 use Rattle.job_running.specs.Stages.{refusal_for}
 use Rattle.job_running.specs.View.{end_with, given_in, outcome_of, traces_of}
 use Rattle.job_running.proofs.ClaimedNodes.{spot}
-use Rattle.job_running.proofs.EndedFiring.{ended_is, no_refusal, refusal_is, state_same}
+use Rattle.job_running.proofs.EndedFiring.{ended_is, failed_at, no_refusal, refusal_is, state_same}
 
 -- what a job of leases that ended so tells of its first failure
 pub record EndsDone (o : Option (Failure ℕ)) (end : Ended ℤ) (outs stored : List (List ℤ)) : Type 0 where
@@ -106,3 +106,30 @@ module _ (f : Fixed) (stages : List Stage) (frames : List (Option FrameView)) (r
       let trace' = trace_is ∙ ap₂ (λ a l. a ++ child_rows f.compilation.counts (traces_of (view_with f stages)) 0 g.actors l) keeps.parts.rows_are left_is in
       let exports' = exports_are ∙ keeps.parts.exports_are in
       ap Ok (λ k. record { outs = outs' k; state = state' k; trace = trace' k; exports = exports' k }) ∙ sym (ap (end_with (view_with f stages)) o)
+
+  -- the refusal of the node with this number
+  pub refused_here : (n code : ℕ) → EndFault n code ≡ leased_end (failure (leased.graph_of j) (one.values j.marks)) (ended (leased.graph_of j) (one.values j.marks)) →
+      (which : Node) (st : Stage) (refusal : Refusal) → which ≡ node_at j.compilation.graph.nodes n → st ≡ stage_at stages n → ((own : List Actor) → f.names ≡ map (λ (a : Actor). a.name) own → refusal ≡ refusal_for (spot_of f.path own which) st code) →
+      end_of (Err refusal) ≡ outcome_of (view_with f stages)
+  refused_here n code is which st refusal which_is st_is told =
+      let e = ends_failed (failure (leased.graph_of j) (one.values j.marks)) (ended (leased.graph_of j) (one.values j.marks)) n code is in
+      let w : which ≡ node_at (job_in f).nodes e.first.node = which_is ∙ ap₂ (λ l m. node_at l m) (nodes_are f stages frames rows j keeps) (sym e.node_is) in
+      let s : st ≡ stage_at stages e.first.node = st_is ∙ ap (λ (m : ℕ). stage_at stages m) (sym e.node_is) in
+      let p : f.path ≡ f.firing.path = keeps.parts.path_is in
+      let c : code ≡ e.first.fault = sym e.code_is in
+      refused_end e.first e.is refusal (told (acting (fired f)) keeps.parts.names_are ∙ (λ k. refusal_for (spot_of (p k) (acting (fired f)) (w k)) (s k) (c k)))
+
+  -- a node that failed is one of the job, and a firing
+  pub failed_there : (n code : ℕ) → EndFault n code ≡ leased_end (failure (leased.graph_of j) (one.values j.marks)) (ended (leased.graph_of j) (one.values j.marks)) → n < length j.compilation.graph.nodes
+  failed_there n code is =
+      let e = ends_failed (failure (leased.graph_of j) (one.values j.marks)) (ended (leased.graph_of j) (one.values j.marks)) n code is in
+      let at = failed_at f stages frames rows j keeps e.first e.is in
+      let l = ap length (nodes_are f stages frames rows j keeps) in
+      let same = e.node_is in
+      let below = at.there in
+      omega arith
+
+  pub failed_fires : (n code : ℕ) → EndFault n code ≡ leased_end (failure (leased.graph_of j) (one.values j.marks)) (ended (leased.graph_of j) (one.values j.marks)) → IsFiring (node_at j.compilation.graph.nodes n)
+  failed_fires n code is =
+      let e = ends_failed (failure (leased.graph_of j) (one.values j.marks)) (ended (leased.graph_of j) (one.values j.marks)) n code is in
+      subst (λ (m : ℕ). IsFiring (node_at j.compilation.graph.nodes m)) e.node_is (failed_at f stages frames rows j keeps e.first e.is).fires

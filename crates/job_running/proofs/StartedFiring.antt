@@ -37,12 +37,19 @@ use Rattle.job_compiler.specs.Compilation.{Compilation}
 use Rattle.job_flow.specs.Graphs.{IsJobGraph, JobGraph}
 use Rattle.job_rules.specs.Items.{graph_of, no_graph}
 use Rattle.job_rules.specs.Meant.{IsFit}
+use Rattle.nested_jobs.specs.Marks as mark
+use Rattle.nested_jobs.specs.Marks.{Mark}
+use Rattle.kernel_gate.specs.Value.{Places}
+use Rattle.pisdf_model.specs.declared.actor.Actor.{Actor}
+use Rattle.job_rules.specs.Words.{Answer}
 use Rattle.one_job.specs.Marks as one
 use Rattle.one_job.specs.View as leased
 use Rattle.job_preparing.specs.CompileTasks.{IsReadyWith}
 use Rattle.job_running.specs.Parts.{AllStand, AreParts, AreTraces, Fixed, IsSetUp, KeepsAll, Stands, Start, fired, frame_at, job_in, kind_of_actor, prepared_of, row_at, start_of, values_of}
 use Rattle.job_running.specs.Sizes.{LeftSuits}
-use Rattle.job_running.specs.Stages.{stage_at, trace_in}
+use Rattle.job_running.specs.Kept.{view_with}
+use Rattle.job_running.specs.Stages.{lents_of, marks_of, stage_at, trace_in}
+use Rattle.job_running.specs.View.{nodes_of}
 use Rattle.job_running.specs.declared.stage.Stage.{Stage}
 use Rattle.job_running.specs.declared.stage.Stage.TheVariants.{Free}
 
@@ -58,6 +65,14 @@ row_of_empty : (counts : List ℕ) (a : ℕ) → get_or (map (λ (n : ℕ). let 
 row_of_empty [] a = refl
 row_of_empty (n ∷ counts) zero = refl
 row_of_empty (n ∷ counts) (suc a) = row_of_empty counts a
+
+marks_free : (path : List ℕ) (own : List Actor) (nodes : List Node) → marks_of path own nodes (replicate (length nodes) Free) ≡ replicate (length nodes) mark.Free
+marks_free path own [] = refl
+marks_free path own (which ∷ nodes) = ap (λ (l : List (Mark Firing Answer)). mark.Free ∷ l) (marks_free path own nodes)
+
+lents_free : (n : ℕ) → lents_of (replicate n Free) ≡ replicate n None
+lents_free zero = refl
+lents_free (suc n) = ap (λ (l : List (Option Places)). None ∷ l) (lents_free n)
 
 -- ---- the graph that is fired
 
@@ -103,6 +118,18 @@ module _ (f : Fixed) (workers : ℕ) (values : List ℤ) (range : InRange f.grap
 
   pub delays_fit : HaveDelays (links_of G g (values_of f)) (link_starts G g f.firing)
   delays_fit = starts_fit G g (values_of f) f.firing.state (state_fits G g f.firing.state (fit.state ∙ ap lengths level.begins))
+
+  -- ---- what is seen
+
+  nodes_here : f.compilation.graph.nodes ≡ (job_in f).nodes
+  nodes_here = compiled.compiled.expanded.nodes_are ∙ ap (λ (l : LevelView). nodes l f.compilation.counts f.compilation.order) level_is
+
+  pub marks_start : (stages : List Stage) → stages ≡ replicate (length f.compilation.graph.nodes) Free → (view_with f stages).marks ≡ replicate (length (nodes_of (view_with f stages))) mark.Free
+  marks_start stages are =
+      ap (λ (l : List Stage). marks_of f.firing.path (acting (fired f)) (job_in f).nodes l) (are ∙ ap (λ (l : List Node). replicate (length l) Free) nodes_here) ∙ marks_free f.firing.path (acting (fired f)) (job_in f).nodes
+
+  pub lents_start : (stages : List Stage) → stages ≡ replicate (length f.compilation.graph.nodes) Free → (view_with f stages).lent ≡ replicate (length (nodes_of (view_with f stages))) None
+  lents_start stages are = ap lents_of (are ∙ ap (λ (l : List Node). replicate (length l) Free) nodes_here) ∙ lents_free (length (job_in f).nodes)
 
   module _ (sources stored : List (List ℤ)) (sources_are : sources ≡ source_tokens g f.firing f.left) (sources_long : lengths sources ≡ sources_of g (early_in G f.firing)) (stored_are : stored ≡ link_starts G g f.firing) where
     nodes_same : f.compilation.graph.nodes ≡ (job_in f).nodes
