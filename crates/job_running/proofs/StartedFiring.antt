@@ -34,8 +34,10 @@ use Rattle.sdf_level.specs.View.{LevelView}
 use Rattle.sdf_level.specs.declared.node.Node.{Node}
 use Rattle.single_rate.specs.Expanded.{edges, nodes}
 use Rattle.job_compiler.specs.Compilation.{Compilation}
-use Rattle.job_flow.specs.Graphs.{IsJobGraph, JobGraph}
-use Rattle.job_rules.specs.Items.{graph_of, no_graph}
+use Rattle.job_flow.specs.Frames.{lens}
+use Rattle.job_flow.specs.Graphs.{IsJobGraph, JobGraph, node_at}
+use Rattle.job_rules.specs.Items.{actor_of, graph_of, keeps_state, no_graph}
+use Rattle.one_job.specs.Pick.{is_child_in}
 use Rattle.job_rules.specs.Meant.{IsFit}
 use Rattle.nested_jobs.specs.Marks as mark
 use Rattle.nested_jobs.specs.Marks.{Mark}
@@ -191,7 +193,7 @@ module _ (f : Fixed) (workers : ℕ) (values : List ℤ) (range : InRange f.grap
           one_mark = ap length marks_are ∙ length-replicate (length f.compilation.graph.nodes) one.Free ∙ ap length nodes_same;
           one_frame = ap length frames_are ∙ length-replicate (length f.compilation.graph.nodes) None ∙ ap length nodes_same;
           each = λ n below.
-              let P : Stage → Type 0 = λ s. Stands G _ _ _ _ s (one.mark_at j.marks n) (frame_at frames n) in
+              let P : Stage → Type 0 = λ s. Stands G (lens (job_in f) n) (keeps_state G (actor_of g (node_at (job_in f).nodes n))) (is_child_in j.kinds (node_at (job_in f).nodes n)) (leased.IsFiring (node_at (job_in f).nodes n)) s (one.mark_at j.marks n) (frame_at frames n) in
               subst P (sym (ap (λ l. stage_at l n) stages_are ∙ any_replicate (length f.compilation.graph.nodes) n Free)) record {
                 mark_is = ap (λ l. one.mark_at l n) marks_are ∙ any_replicate (length f.compilation.graph.nodes) n one.Free;
                 held = ap (λ l. frame_at l n) frames_are ∙ any_replicate (length f.compilation.graph.nodes) n None;
