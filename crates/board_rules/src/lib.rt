@@ -1,5 +1,5 @@
-//! The rules of a board: which items of the open jobs may be claimed and finished, in what order they are handed to workers, and what
-//! every journal of claims and finishes that has ended tells.
+//! The rules of a board: which items of the open jobs may be claimed and finished, in what order they are handed to workers, and
+//! what every journal of claims and finishes that has ended tells.
 #![tactic(auto)]
 
 mod entry;
