@@ -1,28 +1,25 @@
 -- A running firing at its start.
-use Rattle.std.proofs.Common.{◌≡◌, ◌≢◌, ℕ, zero, suc, ◌+◌, ◌<◌, ◌≤◌, ⊎_elim, ℤ, Bool, true, false, List, [], ◌∷◌, ◌++◌, length, map, get_or, replicate, slice_get, Option, Some, None, Result, Ok, Err, Vec, Global, refl, sym, ap, ap₂, ◌∙◌, subst, arith}
+use Rattle.std.proofs.Common.{◌≡◌, ℕ, zero, suc, ◌<◌, ◌≤◌, ⊎_elim, ℤ, List, [], ◌∷◌, length, map, get_or, replicate, slice_get, Option, Some, None, Ok, Vec, Global, refl, sym, ap, ◌∙◌, subst, arith}
 use Rattle.std.specs.Prelude.{slice_index}
 use Rattle.std.proofs.lemmas.Bool.{cases_lt}
 use Rattle.std.proofs.lemmas.List.{get_or-replicate, get_or_past, length-map, length-replicate}
 use Rattle.std.proofs.lemmas.Option.{get_or_from_slice_get, slice_get_within}
 use Rattle.kernel_gate.specs.Value.{FrameView, lengths}
-use Rattle.param_resolver.specs.EarlyCheck.{as_refusal}
-use Rattle.param_resolver.specs.LevelOf.{AreOneEach, level_args, level_faults, links_of, sources_of}
+use Rattle.param_resolver.specs.LevelOf.{AreOneEach, level_faults, links_of, sources_of}
 use Rattle.param_resolver.specs.Numbering.{acting}
 use Rattle.param_resolver.specs.Refusal as part
-use Rattle.param_resolver.specs.declared.level_set.LevelSet.{LevelSet}
 use Rattle.pisdf_model.specs.Range.{InRange}
 use Rattle.pisdf_model.specs.WellFormed.{WellFormed}
 use Rattle.pisdf_model.specs.declared.graph.Graph.{Graph}
 use Rattle.pisdf_model.specs.declared.graph.Graphs.{Graphs}
 use Rattle.pisdf_meaning.specs.Causes.{unless_refused}
 use Rattle.pisdf_meaning.specs.Configuring.{early_in}
-use Rattle.pisdf_meaning.specs.Preparing.{level_in, rated, resolved}
+use Rattle.pisdf_meaning.specs.Preparing.{level_in}
 use Rattle.pisdf_meaning.specs.Running.{link_starts, source_tokens}
 use Rattle.pisdf_meaning.specs.TopLevel.{IsLevelSet}
 use Rattle.pisdf_meaning.specs.declared.outcome.TraceRow.{TraceRow}
 use Rattle.pisdf_meaning.specs.declared.firing.Configured.{Configured}
 use Rattle.pisdf_meaning.specs.declared.firing.Firing.{Firing}
-use Rattle.pisdf_meaning.specs.declared.refusal.Refusal.{Refusal}
 use Rattle.pisdf_meaning.proofs.KeptSizes.{Levelled}
 use Rattle.pisdf_meaning.proofs.MadeLevels.{levels_made}
 use Rattle.pisdf_meaning.proofs.SoundGraphs.{levelled}
@@ -35,9 +32,8 @@ use Rattle.sdf_level.specs.Repetition.{IsRepetition}
 use Rattle.sdf_level.specs.View.{LevelView}
 use Rattle.sdf_level.specs.declared.node.Node.{Node}
 use Rattle.single_rate.specs.Expanded.{edges, nodes}
-use Rattle.job_compiler.specs.Compilation.{Compilation}
 use Rattle.job_flow.specs.Frames.{lens}
-use Rattle.job_flow.specs.Graphs.{IsJobGraph, JobGraph, node_at}
+use Rattle.job_flow.specs.Graphs.{IsJobGraph, node_at}
 use Rattle.job_rules.specs.Items.{actor_of, graph_of, keeps_state, no_graph}
 use Rattle.one_job.specs.Pick.{is_child_in}
 use Rattle.job_rules.specs.Meant.{IsFit}
@@ -49,7 +45,7 @@ use Rattle.job_rules.specs.Words.{Answer}
 use Rattle.one_job.specs.Marks as one
 use Rattle.one_job.specs.View as leased
 use Rattle.job_preparing.specs.CompileTasks.{IsReadyWith}
-use Rattle.job_running.specs.Parts.{AllStand, AreParts, AreTraces, Fixed, IsSetUp, KeepsAll, Stands, Start, fired, frame_at, job_in, kind_of_actor, prepared_of, row_at, start_of, values_of}
+use Rattle.job_running.specs.Parts.{AreParts, Fixed, IsSetUp, KeepsAll, Stands, fired, frame_at, job_in, kind_of_actor, row_at, start_of, values_of}
 use Rattle.job_preparing.specs.Handing.{LeftSuits}
 use Rattle.job_running.specs.Kept.{view_with}
 use Rattle.job_running.specs.Stages.{lents_of, marks_of, stage_at, trace_in}
