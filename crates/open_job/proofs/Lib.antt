@@ -15,3 +15,6 @@ pub mod CompileSteps
 pub mod NodeMethods
 pub mod ActorCalls
 pub mod Placed
+pub mod Paths
+pub mod There
+pub mod OfferedCompilation
