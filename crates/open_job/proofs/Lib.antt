@@ -17,4 +17,5 @@ pub mod ActorCalls
 pub mod Placed
 pub mod Paths
 pub mod There
+pub mod Opened
 pub mod OfferedCompilation
