@@ -120,10 +120,13 @@ module _ (n : ℕ) where
       new = record { tail = tail.Port x i put; head = head.Port y j taken; delay = d }
 
       silent : (put ≡ 0) ⊎ (taken ≡ 0) → HasGroups (links ++ new ∷ [])
-      silent either = (has.0, groups_same n new has.0 (λ a b joined. ⊎_elim
-          (λ (e : put ≡ 0). let p = joined.puts in omega arith)
-          (λ (e : taken ≡ 0). let p = joined.takes in omega arith)
-          either) links has.1)
+      silent either = (
+        has.0,
+        groups_same n new has.0 (λ a b joined. ⊎_elim
+            (λ (e : put ≡ 0). let p = joined.puts in omega arith)
+            (λ (e : taken ≡ 0). let p = joined.takes in omega arith)
+            either) links has.1,
+      )
 
       sounding : 0 < put → 0 < taken → HasGroups (links ++ new ∷ [])
       sounding puts takes =
@@ -198,12 +201,15 @@ module _ (level : LevelView) (is_level : IsLevel level) (base : List ℕ) (is_ba
 
   factor_of : (g : ℕ) → (m : ℕ) × IsLeastFor level level.links base group g m
   factor_of g = ⊎_elim
-      (λ (found : (m : ℕ) × IsFirst (Serves g) m). (found.0, record {
-        at_least_one = found.1.here.0;
-        within = not_over rate_limit (Serves g) found.0 found.1 (limit_serves g);
-        enough = found.1.here.1;
-        least = λ other some all. not_over other (Serves g) found.0 found.1 (some, all);
-      }))
+      (λ (found : (m : ℕ) × IsFirst (Serves g) m). (
+        found.0,
+        record {
+          at_least_one = found.1.here.0;
+          within = not_over rate_limit (Serves g) found.0 found.1 (limit_serves g);
+          enough = found.1.here.1;
+          least = λ other some all. not_over other (Serves g) found.0 found.1 (some, all);
+        },
+      ))
       (λ (none : (m : ℕ) → m < suc rate_limit → Serves g m → ⊥). absurd (none rate_limit (omega arith) (limit_serves g)))
       (first_below (Serves g) (serves_decided g) (suc rate_limit))
 
