@@ -1,9 +1,7 @@
-use Rattle.std.proofs.Common.{get_or}
-use Rattle.std.proofs.lemmas.Option.{slice_get-get_or}
 use Rattle.pisdf_model.specs.Hold.{initial}
-use Rattle.param_resolver.proofs.Levels.{some_graph}
 use Rattle.param_resolver.proofs.Sound.{nested, resolvable}
 use Rattle.pisdf_meaning.specs.Run.{top_firing}
+use Rattle.pisdf_meaning.proofs.Iterating.{some_top}
 use Rattle.pisdf_meaning.proofs.Knowing.{all_know}
 use Rattle.pisdf_meaning.proofs.MadeLevels.{levels_made}
 use Rattle.pisdf_meaning.proofs.Nests.{nests_within}
@@ -18,7 +16,6 @@ returns-clause-firings c = λ graphs range well firing can.
 
 pub returns-clause-runs : goal.returns-clause-runs
 returns-clause-runs c = λ graphs range well streams iterations.
-    let d = some_graph graphs.graphs graphs.top range.top in
-    let top = get_or graphs.graphs graphs.top d in
-    run_some graphs top (slice_get-get_or graphs.graphs graphs.top d range.top)
-    (λ sound inputs state. returns-clause-firings c graphs range well (top_firing top graphs.top inputs state) record { there = range.top; sound = sound }) iterations (initial graphs.graphs graphs.top) streams
+    let top = some_top graphs range in
+    run_some graphs top.0 top.1
+    (λ sound inputs state. returns-clause-firings c graphs range well (top_firing top.0 graphs.top inputs state) record { there = range.top; sound = sound }) iterations (initial graphs.graphs graphs.top) streams
