@@ -1,5 +1,5 @@
 -- Each level has a schedule or a fault.
-use Rattle.std.proofs.Common.{◌≡◌, ℕ, ◌<◌, ◌≤◌, ◌⊎◌, inl, inr, ⊎_elim, List, Ok, Err, refl}
+use Rattle.std.proofs.Common.{ℕ, ◌<◌, ◌≤◌, ◌⊎◌, inl, inr, ⊎_elim, List, Ok, Err, refl}
 use Rattle.std.proofs.lemmas.Bool.{cases_lt}
 use Rattle.sdf_level.specs.View.{LevelView}
 use Rattle.sdf_level.specs.Kept.{IsLevel}

@@ -4,8 +4,7 @@ use Rattle.std.proofs.lemmas.Bool.{cases_eq, cases_lt}
 use Rattle.std.proofs.lemmas.List.{get_or_past}
 use Rattle.sdf_level.specs.View.{LevelView}
 use Rattle.sdf_level.specs.Firings.{CanFire, EachCanFire, EachFiring, IsReady, actors_of, firings, turns_after, turns_of}
-use Rattle.sdf_level.specs.Links.{Inner}
-use Rattle.sdf_level.specs.Orders.{CanStand, IsAdmissible, IsDeadlocked, IsLeast, IsLeft, IsOrder, IsStuck, IsTurnOrder}
+use Rattle.sdf_level.specs.Orders.{CanStand, IsDeadlocked, IsLeast, IsLeft, IsOrder, IsStuck, IsTurnOrder}
 use Rattle.sdf_level.specs.declared.turn.Turn.{Turn}
 use Rattle.sdf_level.proofs.Deadlock.{stuck_is_done}
 use Rattle.sdf_level.proofs.FiringLists.{EachFiring-snoc, firings-snoc_other, firings-snoc_own}

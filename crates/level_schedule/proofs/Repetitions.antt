@@ -1,29 +1,27 @@
 -- Each level has a base vector or none, and a repetition vector or none.
-use Rattle.std.proofs.Common.{◌≡◌, ◌≢◌, ℕ, zero, suc, ◌+◌, ◌*◌, ◌<◌, ◌≤◌, ◌↔◌, ◌⊎◌, inl, inr, ⊎_elim, min, List, [], ◌∷◌, ◌++◌, length, map, slice_index, take, refl, ap, sym, ◌∙◌, subst, append_assoc, arith}
+use Rattle.std.proofs.Common.{◌≡◌, ℕ, zero, suc, ◌*◌, ◌<◌, ◌≤◌, ◌↔◌, ◌⊎◌, inl, inr, ⊎_elim, min, List, [], ◌∷◌, ◌++◌, length, map, slice_index, refl, ap, sym, ◌∙◌, subst, append_assoc, arith}
 use Rattle.std.specs.List.{AllByRecursion}
 use Rattle.std.proofs.Math.Nat.{mul-le-mul_left, mul-le-mul_right}
 use Rattle.std.proofs.lemmas.Bool.{cases_eq, cases_lt}
 use Rattle.std.proofs.lemmas.List.{append-nil, get_or-map, get_or_past, length-map}
-use Rattle.std.proofs.lemmas.List.Elements.{All-from_recursion}
-use Rattle.interface_rules.specs.Connections.{AreGrouped, Connects}
-use Rattle.interface_rules.specs.Served.{AreServed, IsLeastFor, IsServed}
+use Rattle.interface_rules.specs.Connections.{AreGrouped}
+use Rattle.interface_rules.specs.Served.{IsLeastFor, IsServed}
 use Rattle.interface_rules.proofs.Grouping.{grouped_at_start, groups_joined, groups_same}
 use Rattle.interface_rules.proofs.Multiplied.{is_repetition}
 use Rattle.sdf_level.specs.View.{LevelView}
 use Rattle.sdf_level.specs.Balance.{HasNoVector, IsBalanced, IsBase, Solves, base_entry_limit}
-use Rattle.sdf_level.specs.Components.{Joins}
 use Rattle.sdf_level.specs.Groups.{AreUnited, united}
 use Rattle.sdf_level.specs.Kept.{HeadIsThere, IsLevel, TailIsThere, rate_limit}
 use Rattle.sdf_level.specs.Links.{Inner, Outer, OfInner, OfOuter, EachInner, EachOuter}
-use Rattle.sdf_level.specs.Repetition.{AgreesOnZero, HasEnough, HasNoRepetition, IsRepetition}
+use Rattle.sdf_level.specs.Repetition.{AgreesOnZero, HasNoRepetition, IsRepetition}
 use Rattle.sdf_level.specs.declared.link.Link.{Link}
 use Rattle.sdf_level.specs.declared.link.Tail.{Tail}
 use Rattle.sdf_level.specs.declared.link.Head.{Head}
 use Rattle.sdf_level.specs.declared.link.Tail.TheVariants as tail
 use Rattle.sdf_level.specs.declared.link.Head.TheVariants as head
-use Rattle.level_schedule.proofs.Searching.{Decided, IsFirst, IsLeast, IsSearched, below_decided, both_decided, first_below, le_decided, least_or_none, length-meet, listed, meet, meet_at, then_decided}
+use Rattle.level_schedule.proofs.Searching.{Decided, IsFirst, IsLeast, below_decided, both_decided, first_below, le_decided, least_or_none, length-meet, listed, meet, meet_at, then_decided}
 
--- ---- whether it is so of each link
+-- ---- whether it holds of each link
 
 pub inner_decided : (P : Inner → Type 0) → ((link : Inner) → Decided (P link)) → (links : List Link) → Decided (EachInner P links)
 inner_decided P decide [] = inl tt
@@ -68,7 +66,7 @@ meet_each p q (link ∷ links) one other = (here link.tail link.head link.delay 
     here (tail.Port a i r) (head.Port b j c) d one other = meet_balanced p q record { tail = a; produced = r; head = b; consumed = c; delay = d } one other
 
 module _ (level : LevelView) where
-  -- the lesser of two vectors that solve solves
+  -- of two vectors that solve, the lesser at each place solves
   meet_solves : (p q : List ℕ) → Solves level p → Solves level q → Solves level (meet p q)
   meet_solves p q one other = record {
     one_each = length-meet p q (one.one_each ∙ sym other.one_each) ∙ one.one_each;

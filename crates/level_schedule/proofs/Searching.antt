@@ -1,8 +1,8 @@
 -- Searches through finitely many numbers, and through lists of such.
-use Rattle.std.proofs.Common.{◌≡◌, ℕ, zero, suc, ◌+◌, ◌<◌, ◌≤◌, ◌⊎◌, inl, inr, ⊎_elim, min, List, [], ◌∷◌, length, slice_index, refl, ap, sym, subst, arith}
+use Rattle.std.proofs.Common.{◌≡◌, ℕ, zero, suc, ◌<◌, ◌≤◌, ◌⊎◌, inl, inr, ⊎_elim, min, List, [], ◌∷◌, length, slice_index, refl, ap, subst, arith}
 use Rattle.std.proofs.lemmas.Bool.{cases_lt}
 
--- it is so, or it isn't
+-- it holds, or it doesn't
 abbrev pub Decided : Type 0 → Type 0
 Decided P = P ⊎ (P → ⊥)
 
@@ -22,7 +22,7 @@ le_decided m n = ⊎_elim (λ (h : n < m). inr (λ k. omega arith)) (λ (h : m �
 pub lt_decided : (m n : ℕ) → Decided (m < n)
 lt_decided m n = ⊎_elim (λ (h : m < n). inl h) (λ (h : n ≤ m). inr (λ k. omega arith)) (cases_lt m n)
 
--- of all numbers below n, if it is of each
+-- whether it holds of all numbers below n
 pub below_decided : (P : ℕ → Type 0) → ((k : ℕ) → Decided (P k)) → (n : ℕ) → Decided ((k : ℕ) → k < n → P k)
 below_decided P decide zero = inl (λ k h. absurd (omega arith))
 below_decided P decide (suc n) = more (below_decided P decide n) (decide n)
@@ -38,12 +38,12 @@ below_decided P decide (suc n) = more (below_decided P decide n) (decide n)
     more (inl all) (inr fails) = inr (λ each. fails (each n (omega arith)))
     more (inr some) _ = inr (λ each. some (λ k h. each k (omega arith)))
 
--- it is so of this number, and of none before it
+-- the first number of which it holds
 pub record IsFirst (P : ℕ → Type 0) (m : ℕ) : Type 0 where
   pub here : P m
   pub before : (k : ℕ) → k < m → P k → ⊥
 
--- the first number of which it is so, or it is so of none below n
+-- there is such a number, or it holds of none below n
 pub first_below : (P : ℕ → Type 0) → ((k : ℕ) → Decided (P k)) → (n : ℕ) → ((m : ℕ) × IsFirst P m) ⊎ ((k : ℕ) → k < n → P k → ⊥)
 first_below P decide zero = inr (λ k h p. omega arith)
 first_below P decide (suc n) = more (first_below P decide n) (decide n)
@@ -59,7 +59,7 @@ first_below P decide (suc n) = more (first_below P decide n) (decide n)
     more (inr none) (inl here) = inl (n, record { here = here; before = none })
     more (inr none) (inr fails) = inr (λ k h p. not_up_to k h none fails p)
 
--- a list with a number for each place, where there is one for each
+-- where there is a number for each place, there is a list of them
 pub listed : (n : ℕ) (P : ℕ → ℕ → Type 0) → ((a : ℕ) → a < n → (m : ℕ) × P a m) → (list : List ℕ) × (length list ≡ n) × ((a : ℕ) → a < n → P a (slice_index list a))
 listed zero P each = ([], refl, λ a h. absurd (omega arith))
 listed (suc n) P each =
@@ -89,27 +89,28 @@ length-meet [] ys same = refl
 length-meet (x ∷ xs) [] same = absurd (omega arith)
 length-meet (x ∷ xs) (y ∷ ys) same = let rest = length-meet xs ys (omega arith) in omega arith
 
--- it is so of this list, which is at most every other of which it is, at each place
+-- it holds of this list, which at each place is at most every other list of which it holds
 pub record IsLeast (P : List ℕ → Type 0) (q : List ℕ) : Type 0 where
   pub holds : P q
   pub least : (other : List ℕ) → P other → (a : ℕ) → slice_index q a ≤ slice_index other a
 
--- where it can be told of each list, and is so of the lesser of two of which it is, and only of lists of this length with
--- no number over a limit, there is a least list of which it is so, or none of which it is
-pub record IsSearched (limit n : ℕ) (P : List ℕ → Type 0) : Type 0 where
+-- What a search for the least list asks: of each list it is decided, of two lists of which it holds it holds of the lesser
+-- at each place, and it holds only of lists of n numbers up to a limit.
+pub record IsSearchable (limit n : ℕ) (P : List ℕ → Type 0) : Type 0 where
   pub decide : (q : List ℕ) → Decided (P q)
   pub meets : (p q : List ℕ) → P p → P q → P (meet p q)
   pub long : (q : List ℕ) → P q → length q ≡ n
   pub within : (q : List ℕ) → P q → (a : ℕ) → slice_index q a ≤ limit
 
+-- the least list of which it holds, or it holds of none
 abbrev pub LeastOrNone : (List ℕ → Type 0) → Type 0
 LeastOrNone P = ((q : List ℕ) × IsLeast P q) ⊎ ((q : List ℕ) → P q → ⊥)
 
-module _ (limit n : ℕ) (P : List ℕ → Type 0) (is : IsSearched limit (suc n) P) where
+module _ (limit n : ℕ) (P : List ℕ → Type 0) (is : IsSearchable limit (suc n) P) where
   abbrev Behind : ℕ → List ℕ → Type 0
   Behind x q = P (x ∷ q)
 
-  behind : (x : ℕ) → IsSearched limit n (Behind x)
+  behind : (x : ℕ) → IsSearchable limit n (Behind x)
   behind x = record {
     decide = λ q. is.decide (x ∷ q);
     meets = λ p q one other. let R : ℕ → Type 0 = λ y. P (y ∷ meet p q) in subst R (let e : min x x ≡ x = omega arith in e) (is.meets (x ∷ p) (x ∷ q) one other);
@@ -155,7 +156,7 @@ module _ (limit n : ℕ) (P : List ℕ → Type 0) (is : IsSearched limit (suc n
         (λ (none : (x : ℕ) → x < suc limit → Starts x → ⊥). inr (none_starts none))
         (first_below Starts starts_decided (suc limit))
 
-pub least_or_none : (limit n : ℕ) (P : List ℕ → Type 0) → IsSearched limit n P → LeastOrNone P
+pub least_or_none : (limit n : ℕ) (P : List ℕ → Type 0) → IsSearchable limit n P → LeastOrNone P
 least_or_none limit zero P is = ⊎_elim
     (λ (holds : P []). inl ([], record { holds = holds; least = λ other also a. omega arith }))
     (λ (fails : P [] → ⊥). inr (λ q holds. only q (is.long q holds) holds fails))
