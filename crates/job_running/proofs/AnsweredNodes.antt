@@ -1,0 +1,247 @@
+-- A node of a running firing is answered by what it called.
+use Rattle.std.proofs.Common.{◌≡◌, ◌≢◌, ℕ, zero, suc, ◌+◌, ◌<◌, ◌≤◌, ◌^◌, ⊎_elim, inl, inr, ℤ, Bool, true, false, List, [], ◌∷◌, ◌++◌, length, map, set, get_or, slice_get, Option, Some, None, Result, Ok, Err, refl, sym, ap, ap₂, ◌∙◌, subst, arith, if◌then◌else◌}
+use Rattle.std.specs.Prelude.{Vec, is_none, unwrap_or, ◌↔◌, ◌⊎◌, IsOk}
+use Rattle.std.specs.Global.{Global}
+use Rattle.std.specs.declared.snapshot.Snapshot.{Snapshot}
+use Rattle.job_running.specs.declared.told.Told.{Told}
+use Rattle.std.proofs.lemmas.Bool.{cases_lt}
+use Rattle.std.proofs.lemmas.List.{get_or-set_other, get_or-set_same, get_or_past, length-set, map-set}
+use Rattle.kernel_gate.specs.Value.{FrameView, Places, lengths}
+use Rattle.kernel_gate.specs.declared.fault.KernelFault.{KernelFault}
+use Rattle.nested_jobs.specs.Marks as mark
+use Rattle.nested_jobs.specs.Marks.{Mark}
+use Rattle.nested_jobs.specs.Rules.{Task, Work, Call}
+use Rattle.param_resolver.specs.Numbering.{acting, has_state}
+use Rattle.pisdf_model.specs.declared.actor.Actor.{Actor}
+use Rattle.pisdf_model.specs.declared.actor.Body.{Body}
+use Rattle.pisdf_model.specs.declared.actor.Body.TheVariants.{Kernel, Config, Child, ConfigChild}
+use Rattle.pisdf_model.specs.declared.graph.Graph.{Graph}
+use Rattle.pisdf_meaning.specs.declared.firing.Firing.{Firing}
+use Rattle.pisdf_meaning.specs.declared.outcome.TraceRow.{TraceRow}
+use Rattle.pisdf_meaning.specs.declared.refusal.Refusal.{Refusal}
+use Rattle.sdf_level.specs.declared.node.Node.{Node}
+use Rattle.sdf_level.specs.declared.node.Node.TheVariants as node
+use Rattle.job_flow.specs.Frames as flow
+use Rattle.job_flow.specs.Frames.{inputs, lens}
+use Rattle.job_flow.specs.Graphs.{JobGraph, node_at}
+use Rattle.job_flow.specs.Events.{IsReady}
+use Rattle.job_flow.specs.Laws.{InputsInAnyWords, ReadyInAnyWords, ReadyStays}
+use Rattle.job_rules.specs.Items.{actor_of, actor_task, firing_task, keeps_state, node_task}
+use Rattle.job_rules.specs.Words as words
+use Rattle.job_rules.specs.Words.{Answer, Spot, given_outs}
+use Rattle.one_job.specs.Calls.{finished_with}
+use Rattle.one_job.specs.Marks as one
+use Rattle.one_job.specs.Pick.{is_child_in}
+use Rattle.one_job.specs.View as leased
+use Rattle.one_job.specs.View.{IsFiring}
+use Rattle.job_preparing.specs.Handing.{answer_with, lent_at, mark_at}
+use Rattle.job_running.specs.Calls.{IsHanded, handed_out}
+use Rattle.job_running.specs.Kept.{view_with}
+use Rattle.job_running.specs.Parts.{AllStand, Fixed, KeepsAll, Stands, fired, frame_at, job_in, kernel_in, kind_of_actor, values_of}
+use Rattle.job_running.specs.Sizes.{place_lens}
+use Rattle.job_running.specs.Stages.{FitsLens, FitsSort, IsEnded, held_by, job_mark, lent_of, lents_of, mark_of, spot_of, stage_at, trace_in}
+use Rattle.job_running.specs.View.{IsOfferedWork, RunningView, nodes_of, task}
+use Rattle.job_running.specs.declared.stage.Stage.{Stage}
+use Rattle.job_running.specs.declared.stage.Stage.TheVariants.{Free, Busy, Lost, Open, Fired, Failed, Gave, Refused}
+use Rattle.job_running.proofs.NodeMarks.{IsBusy, fired_stage, free_stage, lent_busy, lent_here, mark_here, marks_set}
+use Rattle.job_running.proofs.NodeSteps.{same_traces, step}
+use Rattle.job_running.proofs.NodeTasks.{HasFrame, enabled, free_job, handed_so, has_task, kernel_lens, nodes_are, own_ready, ready_task, results, same_inputs, sort_of, told_ready}
+use Rattle.std.specs.Prelude.{slice_index}
+use Rattle.std.proofs.lemmas.Bool.{cases_eq}
+use Rattle.std.proofs.lemmas.List.{length-map, set-get_or}
+use Rattle.param_resolver.specs.EarlyCheck.{early_of}
+use Rattle.param_resolver.specs.LevelOf.{out_rates}
+use Rattle.param_resolver.specs.Numbering.{output_count}
+use Rattle.param_resolver.proofs.Sound.{resolvable}
+use Rattle.param_resolver.proofs.Wired.{well_wired}
+use Rattle.pisdf_model.specs.Parts.{outputs_of}
+use Rattle.pisdf_model.specs.declared.graph.Interface.{Interface}
+use Rattle.pisdf_meaning.proofs.KeptSizes.{outputs_many}
+use Rattle.sdf_level.specs.Lists.{lists_of}
+use Rattle.single_rate.specs.Expanded.{place_of}
+use Rattle.single_rate.specs.Stages.{FiringsAreAll, FiringsStandInOrder, NodesStandOnce}
+use Rattle.job_rules.specs.Words.{answer_of}
+use Rattle.job_preparing.specs.Handing.{EndSuits, SuitsCall, end_of, given_of}
+use Rattle.job_preparing.specs.declared.handing.JobGiven.{JobGiven}
+use Rattle.job_running.specs.Calls.{IsEndOfCall}
+use Rattle.job_running.specs.Parts.{AreTraces, row_at}
+use Rattle.job_running.specs.Sizes.{call_lens, child_outs}
+use Rattle.job_running.proofs.CalledNodes.{child_sizes}
+use Rattle.job_running.proofs.ClaimedNodes.{Fires, inside, is_call, item_is, keeps_on, spot, stage, state_kept, view_step}
+use Rattle.job_running.proofs.NodeMarks.{IsOpen, open_stage}
+use Rattle.job_running.proofs.NodeSteps.{step}
+use Rattle.job_running.proofs.OfferedNodes.{IsInside, firing_inside}
+
+-- a node that fires a graph is a firing
+pub is_firing : (kinds : List (Option ℕ)) (nd : Node) → is_child_in kinds nd ≡ true → IsFiring nd
+is_firing kinds (node.Source s) is = absurd (cc)
+is_firing kinds (node.Init l) is = absurd (cc)
+is_firing kinds (node.Firing a k) is = tt
+is_firing kinds (node.End l) is = absurd (cc)
+is_firing kinds (node.Sink t) is = absurd (cc)
+is_firing kinds (node.Broadcast l) is = absurd (cc)
+is_firing kinds (node.Fork l i) is = absurd (cc)
+is_firing kinds (node.Join l i) is = absurd (cc)
+is_firing kinds (node.Round l) is = absurd (cc)
+
+-- whether the state of an actor goes on, by its number
+pub kept_at : (graphs : List Graph) (own : List Actor) (a : ℕ) (d : Bool) → a < length own → get_or (map (has_state graphs) own) a d ≡ keeps_state graphs (slice_get own a)
+kept_at graphs [] a d inside = absurd (omega arith)
+kept_at graphs (x ∷ own) zero d inside = refl
+kept_at graphs (x ∷ own) (suc a) d inside = kept_at graphs own a d (omega arith)
+
+-- ---- traces
+
+module _ (nodes : List Node) (counts : List ℕ) (stages : List Stage) (rows : List (Vec (List TraceRow) Global)) (traces : AreTraces nodes counts stages rows) (once : (m : ℕ) → m < length nodes → place_of nodes (node_at nodes m) ≡ m)
+    (n a k : ℕ) (there : n < length nodes) (at : node_at nodes n ≡ node.Firing a k) (a_in : a < length counts) (k_in : k < slice_index counts a) (long : length stages ≡ length nodes) where
+  pub own_traces : (s : Stage) (trace : List TraceRow) (rows' : List (Vec (List TraceRow) Global)) → trace_in s ≡ trace → lists_of rows' ≡ set (lists_of rows) a (set (row_at rows a) k trace) → AreTraces nodes counts (set stages n s) rows'
+  own_traces s trace rows' traced are = record {
+    one_each = ap length are ∙ length-set (lists_of rows) a (set (row_at rows a) k trace) ∙ traces.one_each;
+    many = λ b. ⊎_elim
+        (λ (same : b ≡ a). ap (λ i. length (row_at rows' i)) same ∙ ap length own_row ∙ length-set (row_at rows a) k trace ∙ traces.many a ∙ ap (slice_index counts) (sym same))
+        (λ (other : b ≡ a → ⊥). ap length (other_row b other) ∙ traces.many b)
+        (cases_eq b a);
+    each = λ m b i m_in is. ⊎_elim
+        (λ (same : m ≡ n).
+        let e : node.Firing b i ≡ node.Firing a k = sym is ∙ ap (node_at nodes) same ∙ at in
+        let b_is : b ≡ a = cc in
+        let i_is : i ≡ k = cc in
+        let stage_is : stage_at (set stages n s) m ≡ s = ap (stage_at (set stages n s)) same ∙ get_or-set_same stages n s Free (omega arith) in
+        ap₂ (λ x y. get_or (row_at rows' x) y []) b_is i_is ∙ ap (λ l. get_or l k []) own_row ∙ get_or-set_same (row_at rows a) k trace [] (let l = traces.many a in omega arith) ∙ sym traced ∙ ap trace_in (sym stage_is))
+        (λ (other : m ≡ n → ⊥).
+        let stage_is : stage_at (set stages n s) m ≡ stage_at stages m = get_or-set_other stages n m s Free other in
+        at_other m b i m_in is other ∙ traces.each m b i m_in is ∙ ap trace_in (sym stage_is))
+        (cases_eq m n);
+  }
+    where
+      own_row : row_at rows' a ≡ set (row_at rows a) k trace
+      own_row = ap (λ l. get_or l a []) are ∙ get_or-set_same (lists_of rows) a (set (row_at rows a) k trace) [] (let l = traces.one_each in omega arith)
+
+      other_row : (b : ℕ) → (b ≡ a → ⊥) → row_at rows' b ≡ row_at rows b
+      other_row b other = ap (λ l. get_or l b []) are ∙ get_or-set_other (lists_of rows) a b (set (row_at rows a) k trace) [] other
+
+      at_other : (m b i : ℕ) → m < length nodes → node_at nodes m ≡ node.Firing b i → (m ≡ n → ⊥) → get_or (row_at rows' b) i [] ≡ get_or (row_at rows b) i []
+      at_other m b i m_in is other = ⊎_elim
+          (λ (same : b ≡ a). ⊎_elim
+          (λ (turn : i ≡ k). absurd (other (sym (once m m_in) ∙ ap (place_of nodes) (is ∙ ap₂ (λ x y. node.Firing x y) same turn ∙ sym at) ∙ once n there)))
+          (λ (turn : i ≡ k → ⊥). ap (λ x. get_or (row_at rows' x) i []) same ∙ ap (λ l. get_or l i []) own_row ∙ get_or-set_other (row_at rows a) k i trace [] turn ∙ ap (λ x. get_or (row_at rows x) i []) (sym same))
+          (cases_eq i k))
+          (λ (differs : b ≡ a → ⊥). ap (λ l. get_or l i []) (other_row b differs))
+          (cases_eq b a)
+
+-- ---- the answer
+
+module _ (f : Fixed) (stages : List Stage) (frames : List (Option FrameView)) (rows : List (Vec (List TraceRow) Global)) (j : leased.JobView) (keeps : KeepsAll f stages frames rows j) (n : ℕ) (d : Firing) (open_is : mark_at (view_with f stages).marks n ≡ mark.Open d) where
+  abbrev G : List Graph
+  G = f.graphs.graphs
+
+  pub opened : IsOpen (stage f stages frames rows j keeps n) d
+  opened = open_stage (spot f stages frames rows j keeps n) (stage f stages frames rows j keeps n) d (sym (item_is f stages frames rows j keeps n) ∙ open_is)
+
+  pub there : n < length (job_in f).nodes
+  there = inside f stages frames rows j keeps n (λ free. let e : Free ≡ Open opened.own opened.told = sym free ∙ opened.stage_is in absurd (cc))
+
+  abbrev StandsSo : Stage → one.Mark → Option FrameView → Type 0
+  StandsSo s m o = Stands G (lens (job_in f) n) (state_kept f stages frames rows j keeps n) (is_call f stages frames rows j keeps n) (Fires f stages frames rows j keeps n) s m o
+
+  stands : StandsSo (Open opened.own opened.told) (one.mark_at j.marks n) (frame_at frames n)
+  stands = subst (λ x. StandsSo x (one.mark_at j.marks n) (frame_at frames n)) opened.stage_is (keeps.stand.each n there)
+
+  pub waits : frame_at frames n ≡ Some opened.told.frame
+  waits = stands.held
+
+  pub frame_inside : n < length frames
+  frame_inside = let l = keeps.stand.one_frame in let i = there in omega arith
+
+  pub claimed : one.mark_at j.marks n ≡ one.Claimed opened.told.frame.places
+  claimed = stands.mark_is
+
+  pub firing : IsFiring (node_at j.compilation.graph.nodes n)
+  firing = subst (λ (l : List Node). IsFiring (node_at l n)) (sym (nodes_are f stages frames rows j keeps)) (is_firing j.kinds (node_at (job_in f).nodes n) stands.sort)
+
+  pub lens_are : call_lens G (state_kept f stages frames rows j keeps n) d ≡ lens (job_in f) n
+  lens_are = ap (call_lens G (state_kept f stages frames rows j keeps n)) (sym opened.job_is) ∙ stands.sizes.1
+
+  -- what suits the call fits the frame
+  pub fits_frame : (given : JobGiven) → SuitsCall G d (given_of given) → (frame : FrameView) → frame ≡ opened.told.frame → lengths frame.outputs ≡ lengths (child_outs (state_kept f stages frames rows j keeps n) given.outs given.state)
+  fits_frame given suits frame same =
+      ap (λ (x : FrameView). lengths x.outputs) same ∙ stands.sizes.0 ∙ sym (child_sizes G (state_kept f stages frames rows j keeps n) d given.outs given.state suits.outs suits.state ∙ lens_are)
+
+  -- there are few outputs
+  pub few_outs : (given : JobGiven) → SuitsCall G d (given_of given) → length given.outs < 2 ^ 32
+  few_outs given suits =
+      let many : length given.outs ≡ length (early_of G d.graph d.inherited).outputs = sym (length-map given.outs (λ (l : List ℤ). length l)) ∙ ap (λ (l : List ℕ). length l) suits.outs in
+      let outs : length (early_of G d.graph d.inherited).outputs ≡ length (outputs_of (slice_get G d.graph)) = outputs_many G d.graph d.inherited [] ∙ length-map (outputs_of (slice_get G d.graph)) (λ (x : Interface). x.name) in
+      let few : length (outputs_of (slice_get G d.graph)) ≤ 64 = few_of (slice_get G d.graph) refl in
+      omega arith
+    where
+      few_of : (o : Option Graph) → slice_get G d.graph ≡ o → length (outputs_of o) ≤ 64
+      few_of None is = omega arith
+      few_of (Some h) is = let m = (well_wired f.graphs keeps.set_up.well (resolvable f.graphs keeps.set_up.range keeps.set_up.well) d.graph h is).few_outputs in omega arith
+
+  ready_then : IsReady (job_in f) (one.values j.marks) n
+  ready_then = keeps.stand.ready n (λ free. let e : one.Free ≡ one.Claimed opened.told.frame.places = sym free ∙ claimed in absurd (cc))
+
+  none_waits : frame_at (set frames n None) n ≡ None
+  none_waits = get_or-set_same frames n None None frame_inside
+
+  module _ (all : FiringsAreAll) (in_order : FiringsStandInOrder) (once : NodesStandOnce) (stays : ReadyStays ℤ ℕ) where
+    pub firing_in : (a k : ℕ) → node_at j.compilation.graph.nodes n ≡ node.Firing a k → IsInside f stages frames rows j keeps all in_order a k
+    firing_in a k at = firing_inside f stages frames rows j keeps all in_order n a k (ap (λ (l : List Node). node_at l n) (sym (nodes_are f stages frames rows j keeps)) ∙ at)
+
+    counts_many : length f.compilation.counts ≡ length (acting (fired f))
+    counts_many = keeps.set_up.is_job.repetition.multiplied.one_each
+
+    pub actor_in : (a k : ℕ) → node_at j.compilation.graph.nodes n ≡ node.Firing a k → a < length (lists_of rows)
+    actor_in a k at = let i = (firing_in a k at).actor in let l = keeps.traces.one_each in let c = counts_many in omega arith
+
+    pub turn_in : (a k : ℕ) → node_at j.compilation.graph.nodes n ≡ node.Firing a k → k < length (row_at rows a)
+    turn_in a k at = let i = (firing_in a k at).turn in let l = keeps.traces.many a in omega arith
+
+    pub keeps_in : (a k : ℕ) → node_at j.compilation.graph.nodes n ≡ node.Firing a k → a < length f.keeps
+    keeps_in a k at = let i = (firing_in a k at).actor in let l = ap (λ (l : List Bool). length l) keeps.parts.keeps_are ∙ length-map (acting (fired f)) (has_state G) in omega arith
+
+    pub kept_is : (a k : ℕ) (b : Bool) → node_at j.compilation.graph.nodes n ≡ node.Firing a k → get_or f.keeps a b ≡ state_kept f stages frames rows j keeps n
+    kept_is a k b at =
+        let own : node_at (job_in f).nodes n ≡ node.Firing a k = ap (λ (l : List Node). node_at l n) (sym (nodes_are f stages frames rows j keeps)) ∙ at in
+        ap (λ (l : List Bool). get_or l a b) keeps.parts.keeps_are ∙ kept_at G (acting (fired f)) a b (firing_in a k at).actor ∙ ap (λ x. keeps_state G (actor_of (fired f) x)) (sym own)
+
+    pub keeps_gave : (a k : ℕ) (told : Snapshot JobGiven) (given : JobGiven) (frame : FrameView) (rows' : List (Vec (List TraceRow) Global)) → node_at j.compilation.graph.nodes n ≡ node.Firing a k → told.value ≡ given → SuitsCall G d (given_of given) →
+        frame.outputs ≡ child_outs (state_kept f stages frames rows j keeps n) given.outs given.state → lists_of rows' ≡ set (lists_of rows) a (set (row_at rows a) k given.trace) →
+        KeepsAll f (set stages n (Gave told)) (set frames n None) rows' (record j { marks = set j.marks n (one.Finished frame.outputs) })
+    keeps_gave a k told given frame rows' at told_is suits outs_are rows_are =
+        let keep = state_kept f stages frames rows j keeps n in
+        let own : node_at (job_in f).nodes n ≡ node.Firing a k = ap (λ (l : List Node). node_at l n) (sym (nodes_are f stages frames rows j keeps)) ∙ at in
+        let outs_told : frame.outputs ≡ child_outs keep told.value.outs told.value.state = outs_are ∙ ap (λ (x : JobGiven). child_outs keep x.outs x.state) (sym told_is) in
+        let sizes : lengths (child_outs keep told.value.outs told.value.state) ≡ lens (job_in f) n = ap (λ (x : JobGiven). lengths (child_outs keep x.outs x.state)) told_is ∙ child_sizes G keep d given.outs given.state suits.outs suits.state ∙ lens_are in
+        record {
+          set_up = keeps.set_up;
+          stand = step G (fired f) j.kinds (job_in f) stages j.marks frames keeps.stand stays n there (Gave told) (one.Finished frame.outputs) (set frames n None) (ap one.value_of claimed) ready_then
+              record { mark_is = ap one.Finished outs_told; held = none_waits; sort = stands.sort; sizes = sizes }
+              (length-set frames n None) (λ i other. get_or-set_other frames n i None None other);
+          traces = own_traces (job_in f).nodes f.compilation.counts stages rows keeps.traces (λ m m_in. once (job_in f).level f.compilation.counts f.compilation.order m keeps.set_up.is_job.order m_in) n a k there own
+              (let i = (firing_in a k at).actor in let c = counts_many in omega arith) (firing_in a k at).turn keeps.stand.one_stage (Gave told) given.trace rows' (ap (λ (x : JobGiven). x.trace) told_is) rows_are;
+          parts = keeps.parts;
+        }
+
+    pub keeps_refused : (refusal : Refusal) → KeepsAll f (set stages n (Refused refusal)) (set frames n None) rows (record j { marks = set j.marks n (one.Failed 0) })
+    keeps_refused refusal =
+        keeps_on f stages frames rows j keeps n stays there (Refused refusal) (one.Failed 0) (set frames n None) (ap one.value_of claimed) ready_then
+        record { mark_is = refl; held = none_waits; sort = stands.sort; sizes = tt }
+        (length-set frames n None) (λ i other. get_or-set_other frames n i None None other) (sym (ap trace_in opened.stage_is))
+
+    lent_same : set (view_with f stages).lent n None ≡ (view_with f stages).lent
+    lent_same =
+        let none : lent_at (view_with f stages).lent n ≡ None = lent_here stages n ∙ ap lent_of opened.stage_is in
+        ap (set (view_with f stages).lent n) (sym none) ∙ set-get_or (view_with f stages).lent n None
+
+    pub view_gave : (told : Snapshot JobGiven) (given : JobGiven) → told.value ≡ given → view_with f (set stages n (Gave told)) ≡ record (view_with f stages) { marks = set (view_with f stages).marks n (mark.Done (answer_of (end_of (Ok given)))) }
+    view_gave told given told_is =
+        let m : mark_of (spot f stages frames rows j keeps n) (Gave told) ≡ mark.Done (answer_of (end_of (Ok given))) = ap (λ (x : JobGiven). mark.Done (words.Gives (given_of x))) told_is in
+        let l = lent_same in
+        view_step f stages n (Gave told) ∙ (λ i. record (view_with f stages) { marks = set (view_with f stages).marks n (m i); lent = l i })
+
+    pub view_refused : (refusal : Refusal) → view_with f (set stages n (Refused refusal)) ≡ record (view_with f stages) { marks = set (view_with f stages).marks n (mark.Done (answer_of (end_of (Err refusal)))) }
+    view_refused refusal =
+        let l = lent_same in
+        view_step f stages n (Refused refusal) ∙ (λ i. record (view_with f stages) { marks = set (view_with f stages).marks n (mark.Done (words.Refuses refusal)); lent = l i })

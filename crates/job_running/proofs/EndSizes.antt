@@ -1,0 +1,336 @@
+-- What a running firing gives is as long as the early check of its graph says.
+use Rattle.std.proofs.Common.{◌≡◌, ◌≢◌, ℕ, zero, suc, ◌+◌, ◌*◌, ◌<◌, ◌≤◌, ⊎_elim, ℤ, Bool, true, false, List, [], ◌∷◌, ◌++◌, length, map, set, get_or, drop, slice_get, slice_index, slice_index_or, Option, Some, None, Result, Ok, Err, refl, sym, ap, ap₂, ◌∙◌, subst, arith, if◌then◌else◌, nat_lt}
+use Rattle.std.specs.Prelude.{Vec}
+use Rattle.std.specs.Global.{Global}
+use Rattle.std.specs.List.{AllByRecursion, filter}
+use Rattle.std.proofs.Math.Nat.{mul_comm}
+use Rattle.std.proofs.lemmas.Bool.{cases_Bool, cases_eq, cases_lt, ltb-false, ne_eqb}
+use Rattle.std.proofs.lemmas.List.{get_or_past, length-append, length-drop, length-map, map-append}
+use Rattle.kernel_gate.specs.Value.{FrameView, lengths}
+use Rattle.sdf_level.specs.View.{LevelView}
+use Rattle.sdf_level.specs.Balance.{IsBalanced}
+use Rattle.sdf_level.specs.Firings.{actors_of, firings}
+use Rattle.sdf_level.specs.Interfaces.{last}
+use Rattle.sdf_level.specs.Kept.{HasSoundDelay, TouchesActor, how_many, is_into_sink}
+use Rattle.sdf_level.specs.Laws.{Reaches}
+use Rattle.sdf_level.specs.LevelRun.{Ended, HasRate, HaveDelays, HaveRates, end_of as level_end, kept_at, left_of, written}
+use Rattle.sdf_level.specs.Links.{EachOuter, OfOuter}
+use Rattle.sdf_level.specs.Told.{Made, line_of, lines_of}
+use Rattle.sdf_level.specs.declared.link.Link.{Link}
+use Rattle.sdf_level.specs.declared.link.Tail.{Tail}
+use Rattle.sdf_level.specs.declared.link.Head.{Head}
+use Rattle.sdf_level.specs.declared.link.Tail.TheVariants as tail
+use Rattle.sdf_level.specs.declared.link.Head.TheVariants as head
+use Rattle.sdf_level.specs.declared.node.Node.{Node}
+use Rattle.sdf_level.specs.declared.node.Node.TheVariants as node
+use Rattle.sdf_level.specs.declared.single_rate.Edge.{Edge}
+use Rattle.sdf_level.specs.declared.token_name.TokenName.{TokenName}
+use Rattle.sdf_level.specs.declared.turn.Turn.{Turn}
+use Rattle.sdf_level.proofs.Balanced.{repetition_balanced, repetition_reaches}
+use Rattle.sdf_level.proofs.KeptLengths.{left_long}
+use Rattle.sdf_level.proofs.Windows.{length-sent}
+use Rattle.single_rate.specs.declared.wire.Wire.{Wire}
+use Rattle.single_rate.specs.Delivers.{arrivals, at_ends, at_sinks}
+use Rattle.single_rate.specs.Expanded.{by_nodes, place_of}
+use Rattle.single_rate.specs.Flow.{IsFlow, arrives_at}
+use Rattle.single_rate.specs.Laws.{FlowsDeliver, GraphsHaveOneFlow, HasOneFlow, IsGiven, graph}
+use Rattle.single_rate.specs.Names.{names}
+use Rattle.single_rate.specs.Nodes.{same}
+use Rattle.single_rate.proofs.Unique.{same-node}
+use Rattle.job_flow.specs.Events.{IsDone, IsFinished, IsQuiet, IsReady}
+use Rattle.job_flow.specs.Frames.{Values, arriving_below, given, lens, lengths_written, sizes_below}
+use Rattle.job_flow.specs.GraphLaws.{GraphLaws}
+use Rattle.job_flow.specs.Graphs.{IsJobGraph, JobGraph, node_at}
+use Rattle.job_flow.specs.Outcomes.{ended, failure, left_over, put_out, sunk}
+use Rattle.job_flow.proofs.Collected.{arrives_at-is}
+use Rattle.job_flow.proofs.Failures.{none-failed}
+use Rattle.job_flow.proofs.Flows.{IsNumbered, all-both}
+use Rattle.job_flow.proofs.Jobs.{graph-is, numbered}
+use Rattle.job_flow.proofs.Slots.{sized-below}
+use Rattle.param_resolver.specs.LevelOf.{fifo_links, link_of, links_of, state_link, state_links}
+use Rattle.param_resolver.specs.Numbering.{has_state, is_kept, state_size}
+use Rattle.pisdf_model.specs.Details.{from_number}
+use Rattle.pisdf_model.specs.Hold.{actor_state, initial, kept_tokens}
+use Rattle.pisdf_model.specs.InterfaceWires.{is_configuration}
+use Rattle.pisdf_model.specs.declared.actor.Actor.{Actor}
+use Rattle.pisdf_model.specs.declared.actor.Body.{Body}
+use Rattle.pisdf_model.specs.declared.actor.Body.TheVariants.{Kernel, Config, Child, ConfigChild}
+use Rattle.pisdf_model.specs.declared.fifo.Fifo.{Fifo}
+use Rattle.pisdf_model.specs.declared.fifo.Life.{Life}
+use Rattle.pisdf_model.specs.declared.fifo.Life.TheVariants as life
+use Rattle.pisdf_model.specs.declared.graph.Graph.{Graph}
+use Rattle.pisdf_meaning.specs.Configuring.{Configuration, configurations_from}
+use Rattle.pisdf_meaning.specs.Running.{actor_states, fifo_states, state_after, state_of_first}
+use Rattle.pisdf_meaning.specs.Sizes.{IsWired}
+use Rattle.pisdf_meaning.specs.States.{goes_on, tokens_at}
+use Rattle.pisdf_meaning.specs.declared.firing.Configured.{Configured}
+use Rattle.pisdf_meaning.proofs.LinkSizes.{no_delay}
+use Rattle.pisdf_meaning.proofs.StateSizes.{actor_size, fifo_size}
+
+-- ---- what the sinks keep of lines (as in sdf_level)
+
+module _ {T : Type 0} (level : LevelView) (q : List ℕ) (made : Made T) (f : ℕ → ℕ) (counts : (a : ℕ) → f a ≡ slice_index q a) where
+  one_written : (s : ℕ) (t : Tail) (h : Head) (d : ℕ) (start : List T) → is_into_sink s record { tail = t; head = h; delay = d } ≡ true → ((a j : ℕ) → j < slice_index q a → HasRate a (made a j) t) → TouchesActor t h → OfOuter (Reaches q) level t h →
+      slice_index level.sinks s ≤ length (line_of made f t start)
+  one_written s t (head.Port b j c) d start into rated touches reaches = absurd (cc)
+  one_written s (tail.Source x) (head.Sink y) d start into rated touches reaches = absurd touches
+  one_written s (tail.Port a p r) (head.Sink y) d start into rated touches reaches = ⊎_elim
+      (λ (e : y ≡ s).
+      let put = length-sent (made a) p r (slice_index q a) (λ i h. rated a i h refl) in
+      let turned : r * slice_index q a ≡ slice_index q a * r = mul_comm r (slice_index q a) in
+      let enough : slice_index level.sinks s ≤ slice_index q a * r = rw e at reaches in
+      rw (counts a, length-append, put) (omega arith))
+      (λ (n : y ≡ s → ⊥). absurd (let m = rw (ne_eqb y s n) at into in cc))
+      (cases_eq y s)
+
+  written_long : (s : ℕ) (links : List Link) (starts : List (List T)) → HaveDelays links starts → 0 < how_many (is_into_sink s) links → ((a j : ℕ) → j < slice_index q a → HaveRates a (made a j) links) → AllByRecursion (λ link. TouchesActor link.tail link.head) links → EachOuter (Reaches q) level links →
+      slice_index level.sinks s ≤ length (written s links (lines_of made f links starts))
+  written_long s [] starts at some rated touches reaches = absurd (omega arith)
+  written_long s (link ∷ links) [] at some rated touches reaches = absurd at
+  written_long s (link ∷ links) (start ∷ starts) at some rated touches reaches = ⊎_elim
+      (λ (e : is_into_sink s link ≡ true). rw e (one_written s link.tail link.head link.delay start e (λ a j h. (rated a j h).0) touches.0 reaches.0))
+      (λ (e : is_into_sink s link ≡ false). rw e (written_long s links starts at.1 (let m = rw e at some in omega arith) (λ a j h. (rated a j h).1) touches.1 reaches.1))
+      (cases_Bool (is_into_sink s link))
+
+  last_long : (r : ℕ) (line : List T) → r ≤ length line → length (last r line) ≡ r
+  last_long r line h = rw length-drop (omega arith)
+
+  kept_long : (s : ℕ) (sinks : List ℕ) (lines : List (List T)) → ((i : ℕ) → i < length sinks → slice_index sinks i ≤ length (written (s + i) level.links lines)) → map length (kept_at s sinks level.links lines) ≡ sinks
+  kept_long s [] lines enough = refl
+  kept_long s (r ∷ sinks) lines enough =
+      let e : s + 0 ≡ s = omega arith in
+      let here : r ≤ length (written s level.links lines) = let h = enough 0 (omega arith) in rw e at h in
+      let later = kept_long (s + 1) sinks lines (λ i h. let f : s + suc i ≡ (s + 1) + i = omega arith in let g = enough (suc i) (omega arith) in rw f at g) in
+      rw (last_long r (written s level.links lines) here, later) refl
+
+-- ---- lists of the same lengths
+
+delays_alike : {S T : Type 0} (links : List Link) (xs : List (List S)) (ys : List (List T)) → map length xs ≡ map length ys → HaveDelays links ys → HaveDelays links xs
+delays_alike [] [] [] e h = tt
+delays_alike [] [] (y ∷ ys) e h = absurd h
+delays_alike [] (x ∷ xs) [] e h = absurd (cc)
+delays_alike [] (x ∷ xs) (y ∷ ys) e h = absurd h
+delays_alike (link ∷ links) [] [] e h = absurd h
+delays_alike (link ∷ links) [] (y ∷ ys) e h = absurd (cc)
+delays_alike (link ∷ links) (x ∷ xs) [] e h = absurd h
+delays_alike (link ∷ links) (x ∷ xs) (y ∷ ys) e h =
+    let here : length x ≡ length y = cc in
+    let rest : map length xs ≡ map length ys = cc in
+    (here ∙ h.0, delays_alike links xs ys rest h.1)
+
+first_long : {T : Type 0} (outs : List (List T)) (s : ℕ) → map length outs ≡ s ∷ [] → length (slice_index_or outs 0 []) ≡ s
+first_long [] s e = absurd (cc)
+first_long (x ∷ outs) s e = cc
+
+-- ---- what arrives at sinks and at the ends of links
+
+module _ (known : GraphLaws) (one_flow : GraphsHaveOneFlow TokenName) (delivers : FlowsDeliver TokenName) {T : Type 0} (q : List ℕ) (turns : List Turn) (job : JobGraph T) (is : IsJobGraph q turns job) where
+  abbrev N : List Node
+  N = job.nodes
+
+  abbrev E : List Edge
+  E = job.edges
+
+  num : IsNumbered job.level turns job.nodes job.edges
+  num = numbered known q turns job is
+
+  fits : IsGiven job.level q turns (names job.level)
+  fits = record { level_kept = is.level_kept; repetition = is.repetition; order = is.order; lengths = known.names_fit job.level q is.level_kept }
+
+  named : HasOneFlow (names job.level) (graph job.level q turns)
+  named = one_flow job.level q turns (names job.level) fits
+
+  abbrev W : List Wire
+  W = by_nodes job.nodes job.edges
+
+  flow : IsFlow (names job.level) W named.on
+  flow = rw (graph-is known q turns job is) (named.flows)
+
+  below-arrivals : (n : ℕ) (m : Node) → n < length job.nodes → node_at job.nodes n ≡ m → (ports : ℕ) → arriving_below job.edges named.on n ports ≡ arrivals W named.on m ports
+  below-arrivals n m inside at zero = refl
+  below-arrivals n m inside at (suc port) = rw (below-arrivals n m inside at port, ← arrives_at-is job.nodes num.once n port inside job.edges num.ends named.on, at) refl
+
+  no-arrival : (m : Node) → length N ≤ place_of N m → (es : List Edge) → AllByRecursion (λ e. (e.tail < length N) × (e.head < length N)) es → (tokens : List (List TokenName)) → arrives_at (by_nodes N es) tokens m 0 ≡ []
+  no-arrival m past [] ends tokens = refl
+  no-arrival m past (e ∷ es) ends [] = refl
+  no-arrival m past (e ∷ es) ends (x ∷ tokens) = ⊎_elim
+      (λ (s : same m (node_at N e.head) ≡ true). absurd (let i : place_of N m ≡ e.head = ap (place_of N) (same-node m (node_at N e.head) s) ∙ num.once e.head ends.0.1 in let b = ends.0.1 in omega arith))
+      (λ (s : same m (node_at N e.head) ≡ false). rw s (no-arrival m past es ends.1 tokens))
+      (cases_Bool (same m (node_at N e.head)))
+
+  module _ {F : Type 0} (v : Values T F) (quiet : IsQuiet job v) (none : failure job v ≡ None) (past_none : (n : ℕ) → length job.nodes ≤ n → v n ≡ None) (sized : (n : ℕ) (outs : List (List T)) → n < length job.nodes → v n ≡ Some (Ok outs) → map length outs ≡ lens job n) where
+    finished-done : (o : Option (Result (List (List T)) F)) → IsFinished o → ((fault : F) → o ≡ Some (Err fault) → ⊥) → IsDone o
+    finished-done None finished fails = absurd finished
+    finished-done (Some (Ok outs)) finished fails = tt
+    finished-done (Some (Err fault)) finished fails = fails fault refl
+
+    done-below : (r n : ℕ) → n < length N → num.stage n < r → IsDone (v n)
+    done-below zero n inside below = absurd (omega arith)
+    done-below (suc r) n inside below =
+        let before : AllByRecursion (λ e. e.head ≡ n → IsDone (v e.tail)) E = all-both (λ e. (e.tail < length N) × (e.head < length N)) (λ e. num.stage e.tail < num.stage e.head) (λ e. e.head ≡ n → IsDone (v e.tail))
+        (λ e ends rises own. let s : num.stage e.head ≡ num.stage n = ap num.stage own in done-below r e.tail ends.0 (omega arith)) E num.ends num.rising in
+        finished-done (v n) (quiet n record { there = inside; before = before }) (λ fault failed. none-failed v 0 (length N) none n fault (omega arith) (omega arith) failed)
+
+    done-outs : (o : Option (Result (List (List T)) F)) → IsDone o → (outs : List (List T)) × (o ≡ Some (Ok outs))
+    done-outs None done = absurd done
+    done-outs (Some (Ok outs)) done = (outs, refl)
+    done-outs (Some (Err fault)) done = absurd done
+
+    out-long : (m : Node) → ((n : ℕ) → lengths_written job m n ≡ sizes_below E n 1) → length (put_out N v m) ≡ length (arrives_at W named.on m 0)
+    out-long m as_long = ⊎_elim
+        (λ (there : place_of N m < length N).
+        let n : ℕ = place_of N m in
+        let at = num.found m there in
+        let outs = done-outs (v n) (done-below (suc (num.stage n)) n there (omega arith)) in
+        let long : map length outs.0 ≡ sizes_below E n 1 = sized n outs.0 there outs.1 ∙ ap (λ (x : Node). lengths_written job x n) at ∙ as_long n in
+        let arrived : sizes_below E n 1 ≡ length (arrives_at W named.on m 0) ∷ [] = sym (sized-below N E named.on n 1 flow.sizes) ∙ ap (λ (x : List (List TokenName)). map length x) (below-arrivals n m there at 1) in
+        ap (λ (o : Option (Result (List (List T)) F)). length (slice_index_or (given o) 0 [])) outs.1 ∙ first_long outs.0 (length (arrives_at W named.on m 0)) (long ∙ arrived))
+        (λ (past : length N ≤ place_of N m).
+        ap (λ (o : Option (Result (List (List T)) F)). length (slice_index_or (given o) 0 [])) (past_none (place_of N m) past) ∙ sym (ap length (no-arrival m past E num.ends named.on)))
+        (cases_lt (place_of N m) (length N))
+
+    sinks-long : (t : ℕ) (rates : List ℕ) → map length (sunk N v t rates) ≡ map length (at_sinks W named.on t rates)
+    sinks-long t [] = refl
+    sinks-long t (r ∷ rates) = ap₂ (λ (x : ℕ) (l : List ℕ). x ∷ l) (out-long (node.Sink t) (λ n. refl)) (sinks-long (t + 1) rates)
+
+    ends-long : (l : ℕ) (links : List Link) → map length (left_over N v l links) ≡ map length (at_ends W named.on l links)
+    ends-long l [] = refl
+    ends-long l (link ∷ links) = ap₂ (λ (x : ℕ) (l : List ℕ). x ∷ l) (out-long (node.End l) (λ n. refl)) (ends-long (l + 1) links)
+
+    abbrev list : List ℕ
+    list = actors_of turns
+
+    abbrev lines : List (List TokenName)
+    lines = lines_of (names job.level).made (λ a. firings a list) job.level.links (names job.level).delays
+
+    arrived_is : level_end job.level q lines ≡ record { outs = at_sinks W named.on 0 job.level.sinks; left = at_ends W named.on 0 job.level.links }
+    arrived_is =
+        let d = delivers job.level q turns (names job.level) named.on list fits named.flows is.order.order.admissible in
+        d.ends ∙ ap (λ (w : List Wire). let e : Ended TokenName = record { outs = at_sinks w named.on 0 job.level.sinks; left = at_ends w named.on 0 job.level.links } in e) (sym (graph-is known q turns job is))
+
+    pub outs_long : map length (ended job v).outs ≡ job.level.sinks
+    outs_long =
+        sinks-long 0 job.level.sinks ∙ ap (λ (e : Ended TokenName). map length e.outs) (sym arrived_is)
+        ∙ kept_long job.level q (names job.level).made (λ a. firings a list) is.order.order.admissible.counts 0 job.level.sinks lines (λ i h.
+        let e : 0 + i ≡ i = omega arith in
+        rw e (written_long job.level q (names job.level).made (λ a. firings a list) is.order.order.admissible.counts i job.level.links (names job.level).delays fits.lengths.delays (let o = is.level_kept.sinks_at_one i h in omega arith) fits.lengths.made is.level_kept.actors_between (repetition_reaches job.level q is.level_kept is.repetition)))
+
+    pub left_fits : HaveDelays job.level.links (ended job v).left
+    left_fits =
+        delays_alike job.level.links (ended job v).left (left_of q job.level.links lines)
+        (ends-long 0 job.level.links ∙ ap (λ (e : Ended TokenName). map length e.left) (sym arrived_is))
+        (left_long job.level q (names job.level).made (λ a. firings a list) is.order.order.admissible.counts job.level.links (names job.level).delays fits.lengths.delays fits.lengths.made (repetition_balanced job.level q is.level_kept is.repetition) is.level_kept.delays)
+
+-- ---- the state that is left
+
+record Split (link : Link) (links : List Link) (left : List (List ℤ)) : Type 0 where
+  one : List ℤ
+  rest : List (List ℤ)
+  is : left ≡ one ∷ rest
+  long : length one ≡ link.delay
+  others : HaveDelays links rest
+
+split : (link : Link) (links : List Link) (left : List (List ℤ)) → HaveDelays (link ∷ links) left → Split link links left
+split link links [] f = absurd f
+split link links (l ∷ left) f = record { one = l; rest = left; is = refl; long = f.0; others = f.1 }
+
+goes_long : (l : Life) (delay left : List ℤ) → length left ≡ length delay → length (goes_on l left) ≡ length (kept_tokens l delay)
+goes_long life.Firing delay left e = refl
+goes_long life.Permanent delay left e = e
+
+no_tokens : (l : Life) (delay : List ℤ) → length delay ≡ 0 → 0 ≡ length (kept_tokens l delay)
+no_tokens life.Firing delay e = refl
+no_tokens life.Permanent delay e = sym e
+
+state_held : (graphs : List Graph) (body : Body) → nat_lt 0 (state_size graphs body) ≡ true → length (actor_state (initial graphs) body) ≡ state_size graphs body
+state_held graphs (Kernel kernel args ins outs) some = absurd (cc)
+state_held graphs (Config kernel args ins outs sets) some = absurd (cc)
+state_held graphs (Child place args) some = refl
+state_held graphs (ConfigChild place args sets) some = absurd (cc)
+
+no_held : (graphs : List Graph) (body : Body) → is_configuration body ≡ false → nat_lt 0 (state_size graphs body) ≡ false → length (actor_state (initial graphs) body) ≡ 0
+no_held graphs (Kernel kernel args ins outs) acts none = refl
+no_held graphs (Config kernel args ins outs sets) acts none = refl
+no_held graphs (Child place args) acts none = let least = ltb-false 0 (state_size graphs (Child place args)) none in omega arith
+no_held graphs (ConfigChild place args sets) acts none = absurd (cc)
+
+config_none : (graphs : List Graph) (body : Body) → is_configuration body ≡ true → nat_lt 0 (state_size graphs body) ≡ false
+config_none graphs (Kernel kernel args ins outs) is = absurd (cc)
+config_none graphs (Config kernel args ins outs sets) is = refl
+config_none graphs (Child place args) is = absurd (cc)
+config_none graphs (ConfigChild place args sets) is = refl
+
+module _ (graphs : List Graph) (g : Graph) (values : List ℤ) where
+  abbrev of_fifo : ℕ → Fifo → List Link
+  of_fifo i f = fifo_links graphs g values f
+
+  abbrev of_state : ℕ → Actor → List Link
+  of_state a x = state_links graphs g a x
+
+  fifos_left : (i : ℕ) (fifos : List Fifo) (links : List Link) (left : List (List ℤ)) → AllByRecursion (λ (f : Fifo). is_kept g f ≡ false → length f.delay ≡ 0) fifos → HaveDelays (from_number i of_fifo fifos ++ links) left →
+      (lengths (fifo_states g fifos left) ≡ map fifo_size fifos) × HaveDelays links (drop (length (filter (is_kept g) fifos)) left)
+  fifos_left i [] links left none here = (refl, here)
+  fifos_left i (f ∷ fifos) links left none here = ⊎_elim
+      (λ (kept : is_kept g f ≡ true).
+      let P : List Link → Type 0 = λ l. HaveDelays l left in
+      let first : from_number i of_fifo (f ∷ fifos) ++ links ≡ link_of graphs g values f ∷ (from_number (i + 1) of_fifo fifos ++ links) = rw kept refl in
+      let s = split (link_of graphs g values f) (from_number (i + 1) of_fifo fifos ++ links) left (subst P first here) in
+      let again = fifos_left (i + 1) fifos links s.rest none.1 s.others in
+      let head : length (goes_on f.life s.one) ≡ fifo_size f = goes_long f.life f.delay s.one s.long in
+      (rw (kept, s.is) (ap (λ n. n ∷ lengths (fifo_states g fifos s.rest)) head ∙ ap (λ (l : List ℕ). fifo_size f ∷ l) again.0), rw (kept, s.is) again.1))
+      (λ (other : is_kept g f ≡ false).
+      let P : List Link → Type 0 = λ l. HaveDelays l left in
+      let first : from_number i of_fifo (f ∷ fifos) ++ links ≡ from_number (i + 1) of_fifo fifos ++ links = rw other refl in
+      let again = fifos_left (i + 1) fifos links left none.1 (subst P first here) in
+      let head : 0 ≡ fifo_size f = no_tokens f.life f.delay (none.0 other) in
+      (rw other (ap (λ n. n ∷ lengths (fifo_states g fifos left)) head ∙ ap (λ (l : List ℕ). fifo_size f ∷ l) again.0), rw other again.1))
+      (cases_Bool (is_kept g f))
+
+  abbrev StatesLong : List Configuration → List Configured → Type 0
+  StatesLong cs configured = map (λ (one : Configured). length one.state) configured ≡ map (λ (c : Configuration). length (actor_state (initial graphs) c.body)) cs
+
+  first_state : (size : ℕ) (rest : List ℕ) (configured : List Configured) → map (λ (one : Configured). length one.state) configured ≡ size ∷ rest → (length (state_of_first configured) ≡ size) × (map (λ (one : Configured). length one.state) (drop 1 configured) ≡ rest)
+  first_state size rest [] e = absurd (cc)
+  first_state size rest (one ∷ configured) e = (cc, cc)
+
+  actors_left : (c a : ℕ) (actors : List Actor) (configured : List Configured) (left : List (List ℤ)) → StatesLong (configurations_from c a actors) configured → HaveDelays (from_number a of_state actors) left → lengths (actor_states graphs actors configured left) ≡ map (actor_size graphs) actors
+  actors_left c a [] configured left all links = refl
+  actors_left c a (x ∷ actors) configured left all links =
+      let P : List Link → Type 0 = λ l. HaveDelays l left in
+      ⊎_elim
+      (λ (is : is_configuration x.body ≡ true).
+      let none : has_state graphs x ≡ false = config_none graphs x.body is in
+      let links' : HaveDelays (from_number (a + 1) of_state actors) left = let e : from_number a of_state (x ∷ actors) ≡ from_number (a + 1) of_state actors = rw none refl in subst P e links in
+      let first : configurations_from c a (x ∷ actors) ≡ record { number = c; place = a; name = x.name; body = x.body } ∷ configurations_from (c + 1) (a + 1) actors = rw is refl in
+      let s = first_state (actor_size graphs x) (map (λ (k : Configuration). length (actor_state (initial graphs) k.body)) (configurations_from (c + 1) (a + 1) actors)) configured (all ∙ ap (map (λ (k : Configuration). length (actor_state (initial graphs) k.body))) first) in
+      let again = actors_left (c + 1) (a + 1) actors (drop 1 configured) left s.1 links' in
+      rw is (ap (λ n. n ∷ lengths (actor_states graphs actors (drop 1 configured) left)) s.0 ∙ ap (λ (l : List ℕ). actor_size graphs x ∷ l) again))
+      (λ (acts : is_configuration x.body ≡ false).
+      let others : configurations_from c a (x ∷ actors) ≡ configurations_from c (a + 1) actors = rw acts refl in
+      let all' : StatesLong (configurations_from c (a + 1) actors) configured = all ∙ ap (map (λ (k : Configuration). length (actor_state (initial graphs) k.body))) others in
+      ⊎_elim
+      (λ (has : has_state graphs x ≡ true).
+      let first : from_number a of_state (x ∷ actors) ≡ state_link graphs g a x.body ∷ from_number (a + 1) of_state actors = rw has refl in
+      let s = split (state_link graphs g a x.body) (from_number (a + 1) of_state actors) left (subst P first links) in
+      let head : length s.one ≡ actor_size graphs x = s.long ∙ sym (state_held graphs x.body has) in
+      let again = actors_left c (a + 1) actors configured s.rest all' s.others in
+      rw (acts, has, s.is) (ap (λ n. n ∷ lengths (actor_states graphs actors configured s.rest)) head ∙ ap (λ (l : List ℕ). actor_size graphs x ∷ l) again))
+      (λ (none : has_state graphs x ≡ false).
+      let first : from_number a of_state (x ∷ actors) ≡ from_number (a + 1) of_state actors = rw none refl in
+      let head : 0 ≡ actor_size graphs x = sym (no_held graphs x.body acts none) in
+      let again = actors_left c (a + 1) actors configured left all' (subst P first links) in
+      rw (acts, none) (ap (λ n. n ∷ lengths (actor_states graphs actors configured left)) head ∙ ap (λ (l : List ℕ). actor_size graphs x ∷ l) again))
+      (cases_Bool (has_state graphs x)))
+      (cases_Bool (is_configuration x.body))
+
+  skipped_empty : (fifos : List Fifo) → AllByRecursion (IsWired graphs g) fifos → AllByRecursion (λ (f : Fifo). is_kept g f ≡ false → length f.delay ≡ 0) fifos
+  skipped_empty [] all = tt
+  skipped_empty (f ∷ fifos) all = (no_delay graphs g f all.0, skipped_empty fifos all.1)
+
+  pub state_long : AllByRecursion (IsWired graphs g) g.fifos → (configured : List Configured) (left : List (List ℤ)) → StatesLong (configurations_from 0 0 g.actors) configured → HaveDelays (links_of graphs g values) left → lengths (state_after graphs g configured left) ≡ map fifo_size g.fifos ++ map (actor_size graphs) g.actors
+  state_long wired configured left all links =
+      let first = fifos_left 0 g.fifos (from_number 0 of_state g.actors) left (skipped_empty g.fifos wired) links in
+      let second = actors_left 0 0 g.actors configured (drop (length (filter (is_kept g) g.fifos)) left) all first.1 in
+      map-append (λ (l : List ℤ). length l) (fifo_states g g.fifos left) (actor_states graphs g.actors configured (drop (length (filter (is_kept g) g.fifos)) left))
+      ∙ ap (λ (l : List ℕ). l ++ lengths (actor_states graphs g.actors configured (drop (length (filter (is_kept g) g.fifos)) left))) first.0
+      ∙ ap (λ (l : List ℕ). map fifo_size g.fifos ++ l) second

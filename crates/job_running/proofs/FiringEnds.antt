@@ -1,0 +1,135 @@
+-- How a running firing ends, in the words of its rules.
+use Rattle.std.proofs.Common.{◌≡◌, ◌≢◌, ℕ, zero, suc, ◌+◌, ◌<◌, ◌≤◌, ℤ, Bool, true, false, List, [], ◌∷◌, ◌++◌, length, map, set, get_or, slice_get, Option, Some, None, Result, Ok, Err, refl, sym, ap, ap₂, ◌∙◌, subst, arith}
+use Rattle.std.specs.Prelude.{Vec, is_none, unwrap_or, ◌↔◌, ◌⊎◌, IsOk}
+use Rattle.std.specs.Global.{Global}
+use Rattle.std.specs.declared.snapshot.Snapshot.{Snapshot}
+use Rattle.job_running.specs.declared.told.Told.{Told}
+use Rattle.std.proofs.lemmas.Bool.{cases_lt}
+use Rattle.std.proofs.lemmas.List.{get_or-set_other, get_or-set_same, get_or_past, length-set, map-set}
+use Rattle.kernel_gate.specs.Value.{FrameView, Places, lengths}
+use Rattle.kernel_gate.specs.declared.fault.KernelFault.{KernelFault}
+use Rattle.nested_jobs.specs.Marks as mark
+use Rattle.nested_jobs.specs.Marks.{Mark}
+use Rattle.nested_jobs.specs.Rules.{Task, Work, Call}
+use Rattle.param_resolver.specs.Numbering.{acting, has_state}
+use Rattle.pisdf_model.specs.declared.actor.Actor.{Actor}
+use Rattle.pisdf_model.specs.declared.actor.Body.{Body}
+use Rattle.pisdf_model.specs.declared.actor.Body.TheVariants.{Kernel, Config, Child, ConfigChild}
+use Rattle.pisdf_model.specs.declared.graph.Graph.{Graph}
+use Rattle.pisdf_meaning.specs.declared.firing.Firing.{Firing}
+use Rattle.pisdf_meaning.specs.declared.outcome.TraceRow.{TraceRow}
+use Rattle.pisdf_meaning.specs.declared.refusal.Refusal.{Refusal}
+use Rattle.sdf_level.specs.declared.node.Node.{Node}
+use Rattle.sdf_level.specs.declared.node.Node.TheVariants as node
+use Rattle.job_flow.specs.Frames as flow
+use Rattle.job_flow.specs.Frames.{inputs, lens}
+use Rattle.job_flow.specs.Graphs.{JobGraph, node_at}
+use Rattle.job_flow.specs.Events.{IsReady}
+use Rattle.job_flow.specs.Laws.{InputsInAnyWords, ReadyInAnyWords, ReadyStays}
+use Rattle.job_rules.specs.Items.{actor_of, actor_task, firing_task, keeps_state, node_task}
+use Rattle.job_rules.specs.Words as words
+use Rattle.job_rules.specs.Words.{Answer, Spot, given_outs}
+use Rattle.one_job.specs.Calls.{finished_with}
+use Rattle.one_job.specs.Marks as one
+use Rattle.one_job.specs.Pick.{is_child_in}
+use Rattle.one_job.specs.View as leased
+use Rattle.one_job.specs.View.{IsFiring}
+use Rattle.job_preparing.specs.Handing.{answer_with, lent_at, mark_at}
+use Rattle.job_running.specs.Calls.{IsHanded, handed_out}
+use Rattle.job_running.specs.Kept.{view_with}
+use Rattle.job_running.specs.Parts.{AllStand, Fixed, KeepsAll, Stands, fired, frame_at, job_in, kernel_in, kind_of_actor, values_of}
+use Rattle.job_running.specs.Sizes.{place_lens}
+use Rattle.job_running.specs.Stages.{FitsLens, FitsSort, IsEnded, held_by, job_mark, lent_of, lents_of, mark_of, spot_of, stage_at, trace_in}
+use Rattle.job_running.specs.View.{IsOfferedWork, RunningView, nodes_of, task}
+use Rattle.job_running.specs.declared.stage.Stage.{Stage}
+use Rattle.job_running.specs.declared.stage.Stage.TheVariants.{Free, Busy, Lost, Open, Fired, Failed, Gave, Refused}
+use Rattle.job_running.proofs.NodeMarks.{IsBusy, fired_stage, free_stage, lent_busy, lent_here, mark_here, marks_set}
+use Rattle.job_running.proofs.NodeSteps.{same_traces, step}
+use Rattle.job_running.proofs.NodeTasks.{HasFrame, enabled, free_job, handed_so, has_task, kernel_lens, nodes_are, own_ready, ready_task, results, same_inputs, sort_of, told_ready}
+use Rattle.pisdf_meaning.specs.Running.{chosen_rows, child_rows, state_after, value_at}
+use Rattle.pisdf_meaning.specs.declared.firing.Configured.{Configured}
+use Rattle.job_flow.specs.Laws.{EndedInAnyWords, FailureInOtherWords}
+use Rattle.job_flow.specs.Outcomes.{Failure, ended, failure}
+use Rattle.sdf_level.specs.LevelRun.{Ended}
+use Rattle.one_job.specs.Calls.{end_with as leased_end}
+use Rattle.one_job.specs.declared.job.JobEnd.{JobEnd}
+use Rattle.one_job.specs.declared.job.JobEnd.TheVariants.{Done as EndDone, Fault as EndFault}
+use Rattle.job_preparing.specs.Handing.{end_of, given_of, with_traces}
+use Rattle.job_preparing.specs.declared.handing.JobGiven.{JobGiven}
+use Rattle.job_running.specs.Stages.{refusal_for}
+use Rattle.job_running.specs.View.{end_with, given_in, outcome_of, traces_of}
+use Rattle.job_running.proofs.ClaimedNodes.{spot}
+use Rattle.job_running.proofs.EndedFiring.{ended_is, failed_at, no_refusal, refusal_is, state_same}
+
+-- what a job of leases that ended so tells of its first failure
+pub record EndsDone (o : Option (Failure ℕ)) (end : Ended ℤ) (outs stored : List (List ℤ)) : Type 0 where
+  pub none : o ≡ None
+  pub outs_are : outs ≡ end.outs
+  pub stored_are : stored ≡ end.left
+
+pub ends_done : (o : Option (Failure ℕ)) (end : Ended ℤ) (outs stored : List (List ℤ)) → EndDone outs stored ≡ leased_end o end → EndsDone o end outs stored
+ends_done None end outs stored is = record { none = refl; outs_are = cc; stored_are = cc }
+ends_done (Some first) end outs stored is = absurd (cc)
+
+pub record EndsFailed (o : Option (Failure ℕ)) (node code : ℕ) : Type 0 where
+  pub first : Failure ℕ
+  pub is : o ≡ Some first
+  pub node_is : first.node ≡ node
+  pub code_is : first.fault ≡ code
+
+pub ends_failed : (o : Option (Failure ℕ)) (end : Ended ℤ) (node code : ℕ) → EndFault node code ≡ leased_end o end → EndsFailed o node code
+ends_failed None end node code is = absurd (cc)
+ends_failed (Some first) end node code is = record { first = first; is = refl; node_is = cc; code_is = cc }
+
+module _ (f : Fixed) (stages : List Stage) (frames : List (Option FrameView)) (rows : List (Vec (List TraceRow) Global)) (j : leased.JobView) (keeps : KeepsAll f stages frames rows j) (failure_words : FailureInOtherWords ℤ ℕ Refusal) (ended_words : EndedInAnyWords ℤ ℕ Refusal) where
+  abbrev G : List Graph
+  G = f.graphs.graphs
+
+  abbrev g : Graph
+  g = fired f
+
+  pub refused_end : (first : Failure ℕ) → failure (leased.graph_of j) (one.values j.marks) ≡ Some first → (refusal : Refusal) → refusal ≡ refusal_for (spot f stages frames rows j keeps first.node) (stage_at stages first.node) first.fault →
+      end_of (Err refusal) ≡ outcome_of (view_with f stages)
+  refused_end first is refusal refusal_is' =
+      let o = refusal_is f stages frames rows j keeps failure_words ended_words first is in
+      ap Err refusal_is' ∙ sym (ap (end_with (view_with f stages)) o)
+
+  pub given_end : failure (leased.graph_of j) (one.values j.marks) ≡ None → (outs stored : List (List ℤ)) → outs ≡ (ended (leased.graph_of j) (one.values j.marks)).outs → stored ≡ (ended (leased.graph_of j) (one.values j.marks)).left →
+      (configured : List Configured) (traces : List (List TraceRow)) → with_traces configured traces ≡ f.left → (state : List (List ℤ)) → state ≡ state_after G g configured stored →
+      (trace : List TraceRow) → trace ≡ f.rows ++ child_rows f.compilation.counts (traces_of (view_with f stages)) 0 g.actors (with_traces configured traces) → (exports : List ℤ) → exports ≡ f.exports →
+      end_of (Ok record { outs = outs; state = state; trace = trace; exports = exports }) ≡ outcome_of (view_with f stages)
+  given_end none outs stored outs_are stored_are configured traces left_is state state_is trace trace_is exports exports_are =
+      let o = no_refusal f stages frames rows j keeps failure_words ended_words none in
+      let end = ended_is f stages frames rows j keeps failure_words ended_words in
+      let outs' = outs_are ∙ ap (λ (e : Ended ℤ). e.outs) (sym end) in
+      let state' = state_is ∙ sym (state_same G g configured traces stored) ∙ ap₂ (λ l s. state_after G g l s) left_is (stored_are ∙ ap (λ (e : Ended ℤ). e.left) (sym end)) in
+      let trace' = trace_is ∙ ap₂ (λ a l. a ++ child_rows f.compilation.counts (traces_of (view_with f stages)) 0 g.actors l) keeps.parts.rows_are left_is in
+      let exports' = exports_are ∙ keeps.parts.exports_are in
+      ap Ok (λ k. record { outs = outs' k; state = state' k; trace = trace' k; exports = exports' k }) ∙ sym (ap (end_with (view_with f stages)) o)
+
+  -- the refusal of the node with this number
+  pub refused_here : (n code : ℕ) → EndFault n code ≡ leased_end (failure (leased.graph_of j) (one.values j.marks)) (ended (leased.graph_of j) (one.values j.marks)) →
+      (which : Node) (st : Stage) (refusal : Refusal) → which ≡ node_at j.compilation.graph.nodes n → st ≡ stage_at stages n → ((own : List Actor) → f.names ≡ map (λ (a : Actor). a.name) own → refusal ≡ refusal_for (spot_of f.path own which) st code) →
+      end_of (Err refusal) ≡ outcome_of (view_with f stages)
+  refused_here n code is which st refusal which_is st_is told =
+      let e = ends_failed (failure (leased.graph_of j) (one.values j.marks)) (ended (leased.graph_of j) (one.values j.marks)) n code is in
+      let w : which ≡ node_at (job_in f).nodes e.first.node = which_is ∙ ap₂ (λ l m. node_at l m) (nodes_are f stages frames rows j keeps) (sym e.node_is) in
+      let s : st ≡ stage_at stages e.first.node = st_is ∙ ap (λ (m : ℕ). stage_at stages m) (sym e.node_is) in
+      let p : f.path ≡ f.firing.path = keeps.parts.path_is in
+      let c : code ≡ e.first.fault = sym e.code_is in
+      refused_end e.first e.is refusal (told (acting (fired f)) keeps.parts.names_are ∙ (λ k. refusal_for (spot_of (p k) (acting (fired f)) (w k)) (s k) (c k)))
+
+  -- a node that failed is one of the job, and a firing
+  pub failed_there : (n code : ℕ) → EndFault n code ≡ leased_end (failure (leased.graph_of j) (one.values j.marks)) (ended (leased.graph_of j) (one.values j.marks)) → n < length j.compilation.graph.nodes
+  failed_there n code is =
+      let e = ends_failed (failure (leased.graph_of j) (one.values j.marks)) (ended (leased.graph_of j) (one.values j.marks)) n code is in
+      let at = failed_at f stages frames rows j keeps e.first e.is in
+      let l = ap length (nodes_are f stages frames rows j keeps) in
+      let same = e.node_is in
+      let below = at.there in
+      omega arith
+
+  pub failed_fires : (n code : ℕ) → EndFault n code ≡ leased_end (failure (leased.graph_of j) (one.values j.marks)) (ended (leased.graph_of j) (one.values j.marks)) → IsFiring (node_at j.compilation.graph.nodes n)
+  failed_fires n code is =
+      let e = ends_failed (failure (leased.graph_of j) (one.values j.marks)) (ended (leased.graph_of j) (one.values j.marks)) n code is in
+      subst (λ (m : ℕ). IsFiring (node_at j.compilation.graph.nodes m)) e.node_is (failed_at f stages frames rows j keeps e.first e.is).fires

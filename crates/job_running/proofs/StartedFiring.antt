@@ -1,0 +1,214 @@
+-- A running firing at its start.
+use Rattle.std.proofs.Common.{◌≡◌, ◌≢◌, ℕ, zero, suc, ◌+◌, ◌<◌, ◌≤◌, ⊎_elim, ℤ, Bool, true, false, List, [], ◌∷◌, ◌++◌, length, map, get_or, replicate, slice_get, Option, Some, None, Result, Ok, Err, Vec, Global, refl, sym, ap, ap₂, ◌∙◌, subst, arith}
+use Rattle.std.specs.Prelude.{slice_index}
+use Rattle.std.proofs.lemmas.Bool.{cases_lt}
+use Rattle.std.proofs.lemmas.List.{get_or-replicate, get_or_past, length-map, length-replicate}
+use Rattle.std.proofs.lemmas.Option.{get_or_from_slice_get, slice_get_within}
+use Rattle.kernel_gate.specs.Value.{FrameView, lengths}
+use Rattle.param_resolver.specs.EarlyCheck.{as_refusal}
+use Rattle.param_resolver.specs.LevelOf.{AreOneEach, level_args, level_faults, links_of, sources_of}
+use Rattle.param_resolver.specs.Numbering.{acting}
+use Rattle.param_resolver.specs.Refusal as part
+use Rattle.param_resolver.specs.declared.level_set.LevelSet.{LevelSet}
+use Rattle.pisdf_model.specs.Range.{InRange}
+use Rattle.pisdf_model.specs.WellFormed.{WellFormed}
+use Rattle.pisdf_model.specs.declared.graph.Graph.{Graph}
+use Rattle.pisdf_meaning.specs.Causes.{unless_refused}
+use Rattle.pisdf_meaning.specs.Configuring.{early_in}
+use Rattle.pisdf_meaning.specs.Preparing.{level_in, rated, resolved}
+use Rattle.pisdf_meaning.specs.Running.{link_starts, source_tokens}
+use Rattle.pisdf_meaning.specs.TopLevel.{IsLevelSet}
+use Rattle.pisdf_meaning.specs.declared.outcome.TraceRow.{TraceRow}
+use Rattle.pisdf_meaning.specs.declared.firing.Firing.{Firing}
+use Rattle.pisdf_meaning.specs.declared.refusal.Refusal.{Refusal}
+use Rattle.pisdf_meaning.proofs.KeptSizes.{Levelled}
+use Rattle.pisdf_meaning.proofs.MadeLevels.{levels_made}
+use Rattle.pisdf_meaning.proofs.SoundGraphs.{levelled}
+use Rattle.pisdf_meaning.proofs.StateSizes.{starts_fit, state_fits}
+use Rattle.sdf_level.specs.Kept.{IsLevel}
+use Rattle.sdf_level.specs.LevelRun.{HaveDelays}
+use Rattle.sdf_level.specs.Lists.{lists_of}
+use Rattle.sdf_level.specs.Orders.{IsTurnOrder}
+use Rattle.sdf_level.specs.Repetition.{IsRepetition}
+use Rattle.sdf_level.specs.View.{LevelView}
+use Rattle.sdf_level.specs.declared.node.Node.{Node}
+use Rattle.single_rate.specs.Expanded.{edges, nodes}
+use Rattle.job_compiler.specs.Compilation.{Compilation}
+use Rattle.job_flow.specs.Frames.{lens}
+use Rattle.job_flow.specs.Graphs.{IsJobGraph, JobGraph, node_at}
+use Rattle.job_rules.specs.Items.{actor_of, graph_of, keeps_state, no_graph}
+use Rattle.one_job.specs.Pick.{is_child_in}
+use Rattle.job_rules.specs.Meant.{IsFit}
+use Rattle.nested_jobs.specs.Marks as mark
+use Rattle.nested_jobs.specs.Marks.{Mark}
+use Rattle.kernel_gate.specs.Value.{Places}
+use Rattle.pisdf_model.specs.declared.actor.Actor.{Actor}
+use Rattle.job_rules.specs.Words.{Answer}
+use Rattle.one_job.specs.Marks as one
+use Rattle.one_job.specs.View as leased
+use Rattle.job_preparing.specs.CompileTasks.{IsReadyWith}
+use Rattle.job_running.specs.Parts.{AllStand, AreParts, AreTraces, Fixed, IsSetUp, KeepsAll, Stands, Start, fired, frame_at, job_in, kind_of_actor, prepared_of, row_at, start_of, values_of}
+use Rattle.job_running.specs.Sizes.{LeftSuits}
+use Rattle.job_running.specs.Kept.{view_with}
+use Rattle.job_running.specs.Stages.{lents_of, marks_of, stage_at, trace_in}
+use Rattle.job_running.specs.View.{nodes_of}
+use Rattle.job_running.specs.declared.stage.Stage.{Stage}
+use Rattle.job_running.specs.declared.stage.Stage.TheVariants.{Free}
+
+-- ---- lists of one thing
+
+pub any_replicate : {X : Type 0} (n i : ℕ) (x : X) → get_or (replicate n x) i x ≡ x
+any_replicate n i x = ⊎_elim
+    (λ (below : i < n). get_or-replicate n i x x below)
+    (λ (past : n ≤ i). get_or_past (replicate n x) i x (let l = length-replicate n x in omega arith))
+    (cases_lt i n)
+
+row_of_empty : (counts : List ℕ) (a : ℕ) → get_or (map (λ (n : ℕ). let none : List (List TraceRow) = replicate n [] in none) counts) a [] ≡ replicate (slice_index counts a) []
+row_of_empty [] a = refl
+row_of_empty (n ∷ counts) zero = refl
+row_of_empty (n ∷ counts) (suc a) = row_of_empty counts a
+
+marks_free : (path : List ℕ) (own : List Actor) (nodes : List Node) → marks_of path own nodes (replicate (length nodes) Free) ≡ replicate (length nodes) mark.Free
+marks_free path own [] = refl
+marks_free path own (which ∷ nodes) = ap (λ (l : List (Mark Firing Answer)). mark.Free ∷ l) (marks_free path own nodes)
+
+lents_free : (n : ℕ) → lents_of (replicate n Free) ≡ replicate n None
+lents_free zero = refl
+lents_free (suc n) = ap (λ (l : List (Option Places)). None ∷ l) (lents_free n)
+
+-- ---- the graph that is fired
+
+module _ (graphs : List Graph) (firing : Firing) (fit : IsFit graphs firing) (all : List Graph) (same : all ≡ graphs) (place : ℕ) (place_is : place ≡ firing.graph) where
+  pub graph_inside : place < length all
+  graph_inside = rw (place_is, same) (slice_get_within graphs firing.graph fit.g fit.here)
+
+  pub graph_is : (x : Graph) → x ≡ get_or all place x → x ≡ graph_of graphs firing
+  graph_is x is =
+      is ∙ rw (place_is, same) (get_or_from_slice_get graphs firing.graph fit.g x fit.here ∙ sym (get_or_from_slice_get graphs firing.graph fit.g no_graph fit.here))
+
+-- ---- what isn't refused
+
+unrefused : (graphs : List Graph) (g : Graph) (path : List ℕ) (faults : List part.Refusal) (given values : List ℤ) → unless_refused graphs g path faults given ≡ Ok values → (faults ≡ []) × (given ≡ values)
+unrefused graphs g path [] given values is = (refl, cc)
+unrefused graphs g path (refusal ∷ rest) given values is = absurd (cc)
+
+module _ (f : Fixed) (workers : ℕ) (values : List ℤ) (range : InRange f.graphs) (well : WellFormed f.graphs) (fit : IsFit f.graphs.graphs f.firing) (suits : LeftSuits f.graphs.graphs (fired f) f.firing f.left)
+    (compiled : IsReadyWith f.graphs.graphs workers f.firing f.left f.compilation f.set values) where
+  abbrev G : List Graph
+  G = f.graphs.graphs
+
+  abbrev g : Graph
+  g = fired f
+
+  pub here : slice_get G f.firing.graph ≡ Some g
+  here = fit.here ∙ ap Some (sym (get_or_from_slice_get G f.firing.graph fit.g no_graph fit.here))
+
+  pub values_are : values_of f ≡ values
+  values_are = (unrefused G g f.firing.path _ (values_of f) values compiled.values_are).1
+
+  rated_none : level_faults G g (values_of f) ≡ []
+  rated_none = subst (λ (l : List ℤ). level_faults G g l ≡ []) (sym values_are) (unrefused G g f.firing.path (level_faults G g values) values values compiled.rated_so).0
+
+  pub set_is : IsLevelSet G g f.firing (values_of f) f.set
+  set_is = subst (λ (l : List ℤ). IsLevelSet G g f.firing l f.set) (sym values_are) compiled.set_is
+
+  pub level_is : f.compilation.level ≡ level_in G g f.firing (values_of f)
+  level_is = compiled.level_is ∙ set_is.level
+
+  level : Levelled G f.firing.graph g
+  level = levelled f.graphs well f.firing.graph g here (levels_made f.graphs range well)
+
+  pub delays_fit : HaveDelays (links_of G g (values_of f)) (link_starts G g f.firing)
+  delays_fit = starts_fit G g (values_of f) f.firing.state (state_fits G g f.firing.state (fit.state ∙ ap lengths level.begins))
+
+  -- ---- what is seen
+
+  nodes_here : f.compilation.graph.nodes ≡ (job_in f).nodes
+  nodes_here = compiled.compiled.expanded.nodes_are ∙ ap (λ (l : LevelView). nodes l f.compilation.counts f.compilation.order) level_is
+
+  pub marks_start : (stages : List Stage) → stages ≡ replicate (length f.compilation.graph.nodes) Free → (view_with f stages).marks ≡ replicate (length (nodes_of (view_with f stages))) mark.Free
+  marks_start stages are =
+      ap (λ (l : List Stage). marks_of f.firing.path (acting (fired f)) (job_in f).nodes l) (are ∙ ap (λ (l : List Node). replicate (length l) Free) nodes_here) ∙ marks_free f.firing.path (acting (fired f)) (job_in f).nodes
+
+  pub lents_start : (stages : List Stage) → stages ≡ replicate (length f.compilation.graph.nodes) Free → (view_with f stages).lent ≡ replicate (length (nodes_of (view_with f stages))) None
+  lents_start stages are = ap lents_of (are ∙ ap (λ (l : List Node). replicate (length l) Free) nodes_here) ∙ lents_free (length (job_in f).nodes)
+
+  module _ (sources stored : List (List ℤ)) (sources_are : sources ≡ source_tokens g f.firing f.left) (sources_long : lengths sources ≡ sources_of g (early_in G f.firing)) (stored_are : stored ≡ link_starts G g f.firing) where
+    nodes_same : f.compilation.graph.nodes ≡ (job_in f).nodes
+    nodes_same = compiled.compiled.expanded.nodes_are ∙ ap (λ (l : LevelView). nodes l f.compilation.counts f.compilation.order) level_is
+
+    edges_same : f.compilation.graph.edges ≡ (job_in f).edges
+    edges_same = compiled.compiled.expanded.edges_are ∙ ap (λ (l : LevelView). edges l f.compilation.counts f.compilation.order) level_is
+
+    graph_same : leased.job_graph f.compilation sources stored ≡ job_in f
+    graph_same = λ k. record { level = level_is k; nodes = nodes_same k; edges = edges_same k; sources = sources_are k; delays = stored_are k }
+
+    is_job : IsJobGraph f.compilation.counts f.compilation.order (job_in f)
+    is_job = record {
+      level_kept = subst IsLevel level_is compiled.compiled.level_kept;
+      repetition = subst (λ (l : LevelView). IsRepetition l f.compilation.counts) level_is compiled.compiled.repetition;
+      order = subst (λ (l : LevelView). IsTurnOrder l f.compilation.counts f.compilation.order) level_is compiled.compiled.order_is;
+      nodes_are = refl;
+      edges_are = refl;
+      sources_fit = ap lengths (sym sources_are) ∙ sources_long;
+      delays_fit = delays_fit;
+    }
+
+    pub sources_asked : map length sources ≡ f.compilation.level.sources
+    sources_asked = sources_long ∙ ap (λ (l : LevelView). l.sources) (sym level_is)
+
+    pub stored_asked : HaveDelays f.compilation.level.links stored
+    stored_asked = subst (HaveDelays f.compilation.level.links) (sym stored_are) (subst (λ (l : LevelView). HaveDelays l.links (link_starts G g f.firing)) (sym level_is) delays_fit)
+
+    module _ (kinds : List (Option ℕ)) (args : List (List ℤ)) (kinds_are : kinds ≡ map kind_of_actor (acting g)) (args_are : args ≡ f.set.args) where
+      pub kinds_asked : length kinds ≡ f.compilation.level.actors
+      kinds_asked = ap length kinds_are ∙ length-map (acting g) kind_of_actor ∙ ap (λ (l : LevelView). l.actors) (sym level_is)
+
+      pub args_asked : AreOneEach G g (values_of f) → length args ≡ f.compilation.level.actors
+      args_asked each = ap length (args_are ∙ set_is.args) ∙ each.args ∙ ap (λ (l : LevelView). l.actors) (sym level_is)
+
+      pub set_up : IsSetUp f record { compilation = f.compilation; kinds = kinds; args = args; sources = sources; stored = stored }
+      set_up = record {
+        range = range;
+        well = well;
+        fit = fit;
+        suits = suits;
+        rated = rated_none;
+        compiled = compiled.compiled;
+        compilation_is = refl;
+        graph_is = graph_same;
+        is_job = is_job;
+        kinds = kinds_are;
+        args = args_are ∙ set_is.args;
+      }
+
+      -- all nodes are free
+      pub keeps_at_start : (j : leased.JobView) → start_of j ≡ record { compilation = f.compilation; kinds = kinds; args = args; sources = sources; stored = stored } → j.kinds ≡ kinds → j.marks ≡ replicate (length f.compilation.graph.nodes) one.Free → (stages : List Stage) → stages ≡ replicate (length f.compilation.graph.nodes) Free →
+          (frames : List (Option FrameView)) → frames ≡ replicate (length f.compilation.graph.nodes) None → (rows : List (Vec (List TraceRow) Global)) → lists_of rows ≡ map (λ (n : ℕ). let none : List (List TraceRow) = replicate n [] in none) f.compilation.counts → AreParts f →
+          KeepsAll f stages frames rows j
+      keeps_at_start j started j_kinds marks_are stages stages_are frames frames_are rows rows_are parts = record {
+        set_up = subst (IsSetUp f) (sym started) set_up;
+        stand = record {
+          one_stage = ap length stages_are ∙ length-replicate (length f.compilation.graph.nodes) Free ∙ ap length nodes_same;
+          one_mark = ap length marks_are ∙ length-replicate (length f.compilation.graph.nodes) one.Free ∙ ap length nodes_same;
+          one_frame = ap length frames_are ∙ length-replicate (length f.compilation.graph.nodes) None ∙ ap length nodes_same;
+          each = λ n below.
+              let P : Stage → Type 0 = λ s. Stands G (lens (job_in f) n) (keeps_state G (actor_of g (node_at (job_in f).nodes n))) (is_child_in j.kinds (node_at (job_in f).nodes n)) (leased.IsFiring (node_at (job_in f).nodes n)) s (one.mark_at j.marks n) (frame_at frames n) in
+              subst P (sym (ap (λ l. stage_at l n) stages_are ∙ any_replicate (length f.compilation.graph.nodes) n Free)) record {
+                mark_is = ap (λ l. one.mark_at l n) marks_are ∙ any_replicate (length f.compilation.graph.nodes) n one.Free;
+                held = ap (λ l. frame_at l n) frames_are ∙ any_replicate (length f.compilation.graph.nodes) n None;
+                sort = tt;
+                sizes = tt;
+              };
+          ready = λ n claimed. absurd (claimed (ap (λ l. one.mark_at l n) marks_are ∙ any_replicate (length f.compilation.graph.nodes) n one.Free));
+        };
+        traces = record {
+          one_each = ap length rows_are ∙ length-map f.compilation.counts _;
+          many = λ a. ap length (row_is a) ∙ length-replicate (slice_index f.compilation.counts a) [];
+          each = λ n a k below is. ap (λ l. get_or l k []) (row_is a) ∙ any_replicate (slice_index f.compilation.counts a) k [] ∙ sym (ap (λ l. trace_in (stage_at l n)) stages_are ∙ ap trace_in (any_replicate (length f.compilation.graph.nodes) n Free));
+        };
+        parts = parts;
+      }
+        where
+          row_is : (a : ℕ) → row_at rows a ≡ replicate (slice_index f.compilation.counts a) []
+          row_is a = ap (λ l. get_or l a []) rows_are ∙ row_of_empty f.compilation.counts a

@@ -1,0 +1,12 @@
+use Rattle.std.proofs.Common.{subst}
+use Rattle.one_job.specs.Pick.{IsFirst}
+use Rattle.job_running.specs.Kept.{fixed_of}
+use Rattle.job_running.specs.View.{IsOfferedWork, RunningView}
+use Rattle.job_running.proofs.OfferedNodes.{picks_work}
+use Rattle.job_running.proofs.running.Running.pick.Goals as goal
+
+pub returns : goal.returns
+returns c =
+    let i = c.self.inside in
+    subst (λ (v : RunningView). IsFirst v.mapping c.args.worker (IsOfferedWork v) c.pick.result) c.self.view_is
+    (picks_work (fixed_of i) i.stages.items i.frames.items i.traces.items i.job c.self.invariant c.graphs_numbered.ensures.all c.graphs_numbered.ensures.in_order c.faults_renamed.ensures.ready c.faults_renamed.ensures.inputs c.args.worker c.pick.result c.pick.ensures)

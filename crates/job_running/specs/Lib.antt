@@ -1,0 +1,6 @@
+pub mod View
+pub mod Calls
+pub mod Stages
+pub mod Sizes
+pub mod Parts
+pub mod Kept

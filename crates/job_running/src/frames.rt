@@ -1,0 +1,95 @@
+// Frames that wait for the end of a call.
+ghost use Rattle.std.specs.Prelude.{◌≡◌, ◌≢◌, ◌<◌, ◌^◌, ℕ, All, Some, None, length, slice_set, slice_index_or, replicate, vec_len, vec_capacity, ◌≤◌, []};
+ghost use Rattle.kernel_gate.specs.Value.{FrameView, lengths};
+ghost use Rattle.job_running.specs.Sizes.{place_lens};
+ghost use Rattle.one_job.specs.Marks.{IsClaimed, phase};
+ghost use Rattle.job_running.specs.Parts.{HoldClaimed, frame_at};
+
+use kernel_gate::{Frame, Lent};
+use one_job::Job;
+use std::mem;
+
+/// The same frame, whose outputs are as long as the leases at their places.
+pub(crate) fn measured(frame: Frame) -> Frame
+    ensures same { result ≡ frame }
+    ensures lens { lengths result.outputs ≡ place_lens result.places }
+{
+    let kind = frame.kind();
+    let Lent {
+        args,
+        inputs,
+        outputs,
+        sets,
+    } = frame.take_back();
+    Frame::lend(kind, args, inputs, outputs, sets)
+}
+
+/// Keeps a frame at the place of a node, where none waits.
+pub(crate) fn put_frame(frames: &mut [Option<Frame>], node: usize, frame: Frame)
+    requires inside { node < length frames.old }
+    requires none { frame_at frames.old node ≡ None }
+    ensures { frames.new ≡ slice_set frames.old node (Some frame) }
+{
+    match mem::replace(&mut frames[node], Some(frame)) {
+        None => {}
+        Some(_) => unreachable!(),
+    }
+}
+
+/// Takes the frame that waits at the place of a node.
+pub(crate) fn take_frame(frames: &mut [Option<Frame>], node: usize) -> Frame
+    requires inside { node < length frames.old }
+    requires some { (frame : FrameView) × (frame_at frames.old node ≡ Some frame) }
+    ensures frame { frame_at frames.old node ≡ Some result }
+    ensures rest { frames.new ≡ slice_set frames.old node None }
+{
+    match mem::replace(&mut frames[node], None) {
+        Some(frame) => frame,
+        None => unreachable!(),
+    }
+}
+
+/// Adds places for so many frames, for which there is room.
+pub(crate) fn no_frames(mut frames: Vec<Option<Frame>>, count: usize) -> Vec<Option<Frame>>
+    requires empty { frames.items ≡ [] }
+    requires none { vec_len frames ≡ 0 }
+    requires room { count ≤ vec_capacity frames }
+    ensures { result.items ≡ replicate count None }
+{
+    for _n in 0..count {
+        frames.push_reserved(None);
+    }
+    frames
+}
+
+/// Gives up places at which no frame waits.
+pub(crate) fn spend_frames(mut frames: Vec<Option<Frame>>)
+    requires { All (λ frame. frame ≡ None) frames.items }
+{
+    while let Some(place) = frames.pop() {
+        match place {
+            None => {}
+            Some(_) => unreachable!(),
+        }
+    }
+    frames.destroy_empty();
+}
+
+/// Finishes the nodes whose frames wait, so that none of the job's nodes is claimed.
+pub(crate) fn end_frames(mut job: Job, mut frames: Vec<Option<Frame>>) -> Job
+    requires waiting { HoldClaimed job.marks frames.items }
+    requires few { length frames.items < 2 ^ 32 }
+    ensures { (n : ℕ) → phase result.marks n ≢ IsClaimed }
+{
+    while let Some(place) = frames.pop() {
+        match place {
+            Some(frame) => {
+                let node = frames.len() as u32;
+                job.finish(node, frame, Ok(()));
+            }
+            None => {}
+        }
+    }
+    frames.destroy_empty();
+    job
+}

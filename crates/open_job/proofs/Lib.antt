@@ -1,0 +1,17 @@
+pub mod Cut
+pub mod Rules
+pub mod Ends
+pub mod Early
+pub mod NodeRules
+pub mod Offered
+pub mod Picks
+pub mod Steps
+pub mod Ending
+pub mod NodeEnds
+pub mod NodeSteps
+pub mod Compiling
+pub mod Methods
+pub mod CompileSteps
+pub mod NodeMethods
+pub mod ActorCalls
+pub mod Placed

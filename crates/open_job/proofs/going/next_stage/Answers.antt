@@ -1,0 +1,50 @@
+use Rattle.std.proofs.Common.{◌≡◌, Some, sym, ap, ◌∙◌, subst}
+use Rattle.std.specs.Arc.{arc_value}
+use Rattle.job_preparing.specs.CompileTasks.{IsEndOf}
+use Rattle.job_preparing.specs.View as preparing
+use Rattle.job_preparing.specs.declared.compiling.CompileEnd.{CompileEnd}
+use Rattle.job_rules.specs.Items.{Prepared}
+use Rattle.job_rules.specs.Meant.{IsFit}
+use Rattle.job_rules.specs.Words.{Schedules}
+use Rattle.pisdf_model.specs.Range.{InRange}
+use Rattle.pisdf_model.specs.WellFormed.{WellFormed}
+use Rattle.pisdf_model.specs.declared.graph.Graphs.{Graphs}
+use Rattle.open_job.specs.Calls.{compile_answer}
+use Rattle.open_job.proofs.Compiling.{runs_for}
+use Rattle.open_job.proofs.going.next_stage.Goals as goal
+
+pub run-requires-clause-in_range : goal.run-requires-clause-in_range
+run-requires-clause-in_range c =
+    let same : arc_value c.in_ok-graphs-in-Ready.graphs ≡ c.args.configuring.now.graphs = c.in_ok-graphs-in-Ready.ensures ∙ c.graphs.ensures in
+    subst InRange (sym same) c.requires.range
+
+pub run-requires-clause-well_formed : goal.run-requires-clause-well_formed
+run-requires-clause-well_formed c =
+    let same : arc_value c.in_ok-graphs-in-Ready.graphs ≡ c.args.configuring.now.graphs = c.in_ok-graphs-in-Ready.ensures ∙ c.graphs.ensures in
+    subst WellFormed (sym same) c.requires.well
+
+pub run-requires-clause-fit : goal.run-requires-clause-fit
+run-requires-clause-fit c =
+    let same : arc_value c.in_ok-graphs-in-Ready.graphs ≡ c.args.configuring.now.graphs = c.in_ok-graphs-in-Ready.ensures ∙ c.graphs.ensures in
+    let P : Graphs → Type 0 = λ graphs. IsFit graphs.graphs c.args.configuring.now.firing in
+    subst P (sym same) c.requires.fit
+
+pub run-requires-clause-suits : goal.run-requires-clause-suits
+run-requires-clause-suits c =
+    let same : arc_value c.in_ok-graphs-in-Ready.graphs ≡ c.args.configuring.now.graphs = c.in_ok-graphs-in-Ready.ensures ∙ c.graphs.ensures in
+    rw same c.left-left.ensures.suits
+
+pub returns-in_ok-running-in-Ready : goal.returns-in_ok-running-in-Ready
+returns-in_ok-running-in-Ready c =
+    let own = c.args.configuring.now in
+    let r = c.in_ok-running-in-Ready.running in
+    let made = c.in_ok-running-in-Ready.ensures in
+    let same : arc_value c.in_ok-graphs-in-Ready.graphs ≡ own.graphs = c.in_ok-graphs-in-Ready.ensures ∙ c.graphs.ensures in
+    let P : CompileEnd → Type 0 = λ end. IsEndOf own.graphs.graphs c.args.workers own.firing (preparing.left_by own) end in
+    record {
+      runs = runs_for own c.args.workers (arc_value c.in-Ready.compiled) c.in-Ready.set c.in-Ready.values c.requires.ready (subst P c.in-Ready.is c.requires.end) r
+          (made.given.0 ∙ same) made.given.1 made.compilation.0 made.compilation.1 made.compilation.2 made.free made.nothing;
+      marks_are = made.free;
+      lent_are = made.nothing;
+      schedule_is = ap (compile_answer own.firing) c.in-Ready.is ∙ ap (λ (p : Prepared). Some (Schedules p.schedule)) (sym made.compilation.0);
+    }

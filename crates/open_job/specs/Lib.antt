@@ -1,0 +1,7 @@
+pub mod View
+pub mod Places
+pub mod Offers
+pub mod Calls
+pub mod Running
+pub mod Stages
+pub mod Kept
