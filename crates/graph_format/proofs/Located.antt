@@ -9,7 +9,7 @@ use Rattle.std.proofs.lemmas.List.Elements.{filter-append}
 use Rattle.serde_json.specs.Data.{Data, Items, no_items, item}
 use Rattle.serde_json.specs.Find.{get, as_str, as_array, as_object}
 use Rattle.pisdf_model.specs.Details.{first}
-use Rattle.graph_format.specs.Objects.{within, bound_at, ranged_at, derived_members_at, given_kind, given_kind_at, given_members_at, derived_keys, given_keys, optional_param_keys, param_at, port_members_at, port_keys, port_at, input_members_at, input_at, kernel_members_at, kernel_keys, config_ports_at, config_members_at, config_keys, child_members_at, child_keys, config_child_members_at, config_child_keys, has_exports, actor_at, zeros_from, tokens_or_zeros_at, delay_at, life_from, life_at, fifo_members_at, fifo_keys, optional_fifo_keys, fifo_at, exports_at, graph_parts_at, graph_members_at, graph_keys, graph_at, version_from, version_at, file_members_at, file_keys, file_at}
+use Rattle.graph_format.specs.Objects.{greatest_bound, within, bound_at, ranged_at, derived_members_at, given_kind, given_kind_at, given_members_at, derived_keys, given_keys, optional_param_keys, param_at, port_members_at, port_keys, port_at, input_members_at, input_at, kernel_members_at, kernel_keys, config_ports_at, config_members_at, config_keys, child_members_at, child_keys, config_child_members_at, config_child_keys, has_exports, actor_at, zeros_from, tokens_or_zeros_at, delay_at, life_from, life_at, fifo_members_at, fifo_keys, optional_fifo_keys, fifo_at, exports_at, graph_parts_at, graph_members_at, graph_keys, graph_at, version_from, version_at, file_members_at, file_keys, file_at}
 use Rattle.graph_format.specs.WalkedValues.{Form, a_list, a_file, a_version, a_graph, a_param, a_kind, a_bound, a_port, an_input, an_actor, a_fifo, a_delay, a_token, a_life, a_name, a_kernel, an_expression, an_end, Part, part_there, the_member, items_from, the_items, low_there, is_derived, ActorKind, kernel_kind, config_kind, child_kind, config_child_kind, no_kind, kind_of_actor, is_actor, actor_parts, export_parts, parts, is_delay, has_own_form, WalkedValue, walked_values_to, walked_values, unformed}
 use Rattle.graph_format.specs.Pointer.{pointer_text, under}
 use Rattle.graph_format.specs.Texts.{name_from, name_at, kernel_from, kernel_at, expression_from, expression_at, end_from, end_at}
@@ -243,9 +243,9 @@ module _ (version n : ℕ) where
   ends_find name kind at d =
       then_parts version (suc n) (member_or (pos 0) (bound_at (pos 0)) at (codes "low") d) _ at (the_member (codes "low") (a_bound (pos 0)) d) (the_member (codes "high") (a_bound (low_there (get (codes "low") d))) d)
       (optional version (suc n) (bound_at (pos 0)) (a_bound (pos 0)) (bound_located version n (pos 0)) (pos 0) at (codes "low") d)
-      (λ low is. made (member_or (pos 2147483647) (bound_at low) at (codes "high") d) _ (below version (suc n) at (the_member (codes "high") (a_bound (low_there (get (codes "low") d))) d))
-      (subst (λ least. Finds (member_or (pos 2147483647) (bound_at low) at (codes "high") d) (below version (suc n) at (the_member (codes "high") (a_bound least) d))) (low_is (under at (codes "low")) (get (codes "low") d) low is)
-      (optional version (suc n) (bound_at low) (a_bound low) (bound_located version n low) (pos 2147483647) at (codes "high") d)))
+      (λ low is. made (member_or greatest_bound (bound_at low) at (codes "high") d) _ (below version (suc n) at (the_member (codes "high") (a_bound (low_there (get (codes "low") d))) d))
+      (subst (λ least. Finds (member_or greatest_bound (bound_at low) at (codes "high") d) (below version (suc n) at (the_member (codes "high") (a_bound least) d))) (low_is (under at (codes "low")) (get (codes "low") d) low is)
+      (optional version (suc n) (bound_at low) (a_bound low) (bound_located version n low) greatest_bound at (codes "high") d)))
 
   abbrev bounds : Data → List Part
   bounds d = the_member (codes "low") (a_bound (pos 0)) d ++ the_member (codes "high") (a_bound (low_there (get (codes "low") d))) d

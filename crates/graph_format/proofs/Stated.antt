@@ -8,7 +8,7 @@ use Rattle.param_expr.specs.Named.{NamedTree}
 use Rattle.graph_format.specs.Pointer.{pointer_text}
 use Rattle.graph_format.specs.Walk.{has_form, formed, member_at, member_or, is_text, says, whole_of}
 use Rattle.graph_format.specs.Texts.{name_at, expression_at}
-use Rattle.graph_format.specs.Objects.{within, bound_at, ranged_at, derived_members_at, given_kind, given_kind_at, given_members_at, derived_keys, given_keys, optional_param_keys, param_at, port_members_at, port_keys, port_at, input_members_at, input_at}
+use Rattle.graph_format.specs.Objects.{greatest_bound, within, bound_at, ranged_at, derived_members_at, given_kind, given_kind_at, given_members_at, derived_keys, given_keys, optional_param_keys, param_at, port_members_at, port_keys, port_at, input_members_at, input_at}
 use Rattle.graph_format.specs.Values.{HasMember, StatesOr, IsWithin, IsText, StatesName, StatesExpression}
 use Rattle.graph_format.specs.States.{kind_text, StatesParam, StatesPort, StatesInput}
 use Rattle.graph_format.proofs.Walked.{ReadsJust, goes, shaped_ok, and_then_some, tested, if_ok, and_both, name_reads, expression_reads, member_found, member_again, or_found, or_again}
@@ -37,25 +37,25 @@ says_again name text other d same e m = ap (is_text other) (said name text d m) 
 
 -- ---- parameters
 
-bound_found : (least : ℤ) (at : List ℕ) (d : Data) (z : ℤ) → bound_at least at d ≡ Ok z → IsWithin least (pos 2147483647) d z
+bound_found : (least : ℤ) (at : List ℕ) (d : Data) (z : ℤ) → bound_at least at d ≡ Ok z → IsWithin least greatest_bound d z
 bound_found least at d z e =
     let o = and_then_some (within least) (whole_of d) z (shaped_ok at _ z e) in
-    let t = tested (int_le least o.0 && int_le o.0 (pos 2147483647)) o.0 z o.2 in
-    let b = and_both (int_le least o.0) (int_le o.0 (pos 2147483647)) t.0 in
-    subst (IsWithin least (pos 2147483647) d) t.1 (record { number = o.1; low = b.0; high = b.1 })
+    let t = tested (int_le least o.0 && int_le o.0 greatest_bound) o.0 z o.2 in
+    let b = and_both (int_le least o.0) (int_le o.0 greatest_bound) t.0 in
+    subst (IsWithin least greatest_bound d) t.1 (record { number = o.1; low = b.0; high = b.1 })
 
-bound_again : (least : ℤ) (at : List ℕ) (d : Data) (z : ℤ) → IsWithin least (pos 2147483647) d z → bound_at least at d ≡ Ok z
+bound_again : (least : ℤ) (at : List ℕ) (d : Data) (z : ℤ) → IsWithin least greatest_bound d z → bound_at least at d ≡ Ok z
 bound_again least at d z h = rw (h.number, h.low, h.high) refl
 
-bound_reads : (least : ℤ) → ReadsJust (bound_at least) (IsWithin least (pos 2147483647))
+bound_reads : (least : ℤ) → ReadsJust (bound_at least) (IsWithin least greatest_bound)
 bound_reads least = record { found = bound_found least; again = bound_again least }
 
 -- a parameter with a range that is stated
 record Ranged (name : List ℕ) (kind : FileParamKind) (d : Data) (param : FileParam) : Type 0 where
   pub least : ℤ
   pub greatest : ℤ
-  pub low : StatesOr (IsWithin (pos 0) (pos 2147483647)) (pos 0) (get (codes "low") d) least
-  pub high : StatesOr (IsWithin least (pos 2147483647)) (pos 2147483647) (get (codes "high") d) greatest
+  pub low : StatesOr (IsWithin (pos 0) greatest_bound) (pos 0) (get (codes "low") d) least
+  pub high : StatesOr (IsWithin least greatest_bound) greatest_bound (get (codes "high") d) greatest
   pub same : record { name = name; kind = kind; low = least; high = greatest } ≡ param
 
 abbrev param_done : FileParam → Result FileParam (List ℕ)
@@ -65,13 +65,13 @@ ranged_found : (name : List ℕ) (kind : FileParamKind) (at : List ℕ) (d : Dat
 unfolding ranged_at
 ranged_found name kind at d param e =
     let low = goes (member_or (pos 0) (bound_at (pos 0)) at (codes "low") d) _ param e in
-    let high = goes (member_or (pos 2147483647) (bound_at low.read) at (codes "high") d) (λ high. Ok (record { name = name; kind = kind; low = low.read; high = high })) param low.after in
+    let high = goes (member_or greatest_bound (bound_at low.read) at (codes "high") d) (λ high. Ok (record { name = name; kind = kind; low = low.read; high = high })) param low.after in
     let same : param_done (record { name = name; kind = kind; low = low.read; high = high.read }) ≡ Ok param = high.after in
     record {
       least = low.read;
       greatest = high.read;
-      low = or_found (bound_at (pos 0)) (IsWithin (pos 0) (pos 2147483647)) (bound_reads (pos 0)) (pos 0) at d (codes "low") low.read low.first;
-      high = or_found (bound_at low.read) (IsWithin low.read (pos 2147483647)) (bound_reads low.read) (pos 2147483647) at d (codes "high") high.read high.first;
+      low = or_found (bound_at (pos 0)) (IsWithin (pos 0) greatest_bound) (bound_reads (pos 0)) (pos 0) at d (codes "low") low.read low.first;
+      high = or_found (bound_at low.read) (IsWithin low.read greatest_bound) (bound_reads low.read) greatest_bound at d (codes "high") high.read high.first;
       same = cc;
     }
 
@@ -79,8 +79,8 @@ ranged_again : (at : List ℕ) (d : Data) (param : FileParam) → StatesParam d 
 unfolding ranged_at
 ranged_again at d param f =
     rw (
-      or_again (bound_at (pos 0)) (IsWithin (pos 0) (pos 2147483647)) (bound_reads (pos 0)) (pos 0) at d (codes "low") param.low f.low,
-      or_again (bound_at param.low) (IsWithin param.low (pos 2147483647)) (bound_reads param.low) (pos 2147483647) at d (codes "high") param.high f.high,
+      or_again (bound_at (pos 0)) (IsWithin (pos 0) greatest_bound) (bound_reads (pos 0)) (pos 0) at d (codes "low") param.low f.low,
+      or_again (bound_at param.low) (IsWithin param.low greatest_bound) (bound_reads param.low) greatest_bound at d (codes "high") param.high f.high,
     ) refl
 
 derived_found : (at : List ℕ) (d : Data) (param : FileParam) → has_form derived_keys optional_param_keys d ≡ true → HasMember IsText d (codes "kind") (codes "is") → derived_members_at at d ≡ Ok param → StatesParam d param
@@ -137,7 +137,7 @@ kind_reads = record { found = kind_found; again = kind_again }
 
 given_states : (d : Data) (kind : FileParamKind) (name : List ℕ) (low high : ℤ)
     → has_form given_keys optional_param_keys d ≡ true → HasMember StatesGiven d (codes "kind") kind → HasMember StatesName d (codes "name") name
-    → StatesOr (IsWithin (pos 0) (pos 2147483647)) (pos 0) (get (codes "low") d) low → StatesOr (IsWithin low (pos 2147483647)) (pos 2147483647) (get (codes "high") d) high
+    → StatesOr (IsWithin (pos 0) greatest_bound) (pos 0) (get (codes "low") d) low → StatesOr (IsWithin low greatest_bound) greatest_bound (get (codes "high") d) high
     → StatesParam d (record { name = name; kind = kind; low = low; high = high })
 given_states d Inherited name low high members k n l h = record { members = members; name = n; kind = record { value = k.value; is_there = k.is_there; states = k.states.text }; expr = tt; low = l; high = h }
 given_states d (Derived expr) name low high members k n l h = absurd k.states.given

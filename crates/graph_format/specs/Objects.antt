@@ -33,9 +33,13 @@ has_exports version = nat_le 3 version
 
 -- ---- parameters
 
--- a number from the least one to 2,147,483,647
+-- the greatest end of a parameter's range
+abbrev pub greatest_bound : ℤ
+greatest_bound = pos 2147483647
+
+-- a number from the least one to that
 abbrev pub within : ℤ → ℤ → Option ℤ
-within least z = if int_le least z && int_le z (pos 2147483647) then Some z else None
+within least z = if int_le least z && int_le z greatest_bound then Some z else None
 
 abbrev pub bound_at : ℤ → List ℕ → Data → Result ℤ (List ℕ)
 bound_at least at d = shaped at (option_and_then (within least) (whole_of d))
@@ -44,7 +48,7 @@ bound_at least at d = shaped at (option_and_then (within least) (whole_of d))
 unfoldable pub ranged_at : List ℕ → FileParamKind → List ℕ → Data → Result FileParam (List ℕ)
 ranged_at name kind at d = do
   low ← member_or (pos 0) (bound_at (pos 0)) at (codes "low") d
-  high ← member_or (pos 2147483647) (bound_at low) at (codes "high") d
+  high ← member_or greatest_bound (bound_at low) at (codes "high") d
   Ok (record { name = name; kind = kind; low = low; high = high })
 
 unfoldable pub derived_members_at : List ℕ → Data → Result FileParam (List ℕ)

@@ -5,7 +5,7 @@ use Rattle.serde_json.specs.Find.{get}
 use Rattle.param_expr.specs.Named.{NamedTree}
 use Rattle.graph_format.specs.Walk.{has_form, whole_of}
 use Rattle.graph_format.specs.Values.{HasMember, StatesOr, IsList, IsWhole, IsWithin, IsText, StatesName, StatesKernel, StatesExpression, StatesEnd}
-use Rattle.graph_format.specs.Objects.{derived_keys, given_keys, optional_param_keys, port_keys, kernel_keys, config_keys, child_keys, config_child_keys, fifo_keys, optional_fifo_keys, graph_keys, file_keys, has_exports}
+use Rattle.graph_format.specs.Objects.{derived_keys, given_keys, optional_param_keys, port_keys, kernel_keys, config_keys, child_keys, config_child_keys, fifo_keys, optional_fifo_keys, graph_keys, file_keys, greatest_bound, has_exports}
 use Rattle.pisdf_model.specs.declared.fifo.Life.{Life}
 use Rattle.pisdf_model.specs.declared.fifo.Life.TheVariants.{Firing, Permanent}
 use Rattle.graph_format.specs.declared.param.FileParam.{FileParam}
@@ -44,8 +44,8 @@ pub record StatesParam (d : Data) (param : FileParam) : Type 0 where
   pub name : HasMember StatesName d (codes "name") param.name
   pub kind : HasMember IsText d (codes "kind") (kind_text param.kind)
   pub expr : StatesRule d param.kind
-  pub low : StatesOr (IsWithin (pos 0) (pos 2147483647)) (pos 0) (get (codes "low") d) param.low
-  pub high : StatesOr (IsWithin param.low (pos 2147483647)) (pos 2147483647) (get (codes "high") d) param.high
+  pub low : StatesOr (IsWithin (pos 0) greatest_bound) (pos 0) (get (codes "low") d) param.low
+  pub high : StatesOr (IsWithin param.low greatest_bound) greatest_bound (get (codes "high") d) param.high
 
 -- ---- interfaces and ports
 

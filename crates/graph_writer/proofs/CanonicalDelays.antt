@@ -8,7 +8,7 @@ use Rattle.std.proofs.lemmas.Bool.Decides.{nat_tests}
 use Rattle.serde_json.specs.View.{items_of}
 use Rattle.param_expr.specs.Eval.{in_i64}
 use Rattle.pisdf_model.proofs.Lists.{left_none, right_none}
-use Rattle.pisdf_model.specs.Count.{count_faults, graph_counts, has_long_delay}
+use Rattle.pisdf_model.specs.Count.{count_faults, delay_limit, graph_counts, has_long_delay}
 use Rattle.pisdf_model.specs.Details.{from_number, unless}
 use Rattle.pisdf_model.specs.Hold.{has_large_hold}
 use Rattle.pisdf_model.specs.Range.{InRange, life_of}
@@ -42,7 +42,7 @@ wholes_again (t ∷ ts) inside = (whole_again t (inside 0 t (omega arith)), whol
 
 -- ---- delays
 
-delay_again : (tokens : List ℤ) → AllPass in_i64 tokens → nat_lt 65536 (length tokens) ≡ false → StatesDelay (delay_value (stated_delay tokens)) (stated_delay tokens)
+delay_again : (tokens : List ℤ) → AllPass in_i64 tokens → nat_lt delay_limit (length tokens) ≡ false → StatesDelay (delay_value (stated_delay tokens)) (stated_delay tokens)
 delay_again tokens inside short = go (list_all (λ token. int_eq token (pos 0)) tokens) refl
   where
     go : (b : Bool) → list_all (λ token. int_eq token (pos 0)) tokens ≡ b → StatesDelay (delay_value (stated_delay tokens)) (stated_delay tokens)
@@ -121,7 +121,7 @@ module _ (kernels : List (List ℕ)) (graphs : Graphs) (least : 1 ≤ graphs.ver
   each_shown : (g : Graph) (fifos : List Fifo) → All (λ (f : Fifo). AllPass in_i64 f.delay) fifos → All EmptyIsFiring fifos → has_long_delay fifos ≡ false → AllByRecursion (IsShown graphs.version) (map (named_fifo graphs g) fifos)
   each_shown g [] inside fit short = tt
   each_shown g (f ∷ fs) inside fit short =
-      let parts = or_parts (nat_lt 65536 (length f.delay)) (has_long_delay fs) short in
+      let parts = or_parts (nat_lt delay_limit (length f.delay)) (has_long_delay fs) short in
       let first : IsShown graphs.version (named_fifo graphs g f) = record {
         delay = delay_again f.delay (inside 0 f (omega arith)) parts.0;
         life = life_shown graphs.version f.life f.delay least (fit 0 f (omega arith));

@@ -10,7 +10,7 @@ use Rattle.param_expr.specs.Named.{NamedTree}
 use Rattle.param_expr.specs.Parse.{Answers}
 use Rattle.param_expr.specs.Print.{printed}
 use Rattle.graph_format.specs.Canonical.{list_value, whole_value, expression_value, end_value, port_value, input_value, param_value, actor_value, delay_value, is_no_delay, end_members, fifo_value, graph_members, graph_value, file_value}
-use Rattle.graph_format.specs.Objects.{has_exports, has_lives}
+use Rattle.graph_format.specs.Objects.{greatest_bound, has_exports, has_lives}
 use Rattle.graph_format.specs.Walk.{has_form}
 use Rattle.graph_format.specs.Values.{HasMember, StatesOr, AreItems, IsList, IsWhole, IsWithin, StatesName, StatesKernel, StatesExpression, StatesEnd, end_text}
 use Rattle.graph_format.specs.States.{StatesPort, StatesInput, StatesParam, StatesActor, StatesDelay, StatesExports, StatesFifo, StatesGraph, StatesVersion, States}
@@ -58,17 +58,17 @@ list_again R show again d xs l = list_again_where R show (λ x. Unit {0}) (λ d 
 
 -- ---- numbers
 
-bounded_again : (z : ℤ) → int_le z (pos 2147483647) ≡ true → IsWhole (whole_value z) z
+bounded_again : (z : ℤ) → int_le z greatest_bound ≡ true → IsWhole (whole_value z) z
 bounded_again (pos n) high =
     let below : nat_lt n (2 ^ 63) ≡ true = grind (arith, nat_tests) in
     rw below refl
 bounded_again (negsuc n) high = refl
 
-within_again : (least : ℤ) → Again (IsWithin least (pos 2147483647)) whole_value
+within_again : (least : ℤ) → Again (IsWithin least greatest_bound) whole_value
 within_again least d z h = record { number = bounded_again z h.high; low = h.low; high = h.high }
 
 -- a bound that is left out is one too
-pub or_within : (least default : ℤ) → int_le least default ≡ true → int_le default (pos 2147483647) ≡ true → (o : Option Data) (z : ℤ) → StatesOr (IsWithin least (pos 2147483647)) default o z → IsWithin least (pos 2147483647) (whole_value z) z
+pub or_within : (least default : ℤ) → int_le least default ≡ true → int_le default greatest_bound ≡ true → (o : Option Data) (z : ℤ) → StatesOr (IsWithin least greatest_bound) default o z → IsWithin least greatest_bound (whole_value z) z
 or_within least default low high None z is = rw is (record { number = bounded_again default high; low = low; high = high })
 or_within least default low high (Some d) z h = within_again least d z h
 
@@ -165,11 +165,11 @@ fifo_again version d fifo shown from to = either_again version d fifo (has_lives
 module _ (printed_answers : (text : List ℕ) (t : NamedTree) → Answers text (Ok t) → Answers (printed t) (Ok t)) where
   -- ---- parameters
 
-  range_low : (d : Data) (param : FileParam) → StatesParam d param → IsWithin (pos 0) (pos 2147483647) (whole_value param.low) param.low
+  range_low : (d : Data) (param : FileParam) → StatesParam d param → IsWithin (pos 0) greatest_bound (whole_value param.low) param.low
   range_low d param h = or_within (pos 0) (pos 0) refl refl _ param.low h.low
 
-  range_high : (d : Data) (param : FileParam) → StatesParam d param → IsWithin param.low (pos 2147483647) (whole_value param.high) param.high
-  range_high d param h = or_within param.low (pos 2147483647) (range_low d param h).high refl _ param.high h.high
+  range_high : (d : Data) (param : FileParam) → StatesParam d param → IsWithin param.low greatest_bound (whole_value param.high) param.high
+  range_high d param h = or_within param.low greatest_bound (range_low d param h).high refl _ param.high h.high
 
   kind_again : (d : Data) (kind : FileParamKind) (name : List ℕ) (low high : ℤ) → StatesParam d (record { name = name; kind = kind; low = low; high = high })
       → StatesParam (param_value (record { name = name; kind = kind; low = low; high = high })) (record { name = name; kind = kind; low = low; high = high })

@@ -18,7 +18,7 @@ use Rattle.sdf_level.specs.Kept.{rate_limit}
 use Rattle.param_resolver.specs.EarlyCheck.{Checked, check_by, check_to, config_outs, early_numbers, early_of}
 use Rattle.param_resolver.specs.LevelOf.{in_rates, out_rates, sources_of}
 use Rattle.param_resolver.specs.Numbering.{output_count, source_inputs}
-use Rattle.param_resolver.specs.Rates.{as_rate, greatest_rate, interface_rates, port_rates}
+use Rattle.param_resolver.specs.Rates.{as_rate, interface_rates, port_rates}
 use Rattle.param_resolver.specs.Tables.{config_outputs}
 use Rattle.param_resolver.proofs.SourceEnds.{total}
 
@@ -27,9 +27,9 @@ AreWithin rates = AllByRecursion (λ r. r ≤ rate_limit) rates
 
 rate_within : (r : Result ℤ EvalFault) → result_unwrap_or (as_rate r) 0 ≤ rate_limit
 rate_within (Ok (pos n)) = ⊎_elim
-    (λ (is : nat_le n greatest_rate ≡ true). rw is (leb-true n greatest_rate is))
-    (λ (not : nat_le n greatest_rate ≡ false). rw not (omega arith))
-    (cases_Bool (nat_le n greatest_rate))
+    (λ (is : nat_le n rate_limit ≡ true). rw is (leb-true n rate_limit is))
+    (λ (not : nat_le n rate_limit ≡ false). rw not (omega arith))
+    (cases_Bool (nat_le n rate_limit))
 rate_within (Ok (negsuc n)) = omega arith
 rate_within (Err fault) = omega arith
 

@@ -9,18 +9,15 @@ use Rattle.pisdf_model.specs.Details.{of_each}
 use Rattle.pisdf_model.specs.Wires.{port_text}
 use Rattle.pisdf_model.specs.declared.actor.Port.{Port}
 use Rattle.pisdf_model.specs.declared.graph.Interface.{Interface}
+use Rattle.sdf_level.specs.Kept.{rate_limit}
 use Rattle.param_resolver.specs.Assignment.{why_of}
 use Rattle.param_resolver.specs.Refusal.{Refusal, rate}
 use Rattle.param_resolver.specs.declared.fault.Why.{Why}
 use Rattle.param_resolver.specs.declared.fault.Why.TheVariants.{Value}
 
--- the greatest rate, in tokens a firing
-abbrev pub greatest_rate : ℕ
-greatest_rate = 262144
-
--- a rate is a whole number from 0 to the greatest
+-- a rate is a whole number from 0 to its limit
 abbrev pub as_rate : Result ℤ EvalFault → Result ℕ Why
-as_rate (Ok (pos n)) = if nat_le n greatest_rate then Ok n else Err (Value (pos n))
+as_rate (Ok (pos n)) = if nat_le n rate_limit then Ok n else Err (Value (pos n))
 as_rate (Ok (negsuc n)) = Err (Value (negsuc n))
 as_rate (Err fault) = Err (why_of fault)
 

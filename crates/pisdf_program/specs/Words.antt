@@ -14,17 +14,27 @@ pub data Command : Type 0 where
   Soak : (number workers : ℕ) → Command
   Upgrade : (graph : List ℕ) → Command
 
--- 0 to 65,536, in 1 to 5 digits
+-- the most iterations of a run, the most workers, and the greatest number of a generated load
+abbrev pub most_iterations : ℕ
+most_iterations = 65536
+
+abbrev pub most_workers : ℕ
+most_workers = 16
+
+abbrev pub greatest_load : ℕ
+greatest_load = 65535
+
+-- from 0 on, in 1 to 5 digits
 abbrev pub iterations_of : List ℕ → Option ℕ
-iterations_of word = number_within 5 0 65536 word
+iterations_of word = number_within 5 0 most_iterations word
 
--- 1 to 16, in 1 or 2 digits
+-- from 1 on, in 1 or 2 digits
 abbrev pub workers_of : List ℕ → Option ℕ
-workers_of word = number_within 2 1 16 word
+workers_of word = number_within 2 1 most_workers word
 
--- 0 to 65,535, in 1 to 5 digits
+-- from 0 on, in 1 to 5 digits
 abbrev pub generated_of : List ℕ → Option ℕ
-generated_of word = number_within 5 0 65535 word
+generated_of word = number_within 5 0 greatest_load word
 
 -- ---- the words after a command's name
 

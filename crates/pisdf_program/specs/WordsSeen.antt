@@ -3,6 +3,7 @@ use Rattle.std.specs.Prelude.{◌≤◌}
 use Rattle.pisdf_program.specs.declared.words.Command.{Command}
 use Rattle.pisdf_program.specs.declared.words.Command.TheVariants as here
 use Rattle.pisdf_program.specs.Words as words
+use Rattle.pisdf_program.specs.Words.{greatest_load, most_iterations}
 
 abbrev pub seen : Command → words.Command
 seen (here.Run graph tokens iterations workers) = words.Run graph.now tokens.now iterations workers
@@ -12,11 +13,11 @@ seen (here.Journal graph tokens iterations workers) = words.Journal graph.now to
 seen (here.Soak number workers) = words.Soak number workers
 seen (here.Upgrade graph) = words.Upgrade graph.now
 
--- a run has at most 65,536 iterations, a job at least one worker, and a generated load a number up to 65,535
+-- a run has no more iterations than the most, a job at least one worker, and a generated load no greater number than the greatest
 abbrev pub IsWithin : Command → Type 0
-IsWithin (here.Run graph tokens iterations workers) = iterations ≤ 65536
-IsWithin (here.Plain graph tokens iterations) = iterations ≤ 65536
+IsWithin (here.Run graph tokens iterations workers) = iterations ≤ most_iterations
+IsWithin (here.Plain graph tokens iterations) = iterations ≤ most_iterations
 IsWithin (here.Job what graph tokens workers) = 1 ≤ workers
 IsWithin (here.Journal graph tokens iterations workers) = Unit {0}
-IsWithin (here.Soak number workers) = number ≤ 65535
+IsWithin (here.Soak number workers) = number ≤ greatest_load
 IsWithin (here.Upgrade graph) = Unit {0}

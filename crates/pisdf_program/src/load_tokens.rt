@@ -1,6 +1,7 @@
 // The tokens of a load.
 ghost use Rattle.std.specs.Prelude.{◌≡◌, ◌+◌, ◌*◌, ◌<◌, ◌≤◌, IfOk};
 ghost use Rattle.pisdf_program.specs.Load.{k_token, load_iterations, load_part, tokens_from, x_token};
+ghost use Rattle.pisdf_program.specs.Words.{greatest_load};
 
 use sdf_level::List;
 use std::alloc::{AllocError, Global};
@@ -14,7 +15,7 @@ pub(crate) fn load_iterations(number: u32) -> u32
 
 /// The token of the input `k` at a place of its stream.
 fn k_token(number: u32, place: u32) -> i64
-    requires number { number ≤ 65535 }
+    requires number { number ≤ greatest_load }
     requires place { place < 131072 }
     ensures { result ≡ k_token number place }
 {
@@ -23,7 +24,7 @@ fn k_token(number: u32, place: u32) -> i64
 
 /// The token of the input `x` at a place of its stream.
 fn x_token(number: u32, place: u32) -> i64
-    requires number { number ≤ 65535 }
+    requires number { number ≤ greatest_load }
     requires place { place < 131136 }
     ensures { result ≡ x_token number place }
 {
@@ -32,7 +33,7 @@ fn x_token(number: u32, place: u32) -> i64
 
 /// So many tokens of `x`, from a place on.
 fn x_tokens(alloc: Global, number: u32, start: u32, count: u32) -> Result<Vec<i64>, AllocError>
-    requires number { number ≤ 65535 }
+    requires number { number ≤ greatest_load }
     requires within { start + count ≤ 131136 }
     ensures { IfOk result (λ tokens. tokens.items ≡ tokens_from (x_token number) start count) }
 {
@@ -49,7 +50,7 @@ pub(crate) fn load_part(
     number: u32,
     iteration: u32,
 ) -> Result<Vec<List<i64>>, AllocError>
-    requires number { number ≤ 65535 }
+    requires number { number ≤ greatest_load }
     requires iteration { iteration < 2049 }
     ensures { IfOk result (λ part. part.items ≡ load_part number iteration) }
 {

@@ -6,6 +6,7 @@ ghost use Rattle.pisdf_program.specs.Loaded.{is_answer};
 ghost use Rattle.pisdf_program.specs.Result.{AreTold, AreToldAlone, Knows, Outcome, ResultOf, RunsAlone, RunsFile};
 ghost use Rattle.pisdf_program.specs.Words as table;
 ghost use Rattle.pisdf_program.specs.Worked.{Completes, Concludes, CountRose, Ended, FilesRose, IsThere, PutsLine, Reports, TellsUnlessCut, Works};
+ghost use Rattle.pisdf_program.specs.Words.{most_iterations};
 
 use crate::job_command::tell_job;
 use crate::line::{MEMORY, left_lines, line_of};
@@ -55,7 +56,7 @@ fn run<S: Shelf, O: Sink, K: Gate>(
     gate: &K,
 ) -> Result<String, Status>
     requires kernels { K.kernels gate.now ≡ the_signatures }
-    requires few { iterations ≤ 65536 }
+    requires few { iterations ≤ most_iterations }
     ensures works { Works (RunsFile (S.holds shelf.old graph.now) iterations (S.holds shelf.old tokens.now)) (O.written out.old) (O.written out.new) (O.faults out.old) (O.faults out.new) result }
     ensures there { IsThere (AreTold (S.holds shelf.old graph.now) (S.holds shelf.old tokens.now)) (RunsFile (S.holds shelf.old graph.now) iterations (S.holds shelf.old tokens.now)) result }
     ensures read { IfErr result (FilesRose graph.now tokens.now (S.faults shelf.old) (S.faults shelf.new)) }
@@ -83,7 +84,7 @@ fn run_alone<S: Shelf, O: Sink, K: Gate>(
     gate: &K,
 ) -> Result<String, Status>
     requires kernels { K.kernels gate.now ≡ the_signatures }
-    requires few { iterations ≤ 65536 }
+    requires few { iterations ≤ most_iterations }
     ensures works { Works (RunsAlone (workers == 1) (S.holds shelf.old graph.now) iterations (S.holds shelf.old tokens.now)) (O.written out.old) (O.written out.new) (O.faults out.old) (O.faults out.new) result }
     ensures there { IsThere (AreToldAlone (workers == 1) (S.holds shelf.old graph.now) (S.holds shelf.old tokens.now)) (RunsAlone (workers == 1) (S.holds shelf.old graph.now) iterations (S.holds shelf.old tokens.now)) result }
     ensures read { IfErr result (CountRose (Some (table.Run graph.now tokens.now iterations workers)) (S.faults shelf.old) (S.faults shelf.new)) }

@@ -9,6 +9,7 @@ ghost use Rattle.pisdf_program.specs.Top.{top_of};
 ghost use Rattle.pisdf_program.specs.Iterated.{Gives};
 ghost use Rattle.pisdf_program.specs.Stepped.{Steps, StopsAt, run_end};
 ghost use Rattle.pisdf_program.specs.Streams.{rest_of};
+ghost use Rattle.pisdf_program.specs.Words.{most_iterations};
 
 use crate::put::put_text;
 use crate::stop::{Stop, refused, short};
@@ -64,7 +65,7 @@ pub(crate) fn next_iteration<K: Gate>(
 ) -> Result<Iteration, Stop>
     requires good { AreGood graphs.now }
     requires kernels { K.kernels gate.now ≡ the_signatures }
-    requires few { number ≤ 65536 }
+    requires few { number ≤ most_iterations }
     requires needs { streams.now.needs.now ≡ top_needs graphs.now }
     requires fit { length streams.now.needs.now ≡ length streams.now.tokens.now }
     requires sound { early_faults graphs.now.graphs graphs.now.top [] ≡ [] }
@@ -96,7 +97,7 @@ fn step<O: Sink, K: Gate>(
 ) -> Result<(), RunEnd>
     requires good { AreGood graphs.now }
     requires kernels { K.kernels gate.now ≡ the_signatures }
-    requires few { number ≤ 65536 }
+    requires few { number ≤ most_iterations }
     requires needs { streams.now.needs.now ≡ top_needs graphs.now }
     requires fit { length streams.now.needs.now ≡ length streams.now.tokens.now }
     requires sound { early_faults graphs.now.graphs graphs.now.top [] ≡ [] }
@@ -128,7 +129,7 @@ fn run_some<O: Sink, K: Gate>(
 ) -> RunEnd
     requires good { AreGood graphs.now }
     requires kernels { K.kernels gate.now ≡ the_signatures }
-    requires few { iterations ≤ 65536 }
+    requires few { iterations ≤ most_iterations }
     requires needs { streams.now.needs.now ≡ top_needs graphs.now }
     requires fit { length streams.now.needs.now ≡ length streams.now.tokens.now }
     requires sound { early_faults graphs.now.graphs graphs.now.top [] ≡ [] }
@@ -173,7 +174,7 @@ pub(crate) fn run_all<O: Sink, K: Gate>(
 ) -> RunEnd
     requires good { AreGood graphs.now }
     requires kernels { K.kernels gate.now ≡ the_signatures }
-    requires few { iterations ≤ 65536 }
+    requires few { iterations ≤ most_iterations }
     requires fit { length streams.now ≡ length (top_of graphs.now).inputs }
     ensures ends { EndsRun graphs.now streams.now iterations (O.written out.old) (O.written out.new) (O.faults out.old) (O.faults out.new) result }
     ensures never_falls { O.faults out.old ≤ O.faults out.new }

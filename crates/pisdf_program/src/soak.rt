@@ -12,6 +12,7 @@ ghost use Rattle.pisdf_program.specs.Result.{Soaks, read_graphs, told};
 ghost use Rattle.pisdf_program.specs.Stepped.{StopsAt};
 ghost use Rattle.pisdf_program.specs.Streams.{rest_of};
 ghost use Rattle.pisdf_program.specs.Worked.{IsThere, TellsLoad, Works};
+ghost use Rattle.pisdf_program.specs.Words.{greatest_load};
 
 use crate::load::{graphs_in, parse_graphs};
 use crate::load_tokens::{load_iterations, load_part};
@@ -58,7 +59,7 @@ fn load_iteration<K: Gate>(
 ) -> Result<Iteration, Stop>
     requires good { AreGood graphs.now }
     requires kernels { K.kernels gate.now ≡ the_signatures }
-    requires number { number ≤ 65535 }
+    requires number { number ≤ greatest_load }
     requires iteration { iteration < load_iterations number }
     requires needs { top_needs graphs.now ≡ 1 ∷ 64 ∷ [] }
     requires sound { early_faults graphs.now.graphs graphs.now.top [] ≡ [] }
@@ -79,7 +80,7 @@ fn load_iteration<K: Gate>(
 fn run_load<K: Gate>(alloc: Global, graphs: &Graphs, number: u32, gate: &K) -> Result<Total, Stop>
     requires good { AreGood graphs.now }
     requires kernels { K.kernels gate.now ≡ the_signatures }
-    requires number { number ≤ 65535 }
+    requires number { number ≤ greatest_load }
     requires needs { top_needs graphs.now ≡ 1 ∷ 64 ∷ [] }
     requires sound { early_faults graphs.now.graphs graphs.now.top [] ≡ [] }
     ensures ends { EndsLoad graphs.now number result }
@@ -150,7 +151,7 @@ pub(crate) fn soak<O: Sink, K: Gate>(
     gate: &K,
 ) -> Result<String, Status>
     requires kernels { K.kernels gate.now ≡ the_signatures }
-    requires number { number ≤ 65535 }
+    requires number { number ≤ greatest_load }
     ensures works { Works (Soaks number) (O.written out.old) (O.written out.new) (O.faults out.old) (O.faults out.new) result }
     ensures there { IsThere (Unit {0}) (Soaks number) result }
     ensures answers { IfErr result IsLoadStatus }

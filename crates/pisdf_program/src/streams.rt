@@ -3,6 +3,7 @@ ghost use Rattle.std.specs.Prelude.{◌≡◌, ◌≤◌, ◌*◌, drop, length,
 ghost use Rattle.pisdf_meaning.specs.Run.{first_lack, taken};
 ghost use Rattle.pisdf_program.specs.Streams.{rest_of};
 ghost use Rattle.pisdf_program.specs.LackSeen.{lack_seen};
+ghost use Rattle.pisdf_program.specs.Words.{most_iterations};
 
 use sdf_level::List;
 use std::alloc::{AllocError, Global};
@@ -24,7 +25,7 @@ pub(crate) struct Lack {
 
 /// How many tokens so many iterations take.
 fn taken_by(done: u32, need: u32) -> usize
-    requires { done ≤ 65536 }
+    requires { done ≤ most_iterations }
     ensures { result ≡ done * need }
 {
     done as usize * need as usize
@@ -32,7 +33,7 @@ fn taken_by(done: u32, need: u32) -> usize
 
 /// The tokens that are left after so many iterations.
 fn rest(tokens: &[i64], done: u32, need: u32) -> &[i64]
-    requires { done ≤ 65536 }
+    requires { done ≤ most_iterations }
     ensures { result.now ≡ drop (done * need) tokens.now }
 {
     let start = taken_by(done, need).min(tokens.len());
@@ -50,7 +51,7 @@ fn first(alloc: Global, tokens: &[i64], need: u32) -> Result<List<i64>, AllocErr
 impl Streams<'_> {
     /// The first stream that lacks tokens after so many iterations.
     pub(crate) fn first_lack(&self, done: u32) -> Option<Lack>
-        requires iterations { done ≤ 65536 }
+        requires iterations { done ≤ most_iterations }
         requires fit { length self.now.needs.now ≡ length self.now.tokens.now }
         ensures { lack_seen result ≡ first_lack 0 self.now.needs.now (rest_of done self.now.needs.now self.now.tokens.now) }
     {
@@ -59,7 +60,7 @@ impl Streams<'_> {
 
     /// The tokens that the next iteration takes, where none lacks any.
     pub(crate) fn taken(&self, alloc: Global, done: u32) -> Result<Vec<List<i64>>, AllocError>
-        requires iterations { done ≤ 65536 }
+        requires iterations { done ≤ most_iterations }
         requires fit { length self.now.needs.now ≡ length self.now.tokens.now }
         ensures { IfOk result (λ v. v.items ≡ taken self.now.needs.now (rest_of done self.now.needs.now self.now.tokens.now)) }
     {
@@ -68,7 +69,7 @@ impl Streams<'_> {
 
     /// How many tokens are left in each stream after so many iterations.
     pub(crate) fn left(&self, alloc: Global, done: u32) -> Result<List<u64>, AllocError>
-        requires iterations { done ≤ 65536 }
+        requires iterations { done ≤ most_iterations }
         requires fit { length self.now.needs.now ≡ length self.now.tokens.now }
         ensures { IfOk result (λ l. l ≡ map (λ t. length t) (rest_of done self.now.needs.now self.now.tokens.now)) }
     {
@@ -77,7 +78,7 @@ impl Streams<'_> {
 }
 
 fn first_lack(needs: &[u32], tokens: &[List<i64>], done: u32) -> Option<Lack>
-    requires iterations { done ≤ 65536 }
+    requires iterations { done ≤ most_iterations }
     requires fit { length needs.now ≡ length tokens.now }
     ensures { lack_seen result ≡ first_lack 0 needs.now (rest_of done needs.now tokens.now) }
 {
@@ -101,7 +102,7 @@ fn taken(
     tokens: &[List<i64>],
     done: u32,
 ) -> Result<Vec<List<i64>>, AllocError>
-    requires iterations { done ≤ 65536 }
+    requires iterations { done ≤ most_iterations }
     requires fit { length needs.now ≡ length tokens.now }
     ensures { IfOk result (λ v. v.items ≡ taken needs.now (rest_of done needs.now tokens.now)) }
 {
@@ -119,7 +120,7 @@ fn left(
     tokens: &[List<i64>],
     done: u32,
 ) -> Result<List<u64>, AllocError>
-    requires iterations { done ≤ 65536 }
+    requires iterations { done ≤ most_iterations }
     requires fit { length needs.now ≡ length tokens.now }
     ensures { IfOk result (λ l. l ≡ map (λ t. length t) (rest_of done needs.now tokens.now)) }
 {

@@ -1,5 +1,5 @@
 ghost use Rattle.std.specs.Prelude.{◌≡◌, ◌≤◌, IfSome, map, option_map, string_bytes};
-ghost use Rattle.pisdf_program.specs.Words.{command_of, run_row, plain_row, job_row, journal_row, soak_row, upgrade_row, iterations_of, workers_of, generated_of};
+ghost use Rattle.pisdf_program.specs.Words.{command_of, run_row, plain_row, job_row, journal_row, soak_row, upgrade_row, iterations_of, workers_of, generated_of, greatest_load, most_iterations};
 ghost use Rattle.pisdf_program.specs.WordsSeen.{IsWithin, seen};
 
 use crate::limits;
@@ -44,7 +44,7 @@ pub(crate) enum Command<'w> {
 
 fn iterations_of(word: &str) -> Option<u32>
     ensures number { result ≡ iterations_of word.now }
-    ensures few { IfSome result (λ n. n ≤ 65536) }
+    ensures few { IfSome result (λ n. n ≤ most_iterations) }
 {
     number_within(limits::ITERATION_DIGITS, 0, limits::ITERATIONS, word)
 }
@@ -58,7 +58,7 @@ fn workers_of(word: &str) -> Option<u32>
 
 fn generated_of(word: &str) -> Option<u32>
     ensures number { result ≡ generated_of word.now }
-    ensures few { IfSome result (λ n. n ≤ 65535) }
+    ensures few { IfSome result (λ n. n ≤ greatest_load) }
 {
     number_within(limits::GENERATED_DIGITS, 0, limits::GENERATED, word)
 }
