@@ -1,0 +1,30 @@
+-- What a table answers that is asked for work, or for calls.
+use Rattle.std.specs.Prelude.{◌≡◌, ℕ, Bool, List, Option, Some, None}
+use Rattle.board_rules.specs.Asking.{IsFirstOfAll, JobRow, NoRowOffers}
+use Rattle.board_rules.specs.Asking as board
+use Rattle.board_rules.specs.Keys.{Key}
+use Rattle.job_rules.specs.Words.{Answer}
+use Rattle.nested_jobs.specs.Marks.{Marks}
+use Rattle.open_job.specs.declared.offer.Offer.{Offer}
+use Rattle.pisdf_meaning.specs.declared.firing.Firing.{Firing}
+use Rattle.job_table.specs.Suits.{Suits}
+use Rattle.job_table.specs.View.{TableView, table_of}
+use Rattle.job_table.specs.declared.asking.Asked.{Asked}
+use Rattle.job_table.specs.declared.row.Row.{Row}
+
+-- an offer as the rules of boards have it
+abbrev pub offer_of : Offer → board.Offer
+offer_of offer = record { item = offer.item; away = offer.away; urgency = offer.urgency }
+
+-- the first of all offers of this kind, and none exactly where no row offers any
+abbrev pub IsFirstOffer : Key → Marks Firing Answer → ℕ → Bool → TableView → Option Asked → Type 0
+IsFirstOffer key m w opens v None = NoRowOffers key opens (table_of v)
+IsFirstOffer key m w opens v (Some asked) = (row : JobRow) × IsFirstOfAll key m w opens (table_of v) asked.row row (offer_of asked.offer)
+
+-- whatever the table stands for
+abbrev pub IsAsked : ℕ → Bool → TableView → Option Asked → Type 0
+IsAsked w opens v answer = (key : Key) (m : Marks Firing Answer) → Suits key m v → IsFirstOffer key m w opens v answer
+
+-- the same of a table with these rows
+abbrev pub IsAskedOf : ℕ → Bool → List (Option Row) → Option Asked → Type 0
+IsAskedOf w opens rows answer = (v : TableView) → v.rows ≡ rows → IsAsked w opens v answer

@@ -1,0 +1,12 @@
+//! The table of the open jobs of a board: each job with its place, its path and the row of the job round it. What its calls
+//! change is what the rules of boards say of tables.
+#![tactic(auto)]
+
+mod asking;
+mod begins;
+mod row;
+mod table;
+
+pub use asking::Asked;
+pub use begins::Begins;
+pub use table::JobTable;
