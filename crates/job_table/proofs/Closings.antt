@@ -33,7 +33,7 @@ use Rattle.board_rules.specs.Entries.{BoardState, Step}
 use Rattle.board_rules.specs.Keys.{IsKey, Key, rules, top_job}
 use Rattle.board_rules.specs.Legal.{state_after}
 use Rattle.job_table.specs.Calls.{StaysAs}
-use Rattle.job_table.specs.Closing.{ClosesTo, IsClosingFrom, held_after, steps_with}
+use Rattle.job_table.specs.Closing.{ClosesTo, IsClosingFrom, RowsStay, held_after, steps_with}
 use Rattle.job_table.specs.Suits.{IsUpper, RowSuits, Suits}
 use Rattle.job_table.specs.View.{TableView, job_row, row_at, table_of, with_job}
 use Rattle.job_table.specs.declared.row.Row.{Row}
@@ -63,6 +63,11 @@ upper_kept old new [] upper is still = is
 upper_kept old new (i ∷ p) None is still = absurd is
 upper_kept old new (i ∷ p) (Some k) is still = let t = still i k is.0 is.1 (ap (λ (q : Place). i ∷ q) (sym is.2)) in (t.0, t.1, t.2 ∙ is.2)
 
+-- how deep the job in a row is
+abbrev pub depth_of : Option Row → ℕ
+depth_of None = 0
+depth_of (Some row) = length row.place
+
 -- ---- a row less
 
 pub gone : (old new : TableView) (k : ℕ) → new.rows ≡ set old.rows k None → k < length old.rows → row_at new k ≡ None
@@ -79,6 +84,39 @@ table_less old new k rows inside =
         (λ t. ap (option_map job_row) (left old new k rows l (λ e. t.0 (sym e))) ∙ sym t.1)
         (put_row_at (table_of old) k None l) in
     λ x l. at l x
+
+pub rows_same : (v : TableView) → RowsStay v v
+rows_same v = record { graphs_are = refl; workers_are = refl; rows = λ j after now. (after, now, stays_same after, refl) }
+
+pub rows_less : (old new : TableView) (k : ℕ) → new.graphs ≡ old.graphs → new.workers ≡ old.workers → new.rows ≡ set old.rows k None → k < length old.rows → RowsStay old new
+rows_less old new k graphs workers rows inside = record {
+  graphs_are = graphs;
+  workers_are = workers;
+  rows = λ j after now. ⊎_elim
+      (λ (e : j ≡ k). let no : None ≡ Some after = sym (gone old new k rows inside) ∙ (ap (row_at new) (sym e) ∙ now) in absurd (cc))
+      (λ apart. (after, sym (left old new k rows j apart) ∙ now, stays_same after, refl))
+      (cases_eq j k);
+}
+
+stays_through : (one two three : Row) → StaysAs one two → StaysAs two three → StaysAs one three
+stays_through one two three a b = record {
+  place_is = b.place_is ∙ a.place_is;
+  upper_is = b.upper_is ∙ a.upper_is;
+  steps_are = b.steps_are ∙ a.steps_are;
+  graphs_are = b.graphs_are ∙ a.graphs_are;
+  workers_are = b.workers_are ∙ a.workers_are;
+  firing_is = b.firing_is ∙ a.firing_is;
+}
+
+pub rows_through : (one two three : TableView) → RowsStay one two → RowsStay two three → RowsStay one three
+rows_through one two three a b = record {
+  graphs_are = b.graphs_are ∙ a.graphs_are;
+  workers_are = b.workers_are ∙ a.workers_are;
+  rows = λ j after now.
+      let t = b.rows j after now in
+      let u = a.rows j t.0 t.1 in
+      (u.0, u.1, stays_through u.0 t.0 after u.2 t.2, t.3 ∙ u.3);
+}
 
 -- ---- quiet jobs
 
@@ -249,3 +287,18 @@ module _ (lawful : AllLawful) (v : TableView) (k : ℕ) (c : IsClosingFrom v k) 
 
         pub next_so : IsClosingFrom mid l
         next_so = record { key = c.key; taken = c.taken; held = c.held; worker = c.worker; answer = c.answer; marks = marks; row = now_up; here = mid_up; closing = closing; suits = suits }
+
+        pub next_stays : RowsStay v mid
+        next_stays = record {
+          graphs_are = graphs;
+          workers_are = workers;
+          rows = λ j after now. ⊎_elim
+              (λ (e : j ≡ l).
+              let same : now_up ≡ after = the_same (row_at mid l) now_up after mid_up (ap (row_at mid) (sym e) ∙ now) in
+              (up, ap (row_at v) e ∙ above, subst (StaysAs up) same up_stays, ap (λ (r : Row). r.job.lent) (sym same)))
+              (λ apart. ⊎_elim
+              (λ (e : j ≡ k). let no : None ≡ Some after = sym mid_gone ∙ (ap (row_at mid) (sym e) ∙ now) in absurd (cc))
+              (λ other_key. (after, sym (left v rest k less j other_key) ∙ (sym (mid_other j apart) ∙ now), stays_same after, refl))
+              (cases_eq j k))
+              (cases_eq j l);
+        }

@@ -1,5 +1,5 @@
 -- A table after a job is opened, or after memory was wanted for it.
-use Rattle.std.proofs.Common.{◌≡◌, ◌≢◌, ◌⊎◌, ⊎_elim, ℕ, zero, suc, ◌<◌, List, [], ◌∷◌, ◌++◌, length, get_or, set, replicate, Option, Some, None, Result, Ok, Err, refl, sym, ap, ◌∙◌, subst, arith}
+use Rattle.std.proofs.Common.{◌≡◌, ◌≢◌, ◌⊎◌, ⊎_elim, ℕ, zero, suc, ◌<◌, List, [], ◌∷◌, ◌++◌, length, get_or, set, replicate, Option, Some, None, Result, Ok, Err, OnErr, refl, sym, ap, ◌∙◌, subst, arith}
 use Rattle.std.proofs.lemmas.Bool.{cases_eq}
 use Rattle.std.proofs.lemmas.List.{get_or-set_other, get_or-set_same, get_or_read, length-set}
 use Rattle.std.specs.declared.alloc.AllocError.{AllocError}
@@ -11,11 +11,11 @@ use Rattle.nested_jobs.specs.Marks.{Busy, Free, Mark, Open, answer_of}
 use Rattle.nested_jobs.specs.Rules.{Call}
 use Rattle.open_job.specs.Calls.{with_mark}
 use Rattle.open_job.specs.Paths.{step_of}
-use Rattle.open_job.specs.View.{OpenView, task}
+use Rattle.open_job.specs.View.{HasItem, OpenView, task}
 use Rattle.pisdf_meaning.specs.declared.firing.Firing.{Firing}
 use Rattle.pisdf_model.specs.declared.graph.Graphs.{Graphs}
 use Rattle.job_table.specs.Calls.{IsFresh, IsStarted, LendsAsBefore, OpensChild, SpoilsItem, StaysAs}
-use Rattle.job_table.specs.Slots.{CallsIn, CallsItem, IsVacant, SameRows}
+use Rattle.job_table.specs.Slots.{CallsIn, CallsItem, InSlot, IsVacant, SameRows}
 use Rattle.job_table.specs.View.{TableView, lent_by, lent_in, row_at, with_job}
 use Rattle.job_table.specs.declared.row.Row.{Row}
 use Rattle.job_table.proofs.Rows.{inside_of, stays_same, the_same}
@@ -178,12 +178,26 @@ module _ (v now : TableView) (e : v ≡ now) (rows : List (Option Row)) (same : 
   pub opened_others : (y : Mark Firing Answer) (i : ℕ) → i ≢ item → mark_at (set row.job.marks item y) i ≡ mark_at row.job.marks i
   opened_others y i apart = get_or-set_other row.job.marks item i y Free apart
 
-  -- memory was wanted for that
-  pub call_spoils : (error : AllocError) (slot' : Option Row) → CallsIn item (Err error) slot slot' → item < length row.job.marks → mark_at row.job.marks item ≡ Free
+  -- and no more, where memory is wanted then
+  pub call_spoils : (result : Result Firing AllocError) (slot' : Option Row) → CallsIn item result slot slot' → item < length row.job.marks → mark_at row.job.marks item ≡ Free
       → SpoilsItem k item now record { graphs = v.graphs; workers = v.workers; rows = set rows k slot' } × LendsAsBefore now record { graphs = v.graphs; workers = v.workers; rows = set rows k slot' }
-  call_spoils error slot' calls inside free =
+  call_spoils (Ok firing) slot' calls inside free =
+      let t = call_of firing slot' calls in
+      spoils slot' (with_job row (with_mark row.job item (Open firing))) t.new_is (opened_stays (Open firing)) refl (ap answer_of (opened_mark (Open firing) inside)) (opened_others (Open firing))
+  call_spoils (Err error) slot' calls inside free =
       let t : (slot' ≡ Some row) ⊎ (slot' ≡ Some (with_job row (with_mark row.job item Busy))) = subst (λ (s : Option Row). CallsIn item (Err error) s slot') row_slot calls in
       ⊎_elim
       (λ is. spoils slot' row is (stays_same row) refl (ap answer_of free) (λ i apart. refl))
       (λ is. spoils slot' (with_job row (with_mark row.job item Busy)) is (opened_stays Busy) refl (ap answer_of (opened_mark Busy inside)) (opened_others Busy))
       t
+
+  pub item_there : InSlot (λ (job : OpenView). HasItem job item) slot → item < length row.job.marks
+  item_there there = (subst (InSlot (λ (job : OpenView). HasItem job item)) row_slot there).marked
+
+  -- the row, as it was read
+  pub read_row : (r : Row) → slot ≡ Some r → r ≡ row
+  read_row r is = the_same slot r row is row_slot
+
+pub err_with : {T P : Type 0} (r : Result T AllocError) → P → OnErr r P
+err_with (Ok x) p = tt
+err_with (Err error) p = p

@@ -12,8 +12,10 @@ use crate::slots::{
     call_in, claim_compile_in, claim_in, finish_call_in, finish_compile_in, finish_in, is_quiet,
     put_row, row_in, take_row,
 };
+use board_rules::boards_keep;
 use job_compiler::Compiled;
 use job_preparing::{CompileEnd, CompileTask, JobGiven};
+use job_rules::rules_are_lawful;
 use kernel_gate::{Frame, KernelFault};
 use open_job::{Handed, OpenJob, open};
 use pisdf_meaning::{Firing, Refusal};
@@ -233,6 +235,8 @@ impl JobTable {
         ensures closed { IfOk result (Closes self.old row self.new) }
         ensures stay { RowsStay self.old self.new }
     {
+        boards_keep();
+        rules_are_lawful();
         if !is_quiet(&self.rows[row]) {
             return Ok(None);
         }
