@@ -1,0 +1,4 @@
+pub mod AskedOrder
+pub mod AskedBest
+pub mod AskedOffers
+pub mod AskedFirst
