@@ -1,4 +1,4 @@
-use Rattle.std.proofs.Common.{◌≡◌, length}
+use Rattle.std.proofs.Common.{length}
 use Rattle.job_table.proofs.AskedOrder.{before_so}
 use Rattle.job_table.proofs.asking.goes_before.Goals as goal
 
