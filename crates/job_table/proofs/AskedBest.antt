@@ -1,7 +1,6 @@
 -- The best of the rows before one gives way to what this one offers, or stays.
-use Rattle.std.proofs.Common.{◌≡◌, ◌≢◌, ℕ, ◌+◌, ◌<◌, ⊎_elim, Bool, true, false, Option, Some, None, List, [], refl, sym, ap, ◌∙◌, subst, arith}
+use Rattle.std.proofs.Common.{◌≡◌, ◌≢◌, ℕ, ◌+◌, ◌<◌, ⊎_elim, Bool, true, false, Option, Some, None, List, refl, sym, ◌∙◌, subst, arith}
 use Rattle.std.proofs.lemmas.Bool.{cases_eq, cases_lt}
-use Rattle.board_rules.specs.Picks.{Standing, goes_before}
 use Rattle.board_rules.proofs.Ordering.{standings_ordered}
 use Rattle.open_job.specs.declared.offer.Offer.{Offer}
 use Rattle.job_table.specs.AskedRows.{Follows, GivesWayTo, IsBest, IsBestOf, IsFirstOf, better, first_of_two, goes_before_in, row_in, standing_of, stands_before}

@@ -1,5 +1,5 @@
 -- The best of all rows is what boards ask for.
-use Rattle.std.proofs.Common.{◌≡◌, ◌≢◌, ◌⊎◌, ⊎_elim, inl, inr, ℕ, ◌<◌, ◌≤◌, Bool, true, false, Option, Some, None, List, [], length, refl, sym, ap, ◌∙◌, subst}
+use Rattle.std.proofs.Common.{◌≡◌, ◌≢◌, ⊎_elim, inl, inr, ℕ, ◌<◌, ◌≤◌, Bool, true, false, Option, Some, None, List, [], length, refl, sym, ap, ◌∙◌, subst}
 use Rattle.std.proofs.lemmas.Bool.{cases_lt}
 use Rattle.std.proofs.lemmas.List.{get_or_past}
 use Rattle.std.specs.Option.{option_map}
@@ -12,9 +12,9 @@ use Rattle.job_rules.specs.Words.{Answer}
 use Rattle.nested_jobs.specs.Marks.{Marks}
 use Rattle.open_job.specs.declared.offer.Offer.{Offer}
 use Rattle.pisdf_meaning.specs.declared.firing.Firing.{Firing}
-use Rattle.job_table.specs.Asked.{IsAsked, IsAskedOf, IsFirstOffer, PathsDiffer, offer_of}
-use Rattle.job_table.specs.AskedRows.{Follows, GivesWayTo, IsBest, IsBestOf, IsFirstOf, goes_before_in, row_in, standing_of}
-use Rattle.job_table.specs.Suits.{RowSuits, Suits}
+use Rattle.job_table.specs.Asked.{IsAskedOf, IsFirstOffer, PathsDiffer, offer_of}
+use Rattle.job_table.specs.AskedRows.{Follows, GivesWayTo, IsBestOf, IsFirstOf, goes_before_in, standing_of}
+use Rattle.job_table.specs.Suits.{Suits}
 use Rattle.job_table.specs.View.{TableView, job_row, row_at, table_of}
 use Rattle.job_table.specs.declared.asking.Asked.{Asked}
 use Rattle.job_table.specs.declared.row.Row.{Row}

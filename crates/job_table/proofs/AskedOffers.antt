@@ -1,5 +1,5 @@
 -- What a job offers first is what boards ask of its row.
-use Rattle.std.proofs.Common.{◌≡◌, ◌≢◌, ℕ, Bool, true, false, nat_lt, not, ◌&&◌, Option, Some, None, List, refl, sym, ap, ◌∙◌, subst}
+use Rattle.std.proofs.Common.{◌≡◌, ℕ, Bool, true, false, nat_lt, not, ◌&&◌, Option, Some, None, List, refl, sym, ◌∙◌, subst}
 use Rattle.board_rules.specs.Asking as board
 use Rattle.board_rules.specs.Asking.{IsFirstIn, IsHomed, IsOffered, JobRow}
 use Rattle.board_rules.specs.Keys.{Key}
@@ -13,7 +13,7 @@ use Rattle.nested_jobs.specs.Marks.{Marks}
 use Rattle.nested_jobs.specs.Rules.{Call, Task, Work}
 use Rattle.open_job.specs.Offers as job
 use Rattle.open_job.specs.Offers.{IsFirst, IsPick}
-use Rattle.open_job.specs.View.{IsOfferedCall, IsOfferedWork, OpenView, answered}
+use Rattle.open_job.specs.View.{answered}
 use Rattle.open_job.specs.declared.offer.Offer.{Offer}
 use Rattle.pisdf_meaning.specs.declared.firing.Firing.{Firing}
 use Rattle.pisdf_model.specs.declared.graph.Graph.{Graph}

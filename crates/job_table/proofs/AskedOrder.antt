@@ -1,15 +1,15 @@
 -- The order of two offers, as the code has it, is the board's.
-use Rattle.std.proofs.Common.{◌≡◌, ℕ, ◌<◌, nat_lt, not, ◌&&◌, Bool, true, false, Option, Some, None, List, [], ◌∷◌, refl, sym, ap, ◌∙◌, arith}
+use Rattle.std.proofs.Common.{◌≡◌, ℕ, ◌<◌, nat_lt, not, ◌&&◌, Bool, true, false, Option, List, [], ◌∷◌, refl, sym, ◌∙◌, arith}
 use Rattle.std.proofs.lemmas.Bool.{lt-ltb, le-ltb}
 use Rattle.std.proofs.lemmas.Cmp.{by_ranked, ranked}
 use Rattle.std.specs.Cmp.Lexicographic.{slice_cmp}
 use Rattle.std.specs.Ordering.{bool_cmp, is_lt, nat_cmp, ordering_then}
 use Rattle.std.specs.declared.cmp.Ordering.{Ordering}
 use Rattle.std.specs.declared.cmp.Ordering.TheVariants.{Less, Equal, Greater}
-use Rattle.board_rules.specs.Picks.{Standing, decide, goes_before, is_lesser_path, is_more_urgent}
+use Rattle.board_rules.specs.Picks.{decide, goes_before, is_lesser_path, is_more_urgent}
 use Rattle.job_table.specs.AskedRows.{ordering_by}
 
-pub numbers_by : (x y : ℕ) → nat_cmp x y ≡ ordering_by (nat_lt x y) (nat_lt y x)
+numbers_by : (x y : ℕ) → nat_cmp x y ≡ ordering_by (nat_lt x y) (nat_lt y x)
 numbers_by x y = by_ranked (x < y) (x ≡ y) (y < x) (nat_cmp x y) (ranked x y (nat_cmp x y) refl)
     (λ is less. let so : ordering_by (nat_lt x y) (nat_lt y x) ≡ Less = rw (lt-ltb x y less) refl in is ∙ sym so)
     (λ is same. let so : ordering_by (nat_lt x y) (nat_lt y x) ≡ Equal = rw (le-ltb x y (omega arith), le-ltb y x (omega arith)) refl in is ∙ sym so)
@@ -20,10 +20,6 @@ flags_by true true = refl
 flags_by true false = refl
 flags_by false true = refl
 flags_by false false = refl
-
--- the greater priority first
-pub urgency_by : (p q : ℕ) (o : Ordering) → o ≡ nat_cmp q p → o ≡ ordering_by (is_more_urgent (Some p) (Some q)) (is_more_urgent (Some q) (Some p))
-urgency_by p q o is = is ∙ numbers_by q p
 
 -- ---- one rule, and then those after it
 

@@ -1,4 +1,4 @@
-use Rattle.std.proofs.Common.{◌≡◌, ◌+◌, Option, sym, subst}
+use Rattle.std.proofs.Common.{◌+◌, Option, sym, subst}
 use Rattle.job_table.specs.AskedRows.{IsBestOf}
 use Rattle.job_table.specs.declared.asking.Asked.{Asked}
 use Rattle.job_table.proofs.AskedBest.{goes_on}
