@@ -1,8 +1,12 @@
-pub mod Paths
-pub mod Rows
-pub mod Suiting
-pub mod Writes
 pub mod AskedOrder
 pub mod AskedBest
 pub mod AskedOffers
 pub mod AskedFirst
+pub mod Paths
+pub mod Rows
+pub mod Suiting
+pub mod Writes
+pub mod Closings
+pub mod Beginnings
+pub mod Methods
+pub mod Openings

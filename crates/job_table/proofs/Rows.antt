@@ -31,7 +31,7 @@ pub stays_same : (row : Row) → StaysAs row row
 stays_same row = record { place_is = refl; upper_is = refl; steps_are = refl; graphs_are = refl; workers_are = refl; firing_is = refl }
 
 -- a row with one mark written
-marked_row : (before after : Row) (item : ℕ) (mark : Mark Firing Answer) → StaysAs before after → mark_at after.job.marks item ≡ mark
+pub marked_row : (before after : Row) (item : ℕ) (mark : Mark Firing Answer) → StaysAs before after → mark_at after.job.marks item ≡ mark
     → ((i : ℕ) → i ≢ item → mark_at after.job.marks i ≡ mark_at before.job.marks i) → job_row after ≡ with_mark (job_row before) item mark
 marked_row before after item mark stays here others =
     let at : (j : ℕ) → mark_at after.job.marks j ≡ (with_mark (job_row before) item mark).marks j = λ j.

@@ -90,7 +90,8 @@ pub(crate) fn claim_compile_in(
 /// Opens an item that calls a job.
 pub(crate) fn call_in(slot: &mut Option<Row>, alloc: Global, item: usize) -> Result<Firing, AllocError>
     requires { InSlot (λ job. IsOfferedCall job item) slot.old }
-    ensures { CallsIn item result slot.old slot.new }
+    ensures there { InSlot (λ job. HasItem job item) slot.old }
+    ensures called { CallsIn item result slot.old slot.new }
 {
     match slot {
         Some(row) => row.job.call(alloc, item),
