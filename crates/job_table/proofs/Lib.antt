@@ -1,3 +1,7 @@
+pub mod AskedOrder
+pub mod AskedBest
+pub mod AskedOffers
+pub mod AskedFirst
 pub mod Paths
 pub mod Rows
 pub mod Suiting
