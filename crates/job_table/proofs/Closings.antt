@@ -215,7 +215,7 @@ module _ (lawful : AllLawful) (v : TableView) (k : ℕ) (c : IsClosingFrom v k) 
         rest_up : row_at rest l ≡ Some up
         rest_up = left v rest k less l keys_apart ∙ above
 
-        mid_up : row_at mid l ≡ Some now_up
+        pub mid_up : row_at mid l ≡ Some now_up
         mid_up = ap (λ (x : List (Option Row)). get_or x l None) rows ∙ get_or-set_same rest.rows l (Some now_up) None (inside_of rest.rows l up rest_up)
 
         mid_other : (j : ℕ) → j ≢ l → row_at mid j ≡ row_at rest j
@@ -247,13 +247,13 @@ module _ (lawful : AllLawful) (v : TableView) (k : ℕ) (c : IsClosingFrom v k) 
         abbrev marks : Marks Firing Answer
         marks = put c.marks (item ∷ up.place) (Done y)
 
-        closing : IsClosing c.key c.taken c.held c.worker c.answer (table_of mid) marks up.place
+        pub closing : IsClosing c.key c.taken c.held c.worker c.answer (table_of mid) marks up.place
         closing =
             let same : out ≡ y = sym (is ∙ outcome_so c.key c.row graphs_so) in
             let P : Answer → Type 0 = λ a. IsClosing c.key c.taken c.held c.worker c.answer (closed_table a) (put c.marks (item ∷ up.place) (Done a)) up.place in
             subst (λ (t : OpenJobs). IsClosing c.key c.taken c.held c.worker c.answer t marks up.place) (sym mid_table) (subst P same gone_on.1)
 
-        suits : Suits c.key marks mid
+        pub suits : Suits c.key marks mid
         suits =
             let open_item : c.marks (item ∷ up.place) ≡ Open c.row.job.firing = (c.suits.stands.rows l (job_row up) (in_table v l up above)).items item ∙ called in
             let grows = grows_by c.key c.marks (item ∷ up.place) (Done y) (ap mark.answer_of open_item) (λ d e. absurd (cc)) in
@@ -285,7 +285,7 @@ module _ (lawful : AllLawful) (v : TableView) (k : ℕ) (c : IsClosingFrom v k) 
                   (cases_eq j l);
             }
 
-        pub next_so : IsClosingFrom mid l
+        abbrev pub next_so : IsClosingFrom mid l
         next_so = record { key = c.key; taken = c.taken; held = c.held; worker = c.worker; answer = c.answer; marks = marks; row = now_up; here = mid_up; closing = closing; suits = suits }
 
         pub next_stays : RowsStay v mid

@@ -10,3 +10,4 @@ pub mod Closings
 pub mod Beginnings
 pub mod Methods
 pub mod Openings
+pub mod CloseSteps

@@ -1,5 +1,5 @@
 // What the calls do to one row.
-ghost use Rattle.std.specs.Prelude.{◌≡◌, ◌≢◌, ℕ, IfOk, IsOk, IsTrue, ◌↔◌, None, OnErr, OnOk, Some};
+ghost use Rattle.std.specs.Prelude.{◌≡◌, ◌≢◌, ◌<◌, ℕ, length, slice_index, IfOk, IsOk, IsTrue, ◌↔◌, None, OnErr, OnOk, Some};
 ghost use Rattle.std.specs.Arc.{arc_value};
 ghost use Rattle.std.specs.Option.{option_map};
 ghost use Rattle.job_preparing.specs.CompileTasks.{IsEndOf};
@@ -18,6 +18,7 @@ use job_preparing::{CompileEnd, CompileTask, JobGiven};
 use kernel_gate::{Frame, KernelFault};
 use open_job::{Handed, OpenJob};
 use pisdf_meaning::{Firing, Refusal};
+use sdf_level::List;
 use std::alloc::{AllocError, Global};
 use std::mem;
 use std::sync::Arc;
@@ -145,4 +146,12 @@ pub(crate) fn is_quiet(slot: &Option<Row>) -> bool
         Some(row) => row.job.quiet(),
         None => unreachable!(),
     }
+}
+
+/// The item that called a job, by the job's place.
+pub(crate) fn calling_item(place: &List<usize>) -> usize
+    requires { 0 < length place.now }
+    ensures { result ≡ slice_index place.now 0 }
+{
+    place.items()[0]
 }

@@ -9,7 +9,7 @@ use crate::begins::{Begins, begins_with};
 use crate::opening::{child_place, child_steps, end_rows, top_row, vacant_key};
 use crate::row::Row;
 use crate::slots::{
-    call_in, claim_compile_in, claim_in, finish_call_in, finish_compile_in, finish_in, is_quiet,
+    call_in, calling_item, claim_compile_in, claim_in, finish_call_in, finish_compile_in, finish_in, is_quiet,
     put_row, row_in, take_row,
 };
 use board_rules::boards_keep;
@@ -250,7 +250,7 @@ impl JobTable {
         match upper {
             None => Ok(Some(end)),
             Some(upper) => {
-                finish_call_in(&mut self.rows[upper], place.items()[0], end);
+                finish_call_in(&mut self.rows[upper], calling_item(&place), end);
                 self.close_from(upper)
             }
         }
