@@ -4,6 +4,7 @@ pub mod AskedOffers
 pub mod AskedFirst
 pub mod Paths
 pub mod Rows
+pub mod Keys
 pub mod Suiting
 pub mod Writes
 pub mod Closings

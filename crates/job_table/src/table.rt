@@ -6,7 +6,7 @@ ghost use Rattle.std.specs.Option.{option_map};
 use crate::asking;
 use crate::asking::Asked;
 use crate::begins::{Begins, begins_with};
-use crate::opening::{child_place, child_steps, end_rows, top_row, vacant_key};
+use crate::opening::{child_place, child_steps, count_rows, end_rows, top_row, vacant_key};
 use crate::row::Row;
 use crate::slots::{
     call_in, calling_item, claim_compile_in, claim_in, finish_call_in, finish_compile_in, finish_in, is_quiet,
@@ -60,7 +60,7 @@ impl JobTable {
     ghost use Rattle.job_table.specs.Asked.{IsAsked};
     ghost use Rattle.job_table.specs.Calls.{BeginsWith, FinishesIn, IsStarted, LendsAsBefore, LendsItem, MarksItem, OpensChild, SpoilsItem};
     ghost use Rattle.job_table.specs.Closing.{Closes, IsClosingFrom, RowsStay};
-    ghost use Rattle.job_table.specs.View.{HasJob, NothingIsLent, lent_in};
+    ghost use Rattle.job_table.specs.View.{HasJob, NothingIsLent, keys_of, lent_in};
 
     /// A table of one job, the top one, of which nothing is claimed. The jobs will be mapped on so many workers.
     ///
@@ -105,6 +105,13 @@ impl JobTable {
         ensures { HasJob (λ job. result.now ≡ job) self.now row }
     {
         &row_in(&self.rows[row]).job
+    }
+
+    /// How many jobs are open.
+    pub fn open_jobs(&self) -> usize
+        ensures { result ≡ length (keys_of self.now) }
+    {
+        count_rows(self.rows.as_slice())
     }
 
     /// The work that goes first for a worker, of all that the jobs offer; none where none offers any.
