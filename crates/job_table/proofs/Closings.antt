@@ -79,10 +79,10 @@ left old new k rows j apart = ap (λ (l : List (Option Row)). get_or l j None) r
 table_less : (old new : TableView) (k : ℕ) → new.rows ≡ set old.rows k None → k < length old.rows → table_of new ≡ put_row (table_of old) k None
 table_less old new k rows inside =
     let at : (l : ℕ) → table_of new l ≡ put_row (table_of old) k None l = λ l.
-        ⊎_elim
-        (λ t. ap (table_of new) (sym t.0) ∙ (ap (option_map job_row) (gone old new k rows inside) ∙ sym t.1))
-        (λ t. ap (option_map job_row) (left old new k rows l (λ e. t.0 (sym e))) ∙ sym t.1)
-        (put_row_at (table_of old) k None l) in
+    ⊎_elim
+    (λ t. ap (table_of new) (sym t.0) ∙ (ap (option_map job_row) (gone old new k rows inside) ∙ sym t.1))
+    (λ t. ap (option_map job_row) (left old new k rows l (λ e. t.0 (sym e))) ∙ sym t.1)
+    (put_row_at (table_of old) k None l) in
     λ x l. at l x
 
 pub rows_same : (v : TableView) → RowsStay v v
@@ -159,8 +159,7 @@ module _ (lawful : AllLawful) (v : TableView) (k : ℕ) (c : IsClosingFrom v k) 
   stop_so stop unquiet =
       let unsettled = not_quiet c.key c.row graphs_so unquiet in
       let still = stops (rules c.key) (rank c.key.graphs.graphs) law (top_job c.key) (table_of v) c.marks c.closing.nested c.closing.stands k row here unsettled in
-      let marks : (state_after c.key (steps_with c)).marks ≡ c.marks = ap (λ (s : BoardState). s.marks) next_is ∙ (c.closing.goes_on ∙ still) in
-      (
+      let marks : (state_after c.key (steps_with c)).marks ≡ c.marks = ap (λ (s : BoardState). s.marks) next_is ∙ (c.closing.goes_on ∙ still) in (
         stop c.key c.taken c.held c.worker c.answer (table_of v) c.marks k row c.suits.is_key c.closing here unsettled,
         subst (λ (n : Marks Firing Answer). Suits c.key n v) (sym marks) c.suits,
       )
@@ -174,9 +173,8 @@ module _ (lawful : AllLawful) (v : TableView) (k : ℕ) (c : IsClosingFrom v k) 
         let table = table_less v new k rows (inside_of v.rows k c.row c.here) in
         let result = sym (is ∙ outcome_so c.key c.row graphs_so) in
         let told : IsOver c.key (steps_with c) (table_of new) (held_after c) (answer_of (end_of end)) =
-            subst (λ (a : Answer). IsOver c.key (steps_with c) (table_of new) (held_after c) a) result (subst (λ (t : OpenJobs). IsOver c.key (steps_with c) t (held_after c) (outcome c.key.graphs.graphs row.job (answers_in row))) (sym table) over) in
-        let nested = journal_nested (rules c.key) (rank c.key.graphs.graphs) law (top_job c.key) (steps_with c) in
-        (
+        subst (λ (a : Answer). IsOver c.key (steps_with c) (table_of new) (held_after c) a) result (subst (λ (t : OpenJobs). IsOver c.key (steps_with c) t (held_after c) (outcome c.key.graphs.graphs row.job (answers_in row))) (sym table) over) in
+        let nested = journal_nested (rules c.key) (rank c.key.graphs.graphs) law (top_job c.key) (steps_with c) in (
           told,
           record {
             is_key = c.suits.is_key;
@@ -238,10 +236,10 @@ module _ (lawful : AllLawful) (v : TableView) (k : ℕ) (c : IsClosingFrom v k) 
         mid_table : table_of mid ≡ closed_table y
         mid_table =
             let at : (j : ℕ) → table_of mid j ≡ closed_table y j = λ j.
-                ⊎_elim
-                (λ t. ap (table_of mid) (sym t.0) ∙ (in_table mid l now_up mid_up ∙ (ap (λ (r : JobRow). Some r) up_marked ∙ sym t.1)))
-                (λ t. ap (option_map job_row) (mid_other j (λ e. t.0 (sym e))) ∙ (ap (λ (f : OpenJobs). f j) (table_less v rest k less (inside_of v.rows k c.row c.here)) ∙ sym t.1))
-                (put_row_at (put_row (table_of v) k None) l (Some (with_mark (job_row up) item (Done y))) j) in
+            ⊎_elim
+            (λ t. ap (table_of mid) (sym t.0) ∙ (in_table mid l now_up mid_up ∙ (ap (λ (r : JobRow). Some r) up_marked ∙ sym t.1)))
+            (λ t. ap (option_map job_row) (mid_other j (λ e. t.0 (sym e))) ∙ (ap (λ (f : OpenJobs). f j) (table_less v rest k less (inside_of v.rows k c.row c.here)) ∙ sym t.1))
+            (put_row_at (put_row (table_of v) k None) l (Some (with_mark (job_row up) item (Done y))) j) in
             λ x j. at j x
 
         abbrev marks : Marks Firing Answer
@@ -258,16 +256,16 @@ module _ (lawful : AllLawful) (v : TableView) (k : ℕ) (c : IsClosingFrom v k) 
             let open_item : c.marks (item ∷ up.place) ≡ Open c.row.job.firing = (c.suits.stands.rows l (job_row up) (in_table v l up above)).items item ∙ called in
             let grows = grows_by c.key c.marks (item ∷ up.place) (Done y) (ap mark.answer_of open_item) (λ d e. absurd (cc)) in
             let upper_now : (j : ℕ) (r : Row) → row_at v j ≡ Some r → IsUpper mid r.place r.upper = λ j r at.
-                upper_kept v mid r.place r.upper (c.suits.rows j r at).upper_is
-                (λ i n other there below. ⊎_elim
-                (λ (e : n ≡ l). (now_up, ap (row_at mid) e ∙ mid_up, ap (λ (x : Row). x.place) (the_same (row_at v l) up other above (ap (row_at v) (sym e) ∙ there))))
-                (λ apart. ⊎_elim
-                (λ (e : n ≡ k).
-                let own : c.row ≡ other = the_same (row_at v k) c.row other c.here (ap (row_at v) (sym e) ∙ there) in
-                absurd (none_below (rules c.key) (rank c.key.graphs.graphs) law (top_job c.key) (table_of v) c.marks c.closing.nested c.closing.stands k row here j i (job_row r) (in_table v j r at) (quiet_so c.key c.row graphs_so quiet) (below ∙ ap (λ (x : Row). i ∷ x.place) (sym own))))
-                (λ other_key. (other, mid_other n apart ∙ (left v rest k less n other_key ∙ there), refl))
-                (cases_eq n k))
-                (cases_eq n l)) in
+            upper_kept v mid r.place r.upper (c.suits.rows j r at).upper_is
+            (λ i n other there below. ⊎_elim
+            (λ (e : n ≡ l). (now_up, ap (row_at mid) e ∙ mid_up, ap (λ (x : Row). x.place) (the_same (row_at v l) up other above (ap (row_at v) (sym e) ∙ there))))
+            (λ apart. ⊎_elim
+            (λ (e : n ≡ k).
+            let own : c.row ≡ other = the_same (row_at v k) c.row other c.here (ap (row_at v) (sym e) ∙ there) in
+            absurd (none_below (rules c.key) (rank c.key.graphs.graphs) law (top_job c.key) (table_of v) c.marks c.closing.nested c.closing.stands k row here j i (job_row r) (in_table v j r at) (quiet_so c.key c.row graphs_so quiet) (below ∙ ap (λ (x : Row). i ∷ x.place) (sym own))))
+            (λ other_key. (other, mid_other n apart ∙ (left v rest k less n other_key ∙ there), refl))
+            (cases_eq n k))
+            (cases_eq n l)) in
             record {
               is_key = c.suits.is_key;
               graphs_are = graphs ∙ c.suits.graphs_are;

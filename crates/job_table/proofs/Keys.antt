@@ -1,5 +1,6 @@
 -- The keys of the rows of a table.
-use Rattle.std.proofs.Common.{◌≡◌, ◌≢◌, ℕ, zero, suc, ◌+◌, ◌<◌, List, [], ◌∷◌, length, get_or, Option, Some, None, is_some, refl, sym, ap, ◌∙◌, subst, arith}
+use Rattle.std.proofs.Common.{◌≡◌, ◌≢◌, ℕ, zero, suc, ◌+◌, ◌<◌, List, [], ◌∷◌, length, get_or, Option, Some, None, cond, is_some, refl, sym, ap, ◌∙◌, subst, arith}
+use Rattle.std.proofs.lemmas.List.Recursion.{is_count_by}
 use Rattle.std.specs.List.{AllByRecursion, count_by}
 use Rattle.std.specs.Option.{option_map}
 use Rattle.board_rules.specs.AskingLaws.{AreKeys}
@@ -21,9 +22,16 @@ module _ (table : OpenJobs) where
       ((job_row row, ap table e ∙ is 0), later_keys k (k + 1) rows (omega arith), keys_at (k + 1) rows (λ j. let f : k + 1 + j ≡ k + suc j = omega arith in ap table f ∙ is (suc j)))
 
 pub keys_are : (v : TableView) → AreKeys (table_of v) (keys_of v)
-keys_are v = keys_at (table_of v) 0 v.rows (λ j. refl)
+keys_are v = keys_at (table_of v) 0 v.rows (λ j. let e : 0 + j ≡ j = omega arith in ap (table_of v) e)
 
-pub keys_many : (k : ℕ) (rows : List (Option Row)) → length (keys_from k rows) ≡ count_by is_some rows
-keys_many k [] = refl
-keys_many k (None ∷ rows) = keys_many (k + 1) rows
-keys_many k (Some row ∷ rows) = let t = keys_many (k + 1) rows in omega arith
+shifted : (k : ℕ) (rows : List (Option Row)) → length (keys_from (k + 1) rows) ≡ length (keys_from k rows)
+shifted k [] = refl
+shifted k (None ∷ rows) = shifted (k + 1) rows
+shifted k (Some row ∷ rows) = let t = shifted (k + 1) rows in omega arith
+
+pub keys_many : (rows : List (Option Row)) → length (keys_from 0 rows) ≡ count_by is_some rows
+keys_many rows = is_count_by (λ (l : List (Option Row)). length (keys_from 0 l)) is_some refl step rows
+  where
+    step : (x : Option Row) (xs : List (Option Row)) → length (keys_from 0 (x ∷ xs)) ≡ cond (is_some x) (1 + length (keys_from 0 xs)) (length (keys_from 0 xs))
+    step None xs = shifted 0 xs
+    step (Some row) xs = let t = shifted 0 xs in omega arith

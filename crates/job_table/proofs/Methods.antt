@@ -63,8 +63,7 @@ module _ (v now : TableView) (e : v ≡ now) (k : ℕ) (slot : Option Row) (read
     pub compiled : (end : CompileEnd) (slot' : Option Row) → CompilesSlot end slot slot' → FinishesIn k end now (with_slot slot') row.job × LendsAsBefore now (with_slot slot')
     compiled end slot' is =
         let t : CompilesSlot end (Some row) slot' = subst (λ (s : Option Row). CompilesSlot end s slot') slot_is is in
-        let f = t.1 in
-        (
+        let f = t.1 in (
           record {
             answer = f.answer;
             answer_is = f.answer_is;

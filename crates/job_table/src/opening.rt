@@ -91,12 +91,14 @@ pub(crate) fn end_rows(mut rows: Vec<Option<Row>>)
 {
     while let Some(slot) = rows.pop() {
         match slot {
-            Some(Row {
-                job,
-                upper: _,
-                place: _,
-                steps: _,
-            }) => job.end(),
+            Some(
+                Row {
+                    job,
+                    upper: _,
+                    place: _,
+                    steps: _,
+                },
+            ) => job.end(),
             None => {}
         }
     }

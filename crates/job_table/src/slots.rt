@@ -89,7 +89,11 @@ pub(crate) fn claim_compile_in(
 }
 
 /// Opens an item that calls a job.
-pub(crate) fn call_in(slot: &mut Option<Row>, alloc: Global, item: usize) -> Result<Firing, AllocError>
+pub(crate) fn call_in(
+    slot: &mut Option<Row>,
+    alloc: Global,
+    item: usize,
+) -> Result<Firing, AllocError>
     requires { InSlot (λ job. IsOfferedCall job item) slot.old }
     ensures there { InSlot (λ job. HasItem job item) slot.old }
     ensures called { CallsIn item result slot.old slot.new }
@@ -101,7 +105,12 @@ pub(crate) fn call_in(slot: &mut Option<Row>, alloc: Global, item: usize) -> Res
 }
 
 /// Finishes an item whose frame comes back.
-pub(crate) fn finish_in(slot: &mut Option<Row>, item: usize, frame: Frame, answer: Result<(), KernelFault>)
+pub(crate) fn finish_in(
+    slot: &mut Option<Row>,
+    item: usize,
+    frame: Frame,
+    answer: Result<(), KernelFault>,
+)
     requires busy { InSlot (λ job. mark_at job.marks item ≡ Busy) slot.old }
     requires lent { InSlot (λ job. lent_at job.lent item ≡ Some frame.places) slot.old }
     requires sound { InSlot (λ job. IsSoundFor (task job item) (IsOk answer)) slot.old }
@@ -114,7 +123,11 @@ pub(crate) fn finish_in(slot: &mut Option<Row>, item: usize, frame: Frame, answe
 }
 
 /// Finishes the compilation.
-pub(crate) fn finish_compile_in(slot: &mut Option<Row>, alloc: Global, end: CompileEnd) -> Result<(), AllocError>
+pub(crate) fn finish_compile_in(
+    slot: &mut Option<Row>,
+    alloc: Global,
+    end: CompileEnd,
+) -> Result<(), AllocError>
     requires busy { InSlot (λ job. mark_at job.marks (compilation_of job) ≡ Busy) slot.old }
     requires end { InSlot (λ job. IsEndOf job.graphs.graphs job.workers job.firing (left_by job) end) slot.old }
     ensures compiled { OnOk result (CompilesSlot end slot.old slot.new) }

@@ -9,8 +9,8 @@ use crate::begins::{Begins, begins_with};
 use crate::opening::{child_place, child_steps, count_rows, end_rows, top_row, vacant_key};
 use crate::row::Row;
 use crate::slots::{
-    call_in, calling_item, claim_compile_in, claim_in, finish_call_in, finish_compile_in, finish_in, is_quiet,
-    put_row, row_in, take_row,
+    call_in, calling_item, claim_compile_in, claim_in, finish_call_in, finish_compile_in,
+    finish_in, is_quiet, put_row, row_in, take_row,
 };
 use board_rules::boards_keep;
 use job_compiler::Compiled;
@@ -141,7 +141,12 @@ impl JobTable {
     /// # Errors
     ///
     /// Want of memory. The item may not be free any more then, without an answer; all else is as before.
-    pub fn open_child(&mut self, alloc: Global, row: usize, item: usize) -> Result<usize, AllocError>
+    pub fn open_child(
+        &mut self,
+        alloc: Global,
+        row: usize,
+        item: usize,
+    ) -> Result<usize, AllocError>
         requires range { InRange self.old.graphs }
         requires well { WellFormed self.old.graphs }
         requires some { 1 ≤ self.old.workers }
@@ -237,7 +242,10 @@ impl JobTable {
     /// # Errors
     ///
     /// Want of memory: a trace would have 2^63 rows or more.
-    pub fn close_from(&mut self, row: usize) -> Result<Option<Result<JobGiven, Refusal>>, AllocError>
+    pub fn close_from(
+        &mut self,
+        row: usize,
+    ) -> Result<Option<Result<JobGiven, Refusal>>, AllocError>
         requires { IsClosingFrom self.old row }
         ensures closed { IfOk result (Closes self.old row self.new) }
         ensures stay { RowsStay self.old self.new }

@@ -203,7 +203,7 @@ close_from-requires t c =
     let other = c.index_mut-in-Some.result.now in
     let other_read = c.index_mut-in-Some.ensures.value in
     let written : c.finish_call_in.new.slot ≡ change_row (λ (j : OpenView). job.with_mark j (slice_index row.place 0) (Done (answer_of (end_of end)))) other =
-        c.finish_call_in.ensures ∙ ap (λ i. change_row (λ (j : OpenView). job.with_mark j i (Done (answer_of (end_of end)))) other) c.calling_item.ensures in
+    c.finish_call_in.ensures ∙ ap (λ i. change_row (λ (j : OpenView). job.with_mark j i (Done (answer_of (end_of end)))) other) c.calling_item.ensures in
     (let f = falls lawful now k row end rest closed go_on l below c.requires other c.finish_call_in.new.slot other_read written in let d = c.decreases in omega arith, next lawful now k row end rest closed go_on l below c.requires other c.finish_call_in.new.slot other_read written)
 
 pub returns-clause-closed : goal.returns-clause-closed
@@ -231,7 +231,7 @@ returns-clause-closed t c =
     let other = c.index_mut-in-Some.result.now in
     let other_read = c.index_mut-in-Some.ensures.value in
     let written : c.finish_call_in.new.slot ≡ change_row (λ (j : OpenView). job.with_mark j (slice_index row.place 0) (Done (answer_of (end_of end)))) other =
-        c.finish_call_in.ensures ∙ ap (λ i. change_row (λ (j : OpenView). job.with_mark j i (Done (answer_of (end_of end)))) other) c.calling_item.ensures in
+    c.finish_call_in.ensures ∙ ap (λ i. change_row (λ (j : OpenView). job.with_mark j i (Done (answer_of (end_of end)))) other) c.calling_item.ensures in
     IfOk-weaker c.close_from.result _ _ (λ o closes. closes_on lawful now k row end rest closed go_on l below other c.finish_call_in.new.slot other_read written c.close_from.new.self o closes) c.close_from.ensures.closed
 
 pub returns-clause-stay : goal.returns-clause-stay
@@ -259,6 +259,5 @@ returns-clause-stay t c =
     let other = c.index_mut-in-Some.result.now in
     let other_read = c.index_mut-in-Some.ensures.value in
     let written : c.finish_call_in.new.slot ≡ change_row (λ (j : OpenView). job.with_mark j (slice_index row.place 0) (Done (answer_of (end_of end)))) other =
-        c.finish_call_in.ensures ∙ ap (λ i. change_row (λ (j : OpenView). job.with_mark j i (Done (answer_of (end_of end)))) other) c.calling_item.ensures in
+    c.finish_call_in.ensures ∙ ap (λ i. change_row (λ (j : OpenView). job.with_mark j i (Done (answer_of (end_of end)))) other) c.calling_item.ensures in
     rows_through now (mid lawful now k row end rest closed go_on l below c.requires other c.finish_call_in.new.slot other_read written) c.close_from.new.self (stays_on lawful now k row end rest closed go_on l below c.requires other c.finish_call_in.new.slot other_read written) c.close_from.ensures.stay
-

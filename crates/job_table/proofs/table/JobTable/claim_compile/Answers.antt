@@ -14,8 +14,12 @@ use Rattle.job_table.proofs.table.JobTable.claim_compile.Goals as goal
 pub returns-clause-task : goal.returns-clause-task
 returns-clause-task c =
     IfOk-weaker c.claim_compile_in.result _ _
-    (λ (task : CompileView) is. (c.requires.0, c.requires.1, in_row _ c.args.self.now c.self.view_is c.args.row c.index_mut.result.now c.index_mut.ensures.value c.requires.0 c.requires.1
-    (λ (job : OpenView). task ≡ record { graphs = job.graphs; workers = job.workers; firing = job.firing; left = left_by job; kept = option_map arc_value c.args.kept }) is))
+    (λ (task : CompileView) is. (
+      c.requires.0,
+      c.requires.1,
+      in_row _ c.args.self.now c.self.view_is c.args.row c.index_mut.result.now c.index_mut.ensures.value c.requires.0 c.requires.1
+          (λ (job : OpenView). task ≡ record { graphs = job.graphs; workers = job.workers; firing = job.firing; left = left_by job; kept = option_map arc_value c.args.kept }) is,
+    ))
     c.claim_compile_in.ensures.task
 
 pub returns-clause-claimed : goal.returns-clause-claimed
