@@ -41,6 +41,10 @@ impl Journal {
         }
     }
 
+    #[tactic(
+        auto,
+        using(crate::proofs::Paths::entries_stay, crate::proofs::Paths::names_stay)
+    )]
     /// Puts in the path of a job, and gives the number by which entries name it.
     ///
     /// # Errors
@@ -52,10 +56,9 @@ impl Journal {
         ensures refused { OnErr result (self.new ≡ self.old) }
     {
         let number = self.paths.len();
-        match self.paths.push(path) {
-            Ok(()) => Ok(number),
-            Err(_) => Err(AllocError),
-        }
+        self.paths.reserve(1)?;
+        self.paths.push_reserved(path);
+        Ok(number)
     }
 
     /// Takes room for so many entries more.
