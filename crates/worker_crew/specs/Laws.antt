@@ -1,0 +1,63 @@
+-- What the journal of a board tells of its workers.
+use Rattle.std.specs.Prelude.{◌≡◌, ℕ, false, List, [], ◌∷◌, ◌++◌, Some, is_some, slice_get}
+use Rattle.pisdf_model.specs.declared.graph.Graph.{Graph}
+use Rattle.pisdf_meaning.specs.declared.firing.Configured.{Configured}
+use Rattle.pisdf_meaning.specs.declared.firing.Firing.{Firing}
+use Rattle.nested_jobs.specs.Journals as steps
+use Rattle.nested_jobs.specs.Rules.{Place}
+use Rattle.job_rules.specs.Doing.{Answers}
+use Rattle.job_rules.specs.Words.{Answer, Compiles, Work}
+use Rattle.board_lock.specs.Meant.{entries_of}
+use Rattle.board_rules.specs.Entries.{Step}
+use Rattle.board_rules.specs.Keys.{IsKey, Key}
+use Rattle.board_rules.specs.Legal.{AreLegal, HasEnded, journal_of, state_after}
+use Rattle.board_rules.specs.declared.entry.Entry.{Entry}
+use Rattle.board_rules.specs.declared.entry.Entry.TheVariants.{Claim, Finish}
+use Rattle.board_rules.specs.declared.entry.Item.{Item}
+use Rattle.firing_board.specs.Locking.{worker_of}
+use Rattle.firing_board.specs.Runs.{RunsWork}
+use Rattle.worker_crew.specs.Passes.{last_claims}
+
+-- a worker runs something exactly where the last of its entries is a claim
+abbrev pub EntriesTellRunning : Key → Type 0
+EntriesTellRunning key =
+    (taken : List Step) (w : ℕ) → AreLegal key taken →
+    last_claims false (entries_of worker_of w (journal_of key taken)) ≡ is_some ((state_after key taken).running w)
+
+-- what a worker runs in a journal it still runs, and it is the same work, in a longer one that has no further entry of it
+abbrev pub WorkLasts : Key → Type 0
+WorkLasts key =
+    (taken later : List Step) (more : List Entry) (w : ℕ) (work : Work) → AreLegal key taken → AreLegal key later →
+    journal_of key later ≡ journal_of key taken ++ more → entries_of worker_of w more ≡ [] →
+    RunsWork key (state_after key taken) w work → RunsWork key (state_after key later) w work
+
+-- no legal journal begins with one that has ended, and goes on
+abbrev pub EndsLast : Key → Type 0
+EndsLast key =
+    (taken later : List Step) (more : List Entry) → AreLegal key taken → AreLegal key later →
+    journal_of key later ≡ journal_of key taken ++ more → HasEnded key taken → more ≡ []
+
+-- a claim and a finish each have one entry
+abbrev pub ClaimsAreEntered : Key → Type 0
+ClaimsAreEntered key =
+    (taken : List Step) (w : ℕ) (a : Place) → AreLegal key taken → AreLegal key (taken ++ steps.Claim w a ∷ []) →
+    (path : List ℕ) × (item : Item) × (journal_of key (taken ++ steps.Claim w a ∷ []) ≡ journal_of key taken ++ Claim w path item ∷ [])
+
+abbrev pub FinishesAreEntered : Key → Type 0
+FinishesAreEntered key = (taken : List Step) (w : ℕ) (answer : Answer) → journal_of key (taken ++ steps.Finish w answer ∷ []) ≡ journal_of key taken ++ Finish w ∷ []
+
+pub record BoardLaws (key : Key) : Type 0 where
+  pub told : EntriesTellRunning key
+  pub lasts : WorkLasts key
+  pub ends : EndsLast key
+  pub claims : ClaimsAreEntered key
+  pub finishes : FinishesAreEntered key
+
+abbrev pub BoardsHaveLaws : Type 0
+BoardsHaveLaws = (key : Key) → IsKey key → BoardLaws key
+
+-- a compilation of a graph that is there has an answer
+abbrev pub CompilationsEnd : Type 0
+CompilationsEnd =
+    (graphs : List Graph) (firing : Firing) (left : List Configured) (g : Graph) → slice_get graphs firing.graph ≡ Some g →
+    (answer : Answer) × Answers graphs (Compiles firing left) answer
