@@ -1,3 +1,6 @@
 pub mod Lists
 pub mod Steps
 pub mod Leaving
+pub mod Claiming
+pub mod Advancing
+pub mod Finishing
