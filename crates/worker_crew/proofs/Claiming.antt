@@ -101,6 +101,7 @@ module _ (laws : BoardsHaveLaws) (p : BoardPass) (x y : BoardView) (found : Find
     claimed P so = record {
       key = x.key;
       key_is = sym found.key;
+      is_key = sound.is_key;
       some = gains_some p.own _ some;
       is_worker = inside;
       taken = then;

@@ -4,3 +4,5 @@ pub mod Leaving
 pub mod Claiming
 pub mod Advancing
 pub mod Finishing
+pub mod Compiling
+pub mod Answering

@@ -1,6 +1,5 @@
 -- What the journal of a board tells of its workers.
-use Rattle.std.specs.Prelude.{◌≡◌, ℕ, false, List, [], ◌∷◌, ◌++◌, Some, is_some, slice_get}
-use Rattle.pisdf_model.specs.declared.graph.Graph.{Graph}
+use Rattle.std.specs.Prelude.{◌≡◌, ℕ, false, List, [], ◌∷◌, ◌++◌, is_some}
 use Rattle.pisdf_meaning.specs.declared.firing.Configured.{Configured}
 use Rattle.pisdf_meaning.specs.declared.firing.Firing.{Firing}
 use Rattle.nested_jobs.specs.Journals as steps
@@ -56,8 +55,8 @@ pub record BoardLaws (key : Key) : Type 0 where
 abbrev pub BoardsHaveLaws : Type 0
 BoardsHaveLaws = (key : Key) → IsKey key → BoardLaws key
 
--- a compilation of a graph that is there has an answer
+-- a compilation that a worker runs has an answer
 abbrev pub CompilationsEnd : Type 0
 CompilationsEnd =
-    (graphs : List Graph) (firing : Firing) (left : List Configured) (g : Graph) → slice_get graphs firing.graph ≡ Some g →
-    (answer : Answer) × Answers graphs (Compiles firing left) answer
+    (key : Key) (taken : List Step) (w : ℕ) (firing : Firing) (left : List Configured) → IsKey key → AreLegal key taken →
+    RunsWork key (state_after key taken) w (Compiles firing left) → (answer : Answer) × Answers key.graphs.graphs (Compiles firing left) answer
