@@ -6,3 +6,4 @@ pub mod Advancing
 pub mod Finishing
 pub mod Compiling
 pub mod Answering
+pub mod Halving

@@ -72,7 +72,7 @@ pub fn work<K: Gate + Sync, R: Wait>(
     rt: &R,
     alloc: Global,
     lock: &Lock<Board>,
-    pass: Pass<Board>,
+    mut pass: Pass<Board>,
     gate: &K,
 ) -> Pass<Board>
     requires lock { pass.lock ≡ lock.now }
@@ -82,7 +82,6 @@ pub fn work<K: Gate + Sync, R: Wait>(
     ensures worked { HasWorked pass.known result.known }
     ensures over { HasSeenOver result.known }
 {
-    let mut pass = pass;
     let pause = Backoff::new();
     for _ in rt.forever() {
         let (next, end) = take_turn(rt, alloc, lock, pass, gate);
