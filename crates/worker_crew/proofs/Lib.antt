@@ -7,3 +7,4 @@ pub mod Finishing
 pub mod Compiling
 pub mod Answering
 pub mod Halving
+pub mod Beginning
