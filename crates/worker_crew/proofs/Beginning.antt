@@ -106,3 +106,24 @@ module _ (laws : BoardsHaveLaws) (p q : BoardPass) (y : BoardView) (sound : IsSo
             at = record { legal = legal; entered = begins ∙ (ap (λ (l : List Entry). journal_of y.key end.taken ++ l) none ∙ append-nil (journal_of y.key end.taken)) };
             ended = ended;
           }
+
+-- ---- the whole
+
+module _ (laws : BoardsHaveLaws) (b : BoardView) (sound_b : IsSound b) (idle_b : AreAllIdle b) (workers : ℕ) (is : workers ≡ b.key.workers) (p q : BoardPass) (known : p ≡ first_known board_meant b workers) (y : BoardView) (sound : IsSound y) (worked : HasWorked p q) (found : Finds board_meant q y) where
+  same_key : y.key ≡ b.key
+  same_key = found_key q y found b.key (worked.later.key ∙ ap (λ (k : BoardPass). k.key) known)
+
+  starts : p.number ≡ 0
+  starts = ap (λ (k : BoardPass). k.number) known
+
+  all_numbers : length p.own ≡ y.key.workers
+  all_numbers = ap (λ (k : BoardPass). length k.own) known ∙ (length-replicate workers [] ∙ (is ∙ ap (λ (k : Key). k.workers) (sym same_key)))
+
+  idle_first : AreIdle p
+  idle_first = subst AreIdle (sym known) (first_idle laws b sound_b idle_b workers is b.key.signatures refl)
+
+  pub ends_idle : AreAllIdle y
+  ends_idle = all_idle laws p q y sound worked found starts all_numbers idle_first
+
+  pub ends_over : HasSeenOver q → IsOver y
+  ends_over over = is_over laws p q y sound worked found starts all_numbers idle_first over
