@@ -43,10 +43,7 @@ fn take_turn<K: Gate, R: Wait>(
 {
     let (pass, claim) = ask(rt, alloc, lock, pass);
     match claim {
-        Claim::Fire(ticket, frame) => (
-            fire(rt, lock, pass, gate, ticket, frame),
-            TurnEnd::Ran,
-        ),
+        Claim::Fire(ticket, frame) => (fire(rt, lock, pass, gate, ticket, frame), TurnEnd::Ran),
         Claim::Configure(ticket, frame) => (
             configure(rt, lock, pass, gate, ticket, frame),
             TurnEnd::Ran,
