@@ -150,6 +150,18 @@ module _ (key : Key) (is : IsKey key) (lawful : Lawful (rules key) (rank key.gra
   task_in_open (Open job) v i t e = (job, refl, e)
   task_in_open (Done answer) v i t e = absurd (cc)
 
+  -- the item of an open job whose task this is
+  pub record OfJob (m : Marks Firing Answer) (t : Task Firing words.Work) : Type 0 where
+    pub place : Place
+    pub job : Firing
+    pub is_open : m place ≡ Open job
+    pub item : ℕ
+    pub is_task : rule key.graphs.graphs job (values m place) item ≡ Some t
+
+  pub open_job_of : (m : Marks Firing Answer) (place : Place) (t : Task Firing words.Work) → task_of (rules key) m place ≡ Some t → OfJob m t
+  open_job_of m [] t e = absurd (cc)
+  open_job_of m (i ∷ p) t e = let o = task_in_open (m p) (values m p) i t e in record { place = p; job = o.0; is_open = o.1; item = i; is_task = o.2 }
+
   at_place : (m : Marks Firing Answer) (place : Place) (t : Task Firing words.Work) → task_of (rules key) m place ≡ Some t → (p : Place) × (job : Firing) × (m p ≡ Open job) × IsOwn job t
   at_place m [] t e = absurd (cc)
   at_place m (i ∷ p) t e =

@@ -8,3 +8,4 @@ pub mod Compiling
 pub mod Answering
 pub mod Halving
 pub mod Beginning
+pub mod Fitting
