@@ -19,9 +19,10 @@ use Rattle.firing_board.specs.declared.claim.Claim.{Claim}
 use Rattle.firing_board.specs.declared.claim.Claim.TheVariants as claim
 use Rattle.firing_board.specs.declared.claim.Ticket.{Ticket}
 use Rattle.worker_crew.specs.Asked.{Asked, HasClaimed, IsToCompile, IsToCopy, IsToFire}
-use Rattle.worker_crew.specs.Laws.{BoardLaws, BoardsHaveLaws}
+use Rattle.worker_crew.specs.Laws.{BoardLaws, BoardsHaveLaws, IsFitWork, WorkFits}
 use Rattle.worker_crew.specs.Passes.{BoardPass, HasSeenEnd}
 use Rattle.worker_crew.specs.Worked.{AddsClaim, HasAdded}
+use Rattle.worker_crew.proofs.Framing.{kernel_frame, node_frame}
 use Rattle.worker_crew.proofs.Leaving.{Changes, added_left, left_by}
 
 one_mine : (w : ℕ) (e : Entry) → worker_of e ≡ w → All (λ e. worker_of e ≡ w) (e ∷ [])
@@ -42,7 +43,7 @@ gains_some : {E : Type 0} (own : List (List E)) (more : List E) → 0 < length o
 gains_some [] more some = some
 gains_some (o ∷ own) more some = some
 
-module _ (laws : BoardsHaveLaws) (p : BoardPass) (x y : BoardView) (found : Finds board_meant p x) (sound : IsSound x) (some : 0 < length p.own) (inside : p.number < x.key.workers) where
+module _ (laws : BoardsHaveLaws) (fits : WorkFits) (p : BoardPass) (x y : BoardView) (found : Finds board_meant p x) (sound : IsSound x) (some : 0 < length p.own) (inside : p.number < x.key.workers) where
   abbrev pub w : ℕ
   w = p.number
 
@@ -97,6 +98,9 @@ module _ (laws : BoardsHaveLaws) (p : BoardPass) (x y : BoardView) (found : Find
     lent_so : lent_to y w ≡ frame
     lent_so = ap (λ (l : List (Option Places)). get_or l w None) lent_is ∙ get_or-set_same x.lent w frame None (subst (λ (n : ℕ). w < n) (sym sound.one_each) inside)
 
+    fit : IsFitWork x.key.signatures work
+    fit = fits x.key then w work sound.is_key then_legal picks.runs
+
     claimed : (P : Key → Work → Type 0) → P x.key work → HasClaimed q frame P
     claimed P so = record {
       key = x.key;
@@ -141,18 +145,30 @@ module _ (laws : BoardsHaveLaws) (p : BoardPass) (x y : BoardView) (found : Find
   pub turns : (c : Claim) → Claims x y w c → Turns c
   turns (claim.Fire ticket frame) h = record {
     more = _;
-    changes = claim_changes (Fires h.1 h.2) (Some frame.places) h.5;
-    asked = (ticket_is ticket h.0, adds (Fires h.1 h.2) (Some frame.places) h.5, claimed (Fires h.1 h.2) (Some frame.places) h.5 (IsToFire frame) (h.3, h.4));
+    changes = claim_changes (Fires h.1 h.2) (Some frame.places) h.4;
+    asked = (
+      ticket_is ticket h.0,
+      adds (Fires h.1 h.2) (Some frame.places) h.4,
+      claimed (Fires h.1 h.2) (Some frame.places) h.4 (IsToFire frame) (h.3, kernel_frame x.key.signatures h.2 frame h.3 (fit (Fires h.1 h.2) (Some frame.places) h.4)),
+    );
   }
   turns (claim.Configure ticket frame) h = record {
     more = _;
-    changes = claim_changes (Fires h.1 h.2) (Some frame.places) h.5;
-    asked = (ticket_is ticket h.0, adds (Fires h.1 h.2) (Some frame.places) h.5, claimed (Fires h.1 h.2) (Some frame.places) h.5 (IsToFire frame) (h.3, h.4));
+    changes = claim_changes (Fires h.1 h.2) (Some frame.places) h.4;
+    asked = (
+      ticket_is ticket h.0,
+      adds (Fires h.1 h.2) (Some frame.places) h.4,
+      claimed (Fires h.1 h.2) (Some frame.places) h.4 (IsToFire frame) (h.3, kernel_frame x.key.signatures h.2 frame h.3 (fit (Fires h.1 h.2) (Some frame.places) h.4)),
+    );
   }
   turns (claim.Copy ticket node frame) h = record {
     more = _;
-    changes = claim_changes (Copies node h.1 h.2) (Some frame.places) h.5;
-    asked = (ticket_is ticket h.0, adds (Copies node h.1 h.2) (Some frame.places) h.5, claimed (Copies node h.1 h.2) (Some frame.places) h.5 (IsToCopy node frame) (refl, h.3, h.4));
+    changes = claim_changes (Copies node h.1 h.2) (Some frame.places) h.4;
+    asked = (
+      ticket_is ticket h.0,
+      adds (Copies node h.1 h.2) (Some frame.places) h.4,
+      claimed (Copies node h.1 h.2) (Some frame.places) h.4 (IsToCopy node frame) (refl, h.3, node_frame x.key.signatures node h.1 h.2 frame h.3 (fit (Copies node h.1 h.2) (Some frame.places) h.4)),
+    );
   }
   turns (claim.Compile ticket task) h = record {
     more = _;

@@ -1,6 +1,7 @@
 pub mod Lists
 pub mod Steps
 pub mod Leaving
+pub mod Framing
 pub mod Claiming
 pub mod Advancing
 pub mod Finishing

@@ -27,7 +27,7 @@ leave-requires g c =
     let sound : IsSound x = subst IsSound c.deref.ensures c.journal-journal.ensures.sound in
     let may = c.requires.may in
     let claims : Claims x y p.number c.claim-claim.result = subst (λ (n : ℕ). Claims x y n c.claim-claim.result) c.number-worker.ensures (subst (λ (b : BoardView). Claims b y c.number-worker.result c.claim-claim.result) c.deref_mut.ensures.value c.claim-claim.ensures.claims) in
-    let t = turns c.board_laws.ensures p x y found sound may.1.some (found_worker may.0 p x found may.1) c.claim-claim.result claims in
+    let t = turns c.board_laws.ensures c.work_fits.ensures p x y found sound may.1.some (found_worker may.0 p x found may.1) c.claim-claim.result claims in
     may_leave_as p x y t.more found t.changes c.enter-held.result.turn.known c.enter-held.result.turn.found c.enter-held.ensures.known c.enter-held.ensures.found
 
 pub returns-clause-asked : goal.returns-clause-asked
@@ -39,5 +39,5 @@ returns-clause-asked g c =
     let sound : IsSound x = subst IsSound c.deref.ensures c.journal-journal.ensures.sound in
     let may = c.requires.may in
     let claims : Claims x y p.number c.claim-claim.result = subst (λ (n : ℕ). Claims x y n c.claim-claim.result) c.number-worker.ensures (subst (λ (b : BoardView). Claims b y c.number-worker.result c.claim-claim.result) c.deref_mut.ensures.value c.claim-claim.ensures.claims) in
-    let t = turns c.board_laws.ensures p x y found sound may.1.some (found_worker may.0 p x found may.1) c.claim-claim.result claims in
+    let t = turns c.board_laws.ensures c.work_fits.ensures p x y found sound may.1.some (found_worker may.0 p x found may.1) c.claim-claim.result claims in
     subst (λ (q : BoardPass). Asked p q c.claim-claim.result) (sym (left_as p x y c.enter-held.result.turn.known c.leave.result.known c.enter-held.ensures.known c.leave.ensures.known)) t.asked
