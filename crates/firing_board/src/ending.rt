@@ -35,8 +35,9 @@ pub enum BoardEnd {
 fn list_of(alloc: Global, rows: LinkedList<TraceRow>) -> Result<List<TraceRow>, AllocError>
     ensures { IfOk result (λ list. list ≡ rows) }
 {
+    let mut rows = rows;
     let mut list = Vec::new(alloc);
-    for row in rows {
+    while let Some(row) = rows.pop_front() {
         list.push(row)?;
     }
     Ok(List::new(list))

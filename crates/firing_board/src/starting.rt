@@ -42,11 +42,7 @@ pub(crate) fn top_firing(
 pub(crate) fn nothing_runs(alloc: Global, workers: u32) -> Result<Vec<Option<Run>>, AllocError>
     ensures { IfOk result (λ running. running.items ≡ replicate workers None) }
 {
-    let mut running = Vec::new(alloc);
-    for _worker in 0..workers {
-        running.push(None)?;
-    }
-    Ok(running)
+    vec![in alloc; None; workers as usize]
 }
 
 /// No worker has a compilation.
@@ -57,7 +53,8 @@ pub(crate) fn nothing_compiles(
     ensures { IfOk result (λ compiling. length compiling.items ≡ workers) }
 {
     let mut compiling = Vec::new(alloc);
-    for _worker in 0..workers {
+    for worker in 0..workers {
+        let _worker = worker;
         compiling.push(None)?;
     }
     Ok(compiling)
