@@ -1,6 +1,6 @@
 pub mod View
+pub mod Slots
 pub mod Suits
-pub mod Steps
 pub mod Calls
 pub mod Closing
 pub mod Asked
