@@ -48,7 +48,7 @@ use Rattle.one_job.specs.Marks as one
 use Rattle.one_job.specs.View as leased
 use Rattle.job_preparing.specs.CompileTasks.{IsReadyWith}
 use Rattle.job_running.specs.Parts.{AllStand, AreParts, AreTraces, Fixed, IsSetUp, KeepsAll, Stands, Start, fired, frame_at, job_in, kind_of_actor, prepared_of, row_at, start_of, values_of}
-use Rattle.job_running.specs.Sizes.{LeftSuits}
+use Rattle.job_preparing.specs.Handing.{LeftSuits}
 use Rattle.job_running.specs.Kept.{view_with}
 use Rattle.job_running.specs.Stages.{lents_of, marks_of, stage_at, trace_in}
 use Rattle.job_running.specs.View.{nodes_of}

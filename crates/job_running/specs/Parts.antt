@@ -31,7 +31,7 @@ use Rattle.job_rules.specs.Meant.{IsFit}
 use Rattle.one_job.specs.Marks as one
 use Rattle.one_job.specs.Pick.{is_child_in}
 use Rattle.one_job.specs.View as leased
-use Rattle.job_running.specs.Sizes.{LeftSuits}
+use Rattle.job_preparing.specs.Handing.{LeftSuits}
 use Rattle.job_running.specs.Stages.{FitsLens, FitsSort, held_by, job_mark, stage_at, trace_in}
 use Rattle.job_running.specs.declared.stage.Stage.{Stage}
 

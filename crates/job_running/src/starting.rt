@@ -12,8 +12,8 @@ ghost use Rattle.pisdf_model.specs.declared.actor.Actor.{Actor as ActorView};
 ghost use Rattle.pisdf_meaning.specs.Running.{chosen_row, chosen_rows, link_starts, source_tokens, value_at};
 ghost use Rattle.job_rules.specs.Meant.{IsFit};
 ghost use Rattle.job_preparing.specs.CompileTasks.{IsReadyWith};
+ghost use Rattle.job_preparing.specs.Handing.{LeftSuits};
 ghost use Rattle.job_preparing.specs.View.{IsReady, graph_in, left_by};
-ghost use Rattle.job_running.specs.Sizes.{LeftSuits};
 ghost use Rattle.job_running.specs.Parts.{kernel_in, kind_of_actor, prepared_with};
 ghost use Rattle.job_running.specs.View.{nodes_of};
 

@@ -10,7 +10,7 @@ use Rattle.pisdf_meaning.specs.declared.firing.Firing.{Firing}
 use Rattle.pisdf_model.specs.declared.graph.Graph.{Graph}
 use Rattle.pisdf_model.specs.declared.graph.Graphs.{Graphs}
 use Rattle.job_running.specs.Parts.{Fixed}
-use Rattle.job_running.specs.Sizes.{LeftSuits}
+use Rattle.job_preparing.specs.Handing.{LeftSuits}
 use Rattle.job_running.proofs.StartedFiring.{graph_is, sources_asked, stored_asked}
 use Rattle.job_running.proofs.starting.run.Goals as goal
 
