@@ -10,6 +10,7 @@ use crate::core::Core;
 use crate::numbering::number_row;
 use crate::run::Run;
 use board_rules::{boards_keep, rows_are_asked};
+use job_rules::rules_are_lawful;
 use job_table::{Begins, calls_are_fit, tables_suit};
 use std::alloc::{AllocError, Global};
 
@@ -44,6 +45,7 @@ pub(crate) fn open_way(alloc: Global, core: &mut Core, at: Run) -> Result<Run, A
     boards_keep();
     calls_are_fit();
     tables_suit();
+    rules_are_lawful();
     let child = open(alloc, core, at)?;
     let first = Run {
         row: child,
