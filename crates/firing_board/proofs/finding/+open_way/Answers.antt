@@ -1,6 +1,6 @@
 use Rattle.std.proofs.Common.{◌≡◌, ◌∙◌, ℕ, ◌<◌, ◌∷◌, Some, ap, subst, arith}
 use Rattle.nested_jobs.specs.Marks.{Open, put}
-use Rattle.nested_jobs.specs.Rules.{Call, Work}
+use Rattle.nested_jobs.specs.Rules.{Call, Place, Work}
 use Rattle.open_job.specs.View.{task}
 use Rattle.job_rules.specs.Meant.{rank}
 use Rattle.job_table.specs.View.{row_at}
@@ -66,8 +66,11 @@ returns-in-Call-clause-opened t c =
     (OpensWay c.args.core.now at c.open_way.new.core)
     (λ (run : Run) (w : OpensWay c.open.new.core record { row = child; item = 0 } c.open_way.new.core run). record {
       reaches = λ key m calls.
+          let marks = put m (at.item ∷ o.upper.place) (Open o.firing) in
+          let inner = child_calls one opens suit fit key m old at calls child mid o b.2.0 is in
+          let place : inner.row.place ≡ o.child.place = ap (λ (r : Row). r.place) (the_same (row_at mid child) inner.row o.child inner.here o.added) in
           call_reached one opens suit fit key m old at calls child mid o c.open_way.new.core.table run
-          (w.reaches key (put m (at.item ∷ o.upper.place) (Open o.firing)) (child_calls one opens suit fit key m old at calls child mid o b.2.0 is));
+          (subst (λ (p : Place). Reaches key marks mid record { row = child; item = 0 } p c.open_way.new.core.table run) place (w.reaches key marks inner));
       numbered = λ was. w.numbered (c.in_ok-child.ensures.opened.numbered was);
     })
     c.open_way.ensures.opened
