@@ -88,15 +88,16 @@ fn hand_compilation(
     core: &mut Core,
     worker: u32,
     run: Run,
+    item: Item,
     compiled: Option<Arc<Compiled>>,
 ) -> Result<Claim, AllocError>
     requires enter { MayEnter core.old worker run }
     requires offered { HasJob IsOfferedCompilation core.old.table run.row }
-    ensures handed { IfOk result (HandsCompilation core.old worker run Item.Compile core.new) }
+    ensures handed { IfOk result (HandsCompilation core.old worker run item core.new) }
     ensures refused { OnErr result (core.new ≡ core.old) }
 {
     let task = core.table.claim_compile(alloc, run.row, compiled)?;
-    let ticket = enter(core, worker, run, Item::Compile);
+    let ticket = enter(core, worker, run, item);
     Ok(Claim::Compile(ticket, task))
 }
 
@@ -122,7 +123,7 @@ fn hand_out(
     let job = core.table.job(run.row);
     let item = item_at(job, run.item)?;
     if run.item == job.compilation() {
-        hand_compilation(alloc, core, worker, run, compiled)
+        hand_compilation(alloc, core, worker, run, item, compiled)
     } else {
         Ok(hand_frame(core, worker, run, item))
     }
