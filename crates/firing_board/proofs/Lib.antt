@@ -3,4 +3,7 @@ pub mod Openings
 pub mod Found
 pub mod Runners
 pub mod Took
-pub mod Claiming
+pub mod Claimed
+pub mod Starving
+pub mod Handed
+pub mod Idle

@@ -13,8 +13,10 @@ use crate::core::Core;
 use crate::finding::find;
 use crate::keeping::kept_for;
 use crate::run::Run;
-use board_rules::{Item, boards_keep, journals_grow, workers_are_answered};
+use board_rules::{Item, boards_end, boards_keep, journals_grow};
 use job_compiler::{Compiled, Kept, Key};
+use job_rules::rules_are_lawful;
+use job_table::tables_suit;
 use open_job::{Handed, OpenJob};
 use std::alloc::{AllocError, Global};
 use std::sync::Arc;
@@ -155,8 +157,10 @@ pub(crate) fn claim(
     ensures kept { KeepsKey core.old core.new × (length compiling.new.items ≡ length compiling.old.items) }
 {
     boards_keep();
+    boards_end();
     journals_grow();
-    workers_are_answered();
+    rules_are_lawful();
+    tables_suit();
     match find(alloc, core, worker)? {
         Some(run) => {
             let compiled = look_up(alloc, core, worker, run, kept, compiling);
