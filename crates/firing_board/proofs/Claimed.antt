@@ -184,7 +184,7 @@ module _ (laws : ClaimLaws) (key : Key) (old : Core) (w : ℕ) (may : MayClaim k
               (λ apart. (after, sym (marks.others k apart apart) ∙ now, refl))
               (cases_eq k run.row) in
           let was = found.numbered k h.0 h.1 in
-          let mine : IsNumbered mid.numbers.items mid.journal.paths k after.job.firing.path = record { inside = was.inside; known = was.known; path_is = was.path_is ∙ ap (λ (f : Firing). f.path) (sym h.2) } in
+          let mine : IsNumbered mid.numbers.items mid.journal.paths k after.job.firing.path = record { known = was.known; path_is = was.path_is ∙ ap (λ (f : Firing). f.path) (sym h.2) } in
           subst (λ ns. IsNumbered ns new.journal.paths k after.job.firing.path) (sym t.numbers_are) (subst (λ ps. IsNumbered mid.numbers.items ps k after.job.firing.path) (sym t.paths_are) mine)
 
       held_w : held_of new.running.items w ≡ Some (run.row, run.item)

@@ -56,7 +56,7 @@ handed_claims true (words.Compiles firing left) h ticket old new w is t p = absu
 handed_claims false (words.Compiles firing left) h ticket old new w is t p = absurd is
 
 -- which run it is that a worker holds
-run_of : (r : Option Run) (k i : ℕ) → held_as r ≡ Some (k, i) → (run : Run) × (r ≡ Some run) × (run.row ≡ k) × (run.item ≡ i)
+pub run_of : (r : Option Run) (k i : ℕ) → held_as r ≡ Some (k, i) → (run : Run) × (r ≡ Some run) × (run.row ≡ k) × (run.item ≡ i)
 run_of None k i is = absurd (cc)
 run_of (Some run) k i is = (run, refl, ap (λ (o : Option (ℕ × ℕ)). row_or o) is, ap (λ (o : Option (ℕ × ℕ)). item_or o) is)
   where
@@ -67,7 +67,7 @@ run_of (Some run) k i is = (run, refl, ap (λ (o : Option (ℕ × ℕ)). row_or 
     item_or None = 0
     item_or (Some h) = h.1
 
-none_if : (o : Option Places) → ((places : Places) → o ≡ Some places → ⊥) → o ≡ None
+pub none_if : (o : Option Places) → ((places : Places) → o ≡ Some places → ⊥) → o ≡ None
 none_if None not = refl
 none_if (Some places) not = absurd (not places refl)
 

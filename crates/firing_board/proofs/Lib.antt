@@ -7,3 +7,5 @@ pub mod Claimed
 pub mod Starving
 pub mod Handed
 pub mod Idle
+pub mod Fields
+pub mod Ended

@@ -35,17 +35,15 @@ use Rattle.firing_board.proofs.Rows.{in_table, lasts_on, the_same}
 
 pub numbered_so : (old new : TableView) (k item l : ℕ) (o : OpensChild k item old l new) (numbers numbers' : List ℕ) (paths paths' : List (List ℕ)) (number : ℕ) (path : List ℕ)
     → number ≡ length paths → paths' ≡ paths ++ path ∷ [] → path ≡ o.child.job.firing.path
-    → (l < length numbers') × (slice_index_or numbers' l 0 ≡ number)
-    → ((j : ℕ) → j ≢ l → j < length numbers → (j < length numbers') × (slice_index_or numbers' j 0 ≡ slice_index_or numbers j 0))
+    → slice_index_or numbers' l 0 ≡ number
+    → ((j : ℕ) → j ≢ l → slice_index_or numbers' j 0 ≡ slice_index_or numbers j 0)
     → AreNumbered old numbers paths → AreNumbered new numbers' paths'
 numbered_so old new k item l o numbers numbers' paths paths' number path number_is paths_are path_is here others was = λ j row now. ⊎_elim
     (λ (e : j ≡ l).
     let is : o.child ≡ row = the_same (row_at new l) o.child row o.added (ap (row_at new) (sym e) ∙ now) in
-    let at : slice_index_or numbers' j 0 ≡ length paths = ap (λ (x : ℕ). slice_index_or numbers' x 0) e ∙ (here.1 ∙ number_is) in
+    let at : slice_index_or numbers' j 0 ≡ length paths = ap (λ (x : ℕ). slice_index_or numbers' x 0) e ∙ (here ∙ number_is) in
     let long : length paths' ≡ length paths + 1 = ap (λ (ps : List (List ℕ)). length ps) paths_are ∙ length-append paths (path ∷ []) in
-    let inside : j < length numbers' = subst (λ (x : ℕ). x < length numbers') (sym e) here.0 in
     record {
-      inside = inside;
       known = omega (arith, at, long);
       path_is = ap (path_at paths') at ∙ (ap (λ (ps : List (List ℕ)). path_at ps (length paths)) paths_are ∙ (get_or_at paths path [] [] (length paths) refl ∙ (path_is ∙ ap (λ (r : Row). r.job.firing.path) is)));
     })
@@ -57,12 +55,11 @@ numbered_so old new k item l o numbers numbers' paths paths' number path number_
         (λ other. (row, sym (o.others j other apart) ∙ now, refl))
         (cases_eq j k) in
     let kept = was j h.0 h.1 in
-    let same = others j apart kept.inside in
+    let same = others j apart in
     let long : length paths' ≡ length paths + 1 = ap (λ (ps : List (List ℕ)). length ps) paths_are ∙ length-append paths (path ∷ []) in
     record {
-      inside = same.0;
-      known = omega (arith, same.1, kept.known, long);
-      path_is = ap (path_at paths') same.1 ∙ (ap (λ (ps : List (List ℕ)). path_at ps (slice_index_or numbers j 0)) paths_are
+      known = omega (arith, same, kept.known, long);
+      path_is = ap (path_at paths') same ∙ (ap (λ (ps : List (List ℕ)). path_at ps (slice_index_or numbers j 0)) paths_are
       ∙ (get_or_append_left paths (path ∷ []) [] (slice_index_or numbers j 0) kept.known ∙ (kept.path_is ∙ ap (λ (f : Firing). f.path) (sym h.2))));
     })
     (cases_eq j l)

@@ -48,9 +48,8 @@ IsLentToRunners table running =
 
 -- ---- paths
 
--- the journal has this path, by the number that is kept for a row
+-- the journal has this path, by the number that is kept for a row, or 0
 pub record IsNumbered (numbers : List ℕ) (paths : List (List ℕ)) (k : ℕ) (path : List ℕ) : Type 0 where
-  pub inside : k < length numbers
   pub known : slice_index_or numbers k 0 < length paths
   pub path_is : path_at paths (slice_index_or numbers k 0) ≡ path
 

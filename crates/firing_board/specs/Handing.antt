@@ -55,7 +55,6 @@ pub record KeepsAll (old new : Core) : Type 0 where
 -- the claim of a worker can be entered
 pub record MayEnter (c : Core) (w : ℕ) (run : Run) : Type 0 where
   pub is_worker : w < length c.running.items
-  pub numbered : run.row < length c.numbers.items
   pub known : slice_index_or c.numbers.items run.row 0 < length c.journal.paths
   pub room : 0 < c.journal.room
 

@@ -13,6 +13,7 @@ use board_journal::Journal;
 use board_rules::{boards_end, boards_keep, entries_tell_steps};
 use job_compiler::{Kept, Key};
 use job_preparing::CompileEnd;
+use job_table::tables_suit;
 use kernel_gate::{Frame, KernelFault, Signature};
 use pisdf_meaning::{Delays, Firing, runnable};
 use pisdf_model::Graphs;
@@ -82,7 +83,7 @@ impl Board {
     {
         runnable();
         boards_keep();
-        boards_end();
+        tables_suit();
         let top = &graphs.graphs.items()[graphs.top as usize];
         let firing = top_firing(alloc, top, graphs.top, delays, ins)?;
         let top = Snapshot::of(&firing);
@@ -107,6 +108,7 @@ impl Board {
         ensures claims { Claims self.old self.new worker result }
         ensures starved { self.old.starved ≡ true → result ≡ Claim.Starved }
     {
+        entries_tell_steps();
         if self.starved {
             return Claim::Starved;
         }
@@ -205,7 +207,6 @@ impl Board {
         ensures { IfOk result (EndsAs self) }
     {
         boards_end();
-        boards_keep();
         entries_tell_steps();
         let Board {
             signatures: _,

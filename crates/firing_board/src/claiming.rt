@@ -12,6 +12,7 @@ use crate::claim::{Claim, Ticket};
 use crate::core::Core;
 use crate::finding::find;
 use crate::keeping::kept_for;
+use crate::numbering::number_of;
 use crate::run::Run;
 use board_rules::{Item, boards_end, boards_keep, journals_grow};
 use job_compiler::{Compiled, Kept, Key};
@@ -60,7 +61,8 @@ fn enter(core: &mut Core, worker: u32, run: Run, item: Item) -> Ticket
     ensures { Enters core.old worker run item result core.new }
 {
     let entry = core.journal.len();
-    core.journal.claim(worker, core.numbers[run.row], item);
+    let number = number_of(&core.numbers, run.row);
+    core.journal.claim(worker, number, item);
     core.running[worker as usize] = Some(run);
     Ticket { worker, entry }
 }
