@@ -1,7 +1,7 @@
 -- How a board ends.
 use Rattle.std.proofs.Common.{◌≡◌, ◌⊎◌, ⊎_elim, ℕ, ◌<◌, Bool, true, false, List, [], Option, Some, None, Result, Ok, Err, slice_get, refl, sym, ap, ◌∙◌, subst}
 use Rattle.std.specs.Prelude.{slice_index_or}
-use Rattle.std.proofs.lemmas.Option.{slice_get-get_or}
+use Rattle.std.proofs.lemmas.Option.{slice_get-get_or, slice_get_within}
 use Rattle.job_preparing.specs.Handing.{end_of, given_of}
 use Rattle.job_preparing.specs.declared.handing.JobGiven.{JobGiven}
 use Rattle.job_rules.specs.Items.{no_graph}
@@ -26,6 +26,7 @@ use Rattle.firing_board.specs.declared.core.Core.{Core}
 use Rattle.firing_board.specs.declared.ending.BoardEnd.{BoardEnd}
 use Rattle.firing_board.specs.declared.ending.BoardEnd.TheVariants as ends
 use Rattle.firing_board.proofs.Fields.{same_steps}
+use Rattle.firing_board.proofs.Rows.{the_same}
 
 end_there : (answer : Answer) (end : Option (Result JobGiven Refusal)) → IsEndFor answer end → (e : Result JobGiven Refusal) × (end ≡ Some e) × (answer ≡ answer_of (end_of e))
 end_there answer None is = absurd is
@@ -47,7 +48,7 @@ module _ (tell : JournalsTellSteps) (ended : BoardsEnd) (key : Key) (c : Core) (
   iteration_ends meant e done =
       let fit = keeps.is_key.fit in
       let means = meant key keeps.taken (end_of e) keeps.is_key keeps.at.kept.legal done in
-      let top : slice_index_or key.graphs.graphs key.graphs.top no_graph ≡ fit.g = slice_get-get_or key.graphs.graphs key.graphs.top fit.g no_graph fit.here in
+      let top : slice_index_or key.graphs.graphs key.graphs.top no_graph ≡ fit.g = the_same (slice_get key.graphs.graphs key.graphs.top) (slice_index_or key.graphs.graphs key.graphs.top no_graph) fit.g (slice_get-get_or key.graphs.graphs key.graphs.top no_graph (slice_get_within key.graphs.graphs key.graphs.top fit.g fit.here)) fit.here in
       record {
         top = fit.g;
         top_is = fit.here;

@@ -1,6 +1,9 @@
 -- What the fields of a board tell of the steps that were taken on it.
-use Rattle.std.proofs.Common.{◌≡◌, ◌⊎◌, ⊎_elim, ℕ, ◌<◌, Bool, true, false, List, [], ◌∷◌, length, get_or, Option, Some, None, Ok, Err, refl, sym, ap, ◌∙◌, subst, arith}
-use Rattle.kernel_gate.specs.Value.{Places}
+use Rattle.std.proofs.Common.{◌≡◌, ◌⊎◌, ⊎_elim, ℕ, ◌<◌, Bool, true, false, List, [], ◌∷◌, length, map, get_or, Option, Some, None, refl, sym, ap, ap₂, ◌∙◌, subst, arith}
+use Rattle.kernel_gate.specs.Signed.{counts_of}
+use Rattle.kernel_gate.specs.declared.signature.Signature.{Signature}
+use Rattle.pisdf_model.specs.declared.graph.Graphs.{Graphs}
+use Rattle.pisdf_meaning.specs.declared.firing.Firing.{Firing}
 use Rattle.board_rules.specs.Board.{RunsAs}
 use Rattle.board_rules.specs.Entries.{Step}
 use Rattle.board_rules.specs.Keys.{Key}
@@ -8,8 +11,8 @@ use Rattle.board_rules.specs.Laws.{JournalsTellSteps}
 use Rattle.board_rules.specs.Legal.{AreLegal, journal_of, state_after}
 use Rattle.job_table.specs.View.{NothingIsLent, lent_in, table_of}
 use Rattle.firing_board.specs.Core.{held_of}
-use Rattle.firing_board.specs.Kept.{Keeps, StandsOrStarves, view_with}
-use Rattle.firing_board.specs.OnCore.{MayClaim}
+use Rattle.firing_board.specs.Kept.{Keeps, StandsOrStarves, key_with, view_with}
+use Rattle.firing_board.specs.OnCore.{KeepsKey, MayClaim}
 use Rattle.firing_board.specs.Runs.{AreAllIdle, IsIdle}
 use Rattle.firing_board.specs.Starved.{StillRuns}
 use Rattle.firing_board.specs.View.{IsAt}
@@ -62,3 +65,9 @@ module _ (tell : JournalsTellSteps) (key : Key) (c : Core) (starved : Bool) (kee
 
 pub may_claim : (tell : JournalsTellSteps) (key : Key) (c : Core) (keeps : Keeps key c false) (w : ℕ) → IsIdle (view_with key c false) w → MayClaim key c w
 may_claim tell key c keeps w idle = record { keeps = keeps; is_worker = idle.is_worker; idle = nothing_held tell key c false keeps idle.taken idle.at w idle.is_worker idle.runs_none }
+
+-- ---- the key
+
+pub key_same : (signatures : List Signature) (top : Firing) (old new : Core) → KeepsKey old new → key_with signatures top new ≡ key_with signatures top old
+key_same signatures top old new kept =
+    ap₂ (λ (graphs : Graphs) (workers : ℕ). record { graphs = graphs; signatures = map counts_of signatures; delays = top.state; ins = top.inputs; workers = workers }) kept.graphs_are kept.workers_are

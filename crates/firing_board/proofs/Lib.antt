@@ -9,3 +9,4 @@ pub mod Handed
 pub mod Idle
 pub mod Fields
 pub mod Ended
+pub mod Leaving
