@@ -34,7 +34,7 @@ use Rattle.firing_board.specs.Core.{IsLentToRunners, held_of, lent_of, lent_with
 use Rattle.firing_board.specs.Finishes.{Finishes}
 use Rattle.firing_board.specs.Kept.{Keeps, StandsOrStarves, view_with}
 use Rattle.firing_board.specs.OnCore.{FinishesOn}
-use Rattle.firing_board.specs.Returning.{Leaves}
+use Rattle.firing_board.specs.Returning.{with_finish}
 use Rattle.firing_board.specs.Runs.{RunsWork}
 use Rattle.firing_board.specs.Starved.{IsStillRun, Lasts, LastsIn, StarvesAt, StillRuns}
 use Rattle.firing_board.specs.View.{IsAt}
@@ -174,7 +174,7 @@ module _ (held_busy : HeldAreBusy) (key : Key) (lawful : Lawful (rules key) (ran
       none_runs = running_next w ∙ ⊎_elim (λ x. x.1) (λ x. absurd (x.0 refl)) (assign_at s.running w None w)
 
       -- the item is marked, or all is as before, and the worker leaves
-      module _ (new : Core) (leaves : Leaves old w a.run new) (lasts : (v : ℕ) (r : Run) → v ≢ w → v < key.workers → get_or old.running.items v None ≡ Some r → (before : Row) → row_at old.table r.row ≡ Some before → mark_at before.job.marks r.item ≡ Busy
+      module _ (new : Core) (running_are : new.running.items ≡ set old.running.items w None) (journal_is : new.journal ≡ with_finish old.journal w) (lasts : (v : ℕ) (r : Run) → v ≢ w → v < key.workers → get_or old.running.items v None ≡ Some r → (before : Row) → row_at old.table r.row ≡ Some before → mark_at before.job.marks r.item ≡ Busy
           → (row : Row) × (row_at new.table r.row ≡ Some row) × StaysAs before row × (mark_at row.job.marks r.item ≡ Busy) × Rattle.nested_jobs.specs.Meanings.Within (answers before.job.marks) (answers row.job.marks))
           (lends : (v : ℕ) (r : Run) → v ≢ w → get_or old.running.items v None ≡ Some r → lent_in new.table r.row r.item ≡ lent_in old.table r.row r.item)
           (only : (k i : ℕ) (places : Places) → lent_in new.table k i ≡ Some places → (lent_in old.table k i ≡ Some places) × ((k ≡ a.run.row) × (i ≡ a.run.item) → ⊥)) where
@@ -182,10 +182,10 @@ module _ (held_busy : HeldAreBusy) (key : Key) (lawful : Lawful (rules key) (ran
         inside = inside_of old.running.items w a.run a.runs
 
         held_w : get_or new.running.items w None ≡ None
-        held_w = ap (λ (rs : List (Option Run)). get_or rs w None) leaves.running_are ∙ get_or-set_same old.running.items w None None inside
+        held_w = ap (λ (rs : List (Option Run)). get_or rs w None) running_are ∙ get_or-set_same old.running.items w None None inside
 
         held_other : (v : ℕ) → v ≢ w → get_or new.running.items v None ≡ get_or old.running.items v None
-        held_other v other = ap (λ (rs : List (Option Run)). get_or rs v None) leaves.running_are ∙ get_or-set_other old.running.items w v None None other
+        held_other v other = ap (λ (rs : List (Option Run)). get_or rs v None) running_are ∙ get_or-set_other old.running.items w v None None other
 
         other_still : (v : ℕ) → v ≢ w → v < key.workers → (o : Option Run) → get_or old.running.items v None ≡ o → StillRuns key (state_after key next) new.table ((state_after key next).running v) (held_as o)
         other_still v other v_lt None is =
@@ -225,13 +225,13 @@ module _ (held_busy : HeldAreBusy) (key : Key) (lawful : Lawful (rules key) (ran
 
         entered_next : FinishesAreEntered → new.journal.entries ≡ journal_of key next
         entered_next law =
-            ap (λ (j : Rattle.board_journal.specs.View.JournalView). j.entries) leaves.journal_is ∙ (ap (λ (es : List Entry). es ++ entry.Finish w ∷ []) (entered_by starved key taken old keeps.at) ∙ sym (law key taken w answer))
+            ap (λ (j : Rattle.board_journal.specs.View.JournalView). j.entries) journal_is ∙ (ap (λ (es : List Entry). es ++ entry.Finish w ∷ []) (entered_by starved key taken old keeps.at) ∙ sym (law key taken w answer))
 
         pub starves_next : FinishesAreEntered → StarvesAt key next new
         starves_next law = record { legal = legal_next; entered = entered_next law; runs = all_still }
 
         lent_next : lent_of new.table new.running.items ≡ set (lent_of old.table old.running.items) w None
-        lent_next = ap (lent_of new.table) leaves.running_are ∙ lent_set old.table new.table old.running.items w None (λ v r other is. lends v r other is)
+        lent_next = ap (lent_of new.table) running_are ∙ lent_set old.table new.table old.running.items w None (λ v r other is. lends v r other is)
 
         to_runners : IsLentToRunners new.table new.running.items
         to_runners = λ k i places is.
@@ -245,12 +245,12 @@ module _ (held_busy : HeldAreBusy) (key : Key) (lawful : Lawful (rules key) (ran
         pub keeps_by : (after : Bool) → StandsOrStarves after key next new → Keeps key new after
         keeps_by after at = record {
           is_key = keeps.is_key;
-          one_each = ap (λ (rs : List (Option Run)). length rs) leaves.running_are ∙ (length-set old.running.items w None ∙ keeps.one_each);
+          one_each = ap (λ (rs : List (Option Run)). length rs) running_are ∙ (length-set old.running.items w None ∙ keeps.one_each);
           lent = to_runners;
           room =
               let less = runners_less old.running.items w a.run a.runs in
-              let now : runners new.running.items ≡ runners (set old.running.items w None) = ap runners leaves.running_are in
-              let left : new.journal.room ≡ old.journal.room - 1 = ap (λ (j : Rattle.board_journal.specs.View.JournalView). j.room) leaves.journal_is in
+              let now : runners new.running.items ≡ runners (set old.running.items w None) = ap runners running_are in
+              let left : new.journal.room ≡ old.journal.room - 1 = ap (λ (j : Rattle.board_journal.specs.View.JournalView). j.room) journal_is in
               let was = keeps.room in
               omega arith;
           taken = next;

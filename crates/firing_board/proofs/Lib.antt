@@ -10,3 +10,4 @@ pub mod Idle
 pub mod Fields
 pub mod Ended
 pub mod Leaving
+pub mod Framed
