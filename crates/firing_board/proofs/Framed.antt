@@ -2,8 +2,11 @@
 use Rattle.std.proofs.Common.{◌≡◌, ◌≢◌, ⊎_elim, ℕ, ◌+◌, ◌-◌, ◌<◌, ◌≤◌, Bool, true, false, List, [], ◌∷◌, ◌++◌, length, set, get_or, Option, Some, None, Result, Ok, Err, refl, sym, ap, ◌∙◌, subst, arith}
 use Rattle.std.proofs.lemmas.Bool.{cases_eq}
 use Rattle.std.specs.Option.{option_map}
-use Rattle.kernel_gate.specs.Value.{Places}
-use Rattle.job_preparing.specs.Handing.{answers, end_of, lent_at, mark_at}
+use Rattle.std.specs.Prelude.{IfOk, is_err}
+use Rattle.kernel_gate.specs.declared.fault.KernelFault.{KernelFault}
+use Rattle.open_job.specs.Calls.{IsSoundFor}
+use Rattle.kernel_gate.specs.Value.{FrameView, Places}
+use Rattle.job_preparing.specs.Handing.{answer_with, answers, end_of, lent_at, mark_at}
 use Rattle.job_preparing.specs.declared.handing.JobGiven.{JobGiven}
 use Rattle.job_rules.specs.Doing.{Answers}
 use Rattle.job_rules.specs.Items.{rule}
@@ -33,18 +36,20 @@ use Rattle.job_table.specs.Laws.{FinishesSuit, TablesMark}
 use Rattle.job_table.specs.View.{TableView, job_row, lent_by, lent_in, row_at, table_of}
 use Rattle.job_table.specs.declared.row.Row.{Row}
 use Rattle.firing_board.specs.Closing.{ClosesOn, KeepsJournal, latest}
-use Rattle.firing_board.specs.Core.{AreNumbered, HasEnd, IsEndFor, IsNumbered, StandsAt, held_of}
+use Rattle.firing_board.specs.Core.{AreNumbered, HasEnd, IsEndFor, IsNumbered, StandsAt, held_of, lent_of, lent_with, runners}
 use Rattle.firing_board.specs.Finishes.{Finishes}
 use Rattle.firing_board.specs.Kept.{Keeps, StandsOrStarves, view_with}
 use Rattle.firing_board.specs.OnCore.{FinishesOn}
-use Rattle.firing_board.specs.Returning.{Leaves, with_finish}
-use Rattle.firing_board.specs.Runs.{RunsWork}
+use Rattle.firing_board.specs.Returning.{MayReturn, Returns, RunsItem, with_finish}
+use Rattle.firing_board.specs.Runs.{Runs, RunsWork}
+use Rattle.firing_board.specs.Starved.{StarvesAt}
 use Rattle.firing_board.specs.declared.core.Core.{Core}
 use Rattle.firing_board.specs.declared.run.Run.{Run}
-use Rattle.firing_board.proofs.Leaving.{Mine, finishes_by, keeps_by, mine, others_apart, starves_next}
+use Rattle.firing_board.proofs.Leaving.{Mine, finishes_by, keeps_by, lent_at_worker, mine, others_apart, starves_next}
+use Rattle.firing_board.proofs.Fields.{same_steps}
 use Rattle.firing_board.proofs.Openings.{task_by}
 use Rattle.firing_board.proofs.Rows.{in_table, stays_same, the_same}
-use Rattle.firing_board.proofs.Runners.{held_as, held_set, inside_of}
+use Rattle.firing_board.proofs.Runners.{held_as, held_set, inside_of, runners_less}
 
 -- the laws that are used here
 pub record FinishLaws (key : Key) : Type 0 where
@@ -57,9 +62,60 @@ pub record FinishLaws (key : Key) : Type 0 where
   pub marks : TablesMark
   pub lawful : Lawful (rules key) (rank key.graphs.graphs)
 
+not_both : (m : Mark Firing Answer) (job : Firing) (x : Answer) → m ≡ Open job → m ≡ Done x → ⊥
+not_both m job x one two = cc
+
+one_answer : (m : Mark Firing Answer) (x y : Answer) → m ≡ Done x → m ≡ Done y → x ≡ y
+one_answer m x y one two = cc
+
 -- a row stays, with what is busy in it and what is answered
 abbrev pub LastsAs : Row → ℕ → TableView → ℕ → Type 0
 LastsAs before i new k = (row : Row) × (row_at new k ≡ Some row) × StaysAs before row × (mark_at row.job.marks i ≡ Busy) × Within (answers before.job.marks) (answers row.job.marks)
+
+-- the work that a worker runs, by the steps that the board keeps
+pub runs_at : (tell : JournalsTellSteps) (key : Key) (old : Core) (starved : Bool) (keeps : Keeps key old starved) (w : ℕ) (P : words.Work → Type 0) (r : Runs (view_with key old starved) w P) → RunsWork key (state_after key keeps.taken) w r.work
+runs_at tell key old starved keeps w P r = subst (λ (x : List Step). RunsWork key (state_after key x) w r.work) (same_steps tell key old starved keeps r.taken r.at) r.runs
+
+-- the frame is out that comes back
+pub may_return : (key : Key) (s : BoardState) (old : Core) (w : ℕ) (work : words.Work) (a : Mine key s old w work) (frame : FrameView) (sound : Type 0) → get_or (lent_of old.table old.running.items) w None ≡ Some frame.places
+    → IsSoundFor (Some (Work work)) sound → RunsItem (MayReturn frame sound) old w
+may_return key s old w work a frame sound lent so = record {
+  run = a.run;
+  runs = a.runs;
+  row = a.row;
+  here = a.here;
+  so = record {
+    busy = a.busy;
+    lent = sym (ap (lent_with old.table) a.runs) ∙ (sym (lent_at_worker old.table old.running.items w) ∙ lent);
+    sound_so = subst (λ t. IsSoundFor t sound) (sym a.task_is) so;
+  };
+}
+
+pub has_room : (key : Key) (s : BoardState) (old : Core) (starved : Bool) → Keeps key old starved → (w : ℕ) (work : words.Work) → Mine key s old w work → 0 < old.journal.room
+has_room key s old starved keeps w work a = let less = runners_less old.running.items w a.run a.runs in let room = keeps.room in omega arith
+
+-- the frame is back
+pub record IsBack (key : Key) (s : BoardState) (old : Core) (w : ℕ) (work : words.Work) (a : Mine key s old w work) (answer : Answer) (mid : Core) (k : ℕ) : Type 0 where
+  pub row_is : k ≡ a.run.row
+  pub marks : MarksItem a.run.row a.run.item (Done answer) old.table mid.table
+  pub lends : LendsItem a.run.row a.run.item None old.table mid.table
+
+pub is_back : (key : Key) (s : BoardState) (old : Core) (w : ℕ) (work : words.Work) (a : Mine key s old w work) (frame : FrameView) (result : Result (Unit {0}) KernelFault) (mid : Core) (k : ℕ) → Returns frame result old w mid k
+    → IsBack key s old w work a (answer_with (Some (Work work)) frame result) mid k
+is_back key s old w work a frame result mid k r =
+    let run : r.run ≡ a.run = the_same (get_or old.running.items w None) r.run a.run r.leaves.ran a.runs in
+    let row : r.row ≡ a.row = the_same (row_at old.table a.run.row) r.row a.row (ap (λ (x : Run). row_at old.table x.row) (sym run) ∙ r.here) a.here in
+    let does : task r.row.job r.run.item ≡ Some (Work work) = ap (λ (x : Row). task x.job r.run.item) row ∙ (ap (λ (x : Run). task a.row.job x.item) run ∙ a.task_is) in
+    record {
+      row_is = r.row_is ∙ ap (λ (x : Run). x.row) run;
+      marks = subst (λ t. MarksItem a.run.row a.run.item (Done (answer_with t frame result)) old.table mid.table) does
+          (subst (λ (x : Run). MarksItem x.row x.item (Done (answer_with (task r.row.job r.run.item) frame result)) old.table mid.table) run r.marks);
+      lends = subst (λ (x : Run). LendsItem x.row x.item None old.table mid.table) run r.lends;
+    }
+
+pub by_result : {X E : Type 0} (P : Bool → Type 0) (r : Result X E) → IfOk r (λ x. P false) → P true → P (is_err r)
+by_result P (Ok x) ok err = ok
+by_result P (Err e) ok err = err
 
 module _ (key : Key) (laws : FinishLaws key) (old : Core) (starved : Bool) (keeps : Keeps key old starved) (w : ℕ) (lt : w < key.workers) (work : words.Work) (runs : RunsWork key (state_after key keeps.taken) w work) (answer : Answer)
     (ok : Answers key.graphs.graphs work answer) where
@@ -168,6 +224,9 @@ module _ (key : Key) (laws : FinishLaws key) (old : Core) (starved : Bool) (keep
       pub finishes_new : (after : Bool) → Finishes (view_with key old starved) (view_with key new after) w
       finishes_new after = finishes_by laws.held key laws.lawful starved old keeps w lt work a answer ok runs new running_new journal_new lasts_new lends_new only_new laws.entered laws.one laws.tell after
 
+      pub starves_new : StarvesAt key next new
+      starves_new = starves_next laws.held key laws.lawful starved old keeps w lt work a answer ok runs new running_new journal_new lasts_new lends_new only_new laws.entered
+
       -- memory was wanted
       pub wanted_finishes : starved ≡ false → FinishesOn key old starved w new true
       wanted_finishes is = record {
@@ -219,6 +278,7 @@ module _ (key : Key) (laws : FinishLaws key) (old : Core) (keeps : Keeps key old
       held_new = ap held_of (ap (λ rs. rs.items) kept.running_is ∙ running_are) ∙ held_set old.running.items w None (inside_of old.running.items w b.run b.runs)
 
       kept_by : (end : Option (Result JobGiven Refusal)) → ClosesTo closing_from new.table end → KeptAs key then (table_of new.table) (hold (held_of old.running.items) w None)
+      unfolding closing_from
       kept_by None c = c
       kept_by (Some end) c = c.kept
 
@@ -239,13 +299,12 @@ module _ (key : Key) (laws : FinishLaws key) (old : Core) (keeps : Keeps key old
           subst (λ ns. IsNumbered ns new.journal.paths k after.job.firing.path) nums (subst (λ ps. IsNumbered old.numbers.items ps k after.job.firing.path) paths mine_so)
 
       has_end : (end : Option (Result JobGiven Refusal)) → Closes mid.table b.run.row new.table end → new.end ≡ latest end mid.end → HasEnd ((state_after key then).marks []) new.end
-      has_end None c is = λ x done. let top = (c.top closing_from refl).1 in absurd (cc)
-      has_end (Some end) c is = λ x done.
-          let same : Done {J = Firing} x ≡ Done (answer_of (end_of end)) = sym done ∙ (c.closed closing_from).done in
-          let at : x ≡ answer_of (end_of end) = cc in
-          subst (IsEndFor x) (sym is) at
+      unfolding closing_from
+      has_end None c is = λ x done. let top = c.top closing_from refl in absurd (not_both ((state_after key then).marks []) top.0 x top.1 done)
+      has_end (Some end) c is = λ x done. subst (IsEndFor x) (sym is) (one_answer ((state_after key then).marks []) x (answer_of (end_of end)) done (c.closed closing_from).done)
 
       pub closes_finishes : FinishesOn key old false w new false
+      unfolding closing_from
       closes_finishes =
           let starves = wanted_finishes key laws old false keeps w lt work runs answer ok mid marks lends running_are journal_is new kept refl in
           let c = closes.closes in
@@ -260,7 +319,7 @@ module _ (key : Key) (laws : FinishLaws key) (old : Core) (keeps : Keeps key old
               at = record {
                 kept = subst (λ (h : Held). KeptAs key then (table_of new.table) h) (sym held_new) (kept_by closes.end (c.closed closing_from));
                 suits = c.suits closing_from;
-                entered = ?;
+                entered = (starves_new key laws old false keeps w lt work runs answer ok mid marks lends running_are journal_is new kept).entered;
                 numbered = numbered;
                 has_end = has_end closes.end c closes.end_is;
               };

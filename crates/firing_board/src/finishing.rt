@@ -9,9 +9,10 @@ ghost use Rattle.firing_board.specs.Returning.{Compiles, GivesUp, Leaves, MayCom
 
 use crate::core::Core;
 use crate::run::Run;
-use board_rules::{boards_end, boards_keep, entries_tell_steps, journals_grow};
+use board_rules::{boards_keep, entries_tell_steps, journals_grow};
 use job_preparing::CompileEnd;
 use job_rules::rules_are_lawful;
+use job_table::tables_suit;
 use kernel_gate::{Frame, KernelFault};
 use std::alloc::{AllocError, Global};
 use std::mem;
@@ -104,10 +105,10 @@ pub(crate) fn finish_frame(
     ensures kept { KeepsKey core.old core.new }
 {
     boards_keep();
-    boards_end();
     journals_grow();
     entries_tell_steps();
     rules_are_lawful();
+    tables_suit();
     let row = take_back(core, worker, frame, answer);
     starved || close(core, row).is_err()
 }
@@ -125,10 +126,10 @@ pub(crate) fn finish_compilation(
     ensures kept { KeepsKey core.old core.new }
 {
     boards_keep();
-    boards_end();
     journals_grow();
     entries_tell_steps();
     rules_are_lawful();
+    tables_suit();
     if starved {
         let _run = leave(core, worker);
         return true;
