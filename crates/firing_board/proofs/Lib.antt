@@ -11,3 +11,5 @@ pub mod Fields
 pub mod Ended
 pub mod Leaving
 pub mod Framed
+pub mod Started
+pub mod Compilations
