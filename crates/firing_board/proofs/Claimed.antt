@@ -62,11 +62,11 @@ pub record ClaimLaws : Type 0 where
 same_answers : (row : JobRow) (item : ℕ) → row.marks item ≡ Free → answers_in (with_mark row item Busy) ≡ answers_in row
 same_answers row item free =
     let at : (j : ℕ) → answers_in (with_mark row item Busy) j ≡ answers_in row j = λ j.
-        elim (Rattle.std.proofs.Common.eqb item j) as (λ b. Rattle.std.proofs.Common.eqb item j ≡ b → answer_of (Rattle.std.proofs.Common.cond b Busy (row.marks j)) ≡ answer_of (row.marks j)) [
-          | true ↦ λ e. sym (ap answer_of (ap row.marks (sym (Rattle.std.proofs.lemmas.Bool.eqb-true item j e)) ∙ free))
-          | false ↦ λ e. refl
-        ]
-        refl in
+    elim (Rattle.std.proofs.Common.eqb item j) as (λ b. Rattle.std.proofs.Common.eqb item j ≡ b → answer_of (Rattle.std.proofs.Common.cond b Busy (row.marks j)) ≡ answer_of (row.marks j)) [
+      | true ↦ λ e. sym (ap answer_of (ap row.marks (sym (Rattle.std.proofs.lemmas.Bool.eqb-true item j e)) ∙ free))
+      | false ↦ λ e. refl
+    ]
+    refl in
     λ x j. at j x
 
 -- the task of an item by the marks that a table stands for
@@ -178,11 +178,11 @@ module _ (laws : ClaimLaws) (key : Key) (old : Core) (w : ℕ) (may : MayClaim k
       numbered_next : AreNumbered new.table new.numbers.items new.journal.paths
       numbered_next = λ k after now.
           let h : (before : Row) × (row_at mid.table k ≡ Some before) × (after.job.firing ≡ before.job.firing) = ⊎_elim
-              (λ (e : k ≡ run.row).
-              let is : marks.after ≡ after = the_same (row_at new.table run.row) marks.after after marks.now (ap (row_at new.table) (sym e) ∙ now) in
-              (marks.before, ap (row_at mid.table) e ∙ marks.here, ap (λ (r : Row). r.job.firing) (sym is) ∙ marks.stays.firing_is))
-              (λ apart. (after, sym (marks.others k apart apart) ∙ now, refl))
-              (cases_eq k run.row) in
+          (λ (e : k ≡ run.row).
+          let is : marks.after ≡ after = the_same (row_at new.table run.row) marks.after after marks.now (ap (row_at new.table) (sym e) ∙ now) in
+          (marks.before, ap (row_at mid.table) e ∙ marks.here, ap (λ (r : Row). r.job.firing) (sym is) ∙ marks.stays.firing_is))
+          (λ apart. (after, sym (marks.others k apart apart) ∙ now, refl))
+          (cases_eq k run.row) in
           let was = found.numbered k h.0 h.1 in
           let mine : IsNumbered mid.numbers.items mid.journal.paths k after.job.firing.path = record { known = was.known; path_is = was.path_is ∙ ap (λ (f : Firing). f.path) (sym h.2) } in
           subst (λ ns. IsNumbered ns new.journal.paths k after.job.firing.path) (sym t.numbers_are) (subst (λ ps. IsNumbered mid.numbers.items ps k after.job.firing.path) (sym t.paths_are) mine)
@@ -225,9 +225,9 @@ module _ (laws : ClaimLaws) (key : Key) (old : Core) (w : ℕ) (may : MayClaim k
       to_runners : IsLentToRunners new.table new.running.items
       to_runners = λ k i places is.
           let from_old : lent_in mid.table k i ≡ Some places → (v : ℕ) × (held_of new.running.items v ≡ Some (k, i)) = λ was.
-              let v = may.keeps.lent k i places (sym (kept.lent k i) ∙ was) in
-              let other : v.0 ≢ w = λ e. (let none = idle in let some : held w ≡ Some (k, i) = ap held (sym e) ∙ v.1 in cc) in
-              (v.0, held_other v.0 other ∙ v.1) in
+          let v = may.keeps.lent k i places (sym (kept.lent k i) ∙ was) in
+          let other : v.0 ≢ w = λ e. (let none = idle in let some : held w ≡ Some (k, i) = ap held (sym e) ∙ v.1 in cc) in
+          (v.0, held_other v.0 other ∙ v.1) in
           ⊎_elim
           (λ (e : k ≡ run.row). ⊎_elim
           (λ (f : i ≡ run.item). (w, held_w ∙ sym (ap (λ (x : ℕ). Some (x, i)) e ∙ ap (λ (x : ℕ). Some (run.row, x)) f)))

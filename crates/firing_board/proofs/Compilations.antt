@@ -11,8 +11,9 @@ use Rattle.pisdf_meaning.specs.declared.firing.Firing.{Firing}
 use Rattle.param_resolver.specs.Numbering.{acting}
 use Rattle.sdf_level.specs.declared.node.Node.{Node}
 use Rattle.sdf_level.specs.declared.node.Node.TheVariants as node
-use Rattle.job_flow.specs.Frames as flow
-use Rattle.job_rules.specs.Items.{Prepared, actor_task, compile_rule, config_task, firing_task, left_in, node_rule, node_task, prepared_in, ready_task, rule, rule_from}
+use Rattle.job_flow.specs.Frames.{inputs, lens}
+use Rattle.job_flow.specs.Graphs.{node_at}
+use Rattle.job_rules.specs.Items.{Prepared, actor_task, compile_rule, config_task, edges_in, firing_task, is_ready_by, job_graph, left_in, node_values, nodes_in, values_in, node_rule, node_task, prepared_in, ready_task, rule, rule_from}
 use Rattle.job_rules.specs.Words as words
 use Rattle.job_rules.specs.Words.{Answer}
 use Rattle.nested_jobs.specs.Rules.{Call, Task, Values, Work}
@@ -28,7 +29,7 @@ NoCompile (Some (Work (words.Copies node read lens))) = Unit {0}
 NoCompile (Some (Work (words.Compiles firing left))) = ⊥
 
 refuted : (t : Option (Task Firing words.Work)) (firing : Firing) (left : List Configured) → NoCompile t → t ≡ Some (Work (words.Compiles firing left)) → ⊥
-refuted t firing left no is = subst NoCompile is no
+refuted t firing left fine is = subst NoCompile is fine
 
 config_no : (graphs : List Graph) (g : Graph) (firing : Firing) (c : Configuration) (body : Body) → NoCompile (config_task graphs g firing c body)
 config_no graphs g firing c (Kernel kernel args ins outs) = tt
@@ -58,16 +59,19 @@ node_no graphs g firing values (node.End l) read lens = tt
 node_no graphs g firing values (node.Sink t) read lens = tt
 
 if_no : (b : Bool) (t : Option (Task Firing words.Work)) → NoCompile t → NoCompile (cond b t None)
-if_no true t no = no
-if_no false t no = tt
+if_no true t fine = fine
+if_no false t fine = tt
 
 node_rule_no : (graphs : List Graph) (g : Graph) (firing : Firing) (v : Values Answer) (n : ℕ) (p : Option Prepared) → NoCompile (node_rule graphs g firing v n p)
 node_rule_no graphs g firing v n None = tt
-node_rule_no graphs g firing v n (Some p) = if_no _ _ (node_no graphs g firing _ _ _ _)
+node_rule_no graphs g firing v n (Some p) =
+    if_no (nat_lt n (length (nodes_in graphs g firing p)) && is_ready_by (edges_in graphs g firing p) (node_values graphs g firing p v) n)
+    (node_task graphs g firing (values_in g firing p) (node_at (nodes_in graphs g firing p) n) (inputs (job_graph graphs g firing p) (node_values graphs g firing p v) n) (lens (job_graph graphs g firing p) n))
+    (node_no graphs g firing (values_in g firing p) (node_at (nodes_in graphs g firing p) n) (inputs (job_graph graphs g firing p) (node_values graphs g firing p v) n) (lens (job_graph graphs g firing p) n))
 
 compile_is : (firing : Firing) (o : Option (List Configured)) (other : Firing) (left : List Configured) → compile_rule firing o ≡ Some (Work (words.Compiles other left)) → (firing ≡ other) × (unwrap_or o [] ≡ left)
 compile_is firing None other left is = absurd (cc)
-compile_is firing (Some l) other left is = (let e : Some (Work {J = Firing} (words.Compiles firing l)) ≡ Some (Work (words.Compiles other left)) = is in (cc, cc))
+compile_is firing (Some l) other left is = (cc, cc)
 
 rule_is : (graphs : List Graph) (g : Graph) (firing : Firing) (v : Values Answer) (cs : List Configuration) (i : ℕ) (other : Firing) (left : List Configured) → rule_from graphs g firing v cs i ≡ Some (Work (words.Compiles other left))
     → (i ≡ length cs) × (firing ≡ other) × (unwrap_or (left_in g v) [] ≡ left)

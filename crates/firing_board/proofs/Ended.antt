@@ -68,13 +68,16 @@ ends_as tell ended meant key c false keeps over (ends.Done iteration delays jour
     (λ (f : HasFinished (view_with key c false)).
     let e = top_ended tell ended key c keeps f in
     let is : e.0 ≡ Ok w.2 = (let one = e.1 in let two = w.3 in cc) in
-    let it = iteration_ends tell ended key c keeps meant e.0 e.2 in
-    (refl, w.1, record {
-      given = given_of w.2;
-      ends = subst (λ x. IterationEnds key.graphs key.ins key.delays (end_of x)) is it;
-      iteration_is = w.4;
-      state_is = w.5;
-    }))
+    let it = iteration_ends tell ended key c keeps meant e.0 e.2 in (
+      refl,
+      w.1,
+      record {
+        given = given_of w.2;
+        ends = subst (λ x. IterationEnds key.graphs key.ins key.delays (end_of x)) is it;
+        iteration_is = w.4;
+        state_is = w.5;
+      },
+    ))
     (λ o. let t = o.0 in absurd (cc))
     over
 ends_as tell ended meant key c false keeps over (ends.Refused refusal journal) w = ⊎_elim

@@ -141,12 +141,16 @@ module _ (key : Key) (laws : FinishLaws key) (old : Core) (starved : Bool) (keep
         (λ (e : r.row ≡ a.run.row).
         let apart : r.item ≢ a.run.item = λ f. others_apart laws.held key laws.lawful starved old keeps w v other work a v_lt r is e f in
         let same : marks.before ≡ before = the_same (row_at old.table a.run.row) marks.before before marks.here (ap (row_at old.table) (sym e) ∙ here) in
-        let found : LastsAs marks.before r.item mid.table a.run.row = (marks.after, marks.now, marks.stays,
+        let found : LastsAs marks.before r.item mid.table a.run.row = (
+          marks.after,
+          marks.now,
+          marks.stays,
           marks.unmarked r.item apart ∙ (ap (λ (x : Row). mark_at x.job.marks r.item) same ∙ busy),
           λ i x was. ⊎_elim
               (λ (f : i ≡ a.run.item). absurd (let none : answers marks.before.job.marks i ≡ None = ap mark.answer_of (ap (mark_at marks.before.job.marks) f ∙ was_busy) in cc))
               (λ g. ap mark.answer_of (marks.unmarked i g) ∙ was)
-              (cases_eq i a.run.item)) in
+              (cases_eq i a.run.item),
+        ) in
         subst (λ (k : ℕ). LastsAs before r.item mid.table k) (sym e) (subst (λ (x : Row). LastsAs x r.item mid.table a.run.row) same found))
         (λ other_row. (before, marks.others r.row other_row other_row ∙ here, stays_same before, busy, λ i x was. was))
         (cases_eq r.row a.run.row)
@@ -190,15 +194,20 @@ module _ (key : Key) (laws : FinishLaws key) (old : Core) (starved : Bool) (keep
       lasts_new : (v : ℕ) (r : Run) → v ≢ w → v < key.workers → get_or old.running.items v None ≡ Some r → (before : Row) → row_at old.table r.row ≡ Some before → mark_at before.job.marks r.item ≡ Busy → LastsAs before r.item new.table r.row
       lasts_new v r other v_lt is before here busy =
           let m = lasts v r other v_lt is before here busy in
-          let n = kept.stay.busy r.row r.item m.0 m.1 m.3 in
-          (n.0, n.1, record {
-            place_is = n.2.place_is ∙ m.2.place_is;
-            upper_is = n.2.upper_is ∙ m.2.upper_is;
-            steps_are = n.2.steps_are ∙ m.2.steps_are;
-            graphs_are = n.2.graphs_are ∙ m.2.graphs_are;
-            workers_are = n.2.workers_are ∙ m.2.workers_are;
-            firing_is = n.2.firing_is ∙ m.2.firing_is;
-          }, n.3 r.item m.3, λ i x was. n.4 i x (m.4 i x was))
+          let n = kept.stay.busy r.row r.item m.0 m.1 m.3 in (
+            n.0,
+            n.1,
+            record {
+              place_is = n.2.place_is ∙ m.2.place_is;
+              upper_is = n.2.upper_is ∙ m.2.upper_is;
+              steps_are = n.2.steps_are ∙ m.2.steps_are;
+              graphs_are = n.2.graphs_are ∙ m.2.graphs_are;
+              workers_are = n.2.workers_are ∙ m.2.workers_are;
+              firing_is = n.2.firing_is ∙ m.2.firing_is;
+            },
+            n.3 r.item m.3,
+            λ i x was. n.4 i x (m.4 i x was),
+          )
 
       -- a row that is left lends what it lent
       lent_left : (k i : ℕ) (after : Row) → row_at new.table k ≡ Some after → lent_in new.table k i ≡ lent_in mid.table k i
@@ -286,11 +295,11 @@ module _ (key : Key) (laws : FinishLaws key) (old : Core) (keeps : Keeps key old
       numbered = λ k after now.
           let m = kept.stay.rows k after now in
           let h : (before : Row) × (row_at old.table k ≡ Some before) × (m.0.job.firing ≡ before.job.firing) = ⊎_elim
-              (λ (e : k ≡ b.run.row).
-              let is : marks.after ≡ m.0 = the_same (row_at mid.table b.run.row) marks.after m.0 marks.now (ap (row_at mid.table) (sym e) ∙ m.1) in
-              (marks.before, ap (row_at old.table) e ∙ marks.here, ap (λ (r : Row). r.job.firing) (sym is) ∙ marks.stays.firing_is))
-              (λ apart. (m.0, sym (marks.others k apart apart) ∙ m.1, refl))
-              (cases_eq k b.run.row) in
+          (λ (e : k ≡ b.run.row).
+          let is : marks.after ≡ m.0 = the_same (row_at mid.table b.run.row) marks.after m.0 marks.now (ap (row_at mid.table) (sym e) ∙ m.1) in
+          (marks.before, ap (row_at old.table) e ∙ marks.here, ap (λ (r : Row). r.job.firing) (sym is) ∙ marks.stays.firing_is))
+          (λ apart. (m.0, sym (marks.others k apart apart) ∙ m.1, refl))
+          (cases_eq k b.run.row) in
           let was = keeps.at.numbered k h.0 h.1 in
           let firing = m.2.firing_is ∙ h.2 in
           let mine_so : IsNumbered old.numbers.items old.journal.paths k after.job.firing.path = record { known = was.known; path_is = was.path_is ∙ ap (λ (f : Firing). f.path) (sym firing) } in

@@ -63,6 +63,7 @@ run_of (Some run) k i is = (run, refl, ap (λ (o : Option (ℕ × ℕ)). row_or 
     row_or : Option (ℕ × ℕ) → ℕ
     row_or None = 0
     row_or (Some h) = h.0
+
     item_or : Option (ℕ × ℕ) → ℕ
     item_or None = 0
     item_or (Some h) = h.1
@@ -121,9 +122,9 @@ module _ (laws : ClaimLaws) (key : Key) (old : Core) (w : ℕ) (may : MayClaim k
         let marks = marks_through mid.table h.reserved.table f.claimed.table new.table run.row run.item h.keeps.table_is f.enters.table_is (subst (λ (i : ℕ). MarksItem run.row i Busy h.reserved.table f.claimed.table) place f.marks) in
         let as_before = as_before_through mid.table h.reserved.table f.claimed.table new.table h.keeps.table_is f.enters.table_is f.lends in
         let unlent : lent_in mid.table run.row run.item ≡ None = none_if (lent_in mid.table run.row run.item) (λ places e.
-            let v = may.keeps.lent run.row run.item places (sym (kept.lent run.row run.item) ∙ e) in
-            let r = run_of (get_or old.running.items v.0 None) run.row run.item v.1 in
-            apart laws key old w may mid run found kept v.0 r.0 r.1 r.2 r.3) in
+        let v = may.keeps.lent run.row run.item places (sym (kept.lent run.row run.item) ∙ e) in
+        let r = run_of (get_or old.running.items v.0 None) run.row run.item v.1 in
+        apart laws key old w may mid run found kept v.0 r.0 r.1 r.2 r.3) in
         let lends : LendsItem run.row run.item None mid.table new.table = record {
           here = as_before run.row run.item ∙ unlent;
           in_job = λ i other. as_before run.row i;

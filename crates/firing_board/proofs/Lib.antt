@@ -13,3 +13,4 @@ pub mod Leaving
 pub mod Framed
 pub mod Started
 pub mod Compilations
+pub mod Abandoned

@@ -49,18 +49,18 @@ numbered_so old new k item l o numbers numbers' paths paths' number path number_
     })
     (λ apart.
     let h : (before : Row) × (row_at old j ≡ Some before) × (row.job.firing ≡ before.job.firing) = ⊎_elim
-        (λ (e : j ≡ k).
-        let is : o.after ≡ row = the_same (row_at new k) o.after row o.now (ap (row_at new) (sym e) ∙ now) in
-        (o.upper, ap (row_at old) e ∙ o.here, ap (λ (r : Row). r.job.firing) (sym is) ∙ o.stays.firing_is))
-        (λ other. (row, sym (o.others j other apart) ∙ now, refl))
-        (cases_eq j k) in
+    (λ (e : j ≡ k).
+    let is : o.after ≡ row = the_same (row_at new k) o.after row o.now (ap (row_at new) (sym e) ∙ now) in
+    (o.upper, ap (row_at old) e ∙ o.here, ap (λ (r : Row). r.job.firing) (sym is) ∙ o.stays.firing_is))
+    (λ other. (row, sym (o.others j other apart) ∙ now, refl))
+    (cases_eq j k) in
     let kept = was j h.0 h.1 in
     let same = others j apart in
     let long : length paths' ≡ length paths + 1 = ap (λ (ps : List (List ℕ)). length ps) paths_are ∙ length-append paths (path ∷ []) in
     record {
       known = omega (arith, same, kept.known, long);
       path_is = ap (path_at paths') same ∙ (ap (λ (ps : List (List ℕ)). path_at ps (slice_index_or numbers j 0)) paths_are
-      ∙ (get_or_append_left paths (path ∷ []) [] (slice_index_or numbers j 0) kept.known ∙ (kept.path_is ∙ ap (λ (f : Firing). f.path) (sym h.2))));
+          ∙ (get_or_append_left paths (path ∷ []) [] (slice_index_or numbers j 0) kept.known ∙ (kept.path_is ∙ ap (λ (f : Firing). f.path) (sym h.2))));
     })
     (cases_eq j l)
 
@@ -125,7 +125,7 @@ module _ (one_more : OneMoreOpened) (tables_open : TablesOpen) (openings_suit : 
         let up : at.item ∷ c.row.place ≡ at.item ∷ o.upper.place = ap (λ (r : Row). at.item ∷ r.place) (sym is_upper) in
         let was : HasOpened key before n ((j ∷ (way ++ 0 ∷ [])) ++ at.item ∷ o.upper.place) (table_of old) m = subst (λ (ys : Place). HasOpened key before n ((j ∷ (way ++ 0 ∷ [])) ++ ys) (table_of old) m) up (way_open j (way ++ 0 ∷ [])) in
         let next = one_more key before n (table_of old) m at.row child at.item j (way ++ 0 ∷ []) (job_row o.upper) o.firing c.suits.is_key was (in_table old at.row o.upper o.here) (ap (Rattle.std.specs.Option.option_map job_row) o.vacant) o.free
-            (task_by key m old at.row at.item o.upper (Some (Call o.firing)) c.suits o.here o.task_is) in
+        (task_by key m old at.row at.item o.upper (Some (Call o.firing)) c.suits o.here o.task_is) in
         subst (λ (a : Place). HasOpened key before n a (table_of mid) marks) place
         (subst (λ (table : OpenJobs). HasOpened key before n ((j ∷ (way ++ 0 ∷ [])) ++ at.item ∷ o.upper.place) table marks) (sym (tables_open at.row at.item child old mid o)) next)
 
@@ -135,7 +135,7 @@ module _ (one_more : OneMoreOpened) (tables_open : TablesOpen) (openings_suit : 
         let up : at.item ∷ c.row.place ≡ at.item ∷ o.upper.place = ap (λ (r : Row). at.item ∷ r.place) (sym is_upper) in
         let was : HasOpened key before n ((0 ∷ []) ++ at.item ∷ o.upper.place) (table_of old) m = subst (λ (ys : Place). HasOpened key before n ((0 ∷ []) ++ ys) (table_of old) m) up (way_open 0 []) in
         let next = one_more key before n (table_of old) m at.row child at.item 0 [] (job_row o.upper) o.firing c.suits.is_key was (in_table old at.row o.upper o.here) (ap (Rattle.std.specs.Option.option_map job_row) o.vacant) o.free
-            (task_by key m old at.row at.item o.upper (Some (Call o.firing)) c.suits o.here o.task_is) in
+        (task_by key m old at.row at.item o.upper (Some (Call o.firing)) c.suits o.here o.task_is) in
         subst (λ (a : Place). HasOpened key before n a (table_of mid) marks) place
         (subst (λ (table : OpenJobs). HasOpened key before n ((0 ∷ []) ++ at.item ∷ o.upper.place) table marks) (sym (tables_open at.row at.item child old mid o)) next)
 

@@ -15,11 +15,11 @@ held_as r = option_map (λ (run : Run). (run.row, run.item)) r
 pub held_set : (running : List (Option Run)) (w : ℕ) (r : Option Run) → w < length running → held_of (set running w r) ≡ hold (held_of running) w (held_as r)
 held_set running w r lt =
     let at : (v : ℕ) → held_of (set running w r) v ≡ hold (held_of running) w (held_as r) v = λ v.
-        elim (eqb w v) as (λ b. eqb w v ≡ b → held_of (set running w r) v ≡ cond b (held_as r) (held_of running v)) [
-          | true ↦ λ e. ap (λ (x : ℕ). held_of (set running w r) x) (sym (eqb-true w v e)) ∙ ap held_as (get_or-set_same running w r None lt)
-          | false ↦ λ e. ap held_as (get_or-set_other running w v r None (λ f. let t = eq-eqb w v (sym f) in cc))
-        ]
-        refl in
+    elim (eqb w v) as (λ b. eqb w v ≡ b → held_of (set running w r) v ≡ cond b (held_as r) (held_of running v)) [
+      | true ↦ λ e. ap (λ (x : ℕ). held_of (set running w r) x) (sym (eqb-true w v e)) ∙ ap held_as (get_or-set_same running w r None lt)
+      | false ↦ λ e. ap held_as (get_or-set_other running w v r None (λ f. let t = eq-eqb w v (sym f) in cc))
+    ]
+    refl in
     λ x v. at v x
 
 pub runners_most : (running : List (Option Run)) → runners running ≤ length running

@@ -165,7 +165,8 @@ impl Board {
         ticket: Ticket,
         end: CompileEnd,
     ) -> Result<(), AllocError>
-        requires { Runs self.old ticket.worker (MayEnd self.old.key end) }
+        requires runs { Runs self.old ticket.worker (MayEnd self.old.key end) }
+        requires lent { lent_to self.old ticket.worker ≡ None }
         ensures finishes { Finishes self.old self.new ticket.worker }
         ensures live { OnOk result (self.new.starved ≡ false) }
         ensures starved { OnErr result (self.new.starved ≡ true) }
@@ -173,7 +174,11 @@ impl Board {
         let key = take_key(&mut self.compiling, ticket.worker);
         keep_ready(&mut self.kept, key, &end);
         self.starved = finish_compilation(alloc, &mut self.core, self.starved, ticket.worker, end);
-        if self.starved { Err(AllocError) } else { Ok(()) }
+        if self.starved {
+            Err(AllocError)
+        } else {
+            Ok(())
+        }
     }
 
     /// The steps that were taken.

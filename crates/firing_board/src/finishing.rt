@@ -40,12 +40,7 @@ fn leave(core: &mut Core, worker: u32) -> Run
 }
 
 /// Takes back the frame of the item that a worker runs: the row of its job.
-fn take_back(
-    core: &mut Core,
-    worker: u32,
-    frame: Frame,
-    answer: Result<(), KernelFault>,
-) -> usize
+fn take_back(core: &mut Core, worker: u32, frame: Frame, answer: Result<(), KernelFault>) -> usize
     requires item { RunsItem (MayReturn frame (IsOk answer)) core.old worker }
     requires room { 0 < core.old.journal.room }
     ensures { Returns frame answer core.old worker core.new result }

@@ -46,10 +46,7 @@ pub(crate) fn nothing_runs(alloc: Global, workers: u32) -> Result<Vec<Option<Run
 }
 
 /// No worker has a compilation.
-pub(crate) fn nothing_compiles(
-    alloc: Global,
-    workers: u32,
-) -> Result<Vec<Option<Key>>, AllocError>
+pub(crate) fn nothing_compiles(alloc: Global, workers: u32) -> Result<Vec<Option<Key>>, AllocError>
     ensures { IfOk result (λ compiling. length compiling.items ≡ workers) }
 {
     let mut compiling = Vec::new(alloc);

@@ -34,7 +34,7 @@ returns-in_err-run-clause-refused c =
     let kept = c.in_err-run.ensures.kept in
     on_err_by c.from_residual.result ((key : Key) → MayClaim key old c.args.worker → StarvesOn key old mid)
     (λ key may. starves c.boards_keep.ensures.held key (c.rules_are_lawful.ensures key.graphs may.keeps.is_key.in_range may.keeps.is_key.well_formed) old mid may.keeps kept.lasts kept.lent (ap (λ rs. rs.items) kept.running_is) kept.entries_are
-        (let same = kept.room_is in omega arith))
+    (let same = kept.room_is in omega arith))
 
 pub returns-in-Some-clause-claimed : goal.returns-in-Some-clause-claimed
 returns-in-Some-clause-claimed c =
@@ -54,8 +54,8 @@ returns-in-Some-clause-claimed c =
     (HandsOut mid w run c.hand_out.new.core)
     (λ (result : Claim). (key : Key) → MayClaim key old w → ClaimsOn key old w c.hand_out.new.core result)
     (λ (result : Claim) (h : HandsOut mid w run c.hand_out.new.core result). λ key may.
-        let found = subst (λ (o : Option Run). Finds key may.keeps.taken old w mid o) c.in-Some.is (c.in_ok-run.ensures.found key may.keeps.taken may.keeps.at) in
-        hands_claims laws key old w may mid run found c.in_ok-run.ensures.kept c.hand_out.new.core result h)
+    let found = subst (λ (o : Option Run). Finds key may.keeps.taken old w mid o) c.in-Some.is (c.in_ok-run.ensures.found key may.keeps.taken may.keeps.at) in
+    hands_claims laws key old w may mid run found c.in_ok-run.ensures.kept c.hand_out.new.core result h)
     c.hand_out.ensures.handed
 
 pub returns-in-Some-clause-refused : goal.returns-in-Some-clause-refused
@@ -66,11 +66,11 @@ returns-in-Some-clause-refused c =
     let kept = c.in_ok-run.ensures.kept in
     on_err c.hand_out.result (KeepsAll mid new) ((key : Key) → MayClaim key old c.args.worker → StarvesOn key old new)
     (λ (k : KeepsAll mid new). λ key may.
-        starves c.boards_keep.ensures.held key (c.rules_are_lawful.ensures key.graphs may.keeps.is_key.in_range may.keeps.is_key.well_formed) old new may.keeps
-        (subst (λ (v : TableView). Lasts old.table v) (sym k.table_is) kept.lasts)
-        (subst (λ (v : TableView). LendsAsBefore old.table v) (sym k.table_is) kept.lent)
-        (ap (λ rs. rs.items) (k.running_is ∙ kept.running_is)) (k.entries_are ∙ kept.entries_are)
-        (let same = kept.room_is in let more = k.more in omega arith))
+    starves c.boards_keep.ensures.held key (c.rules_are_lawful.ensures key.graphs may.keeps.is_key.in_range may.keeps.is_key.well_formed) old new may.keeps
+    (subst (λ (v : TableView). Lasts old.table v) (sym k.table_is) kept.lasts)
+    (subst (λ (v : TableView). LendsAsBefore old.table v) (sym k.table_is) kept.lent)
+    (ap (λ rs. rs.items) (k.running_is ∙ kept.running_is)) (k.entries_are ∙ kept.entries_are)
+    (let same = kept.room_is in let more = k.more in omega arith))
     c.hand_out.ensures.refused
 
 pub returns-then-is_idle-clause-claimed : goal.returns-then-is_idle-clause-claimed
@@ -87,8 +87,8 @@ returns-else-is_idle-clause-claimed c = λ key may.
     let mid = c.find.new.core in
     let found = subst (λ (o : Option Run). Finds key may.keeps.taken old c.args.worker mid o) c.in-None.is (c.in_ok-run.ensures.found key may.keeps.taken may.keeps.at) in
     let not : All (λ (r : Option Run). r ≡ None) old.running.items → ⊥ = λ all.
-        let here = subst (λ rs. All (λ (r : Option Run). r ≡ None) rs) (sym (c.as_slice.ensures.value ∙ ap (λ (x : Core). x.running.items) found.0)) all in
-        let yes = c.is_idle.ensures.1 here in
-        let no = c.if-is_idle.false in
-        absurd (cc) in
+    let here = subst (λ rs. All (λ (r : Option Run). r ≡ None) rs) (sym (c.as_slice.ensures.value ∙ ap (λ (x : Core). x.running.items) found.0)) all in
+    let yes = c.is_idle.ensures.1 here in
+    let no = c.if-is_idle.false in
+    absurd (cc) in
     subst (λ (x : Core). ClaimsOn key old c.args.worker x claim.Wait) (sym found.0) (waits key old c.args.worker may found.1 not)

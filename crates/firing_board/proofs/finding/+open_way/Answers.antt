@@ -27,12 +27,14 @@ open_way-requires t c =
     let one = c.boards_keep.ensures.one_more_opened in
     let less = rank_falls one c.tables_suit.ensures.opens c.tables_suit.ensures.opening c.calls_are_fit.ensures.first key m old at calls child mid o (c.rules_are_lawful.ensures key.graphs calls.suits.is_key.in_range calls.suits.is_key.well_formed) in
     let here : rank_of mid (row_at mid child) ≡ rank mid.graphs.graphs o.child.job.firing = ap (rank_of mid) o.added in
-    let there : rank_of old (row_at old at.row) ≡ rank old.graphs.graphs o.upper.job.firing = ap (rank_of old) o.here in
-    (omega (arith, c.decreases, less, here, there), record {
-      key = key;
-      marks = put m (at.item ∷ o.upper.place) (Open o.firing);
-      calls = child_calls one c.tables_suit.ensures.opens c.tables_suit.ensures.opening c.calls_are_fit.ensures.first key m old at calls child mid o b.2.0 is;
-    })
+    let there : rank_of old (row_at old at.row) ≡ rank old.graphs.graphs o.upper.job.firing = ap (rank_of old) o.here in (
+      omega (arith, c.decreases, less, here, there),
+      record {
+        key = key;
+        marks = put m (at.item ∷ o.upper.place) (Open o.firing);
+        calls = child_calls one c.tables_suit.ensures.opens c.tables_suit.ensures.opening c.calls_are_fit.ensures.first key m old at calls child mid o b.2.0 is;
+      },
+    )
 
 pub returns-in-Work-clause-opened : goal.returns-in-Work-clause-opened
 returns-in-Work-clause-opened t c =

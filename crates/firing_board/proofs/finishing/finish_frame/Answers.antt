@@ -99,8 +99,8 @@ returns-else-starved-clause-finished c = λ key was.
     let leaves = c.take_back-row.ensures.leaves in
     let answer = answer_with (Some (Work may.runs.work)) c.args.frame c.args.answer in
     let ok = if_ok c.close.result (λ done. ClosesOn mid c.take_back-row.result new) (λ done. FinishesOn key old false w new false)
-        (λ done closes. closes_finishes key laws old may.keeps w may.runs.is_worker may.runs.work runs answer may.runs.so.answered mid b.marks b.lends leaves.running_are leaves.journal_is new c.close.ensures.kept leaves.numbers_are (subst (λ k. ClosesOn mid k new) b.row_is closes))
-        c.close.ensures.closed in
+    (λ done closes. closes_finishes key laws old may.keeps w may.runs.is_worker may.runs.work runs answer may.runs.so.answered mid b.marks b.lends leaves.running_are leaves.journal_is new c.close.ensures.kept leaves.numbers_are (subst (λ k. ClosesOn mid k new) b.row_is closes))
+    c.close.ensures.closed in
     let err = wanted_finishes key laws old false may.keeps w may.runs.is_worker may.runs.work runs answer may.runs.so.answered mid b.marks b.lends leaves.running_are leaves.journal_is new c.close.ensures.kept refl in
     let either = by_result (λ after. FinishesOn key old false w new after) c.close.result ok err in
     subst (λ (s : Bool). FinishesOn key old s w new c.is_err.result) (sym c.if-starved.false)

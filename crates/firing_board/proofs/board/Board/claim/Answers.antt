@@ -12,9 +12,11 @@ pub claim-claimed-requires-clause-may : goal.claim-claimed-requires-clause-may
 claim-claimed-requires-clause-may c =
     let i = c.self.inside in
     let key = key_of i in
-    let live = c.if-self.false in
-    (key, may_claim c.entries_tell_steps.ensures.steps key i.core (subst (λ (b : Bool). Keeps key i.core b) live c.self.invariant.0) c.args.worker
-        (subst (λ (b : BoardView). IsIdle b c.args.worker) (sym c.self.view_is ∙ ap (λ (b : Bool). view_with key i.core b) live) c.requires))
+    let live = c.if-self.false in (
+      key,
+      may_claim c.entries_tell_steps.ensures.steps key i.core (subst (λ (b : Bool). Keeps key i.core b) live c.self.invariant.0) c.args.worker
+          (subst (λ (b : BoardView). IsIdle b c.args.worker) (sym c.self.view_is ∙ ap (λ (b : Bool). view_with key i.core b) live) c.requires),
+    )
 
 pub invariant_of-self : goal.invariant_of-self
 invariant_of-self c =
@@ -23,10 +25,11 @@ invariant_of-self c =
     let live = c.if-self.false in
     let new = c.claim-claimed.new.core in
     let may = may_claim c.entries_tell_steps.ensures.steps key i.core (subst (λ (b : Bool). Keeps key i.core b) live c.self.invariant.0) c.args.worker
-        (subst (λ (b : BoardView). IsIdle b c.args.worker) (sym c.self.view_is ∙ ap (λ (b : Bool). view_with key i.core b) live) c.requires) in
-    let same = key_same i.signatures.items i.top.value i.core new c.claim-claimed.ensures.kept.0 in
-    (subst (λ (k : Key). Keeps k new i.starved) (sym same) (subst (λ (b : Bool). Keeps key new b) (sym live) (c.in-Ok.ensures.claimed key may).keeps),
-        c.claim-claimed.ensures.kept.1 ∙ (c.self.invariant.1 ∙ sym c.claim-claimed.ensures.kept.0.one_each))
+    (subst (λ (b : BoardView). IsIdle b c.args.worker) (sym c.self.view_is ∙ ap (λ (b : Bool). view_with key i.core b) live) c.requires) in
+    let same = key_same i.signatures.items i.top.value i.core new c.claim-claimed.ensures.kept.0 in (
+      subst (λ (k : Key). Keeps k new i.starved) (sym same) (subst (λ (b : Bool). Keeps key new b) (sym live) (c.in-Ok.ensures.claimed key may).keeps),
+      c.claim-claimed.ensures.kept.1 ∙ (c.self.invariant.1 ∙ sym c.claim-claimed.ensures.kept.0.one_each),
+    )
 
 pub invariant_of-self-in-Err : goal.invariant_of-self-in-Err
 invariant_of-self-in-Err c =
@@ -35,10 +38,11 @@ invariant_of-self-in-Err c =
     let live = c.if-self.false in
     let new = c.claim-claimed.new.core in
     let may = may_claim c.entries_tell_steps.ensures.steps key i.core (subst (λ (b : Bool). Keeps key i.core b) live c.self.invariant.0) c.args.worker
-        (subst (λ (b : BoardView). IsIdle b c.args.worker) (sym c.self.view_is ∙ ap (λ (b : Bool). view_with key i.core b) live) c.requires) in
-    let same = key_same i.signatures.items i.top.value i.core new c.claim-claimed.ensures.kept.0 in
-    (subst (λ (k : Key). Keeps k new true) (sym same) (c.in-Err.ensures.refused key may).keeps,
-        c.claim-claimed.ensures.kept.1 ∙ (c.self.invariant.1 ∙ sym c.claim-claimed.ensures.kept.0.one_each))
+    (subst (λ (b : BoardView). IsIdle b c.args.worker) (sym c.self.view_is ∙ ap (λ (b : Bool). view_with key i.core b) live) c.requires) in
+    let same = key_same i.signatures.items i.top.value i.core new c.claim-claimed.ensures.kept.0 in (
+      subst (λ (k : Key). Keeps k new true) (sym same) (c.in-Err.ensures.refused key may).keeps,
+      c.claim-claimed.ensures.kept.1 ∙ (c.self.invariant.1 ∙ sym c.claim-claimed.ensures.kept.0.one_each),
+    )
 
 pub returns-in-Ok-clause-claims : goal.returns-in-Ok-clause-claims
 returns-in-Ok-clause-claims c =
@@ -48,7 +52,7 @@ returns-in-Ok-clause-claims c =
     let new = c.claim-claimed.new.core in
     let w = c.args.worker in
     let may = may_claim c.entries_tell_steps.ensures.steps key i.core (subst (λ (b : Bool). Keeps key i.core b) live c.self.invariant.0) w
-        (subst (λ (b : BoardView). IsIdle b w) (sym c.self.view_is ∙ ap (λ (b : Bool). view_with key i.core b) live) c.requires) in
+    (subst (λ (b : BoardView). IsIdle b w) (sym c.self.view_is ∙ ap (λ (b : Bool). view_with key i.core b) live) c.requires) in
     let same = key_same i.signatures.items i.top.value i.core new c.claim-claimed.ensures.kept.0 in
     let before : view_with key i.core false ≡ c.args.self.now = ap (λ (b : Bool). view_with key i.core b) (sym live) ∙ c.self.view_is in
     let after : view_with key new false ≡ view_with (key_with i.signatures.items i.top.value new) new i.starved =
@@ -63,6 +67,6 @@ returns-in-Err-clause-claims c =
     let live = c.if-self.false in
     let new = c.claim-claimed.new.core in
     let may = may_claim c.entries_tell_steps.ensures.steps key i.core (subst (λ (b : Bool). Keeps key i.core b) live c.self.invariant.0) c.args.worker
-        (subst (λ (b : BoardView). IsIdle b c.args.worker) (sym c.self.view_is ∙ ap (λ (b : Bool). view_with key i.core b) live) c.requires) in
+    (subst (λ (b : BoardView). IsIdle b c.args.worker) (sym c.self.view_is ∙ ap (λ (b : Bool). view_with key i.core b) live) c.requires) in
     let same = key_same i.signatures.items i.top.value i.core new c.claim-claimed.ensures.kept.0 in
     ap (λ (k : Key). view_with k new true) same ∙ ((c.in-Err.ensures.refused key may).starves ∙ ap (λ (b : BoardView). record b { starved = true }) c.self.view_is)

@@ -26,6 +26,6 @@ returns c =
     let over = subst IsOver (sym c.self.view_is) c.requires in
     if_ok c.outcome_of.result (EndsWith i.core i.starved) (EndsAs c.args.self)
     (λ (end : BoardEnd) (w : EndsWith i.core i.starved end).
-        subst (λ (b : BoardView). EndsAs b end) c.self.view_is
-        (ends_as c.entries_tell_steps.ensures.steps c.boards_end.ensures.ended c.boards_end.ensures.meant (key_of i) i.core i.starved c.self.invariant.0 over end w))
+    subst (λ (b : BoardView). EndsAs b end) c.self.view_is
+    (ends_as c.entries_tell_steps.ensures.steps c.boards_end.ensures.ended c.boards_end.ensures.meant (key_of i) i.core i.starved c.self.invariant.0 over end w))
     c.outcome_of.ensures
