@@ -1,5 +1,5 @@
 -- What a running firing is set up with, and what it keeps for its end.
-use Rattle.std.specs.Prelude.{◌≡◌, ◌≢◌, ℕ, ◌+◌, ◌<◌, ◌≤◌, ℤ, Bool, false, List, [], map, length, slice_get, slice_index, slice_index_or, Option, Some, None, vec_capacity, vec_len, Vec}
+use Rattle.std.specs.Prelude.{◌≡◌, ◌≢◌, ℕ, ◌+◌, ◌<◌, ◌≤◌, ℤ, Bool, List, [], map, length, slice_index, slice_index_or, Option, Some, None, vec_capacity, vec_len, Vec}
 use Rattle.std.specs.Global.{Global}
 use Rattle.std.specs.List.{flat_map}
 use Rattle.sdf_level.specs.Lists.{lists_of}

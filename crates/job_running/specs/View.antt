@@ -1,7 +1,6 @@
 -- The nodes of one compiled firing as plain data, and what they are to do.
-use Rattle.std.specs.Prelude.{◌≡◌, ℕ, ℤ, Bool, List, [], length, slice_index, Option, Some, None, Result, Ok, Err}
+use Rattle.std.specs.Prelude.{◌≡◌, ℕ, ℤ, Bool, List, length, slice_index, Option, Some, None, Ok, Err}
 use Rattle.std.specs.Option.{option_map}
-use Rattle.kernel_gate.specs.Value.{Places}
 use Rattle.nested_jobs.specs.Marks.{Free}
 use Rattle.nested_jobs.specs.Rules.{Task, Work, Call}
 use Rattle.nested_jobs.specs.Steps.{all_below, is_settled}

@@ -1,5 +1,5 @@
 -- The path of an open job stays while items are marked.
-use Rattle.std.proofs.Common.{◌≡◌, ◌≢◌, ◌⊎◌, ⊎_elim, inl, inr, ℕ, zero, suc, ◌-◌, ◌<◌, nat_lt, Bool, true, false, List, [], ◌∷◌, ◌++◌, length, map, slice_index, Option, Some, None, refl, sym, ap, ◌∙◌, subst, arith}
+use Rattle.std.proofs.Common.{◌≡◌, ◌≢◌, ◌⊎◌, ⊎_elim, inl, inr, ℕ, zero, suc, ◌-◌, ◌<◌, nat_lt, Bool, true, false, List, [], ◌∷◌, ◌++◌, length, map, slice_index, Option, Some, None, if◌then◌else◌, refl, sym, ap, ◌∙◌, subst, arith}
 use Rattle.job_flow.specs.Graphs.{node_at}
 use Rattle.job_rules.specs.Items.{Prepared, compile_number, compile_rule, graph_of, left_in, node_base, node_rule, nodes_in, prepared_in, rule, rule_from}
 use Rattle.job_rules.specs.Meant.{rank}
@@ -45,7 +45,7 @@ module _ (key : Key) where
 
   -- ---- an item that calls a job is a configuration actor, or its job is compiled
 
-  IsKnown : Graph → Values Answer → Type 0
+  abbrev IsKnown : Graph → Values Answer → Type 0
   IsKnown g v = (p : Prepared) × (prepared_in g v ≡ Some p)
 
   which_from : (g : Graph) (c : Firing) (v : Values Answer) (cs : List Configuration) (i : ℕ) (d : Firing) → rule_from key.graphs.graphs g c v cs i ≡ Some (Call d) → (i < length cs) ⊎ IsKnown g v

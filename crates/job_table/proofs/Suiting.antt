@@ -109,7 +109,7 @@ module _ (key : Key) (lawful : Lawful (rules key) (rank key.graphs.graphs)) wher
         let grows = grows_by key m (item ∷ o.before.place) Busy (ap mark.answer_of open_free) (λ d e. absurd (cc)) in
         let table : table_of new ≡ _ = table_marks k item y old new o in
         let stands : StandsFor (table_of new) (claimed (rules key) m (item ∷ o.before.place)) =
-            subst (λ (t : OpenJobs). StandsFor t (claimed (rules key) m (item ∷ o.before.place))) (sym (table ∙ ap (λ (x : Mark Firing Answer). put_at_key x) busy)) c.1 in
+        subst (λ (t : OpenJobs). StandsFor t (claimed (rules key) m (item ∷ o.before.place))) (sym (table ∙ ap (λ (x : Mark Firing Answer). put_at_key x) busy)) c.1 in
         subst (λ (n : Marks Firing Answer). Suits key n new) (sym ready) (mark_suits (put m (item ∷ o.before.place) Busy) nested grows (subst (λ (n : Marks Firing Answer). StandsFor (table_of new) n) ready stands))
       where
         put_at_key : Mark Firing Answer → OpenJobs
@@ -171,9 +171,9 @@ module _ (key : Key) (lawful : Lawful (rules key) (rank key.graphs.graphs)) wher
         let task_m : rule key.graphs.graphs above.job (values m o.upper.place) item ≡ Some (Call o.firing) = ap (λ (v : Values Answer). rule key.graphs.graphs above.job v item) same_answers ∙ key_task in
         let step = step_stays key above.job (values m o.upper.place) (values later o.upper.place) within item o.firing task_m in
         let known : job.step_of o.upper.job item ≡ step_of_item key (graph_of key.graphs.graphs above.job) above.job item (prepared_in (graph_of key.graphs.graphs above.job) (values m o.upper.place)) =
-            ap (λ (g : Graphs). job.step_of_item g.graphs (graph_of g.graphs above.job) above.job item (prepared_in (graph_of g.graphs above.job) (answers_in above))) upper_suits.graphs_are
-            ∙ (same_step key (graph_of key.graphs.graphs above.job) above.job item (prepared_in (graph_of key.graphs.graphs above.job) (answers_in above))
-            ∙ ap (λ (v : Values Answer). step_of_item key (graph_of key.graphs.graphs above.job) above.job item (prepared_in (graph_of key.graphs.graphs above.job) v)) (sym same_answers)) in
+        ap (λ (g : Graphs). job.step_of_item g.graphs (graph_of g.graphs above.job) above.job item (prepared_in (graph_of g.graphs above.job) (answers_in above))) upper_suits.graphs_are
+        ∙ (same_step key (graph_of key.graphs.graphs above.job) above.job item (prepared_in (graph_of key.graphs.graphs above.job) (answers_in above))
+        ∙ ap (λ (v : Values Answer). step_of_item key (graph_of key.graphs.graphs above.job) above.job item (prepared_in (graph_of key.graphs.graphs above.job) v)) (sym same_answers)) in
         let upper_steps : o.upper.steps ≡ steps_to key later o.upper.place = upper_suits.steps_are ∙ sym path in
         let own_step = known ∙ sym step in
         let child_suits : RowSuits key later new o.child = record {

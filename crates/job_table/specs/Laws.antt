@@ -2,6 +2,7 @@
 use Rattle.std.specs.Prelude.{◌≡◌, ℕ, List, [], ◌∷◌, Some, None}
 use Rattle.board_rules.specs.Board.{Held, KeptAs, OpenJobs}
 use Rattle.board_rules.specs.Asking.{JobRow}
+use Rattle.board_rules.specs.AskingLaws.{AreKeys}
 use Rattle.board_rules.specs.Entries.{Step}
 use Rattle.board_rules.specs.Keys.{IsKey, Key, rules, top_job}
 use Rattle.job_preparing.specs.Handing.{mark_at}
@@ -18,7 +19,7 @@ use Rattle.pisdf_model.specs.declared.graph.Graphs.{Graphs}
 use Rattle.pisdf_meaning.specs.declared.firing.Firing.{Firing}
 use Rattle.job_table.specs.Calls.{IsStarted, MarksItem, OpensChild}
 use Rattle.job_table.specs.Suits.{Suits}
-use Rattle.job_table.specs.View.{TableView, job_row, table_of}
+use Rattle.job_table.specs.View.{TableView, job_row, keys_of, table_of}
 
 -- ---- tables as boards see them
 
@@ -34,6 +35,10 @@ TablesMark = (k item : ℕ) (mark : Mark Firing Answer) (old new : TableView) �
 abbrev pub TablesOpen : Type 0
 TablesOpen = (k item l : ℕ) (old new : TableView) → (o : OpensChild k item old l new) →
     table_of new ≡ put_row (put_row (table_of old) k (Some (with_mark (job_row o.upper) item (Open o.firing)))) l (Some (fresh_row (item ∷ o.upper.place) o.firing))
+
+-- the keys of the rows are keys of the table, each once
+abbrev pub KeysAreRows : Type 0
+KeysAreRows = (v : TableView) → AreKeys (table_of v) (keys_of v)
 
 -- ---- what a table stands for
 

@@ -4,4 +4,5 @@ pub mod Suits
 pub mod Calls
 pub mod Closing
 pub mod Asked
+pub mod AskedRows
 pub mod Laws

@@ -24,7 +24,6 @@ change_row change (Some row) = Some (with_job row (change row.job))
 
 -- the item calls this firing, and is open
 pub record CallsItem (item : ℕ) (firing : Firing) (old : OpenView) (new : Option Row) (row : Row) : Type 0 where
-  pub marked : item < length old.marks
   pub task_is : task old item ≡ Some (Call firing)
   pub inherited : HasInherited old.graphs.graphs firing
   pub new_is : new ≡ Some (with_job row (with_mark old item (Open firing)))

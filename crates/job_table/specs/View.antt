@@ -1,5 +1,5 @@
 -- A table of open jobs as plain data.
-use Rattle.std.specs.Prelude.{◌≡◌, ℕ, List, Option, Some, None, slice_index_or}
+use Rattle.std.specs.Prelude.{◌≡◌, ℕ, ◌+◌, List, [], ◌∷◌, Option, Some, None, slice_index_or}
 use Rattle.std.specs.Option.{option_map}
 use Rattle.board_rules.specs.Asking.{JobRow}
 use Rattle.board_rules.specs.Board.{OpenJobs}
@@ -38,6 +38,15 @@ lent_in v k i = lent_by (row_at v k) i
 -- no frame is out
 abbrev pub NothingIsLent : TableView → Type 0
 NothingIsLent v = (k i : ℕ) → lent_in v k i ≡ None
+
+-- the keys of the rows, the first of which has this key
+abbrev pub keys_from : ℕ → List (Option Row) → List ℕ
+keys_from k [] = []
+keys_from k (None ∷ rows) = keys_from (k + 1) rows
+keys_from k (Some row ∷ rows) = k ∷ keys_from (k + 1) rows
+
+abbrev pub keys_of : TableView → List ℕ
+keys_of v = keys_from 0 v.rows
 
 -- ---- the words of boards
 

@@ -1,5 +1,5 @@
 // What the calls of a table mean to boards. The functions do nothing; their contracts are laws.
-ghost use Rattle.job_table.specs.Laws.{CallsAreFit, ClaimsSuit, FinishesSuit, FirstCallsAreFit, OpeningsSuit, StartsSuit, TablesMark, TablesOpen, TablesStart};
+ghost use Rattle.job_table.specs.Laws.{CallsAreFit, ClaimsSuit, FinishesSuit, FirstCallsAreFit, KeysAreRows, OpeningsSuit, StartsSuit, TablesMark, TablesOpen, TablesStart};
 
 use job_flow::{edges_have_ports, frames_told, ready_stays};
 use job_rules::{jobs_mean_firings, rules_are_lawful};
@@ -12,6 +12,7 @@ pub fn tables_suit()
     ensures starts_with { TablesStart }
     ensures marks { TablesMark }
     ensures opens { TablesOpen }
+    ensures keys { KeysAreRows }
     ensures start { StartsSuit }
     ensures opening { OpeningsSuit }
     ensures claim { ClaimsSuit }

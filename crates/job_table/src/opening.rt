@@ -1,7 +1,8 @@
 // New rows.
-ghost use Rattle.std.specs.Prelude.{◌≡◌, ◌∷◌, ◌++◌, [], All, IfOk, None, OnErr, OnOk};
+ghost use Rattle.std.specs.Prelude.{◌≡◌, ◌∷◌, ◌++◌, [], All, is_some, IfOk, None, OnErr, OnOk};
 ghost use Rattle.open_job.specs.View.{IsOfferedCall};
 ghost use Rattle.job_table.specs.Slots.{IsUnlent, IsVacant, SameRows};
+ghost use Rattle.std.specs.List.{count_by};
 ghost use Rattle.open_job.specs.Paths.{step_of};
 
 use crate::row::Row;
@@ -71,18 +72,33 @@ pub(crate) fn vacant_key(rows: &mut Vec<Option<Row>>) -> Result<usize, AllocErro
     Ok(key)
 }
 
+/// How many rows there are.
+pub(crate) fn count_rows(rows: &[Option<Row>]) -> usize
+    ensures { result ≡ count_by is_some rows.now }
+{
+    let mut count = 0;
+    for row in rows {
+        if row.is_some() {
+            count += 1;
+        }
+    }
+    count
+}
+
 /// Gives up rows of which nothing is lent.
 pub(crate) fn end_rows(mut rows: Vec<Option<Row>>)
     requires { All IsUnlent rows.items }
 {
     while let Some(slot) = rows.pop() {
         match slot {
-            Some(Row {
-                job,
-                upper: _,
-                place: _,
-                steps: _,
-            }) => job.end(),
+            Some(
+                Row {
+                    job,
+                    upper: _,
+                    place: _,
+                    steps: _,
+                },
+            ) => job.end(),
             None => {}
         }
     }

@@ -1,5 +1,5 @@
 // What the calls do to one row.
-ghost use Rattle.std.specs.Prelude.{◌≡◌, ◌≢◌, ℕ, IfOk, IsOk, IsTrue, ◌↔◌, None, OnErr, OnOk, Some};
+ghost use Rattle.std.specs.Prelude.{◌≡◌, ◌≢◌, ◌<◌, ℕ, length, slice_index, IfOk, IsOk, IsTrue, ◌↔◌, None, OnErr, OnOk, Some};
 ghost use Rattle.std.specs.Arc.{arc_value};
 ghost use Rattle.std.specs.Option.{option_map};
 ghost use Rattle.job_preparing.specs.CompileTasks.{IsEndOf};
@@ -18,6 +18,7 @@ use job_preparing::{CompileEnd, CompileTask, JobGiven};
 use kernel_gate::{Frame, KernelFault};
 use open_job::{Handed, OpenJob};
 use pisdf_meaning::{Firing, Refusal};
+use sdf_level::List;
 use std::alloc::{AllocError, Global};
 use std::mem;
 use std::sync::Arc;
@@ -88,9 +89,14 @@ pub(crate) fn claim_compile_in(
 }
 
 /// Opens an item that calls a job.
-pub(crate) fn call_in(slot: &mut Option<Row>, alloc: Global, item: usize) -> Result<Firing, AllocError>
+pub(crate) fn call_in(
+    slot: &mut Option<Row>,
+    alloc: Global,
+    item: usize,
+) -> Result<Firing, AllocError>
     requires { InSlot (λ job. IsOfferedCall job item) slot.old }
-    ensures { CallsIn item result slot.old slot.new }
+    ensures there { InSlot (λ job. HasItem job item) slot.old }
+    ensures called { CallsIn item result slot.old slot.new }
 {
     match slot {
         Some(row) => row.job.call(alloc, item),
@@ -99,7 +105,12 @@ pub(crate) fn call_in(slot: &mut Option<Row>, alloc: Global, item: usize) -> Res
 }
 
 /// Finishes an item whose frame comes back.
-pub(crate) fn finish_in(slot: &mut Option<Row>, item: usize, frame: Frame, answer: Result<(), KernelFault>)
+pub(crate) fn finish_in(
+    slot: &mut Option<Row>,
+    item: usize,
+    frame: Frame,
+    answer: Result<(), KernelFault>,
+)
     requires busy { InSlot (λ job. mark_at job.marks item ≡ Busy) slot.old }
     requires lent { InSlot (λ job. lent_at job.lent item ≡ Some frame.places) slot.old }
     requires sound { InSlot (λ job. IsSoundFor (task job item) (IsOk answer)) slot.old }
@@ -112,7 +123,11 @@ pub(crate) fn finish_in(slot: &mut Option<Row>, item: usize, frame: Frame, answe
 }
 
 /// Finishes the compilation.
-pub(crate) fn finish_compile_in(slot: &mut Option<Row>, alloc: Global, end: CompileEnd) -> Result<(), AllocError>
+pub(crate) fn finish_compile_in(
+    slot: &mut Option<Row>,
+    alloc: Global,
+    end: CompileEnd,
+) -> Result<(), AllocError>
     requires busy { InSlot (λ job. mark_at job.marks (compilation_of job) ≡ Busy) slot.old }
     requires end { InSlot (λ job. IsEndOf job.graphs.graphs job.workers job.firing (left_by job) end) slot.old }
     ensures compiled { OnOk result (CompilesSlot end slot.old slot.new) }
@@ -144,4 +159,12 @@ pub(crate) fn is_quiet(slot: &Option<Row>) -> bool
         Some(row) => row.job.quiet(),
         None => unreachable!(),
     }
+}
+
+/// The item that called a job, by the job's place.
+pub(crate) fn calling_item(place: &List<usize>) -> usize
+    requires { 0 < length place.now }
+    ensures { result ≡ slice_index place.now 0 }
+{
+    place.items()[0]
 }

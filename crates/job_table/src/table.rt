@@ -6,14 +6,16 @@ ghost use Rattle.std.specs.Option.{option_map};
 use crate::asking;
 use crate::asking::Asked;
 use crate::begins::{Begins, begins_with};
-use crate::opening::{child_place, child_steps, end_rows, top_row, vacant_key};
+use crate::opening::{child_place, child_steps, count_rows, end_rows, top_row, vacant_key};
 use crate::row::Row;
 use crate::slots::{
-    call_in, claim_compile_in, claim_in, finish_call_in, finish_compile_in, finish_in, is_quiet,
-    put_row, row_in, take_row,
+    call_in, calling_item, claim_compile_in, claim_in, finish_call_in, finish_compile_in,
+    finish_in, is_quiet, put_row, row_in, take_row,
 };
+use board_rules::boards_keep;
 use job_compiler::Compiled;
 use job_preparing::{CompileEnd, CompileTask, JobGiven};
+use job_rules::rules_are_lawful;
 use kernel_gate::{Frame, KernelFault};
 use open_job::{Handed, OpenJob, open};
 use pisdf_meaning::{Firing, Refusal};
@@ -58,7 +60,7 @@ impl JobTable {
     ghost use Rattle.job_table.specs.Asked.{IsAsked};
     ghost use Rattle.job_table.specs.Calls.{BeginsWith, FinishesIn, IsStarted, LendsAsBefore, LendsItem, MarksItem, OpensChild, SpoilsItem};
     ghost use Rattle.job_table.specs.Closing.{Closes, IsClosingFrom, RowsStay};
-    ghost use Rattle.job_table.specs.View.{HasJob, NothingIsLent, lent_in};
+    ghost use Rattle.job_table.specs.View.{HasJob, NothingIsLent, keys_of, lent_in};
 
     /// A table of one job, the top one, of which nothing is claimed. The jobs will be mapped on so many workers.
     ///
@@ -105,6 +107,13 @@ impl JobTable {
         &row_in(&self.rows[row]).job
     }
 
+    /// How many jobs are open.
+    pub fn open_jobs(&self) -> usize
+        ensures { result ≡ length (keys_of self.now) }
+    {
+        count_rows(self.rows.as_slice())
+    }
+
     /// The work that goes first for a worker, of all that the jobs offer; none where none offers any.
     pub fn first_work(&self, worker: u32) -> Option<Asked>
         ensures { IsAsked worker false self.now result }
@@ -132,7 +141,12 @@ impl JobTable {
     /// # Errors
     ///
     /// Want of memory. The item may not be free any more then, without an answer; all else is as before.
-    pub fn open_child(&mut self, alloc: Global, row: usize, item: usize) -> Result<usize, AllocError>
+    pub fn open_child(
+        &mut self,
+        alloc: Global,
+        row: usize,
+        item: usize,
+    ) -> Result<usize, AllocError>
         requires range { InRange self.old.graphs }
         requires well { WellFormed self.old.graphs }
         requires some { 1 ≤ self.old.workers }
@@ -228,11 +242,16 @@ impl JobTable {
     /// # Errors
     ///
     /// Want of memory: a trace would have 2^63 rows or more.
-    pub fn close_from(&mut self, row: usize) -> Result<Option<Result<JobGiven, Refusal>>, AllocError>
+    pub fn close_from(
+        &mut self,
+        row: usize,
+    ) -> Result<Option<Result<JobGiven, Refusal>>, AllocError>
         requires { IsClosingFrom self.old row }
         ensures closed { IfOk result (Closes self.old row self.new) }
         ensures stay { RowsStay self.old self.new }
     {
+        boards_keep();
+        rules_are_lawful();
         if !is_quiet(&self.rows[row]) {
             return Ok(None);
         }
@@ -246,7 +265,7 @@ impl JobTable {
         match upper {
             None => Ok(Some(end)),
             Some(upper) => {
-                finish_call_in(&mut self.rows[upper], place.items()[0], end);
+                finish_call_in(&mut self.rows[upper], calling_item(&place), end);
                 self.close_from(upper)
             }
         }

@@ -1,5 +1,5 @@
 -- The compilation, where it is offered as work.
-use Rattle.std.proofs.Common.{◌≡◌, List, [], Option, Some, None, is_some, true, unwrap_or, refl, sym, ap, ◌∙◌}
+use Rattle.std.proofs.Common.{◌≡◌, List, [], Option, Some, None, is_some, true, unwrap_or, refl, sym, ◌∙◌}
 use Rattle.nested_jobs.specs.Rules.{Work}
 use Rattle.pisdf_meaning.specs.declared.firing.Configured.{Configured}
 use Rattle.pisdf_meaning.specs.declared.firing.Firing.{Firing}

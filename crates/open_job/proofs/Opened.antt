@@ -1,15 +1,14 @@
 -- A job at its start.
-use Rattle.std.proofs.Common.{◌≡◌, ℕ, zero, suc, ◌≤◌, List, length, replicate, get_or, Option, None, refl, sym, ap, ◌∙◌, subst}
+use Rattle.std.proofs.Common.{◌≡◌, ℕ, ◌≤◌, length, replicate, None, sym, ap, ◌∙◌, subst}
 use Rattle.std.proofs.lemmas.List.{length-replicate}
-use Rattle.kernel_gate.specs.Value.{Places}
-use Rattle.nested_jobs.specs.Marks.{Mark, Free, Done}
+use Rattle.nested_jobs.specs.Marks.{Free, Done}
 use Rattle.pisdf_model.specs.Range.{InRange}
 use Rattle.pisdf_model.specs.WellFormed.{WellFormed}
 use Rattle.pisdf_model.specs.declared.graph.Graphs.{Graphs}
 use Rattle.pisdf_meaning.specs.declared.firing.Firing.{Firing}
 use Rattle.job_rules.specs.Items.{compile_number, graph_of}
 use Rattle.job_rules.specs.Meant.{IsFit}
-use Rattle.job_rules.specs.Words.{Answer, Schedules}
+use Rattle.job_rules.specs.Words.{Schedules}
 use Rattle.job_preparing.specs.Handing.{ItemMarks, mark_at}
 use Rattle.job_preparing.specs.View as preparing
 use Rattle.job_preparing.specs.View.{ConfiguringView}

@@ -18,7 +18,6 @@ use Rattle.job_preparing.specs.View as preparing
 use Rattle.job_preparing.specs.View.{ConfiguringView}
 use Rattle.job_running.specs.View.{step_of_node}
 use Rattle.job_running.specs.View as running
-use Rattle.job_running.specs.View.{RunningView}
 use Rattle.open_job.specs.View.{OpenView, answered, task}
 use Rattle.open_job.specs.Paths.{IsCall, step_of, step_of_item}
 use Rattle.open_job.specs.Places.{config_places, places_from}

@@ -9,7 +9,7 @@ use Rattle.nested_jobs.proofs.Tabling.{answers_are}
 use Rattle.nested_jobs.specs.Rules.{Values}
 use Rattle.job_table.proofs.laws.calls_are_fit.Goals as goal
 
-laws_of : (c : goal.Returns) → JobsHaveLaws
+laws_of : (c : goal.After-edges_have_ports) → JobsHaveLaws
 laws_of c = λ key is. record {
   lawful = c.rules_are_lawful.ensures key.graphs is.in_range is.well_formed;
   meant = c.jobs_mean_firings.ensures key.signatures key.graphs is.in_range is.well_formed is.kernels is.lengths;

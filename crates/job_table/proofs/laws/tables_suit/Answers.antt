@@ -1,4 +1,5 @@
 use Rattle.std.proofs.Common.{refl}
+use Rattle.job_table.proofs.Keys.{keys_are}
 use Rattle.job_table.proofs.Rows.{table_marks, table_opens, table_starts}
 use Rattle.job_table.proofs.Suiting.{claim_suits, finish_suits, open_suits, start_suits}
 use Rattle.job_table.proofs.laws.tables_suit.Goals as goal
@@ -11,6 +12,9 @@ returns-clause-marks c = table_marks
 
 pub returns-clause-opens : goal.returns-clause-opens
 returns-clause-opens c = table_opens
+
+pub returns-clause-keys : goal.returns-clause-keys
+returns-clause-keys c = keys_are
 
 pub returns-clause-start : goal.returns-clause-start
 returns-clause-start c = λ key v is s. start_suits key (c.rules_are_lawful.ensures key.graphs is.in_range is.well_formed) v is s
