@@ -4,7 +4,6 @@ pub mod Runs
 pub mod Claims
 pub mod Finishes
 pub mod Ends
-pub mod Laws
 pub mod Core
 pub mod Starved
 pub mod Opening

@@ -13,6 +13,7 @@ use board_journal::Journal;
 use board_rules::{boards_end, boards_keep, entries_tell_steps};
 use job_compiler::{Kept, Key};
 use job_preparing::CompileEnd;
+use job_table::tables_suit;
 use kernel_gate::{Frame, KernelFault, Signature};
 use pisdf_meaning::{Delays, Firing, runnable};
 use pisdf_model::Graphs;
@@ -82,7 +83,7 @@ impl Board {
     {
         runnable();
         boards_keep();
-        boards_end();
+        tables_suit();
         let top = &graphs.graphs.items()[graphs.top as usize];
         let firing = top_firing(alloc, top, graphs.top, delays, ins)?;
         let top = Snapshot::of(&firing);
@@ -107,6 +108,7 @@ impl Board {
         ensures claims { Claims self.old self.new worker result }
         ensures starved { self.old.starved ≡ true → result ≡ Claim.Starved }
     {
+        entries_tell_steps();
         if self.starved {
             return Claim::Starved;
         }
@@ -163,7 +165,8 @@ impl Board {
         ticket: Ticket,
         end: CompileEnd,
     ) -> Result<(), AllocError>
-        requires { Runs self.old ticket.worker (MayEnd self.old.key end) }
+        requires runs { Runs self.old ticket.worker (MayEnd self.old.key end) }
+        requires lent { lent_to self.old ticket.worker ≡ None }
         ensures finishes { Finishes self.old self.new ticket.worker }
         ensures live { OnOk result (self.new.starved ≡ false) }
         ensures starved { OnErr result (self.new.starved ≡ true) }
@@ -171,7 +174,11 @@ impl Board {
         let key = take_key(&mut self.compiling, ticket.worker);
         keep_ready(&mut self.kept, key, &end);
         self.starved = finish_compilation(alloc, &mut self.core, self.starved, ticket.worker, end);
-        if self.starved { Err(AllocError) } else { Ok(()) }
+        if self.starved {
+            Err(AllocError)
+        } else {
+            Ok(())
+        }
     }
 
     /// The steps that were taken.
@@ -205,7 +212,6 @@ impl Board {
         ensures { IfOk result (EndsAs self) }
     {
         boards_end();
-        boards_keep();
         entries_tell_steps();
         let Board {
             signatures: _,

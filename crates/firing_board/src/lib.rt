@@ -10,7 +10,6 @@ mod ending;
 mod finding;
 mod finishing;
 mod keeping;
-mod laws;
 mod numbering;
 mod run;
 mod starting;
