@@ -1,0 +1,14 @@
+use board_rules::Item;
+
+/// An entry, whose path is told by its number among the journal's paths.
+#[derive(Clone, Copy, Drop)]
+pub(crate) enum Line {
+    Claim {
+        worker: u32,
+        path: usize,
+        item: Item,
+    },
+    Finish {
+        worker: u32,
+    },
+}

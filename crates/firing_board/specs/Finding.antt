@@ -1,0 +1,43 @@
+-- The item that is picked for a worker.
+use Rattle.std.specs.Prelude.{◌≡◌, ℕ, false, List, [], ◌∷◌, Option, Some, None}
+use Rattle.nested_jobs.specs.Marks.{Free, Marks}
+use Rattle.nested_jobs.specs.Rules.{Place, Work}
+use Rattle.nested_jobs.specs.Steps.{IsEnabled}
+use Rattle.job_preparing.specs.Handing.{mark_at}
+use Rattle.job_rules.specs.Words as words
+use Rattle.job_rules.specs.Words.{Answer}
+use Rattle.open_job.specs.View.{IsOfferedWork}
+use Rattle.pisdf_meaning.specs.declared.firing.Firing.{Firing}
+use Rattle.board_rules.specs.Asking.{NoRowOffers}
+use Rattle.board_rules.specs.Board.{HasOpened}
+use Rattle.board_rules.specs.Entries.{Step}
+use Rattle.board_rules.specs.Keys.{Key, rules}
+use Rattle.board_rules.specs.Legal.{state_after}
+use Rattle.board_rules.specs.Picks.{IsPick}
+use Rattle.job_table.specs.Suits.{Suits}
+use Rattle.job_table.specs.View.{row_at, table_of}
+use Rattle.job_table.specs.declared.row.Row.{Row}
+use Rattle.firing_board.specs.Core.{AreNumbered, StandsAt}
+use Rattle.firing_board.specs.declared.core.Core.{Core}
+use Rattle.firing_board.specs.declared.run.Run.{Run}
+
+-- the item of an open job is picked for a worker, and the jobs on its way are open
+pub record IsFound (key : Key) (taken : List Step) (old : Core) (w : ℕ) (new : Core) (run : Run) : Type 0 where
+  pub marks : Marks Firing Answer
+  pub suits : Suits key marks new.table
+  pub row : Row
+  pub here : row_at new.table run.row ≡ Some row
+  pub offered : IsOfferedWork row.job run.item
+  pub opened : HasOpened key (table_of old.table) (state_after key taken).marks (run.item ∷ row.place) (table_of new.table) marks
+  pub picked : IsPick key (state_after key taken).marks w run.item row.place
+  pub numbered : AreNumbered new.table new.numbers.items new.journal.paths
+
+-- these steps were taken, and no job offers work
+pub record HasNoWork (key : Key) (taken : List Step) (c : Core) : Type 0 where
+  pub stands : StandsAt key taken c
+  pub none : NoRowOffers key false (table_of c.table)
+
+-- none is picked exactly where nothing is enabled
+abbrev pub Finds : Key → List Step → Core → ℕ → Core → Option Run → Type 0
+Finds key taken old w new None = (new ≡ old) × ((a : Place) → ¬ (IsEnabled (rules key) (state_after key taken).marks a))
+Finds key taken old w new (Some run) = IsFound key taken old w new run

@@ -1,0 +1,103 @@
+-- What a worker is handed that claims an item.
+use Rattle.std.specs.Prelude.{◌≡◌, ◌⊎◌, ℕ, ◌-◌, ◌<◌, ◌≤◌, List, [], ◌∷◌, ◌++◌, Option, Some, None, length, slice_index_or, slice_set}
+use Rattle.nested_jobs.specs.Marks.{Busy}
+use Rattle.job_compiler.specs.Compilation.{Compilation}
+use Rattle.open_job.specs.Calls.{IsHanded, frame_of}
+use Rattle.open_job.specs.View.{compilation_of, graph_in, left_by}
+use Rattle.open_job.specs.declared.handed.Handed.{Handed}
+use Rattle.open_job.specs.declared.handed.Handed.TheVariants as handed
+use Rattle.board_rules.specs.Entries.{item_of}
+use Rattle.board_rules.specs.declared.entry.Entry.TheVariants as entry
+use Rattle.board_rules.specs.declared.entry.Item.{Item}
+use Rattle.board_journal.specs.View.{JournalView, path_at}
+use Rattle.job_table.specs.Calls.{LendsAsBefore, LendsItem, MarksItem}
+use Rattle.job_table.specs.View.{row_at}
+use Rattle.job_table.specs.declared.row.Row.{Row}
+use Rattle.firing_board.specs.declared.claim.Claim.{Claim}
+use Rattle.firing_board.specs.declared.claim.Claim.TheVariants as claim
+use Rattle.firing_board.specs.declared.claim.Ticket.{Ticket}
+use Rattle.firing_board.specs.declared.core.Core.{Core}
+use Rattle.firing_board.specs.declared.run.Run.{Run}
+
+-- what a job hands out, with a ticket
+abbrev pub claim_of : Ticket → Handed → Claim
+claim_of ticket (handed.Configure frame) = claim.Configure ticket frame
+claim_of ticket (handed.Fire frame) = claim.Fire ticket frame
+claim_of ticket (handed.Copy node frame) = claim.Copy ticket node frame
+
+-- the path of a row
+abbrev pub path_in : Core → ℕ → List ℕ
+path_in c k = path_at c.journal.paths (slice_index_or c.numbers.items k 0)
+
+-- the journal with the claim of an item in the job of this path
+abbrev pub with_claim : JournalView → ℕ → List ℕ → Item → JournalView
+with_claim j w path item = record j { entries = j.entries ++ entry.Claim w path item ∷ []; room = j.room - 1 }
+
+-- the claim is entered, and the worker runs the item
+pub record Enters (old : Core) (w : ℕ) (run : Run) (item : Item) (ticket : Ticket) (new : Core) : Type 0 where
+  pub ticket_is : ticket ≡ record { worker = w; entry = length old.journal.entries }
+  pub table_is : new.table ≡ old.table
+  pub running_are : new.running.items ≡ slice_set old.running.items w (Some run)
+  pub numbers_are : new.numbers ≡ old.numbers
+  pub journal_is : new.journal ≡ with_claim old.journal w (path_in old run.row) item
+  pub end_is : new.end ≡ old.end
+
+-- all is as before, but for more room in the journal
+pub record KeepsAll (old new : Core) : Type 0 where
+  pub table_is : new.table ≡ old.table
+  pub running_is : new.running ≡ old.running
+  pub numbers_are : new.numbers ≡ old.numbers
+  pub paths_are : new.journal.paths ≡ old.journal.paths
+  pub entries_are : new.journal.entries ≡ old.journal.entries
+  pub more : old.journal.room ≤ new.journal.room
+  pub end_is : new.end ≡ old.end
+
+-- the claim of a worker can be entered
+pub record MayEnter (c : Core) (w : ℕ) (run : Run) : Type 0 where
+  pub is_worker : w < length c.running.items
+  pub known : slice_index_or c.numbers.items run.row 0 < length c.journal.paths
+  pub room : 0 < c.journal.room
+
+-- a frame is handed out with an item, whose claim is entered
+pub record HandsFrame (old : Core) (w : ℕ) (run : Run) (item : Item) (new : Core) (result : Claim) : Type 0 where
+  pub row : Row
+  pub here : row_at old.table run.row ≡ Some row
+  pub handed : Handed
+  pub handed_so : IsHanded row.job run.item handed
+  pub claimed : Core
+  pub marks : MarksItem run.row run.item Busy old.table claimed.table
+  pub lends : LendsItem run.row run.item (Some (frame_of handed).places) old.table claimed.table
+  pub running_is : claimed.running ≡ old.running
+  pub numbers_are : claimed.numbers ≡ old.numbers
+  pub journal_is : claimed.journal ≡ old.journal
+  pub end_is : claimed.end ≡ old.end
+  pub ticket : Ticket
+  pub enters : Enters claimed w run item ticket new
+  pub result_is : result ≡ claim_of ticket handed
+
+-- a compilation is handed out, whose claim is entered
+pub record HandsCompilation (old : Core) (w : ℕ) (run : Run) (item : Item) (new : Core) (result : Claim) : Type 0 where
+  pub row : Row
+  pub here : row_at old.table run.row ≡ Some row
+  pub kept : Option Compilation
+  pub claimed : Core
+  pub marks : MarksItem run.row (compilation_of row.job) Busy old.table claimed.table
+  pub lends : LendsAsBefore old.table claimed.table
+  pub running_is : claimed.running ≡ old.running
+  pub numbers_are : claimed.numbers ≡ old.numbers
+  pub journal_is : claimed.journal ≡ old.journal
+  pub end_is : claimed.end ≡ old.end
+  pub ticket : Ticket
+  pub enters : Enters claimed w run item ticket new
+  pub result_is : result ≡ claim.Compile ticket record { graphs = row.job.graphs; workers = row.job.workers; firing = row.job.firing; left = left_by row.job; kept = kept }
+
+-- a frame or a compilation is handed out, once there is room in the journal for that and for the finish of each worker
+pub record HandsOut (old : Core) (w : ℕ) (run : Run) (new : Core) (result : Claim) : Type 0 where
+  pub reserved : Core
+  pub keeps : KeepsAll old reserved
+  pub room : length old.running.items < reserved.journal.room
+  pub row : Row
+  pub here : row_at old.table run.row ≡ Some row
+  pub item : Item
+  pub item_is : item ≡ item_of (graph_in row.job) run.item
+  pub handed : HandsFrame reserved w run item new result ⊎ ((run.item ≡ compilation_of row.job) × HandsCompilation reserved w run item new result)

@@ -1,0 +1,41 @@
+-- The fields of a board.
+use Rattle.std.specs.Prelude.{◌≡◌, ℕ, ◌≤◌, Bool, true, false, List, Option, length, map}
+use Rattle.kernel_gate.specs.Signed.{counts_of}
+use Rattle.kernel_gate.specs.declared.signature.Signature.{Signature}
+use Rattle.pisdf_meaning.specs.declared.firing.Firing.{Firing}
+use Rattle.board_rules.specs.Entries.{Step}
+use Rattle.board_rules.specs.Keys.{IsKey, Key}
+use Rattle.firing_board.specs.Core.{IsLentToRunners, StandsAt, lent_of, runners}
+use Rattle.firing_board.specs.Starved.{StarvesAt}
+use Rattle.firing_board.specs.View.{BoardView}
+use Rattle.firing_board.specs.declared.board.Board.TheInside.{Inside}
+use Rattle.firing_board.specs.declared.core.Core.{Core}
+
+abbrev pub key_with : List Signature → Firing → Core → Key
+key_with signatures top c = record { graphs = c.table.graphs; signatures = map counts_of signatures; delays = top.state; ins = top.inputs; workers = c.table.workers }
+
+abbrev pub view_with : Key → Core → Bool → BoardView
+view_with key c starved = record { key = key; journal = c.journal.entries; starved = starved; lent = lent_of c.table c.running.items }
+
+abbrev pub key_of : Inside → Key
+key_of i = key_with i.signatures.items i.top.value i.core
+
+abbrev pub view_of : Inside → BoardView
+view_of i = view_with (key_of i) i.core i.starved
+
+-- the open jobs, and what workers run of them, stand where steps were taken; where memory was wanted, what workers run does
+abbrev pub StandsOrStarves : Bool → Key → List Step → Core → Type 0
+StandsOrStarves false key taken c = StandsAt key taken c
+StandsOrStarves true key taken c = StarvesAt key taken c
+
+pub record Keeps (key : Key) (c : Core) (starved : Bool) : Type 0 where
+  pub is_key : IsKey key
+  pub one_each : length c.running.items ≡ key.workers
+  pub lent : IsLentToRunners c.table c.running.items
+  -- each finish of what runs has its room
+  pub room : runners c.running.items ≤ c.journal.room
+  pub taken : List Step
+  pub at : StandsOrStarves starved key taken c
+
+abbrev pub IsBoard : Inside → Type 0
+IsBoard i = Keeps (key_of i) i.core i.starved × (length i.compiling.items ≡ length i.core.running.items)

@@ -1,0 +1,16 @@
+pub mod View
+pub mod Starts
+pub mod Runs
+pub mod Claims
+pub mod Finishes
+pub mod Ends
+pub mod Core
+pub mod Starved
+pub mod Opening
+pub mod Finding
+pub mod Handing
+pub mod Returning
+pub mod Beginning
+pub mod Closing
+pub mod Kept
+pub mod OnCore

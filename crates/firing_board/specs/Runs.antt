@@ -1,0 +1,37 @@
+-- What a worker runs.
+use Rattle.std.specs.Prelude.{◌≡◌, ℕ, ◌<◌, List, Some, None}
+use Rattle.nested_jobs.specs.Journals.{task_of}
+use Rattle.nested_jobs.specs.Rules.{Place, Work}
+use Rattle.job_rules.specs.Words as words
+use Rattle.board_rules.specs.Entries.{BoardState, Step}
+use Rattle.board_rules.specs.Keys.{Key, rules}
+use Rattle.board_rules.specs.Legal.{state_after}
+use Rattle.firing_board.specs.View.{BoardView, IsAt}
+
+-- a worker runs an item, whose task is this work
+pub record RunsWork (key : Key) (s : BoardState) (w : ℕ) (work : words.Work) : Type 0 where
+  pub place : Place
+  pub runs : s.running w ≡ Some place
+  pub task : task_of (rules key) s.marks place ≡ Some (Work work)
+
+-- a worker of the board runs nothing
+pub record IsIdle (b : BoardView) (w : ℕ) : Type 0 where
+  pub is_worker : w < b.key.workers
+  pub taken : List Step
+  pub at : IsAt b taken
+  pub runs_none : (state_after b.key taken).running w ≡ None
+
+-- none of them does
+pub record AreAllIdle (b : BoardView) : Type 0 where
+  pub taken : List Step
+  pub at : IsAt b taken
+  pub run_none : (w : ℕ) → w < b.key.workers → (state_after b.key taken).running w ≡ None
+
+-- a worker of the board runs work of which this holds
+pub record Runs (b : BoardView) (w : ℕ) (P : words.Work → Type 0) : Type 0 where
+  pub is_worker : w < b.key.workers
+  pub taken : List Step
+  pub at : IsAt b taken
+  pub work : words.Work
+  pub runs : RunsWork b.key (state_after b.key taken) w work
+  pub so : P work

@@ -1,0 +1,242 @@
+// The board and its calls.
+ghost use Rattle.std.specs.Prelude.{◌≡◌, [], IfOk, IsOk, None, OnErr, OnOk, Some, false, replicate, true};
+ghost use Rattle.std.specs.Arc.{arc_value};
+
+use crate::claim::{Claim, Ticket};
+use crate::claiming;
+use crate::core::Core;
+use crate::ending::{BoardEnd, end_core, outcome_of};
+use crate::finishing::{finish_compilation, finish_frame};
+use crate::keeping::{keep_ready, take_key};
+use crate::starting::{nothing_compiles, start_core, top_firing};
+use board_journal::Journal;
+use board_rules::{boards_end, boards_keep, entries_tell_steps};
+use job_compiler::{Kept, Key};
+use job_preparing::CompileEnd;
+use job_table::tables_suit;
+use kernel_gate::{Frame, KernelFault, Signature};
+use pisdf_meaning::{Delays, Firing, runnable};
+use pisdf_model::Graphs;
+use sdf_level::List;
+use std::alloc::{AllocError, Global};
+use std::marker::Model;
+use std::mem;
+use std::snapshot::Snapshot;
+use std::sync::Arc;
+
+/// A run of one firing of the top graph by several workers: the open jobs, what each worker runs of them, and the journal of
+/// their claims and finishes. It is neither `Drop` nor `Clone`: it is given up by `outcome` or `end`.
+pub struct Board {
+    pub(crate) signatures: Vec<Signature>,
+    pub(crate) top: Snapshot<Firing>,
+    pub(crate) core: Core,
+    /// The compilations that are kept from one board to the next.
+    pub(crate) kept: Option<Kept>,
+    /// By which key the compilation will be kept that a worker has.
+    pub(crate) compiling: Vec<Option<Key>>,
+    /// Memory was wanted.
+    pub(crate) starved: bool,
+}
+
+impl Model for Board {
+    ghost use Rattle.firing_board.specs.View.{BoardView};
+
+    ghost Value = { BoardView };
+
+    ghost use Rattle.std.specs.Coded.{codes};
+    ghost use Rattle.param_expr.specs.Tree.{tree_code};
+
+    ghost coded = { Prim.hlevel (codes, tree_code) };
+
+    ghost use Rattle.firing_board.specs.Kept.{IsBoard, view_of};
+
+    ghost view = { view_of };
+
+    ghost invariant = { IsBoard };
+}
+
+impl Board {
+    ghost use Rattle.board_rules.specs.Keys.{IsKey};
+    ghost use Rattle.firing_board.specs.Claims.{Claims};
+    ghost use Rattle.firing_board.specs.Ends.{EndsAs, IsOver};
+    ghost use Rattle.firing_board.specs.Finishes.{Finishes, MayComeBack, MayEnd};
+    ghost use Rattle.firing_board.specs.Runs.{AreAllIdle, IsIdle, Runs};
+    ghost use Rattle.firing_board.specs.Starts.{key_from};
+    ghost use Rattle.firing_board.specs.View.{lent_to};
+
+    /// A board of one firing of the top graph, in which nothing is claimed. `ins` has the tokens of each of its inputs, as many
+    /// as the input's rate, and `delays` the state that the iteration before left. There are 1 to 16 workers.
+    ///
+    /// # Errors
+    ///
+    /// Want of memory.
+    pub fn start(
+        alloc: Global,
+        graphs: Arc<Graphs>,
+        signatures: &[Signature],
+        delays: &Delays,
+        ins: &[List<i64>],
+        workers: u32,
+    ) -> Result<Board, AllocError>
+        requires { IsKey (key_from (arc_value graphs) signatures.now delays.now ins.now workers) }
+        ensures { IfOk result (λ b. b ≡ record { key = key_from (arc_value graphs) signatures.now delays.now ins.now workers; journal = []; starved = false; lent = replicate workers None }) }
+    {
+        runnable();
+        boards_keep();
+        tables_suit();
+        let top = &graphs.graphs.items()[graphs.top as usize];
+        let firing = top_firing(alloc, top, graphs.top, delays, ins)?;
+        let top = Snapshot::of(&firing);
+        let signatures = Vec::from_slice(alloc, signatures)?;
+        let compiling = nothing_compiles(alloc, workers)?;
+        let core = start_core(alloc, graphs, workers, firing)?;
+        Ok(Board {
+            signatures,
+            top,
+            core,
+            kept: None,
+            compiling,
+            starved: false,
+        })
+    }
+
+    /// Claims the item that is picked for a worker that runs nothing. `Wait` comes exactly where nothing may be claimed and
+    /// another worker runs something, and `Finished` exactly where the journal has ended. Once a claim or a finish wanted
+    /// memory, each later claim is `Starved`.
+    pub fn claim(&mut self, alloc: Global, worker: u32) -> Claim
+        requires { IsIdle self.old worker }
+        ensures claims { Claims self.old self.new worker result }
+        ensures starved { self.old.starved ≡ true → result ≡ Claim.Starved }
+    {
+        entries_tell_steps();
+        if self.starved {
+            return Claim::Starved;
+        }
+        let claimed = claiming::claim(
+            alloc,
+            &mut self.core,
+            worker,
+            &mut self.kept,
+            &mut self.compiling,
+        );
+        match claimed {
+            Ok(claim) => claim,
+            Err(AllocError) => {
+                self.starved = true;
+                Claim::Starved
+            }
+        }
+    }
+
+    /// Finishes a kernel or a node: its frame comes back with what it wrote, or with the fault of the kernel. It takes no
+    /// memory; where a trace would have 2^63 rows or more, the board starves.
+    pub fn finish_fire(&mut self, ticket: Ticket, frame: Frame, answer: Result<(), KernelFault>)
+        requires runs { Runs self.old ticket.worker (MayComeBack self.old.key frame answer (IsOk answer)) }
+        requires lent { lent_to self.old ticket.worker ≡ Some frame.places }
+        ensures finishes { Finishes self.old self.new ticket.worker }
+        ensures starved { self.old.starved ≡ true → self.new.starved ≡ true }
+    {
+        self.starved = finish_frame(&mut self.core, self.starved, ticket.worker, frame, answer);
+    }
+
+    /// Finishes a configuration actor in the same way.
+    pub fn finish_configure(
+        &mut self,
+        ticket: Ticket,
+        frame: Frame,
+        answer: Result<(), KernelFault>,
+    )
+        requires runs { Runs self.old ticket.worker (MayComeBack self.old.key frame answer (IsOk answer)) }
+        requires lent { lent_to self.old ticket.worker ≡ Some frame.places }
+        ensures finishes { Finishes self.old self.new ticket.worker }
+        ensures starved { self.old.starved ≡ true → self.new.starved ≡ true }
+    {
+        self.finish_fire(ticket, frame, answer);
+    }
+
+    /// Finishes a compilation.
+    ///
+    /// # Errors
+    ///
+    /// Want of memory, now or before, also where the compilation ended so. The finish is entered, and the board is starved.
+    pub fn finish_compile(
+        &mut self,
+        alloc: Global,
+        ticket: Ticket,
+        end: CompileEnd,
+    ) -> Result<(), AllocError>
+        requires runs { Runs self.old ticket.worker (MayEnd self.old.key end) }
+        requires lent { lent_to self.old ticket.worker ≡ None }
+        ensures finishes { Finishes self.old self.new ticket.worker }
+        ensures live { OnOk result (self.new.starved ≡ false) }
+        ensures starved { OnErr result (self.new.starved ≡ true) }
+    {
+        let key = take_key(&mut self.compiling, ticket.worker);
+        keep_ready(&mut self.kept, key, &end);
+        self.starved = finish_compilation(alloc, &mut self.core, self.starved, ticket.worker, end);
+        if self.starved {
+            Err(AllocError)
+        } else {
+            Ok(())
+        }
+    }
+
+    /// The steps that were taken.
+    pub fn journal(&self) -> &Journal
+        ensures { result.now.entries ≡ self.now.journal }
+    {
+        &self.core.journal
+    }
+
+    /// Puts in compilations that are kept from one board to the next. There are none in the board.
+    pub fn put_kept(&mut self, kept: Kept)
+        ensures { self.new ≡ self.old }
+    {
+        self.kept = Some(kept);
+    }
+
+    /// Takes out the compilations that were put in, and those made since, if any were put in.
+    pub fn take_kept(&mut self) -> Option<Kept>
+        ensures { self.new ≡ self.old }
+    {
+        mem::replace(&mut self.kept, None)
+    }
+
+    /// How the board ends, once its journal has ended, or memory was wanted and no worker runs anything.
+    ///
+    /// # Errors
+    ///
+    /// Want of memory. The board is given up.
+    pub fn outcome(self, alloc: Global) -> Result<BoardEnd, AllocError>
+        requires { IsOver self }
+        ensures { IfOk result (EndsAs self) }
+    {
+        boards_end();
+        entries_tell_steps();
+        let Board {
+            signatures: _,
+            top: _,
+            core,
+            kept: _,
+            compiling: _,
+            starved,
+        } = self;
+        outcome_of(alloc, core, starved)
+    }
+
+    /// Gives up the board, of which no worker runs anything.
+    pub fn end(self)
+        requires { AreAllIdle self }
+    {
+        entries_tell_steps();
+        let Board {
+            signatures: _,
+            top: _,
+            core,
+            kept: _,
+            compiling: _,
+            starved: _,
+        } = self;
+        end_core(core);
+    }
+}

@@ -1,0 +1,203 @@
+// Hands out the item that is picked for a worker.
+ghost use Rattle.std.specs.Prelude.{ℕ, List as Seq, ◌≡◌, ◌≢◌, ◌+◌, ◌<◌, ◌≤◌, ◌⊎◌, ◌↔◌, All, IfOk, IsTrue, None, OnErr, OnOk, length};
+ghost use Rattle.board_rules.specs.Entries.{item_of};
+ghost use Rattle.board_rules.specs.Keys.{Key as BoardKey};
+ghost use Rattle.job_table.specs.View.{HasJob};
+ghost use Rattle.open_job.specs.View.{IsOfferedCompilation, IsOfferedWork, compilation_of, graph_in};
+ghost use Rattle.firing_board.specs.Core.{IsNumbered};
+ghost use Rattle.firing_board.specs.Handing.{Enters, HandsCompilation, HandsFrame, HandsOut, KeepsAll, MayEnter};
+ghost use Rattle.firing_board.specs.OnCore.{ClaimsOn, KeepsKey, MayClaim, StarvesOn};
+
+use crate::claim::{Claim, Ticket};
+use crate::core::Core;
+use crate::finding::find;
+use crate::keeping::kept_for;
+use crate::numbering::number_of;
+use crate::run::Run;
+use board_rules::{Item, boards_end, boards_keep, journals_grow};
+use job_compiler::{Compiled, Kept, Key};
+use job_rules::rules_are_lawful;
+use job_table::tables_suit;
+use open_job::{Handed, OpenJob};
+use std::alloc::{AllocError, Global};
+use std::sync::Arc;
+
+/// A number of 32 bits.
+///
+/// # Errors
+///
+/// There are more numbers than that.
+fn narrow(number: usize) -> Result<u32, AllocError>
+    ensures { IfOk result (λ narrow. narrow ≡ number) }
+{
+    if number < 4294967296 {
+        Ok(number as u32)
+    } else {
+        Err(AllocError)
+    }
+}
+
+/// An item as the journal names it.
+///
+/// # Errors
+///
+/// Its number has more than 32 bits.
+fn item_at(job: &OpenJob, item: usize) -> Result<Item, AllocError>
+    ensures { IfOk result (λ named. named ≡ item_of (graph_in job.now) item) }
+{
+    let compilation = job.compilation();
+    if item < compilation {
+        Ok(Item::Configure(narrow(job.config_place(item))?))
+    } else if item == compilation {
+        Ok(Item::Compile)
+    } else {
+        Ok(Item::Node(narrow(item - compilation - 1)?))
+    }
+}
+
+/// Enters that a worker claims an item, which it then runs.
+fn enter(core: &mut Core, worker: u32, run: Run, item: Item) -> Ticket
+    requires { MayEnter core.old worker run }
+    ensures { Enters core.old worker run item result core.new }
+{
+    let entry = core.journal.len();
+    let number = number_of(&core.numbers, run.row);
+    core.journal.claim(worker, number, item);
+    core.running[worker as usize] = Some(run);
+    Ticket { worker, entry }
+}
+
+/// Hands out the frame of an item other than a compilation.
+fn hand_frame(core: &mut Core, worker: u32, run: Run, item: Item) -> Claim
+    requires enter { MayEnter core.old worker run }
+    requires offered { HasJob (λ job. IsOfferedWork job run.item × (run.item ≢ compilation_of job)) core.old.table run.row }
+    ensures { HandsFrame core.old worker run item core.new result }
+{
+    let handed = core.table.claim(run.row, run.item);
+    let ticket = enter(core, worker, run, item);
+    match handed {
+        Handed::Configure(frame) => Claim::Configure(ticket, frame),
+        Handed::Fire(frame) => Claim::Fire(ticket, frame),
+        Handed::Copy(node, frame) => Claim::Copy(ticket, node, frame),
+    }
+}
+
+/// Hands out a compilation, with one that is kept by its key where there is one.
+///
+/// # Errors
+///
+/// Want of memory. Nothing is claimed.
+fn hand_compilation(
+    alloc: Global,
+    core: &mut Core,
+    worker: u32,
+    run: Run,
+    item: Item,
+    compiled: Option<Arc<Compiled>>,
+) -> Result<Claim, AllocError>
+    requires enter { MayEnter core.old worker run }
+    requires offered { HasJob IsOfferedCompilation core.old.table run.row }
+    ensures handed { IfOk result (HandsCompilation core.old worker run item core.new) }
+    ensures refused { OnErr result (core.new ≡ core.old) }
+{
+    let task = core.table.claim_compile(alloc, run.row, compiled)?;
+    let ticket = enter(core, worker, run, item);
+    Ok(Claim::Compile(ticket, task))
+}
+
+/// Hands out an item that was found.
+///
+/// # Errors
+///
+/// Want of memory.
+fn hand_out(
+    alloc: Global,
+    core: &mut Core,
+    worker: u32,
+    run: Run,
+    compiled: Option<Arc<Compiled>>,
+) -> Result<Claim, AllocError>
+    requires worker { worker < length core.old.running.items }
+    requires numbered { (path : Seq ℕ) × IsNumbered core.old.numbers.items core.old.journal.paths run.row path }
+    requires offered { HasJob (λ job. IsOfferedWork job run.item) core.old.table run.row }
+    ensures handed { IfOk result (HandsOut core.old worker run core.new) }
+    ensures refused { OnErr result (KeepsAll core.old core.new) }
+{
+    core.journal.reserve(core.running.len() + 1)?;
+    let job = core.table.job(run.row);
+    let item = item_at(job, run.item)?;
+    if run.item == job.compilation() {
+        hand_compilation(alloc, core, worker, run, item, compiled)
+    } else {
+        Ok(hand_frame(core, worker, run, item))
+    }
+}
+
+/// Whether no worker runs anything.
+fn is_idle(running: &[Option<Run>]) -> bool
+    ensures { IsTrue result ↔ All (λ run. run ≡ None) running.now }
+{
+    running.iter().all(|run| run.is_none())
+}
+
+/// What a worker gets that runs nothing and claims.
+///
+/// # Errors
+///
+/// Want of memory.
+pub(crate) fn claim(
+    alloc: Global,
+    core: &mut Core,
+    worker: u32,
+    kept: &mut Option<Kept>,
+    compiling: &mut Vec<Option<Key>>,
+) -> Result<Claim, AllocError>
+    requires may { (key : BoardKey) × MayClaim key core.old worker }
+    requires room { length compiling.old.items ≡ length core.old.running.items }
+    ensures claimed { IfOk result (λ claim. (key : BoardKey) → MayClaim key core.old worker → ClaimsOn key core.old worker core.new claim) }
+    ensures refused { OnErr result ((key : BoardKey) → MayClaim key core.old worker → StarvesOn key core.old core.new) }
+    ensures kept { KeepsKey core.old core.new × (length compiling.new.items ≡ length compiling.old.items) }
+{
+    boards_keep();
+    boards_end();
+    journals_grow();
+    rules_are_lawful();
+    tables_suit();
+    match find(alloc, core, worker)? {
+        Some(run) => {
+            let compiled = look_up(alloc, core, worker, run, kept, compiling);
+            hand_out(alloc, core, worker, run, compiled)
+        }
+        None => {
+            if is_idle(core.running.as_slice()) {
+                Ok(Claim::Finished)
+            } else {
+                Ok(Claim::Wait)
+            }
+        }
+    }
+}
+
+/// The compilation that is kept for an item, where that is a compilation. The worker has its key then.
+fn look_up(
+    alloc: Global,
+    core: &Core,
+    worker: u32,
+    run: Run,
+    kept: &mut Option<Kept>,
+    compiling: &mut Vec<Option<Key>>,
+) -> Option<Arc<Compiled>>
+    requires worker { worker < length compiling.old.items }
+    requires offered { HasJob (λ job. IsOfferedWork job run.item) core.now.table run.row }
+    ensures { length compiling.new.items ≡ length compiling.old.items }
+{
+    let job = core.table.job(run.row);
+    if run.item == job.compilation() {
+        let key = job.compile_key(alloc).ok();
+        let found = kept_for(kept, &key);
+        compiling[worker as usize] = key;
+        found
+    } else {
+        None
+    }
+}

@@ -1,0 +1,96 @@
+// How a board ends.
+ghost use Rattle.std.specs.Prelude.{◌≡◌, IfOk, Result as Outcome, Some, false};
+ghost use Rattle.job_preparing.specs.declared.handing.JobGiven.{JobGiven};
+ghost use Rattle.pisdf_meaning.specs.declared.refusal.Refusal.{Refusal};
+ghost use Rattle.job_table.specs.View.{NothingIsLent};
+ghost use Rattle.firing_board.specs.Beginning.{EndsWith};
+
+use crate::core::Core;
+use board_journal::Journal;
+use job_preparing::JobGiven;
+use pisdf_meaning::{Delays, Iteration, Refusal, TraceRow};
+use sdf_level::List;
+use std::alloc::{AllocError, Global};
+use std::collections::LinkedList;
+
+/// How a board ends.
+#[derive(Drop)]
+pub enum BoardEnd {
+    /// What one thread gets of the iteration, the state that it leaves, and the journal.
+    Done {
+        iteration: Iteration,
+        delays: Delays,
+        journal: Journal,
+    },
+    /// The refusal that one thread meets first, and the journal.
+    Refused {
+        refusal: Refusal,
+        journal: Journal,
+    },
+    /// Memory was wanted.
+    Starved,
+}
+
+/// The rows of a trace in a list.
+fn list_of(alloc: Global, rows: LinkedList<TraceRow>) -> Result<List<TraceRow>, AllocError>
+    ensures { IfOk result (λ list. list ≡ rows) }
+{
+    let mut rows = rows;
+    let mut list = Vec::new(alloc);
+    while let Some(row) = rows.pop_front() {
+        list.push(row)?;
+    }
+    Ok(List::new(list))
+}
+
+/// Gives up the open jobs.
+pub(crate) fn end_core(core: Core)
+    requires { NothingIsLent core.table }
+{
+    let Core {
+        table,
+        running: _,
+        numbers: _,
+        journal: _,
+        end: _,
+    } = core;
+    table.end();
+}
+
+/// How the board ends that has these open jobs.
+///
+/// # Errors
+///
+/// Want of memory.
+pub(crate) fn outcome_of(alloc: Global, core: Core, starved: bool) -> Result<BoardEnd, AllocError>
+    requires lent { NothingIsLent core.table }
+    requires ended { starved ≡ false → (end : Outcome JobGiven Refusal) × (core.end ≡ Some end) }
+    ensures { IfOk result (EndsWith core starved) }
+{
+    let Core {
+        table,
+        running: _,
+        numbers: _,
+        journal,
+        end,
+    } = core;
+    table.end();
+    if starved {
+        return Ok(BoardEnd::Starved);
+    }
+    match end {
+        Some(Ok(given)) => {
+            let trace = list_of(alloc, given.trace)?;
+            Ok(BoardEnd::Done {
+                iteration: Iteration {
+                    outs: given.outs,
+                    trace,
+                },
+                delays: Delays { lists: given.state },
+                journal,
+            })
+        }
+        Some(Err(refusal)) => Ok(BoardEnd::Refused { refusal, journal }),
+        None => unreachable!(),
+    }
+}

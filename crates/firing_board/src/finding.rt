@@ -1,0 +1,108 @@
+// Finds the item that is picked for a worker, and opens the jobs on its way.
+ghost use Rattle.std.specs.Prelude.{◌≡◌, ◌<◌, List as Seq, IfOk};
+ghost use Rattle.board_rules.specs.Entries.{Step};
+ghost use Rattle.board_rules.specs.Keys.{Key};
+ghost use Rattle.firing_board.specs.Finding.{Finds, HasNoWork};
+ghost use Rattle.firing_board.specs.Opening.{KeepsRuns, MayOpen, OpensAt, OpensWay};
+ghost use Rattle.firing_board.specs.Core.{StandsAt};
+
+use crate::core::Core;
+use crate::numbering::number_row;
+use crate::run::Run;
+use board_rules::{boards_keep, paths_stay, rows_are_asked};
+use job_rules::rules_are_lawful;
+use job_table::{Begins, calls_are_fit, tables_suit};
+use std::alloc::{AllocError, Global};
+
+/// Opens the job that an item calls: the key of its row.
+///
+/// # Errors
+///
+/// Want of memory.
+fn open(alloc: Global, core: &mut Core, at: Run) -> Result<usize, AllocError>
+    requires { MayOpen core.old at }
+    ensures opened { IfOk result (λ child. OpensAt core.old at child core.new) }
+    ensures kept { KeepsRuns core.old core.new }
+{
+    let child = core.table.open_child(alloc, at.row, at.item)?;
+    let path = core.table.job(child).firing().path.copy()?;
+    let number = core.journal.add_path(path)?;
+    number_row(&mut core.numbers, child, number)?;
+    Ok(child)
+}
+
+/// Opens the job that an item calls, and within it the job that its first item calls, and so on, up to one whose first item is
+/// work: that item.
+///
+/// # Errors
+///
+/// Want of memory.
+pub(crate) fn open_way(alloc: Global, core: &mut Core, at: Run) -> Result<Run, AllocError>
+    requires { MayOpen core.old at }
+    ensures opened { IfOk result (λ run. OpensWay core.old at core.new run) }
+    ensures kept { KeepsRuns core.old core.new }
+{
+    boards_keep();
+    calls_are_fit();
+    tables_suit();
+    rules_are_lawful();
+    let child = open(alloc, core, at)?;
+    let first = Run {
+        row: child,
+        item: 0,
+    };
+    match core.table.begins(child) {
+        Begins::Work => Ok(first),
+        Begins::Call => open_way(alloc, core, first),
+    }
+}
+
+/// The item that is picked for a worker, whose job is open then; none where nothing may be claimed.
+///
+/// # Errors
+///
+/// Want of memory.
+pub(crate) fn find(alloc: Global, core: &mut Core, worker: u32) -> Result<Option<Run>, AllocError>
+    requires { (key : Key) × (taken : Seq Step) × StandsAt key taken core.old }
+    ensures found { IfOk result (λ run. (key : Key) (taken : Seq Step) → StandsAt key taken core.old → Finds key taken core.old worker core.new run) }
+    ensures kept { KeepsRuns core.old core.new }
+{
+    boards_keep();
+    rows_are_asked();
+    paths_stay();
+    calls_are_fit();
+    match core.table.first_work(worker) {
+        Some(asked) => Ok(Some(Run {
+            row: asked.row,
+            item: asked.offer.item,
+        })),
+        None => find_call(alloc, core, worker),
+    }
+}
+
+/// The first item of the job that the first call opens; none where no job calls any.
+///
+/// # Errors
+///
+/// Want of memory.
+fn find_call(alloc: Global, core: &mut Core, worker: u32) -> Result<Option<Run>, AllocError>
+    requires { (key : Key) × (taken : Seq Step) × HasNoWork key taken core.old }
+    ensures found { IfOk result (λ run. (key : Key) (taken : Seq Step) → HasNoWork key taken core.old → Finds key taken core.old worker core.new run) }
+    ensures kept { KeepsRuns core.old core.new }
+{
+    boards_keep();
+    rows_are_asked();
+    paths_stay();
+    calls_are_fit();
+    match core.table.first_call(worker) {
+        Some(asked) => {
+            let at = Run {
+                row: asked.row,
+                item: asked.offer.item,
+            };
+            let run = open_way(alloc, core, at)?;
+            Ok(Some(run))
+        }
+        None => Ok(None),
+    }
+}

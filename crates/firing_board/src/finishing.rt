@@ -1,0 +1,136 @@
+// Takes back what a worker ran.
+ghost use Rattle.std.specs.Prelude.{◌≡◌, ◌<◌, IfOk, IsOk, None, OnErr, Some, length, slice_index_or, slice_set};
+ghost use Rattle.board_rules.specs.Keys.{Key};
+ghost use Rattle.job_table.specs.Closing.{IsClosingFrom};
+ghost use Rattle.firing_board.specs.Closing.{ClosesOn, KeepsJournal};
+ghost use Rattle.firing_board.specs.Finishes.{MayComeBack, MayEnd};
+ghost use Rattle.firing_board.specs.OnCore.{FinishesOn, KeepsKey, MayLeave};
+ghost use Rattle.firing_board.specs.Returning.{Compiles, GivesUp, Leaves, MayCompile, MayReturn, Returns, RunsItem};
+
+use crate::core::Core;
+use crate::run::Run;
+use board_rules::{boards_keep, entries_tell_steps, journals_grow};
+use job_preparing::CompileEnd;
+use job_rules::rules_are_lawful;
+use job_table::tables_suit;
+use kernel_gate::{Frame, KernelFault};
+use std::alloc::{AllocError, Global};
+use std::mem;
+
+/// What a worker runs, which it doesn't run then.
+fn take_run(running: &mut Vec<Option<Run>>, worker: u32) -> Run
+    requires { (run : Run) × (slice_index_or running.old.items worker None ≡ Some run) }
+    ensures ran { slice_index_or running.old.items worker None ≡ Some result }
+    ensures free { running.new.items ≡ slice_set running.old.items worker None }
+{
+    match mem::replace(&mut running[worker as usize], None) {
+        Some(run) => run,
+        None => unreachable!(),
+    }
+}
+
+/// The finish of a worker, which is entered: what it ran.
+fn leave(core: &mut Core, worker: u32) -> Run
+    requires runs { (run : Run) × (slice_index_or core.old.running.items worker None ≡ Some run) }
+    requires room { 0 < core.old.journal.room }
+    ensures { Leaves core.old worker result core.new × (core.new.table ≡ core.old.table) }
+{
+    core.journal.finish(worker);
+    take_run(&mut core.running, worker)
+}
+
+/// Takes back the frame of the item that a worker runs: the row of its job.
+fn take_back(core: &mut Core, worker: u32, frame: Frame, answer: Result<(), KernelFault>) -> usize
+    requires item { RunsItem (MayReturn frame (IsOk answer)) core.old worker }
+    requires room { 0 < core.old.journal.room }
+    ensures { Returns frame answer core.old worker core.new result }
+{
+    let run = leave(core, worker);
+    core.table.finish(run.row, run.item, frame, answer);
+    run.row
+}
+
+/// Takes back the compilation that a worker has: the row of its job.
+///
+/// # Errors
+///
+/// Want of memory, also where the compilation ended so. The worker has left it, and the job is as before.
+fn take_compilation(
+    alloc: Global,
+    core: &mut Core,
+    worker: u32,
+    end: CompileEnd,
+) -> Result<usize, AllocError>
+    requires item { RunsItem (MayCompile end) core.old worker }
+    requires room { 0 < core.old.journal.room }
+    ensures compiled { IfOk result (Compiles end core.old worker core.new) }
+    ensures refused { OnErr result (GivesUp core.old worker core.new) }
+{
+    let run = leave(core, worker);
+    core.table.finish_compile(alloc, run.row, end)?;
+    Ok(run.row)
+}
+
+/// Closes jobs from a row up. Where the top job is closed, its end is kept.
+///
+/// # Errors
+///
+/// Want of memory.
+fn close(core: &mut Core, row: usize) -> Result<(), AllocError>
+    requires { IsClosingFrom core.old.table row }
+    ensures closed { IfOk result (λ done. ClosesOn core.old row core.new) }
+    ensures kept { KeepsJournal core.old core.new }
+{
+    if let Some(end) = core.table.close_from(row)? {
+        core.end = Some(end);
+    }
+    Ok(())
+}
+
+/// A worker finishes what it runs, whose frame comes back: whether memory was wanted, then or before.
+pub(crate) fn finish_frame(
+    core: &mut Core,
+    starved: bool,
+    worker: u32,
+    frame: Frame,
+    answer: Result<(), KernelFault>,
+) -> bool
+    requires { (key : Key) × MayLeave key core.old starved worker (MayComeBack key frame answer (IsOk answer)) (Some frame.places) }
+    ensures finished { (key : Key) → MayLeave key core.old starved worker (MayComeBack key frame answer (IsOk answer)) (Some frame.places) → FinishesOn key core.old starved worker core.new result }
+    ensures kept { KeepsKey core.old core.new }
+{
+    boards_keep();
+    journals_grow();
+    entries_tell_steps();
+    rules_are_lawful();
+    tables_suit();
+    let row = take_back(core, worker, frame, answer);
+    starved || close(core, row).is_err()
+}
+
+/// A worker finishes a compilation: whether memory was wanted, then or before.
+pub(crate) fn finish_compilation(
+    alloc: Global,
+    core: &mut Core,
+    starved: bool,
+    worker: u32,
+    end: CompileEnd,
+) -> bool
+    requires { (key : Key) × MayLeave key core.old starved worker (MayEnd key end) None }
+    ensures finished { (key : Key) → MayLeave key core.old starved worker (MayEnd key end) None → FinishesOn key core.old starved worker core.new result }
+    ensures kept { KeepsKey core.old core.new }
+{
+    boards_keep();
+    journals_grow();
+    entries_tell_steps();
+    rules_are_lawful();
+    tables_suit();
+    if starved {
+        let _run = leave(core, worker);
+        return true;
+    }
+    match take_compilation(alloc, core, worker, end) {
+        Ok(row) => close(core, row).is_err(),
+        Err(AllocError) => true,
+    }
+}

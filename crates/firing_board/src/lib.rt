@@ -1,0 +1,19 @@
+//! The board of a run: its workers claim items of the open jobs and finish them, and the journal of their steps tells what one
+//! thread gets. Items are handed out by the rules of boards, whatever the order in which workers come.
+#![tactic(auto)]
+
+mod board;
+mod claim;
+mod claiming;
+mod core;
+mod ending;
+mod finding;
+mod finishing;
+mod keeping;
+mod numbering;
+mod run;
+mod starting;
+
+pub use board::Board;
+pub use claim::{Claim, Ticket};
+pub use ending::BoardEnd;

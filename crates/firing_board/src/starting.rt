@@ -1,0 +1,87 @@
+// The start of a board.
+ghost use Rattle.std.specs.Prelude.{◌≡◌, ◌≤◌, IfOk, None, length, replicate};
+ghost use Rattle.std.specs.Arc.{arc_value};
+ghost use Rattle.job_preparing.specs.View.{HasInherited};
+ghost use Rattle.job_rules.specs.Meant.{IsFit};
+ghost use Rattle.pisdf_model.specs.Range.{InRange};
+ghost use Rattle.pisdf_model.specs.WellFormed.{WellFormed};
+ghost use Rattle.pisdf_meaning.specs.Run.{top_firing};
+ghost use Rattle.firing_board.specs.Beginning.{IsStartedOn};
+
+use crate::core::Core;
+use crate::run::Run;
+use board_journal::Journal;
+use job_compiler::Key;
+use job_table::JobTable;
+use pisdf_meaning::{Delays, Firing, Path, copy_lists, copy_name};
+use pisdf_model::{Graph, Graphs};
+use sdf_level::List;
+use std::alloc::{AllocError, Global};
+use std::sync::Arc;
+
+/// The firing of the top graph, which stands at a place, with these inputs and this state.
+pub(crate) fn top_firing(
+    alloc: Global,
+    top: &Graph,
+    place: u32,
+    delays: &Delays,
+    ins: &[List<i64>],
+) -> Result<Firing, AllocError>
+    ensures { IfOk result (λ firing. firing ≡ top_firing top.now place ins.now delays.now.lists) }
+{
+    Ok(Firing {
+        path: Path::new(alloc, copy_name(alloc, &top.name)?)?,
+        graph: place,
+        inherited: List::new(Vec::new(alloc)),
+        inputs: copy_lists(alloc, ins)?,
+        state: copy_lists(alloc, delays.lists.items())?,
+    })
+}
+
+/// No worker runs anything.
+pub(crate) fn nothing_runs(alloc: Global, workers: u32) -> Result<Vec<Option<Run>>, AllocError>
+    ensures { IfOk result (λ running. running.items ≡ replicate workers None) }
+{
+    vec![in alloc; None; workers as usize]
+}
+
+/// No worker has a compilation.
+pub(crate) fn nothing_compiles(alloc: Global, workers: u32) -> Result<Vec<Option<Key>>, AllocError>
+    ensures { IfOk result (λ compiling. length compiling.items ≡ workers) }
+{
+    let mut compiling = Vec::new(alloc);
+    for worker in 0..workers {
+        let _worker = worker;
+        compiling.push(None)?;
+    }
+    Ok(compiling)
+}
+
+/// The open jobs, of which there is the top one alone, and no worker runs anything.
+pub(crate) fn start_core(
+    alloc: Global,
+    graphs: Arc<Graphs>,
+    workers: u32,
+    firing: Firing,
+) -> Result<Core, AllocError>
+    requires range { InRange (arc_value graphs) }
+    requires well { WellFormed (arc_value graphs) }
+    requires fit { IsFit (arc_value graphs).graphs firing }
+    requires inherited { HasInherited (arc_value graphs).graphs firing }
+    requires some { 1 ≤ workers }
+    ensures { IfOk result (IsStartedOn (arc_value graphs) workers firing) }
+{
+    let running = nothing_runs(alloc, workers)?;
+    let mut journal = Journal::new(alloc);
+    let path = firing.path.copy()?;
+    let _number = journal.add_path(path)?;
+    let numbers = Vec::new(alloc);
+    let table = JobTable::start(alloc, graphs, workers, firing)?;
+    Ok(Core {
+        table,
+        running,
+        numbers,
+        journal,
+        end: None,
+    })
+}
