@@ -14,3 +14,4 @@ pub mod Framed
 pub mod Started
 pub mod Compilations
 pub mod Abandoned
+pub mod Sound

@@ -14,3 +14,5 @@ pub mod Beginning
 pub mod Closing
 pub mod Kept
 pub mod OnCore
+pub mod Locking
+pub mod Counted

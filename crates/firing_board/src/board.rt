@@ -5,6 +5,7 @@ ghost use Rattle.std.specs.Arc.{arc_value};
 use crate::claim::{Claim, Ticket};
 use crate::claiming;
 use crate::core::Core;
+use crate::counts::{KernelCounts, all_counts};
 use crate::ending::{BoardEnd, end_core, outcome_of};
 use crate::finishing::{finish_compilation, finish_frame};
 use crate::keeping::{keep_ready, take_key};
@@ -27,7 +28,7 @@ use std::sync::Arc;
 /// A run of one firing of the top graph by several workers: the open jobs, what each worker runs of them, and the journal of
 /// their claims and finishes. It is neither `Drop` nor `Clone`: it is given up by `outcome` or `end`.
 pub struct Board {
-    pub(crate) signatures: Vec<Signature>,
+    pub(crate) signatures: Vec<KernelCounts>,
     pub(crate) top: Snapshot<Firing>,
     pub(crate) core: Core,
     /// The compilations that are kept from one board to the next.
@@ -60,7 +61,7 @@ impl Board {
     ghost use Rattle.firing_board.specs.Claims.{Claims};
     ghost use Rattle.firing_board.specs.Ends.{EndsAs, IsOver};
     ghost use Rattle.firing_board.specs.Finishes.{Finishes, MayComeBack, MayEnd};
-    ghost use Rattle.firing_board.specs.Runs.{AreAllIdle, IsIdle, Runs};
+    ghost use Rattle.firing_board.specs.Runs.{AreAllIdle, IsIdle, IsSound, Runs};
     ghost use Rattle.firing_board.specs.Starts.{key_from};
     ghost use Rattle.firing_board.specs.View.{lent_to};
 
@@ -87,7 +88,7 @@ impl Board {
         let top = &graphs.graphs.items()[graphs.top as usize];
         let firing = top_firing(alloc, top, graphs.top, delays, ins)?;
         let top = Snapshot::of(&firing);
-        let signatures = Vec::from_slice(alloc, signatures)?;
+        let signatures = all_counts(alloc, signatures)?;
         let compiling = nothing_compiles(alloc, workers)?;
         let core = start_core(alloc, graphs, workers, firing)?;
         Ok(Board {
@@ -170,6 +171,7 @@ impl Board {
         ensures finishes { Finishes self.old self.new ticket.worker }
         ensures live { OnOk result (self.new.starved ≡ false) }
         ensures starved { OnErr result (self.new.starved ≡ true) }
+        ensures stays { self.old.starved ≡ true → self.new.starved ≡ true }
     {
         let key = take_key(&mut self.compiling, ticket.worker);
         keep_ready(&mut self.kept, key, &end);
@@ -181,10 +183,12 @@ impl Board {
         }
     }
 
-    /// The steps that were taken.
+    /// The steps that were taken, which are legal.
     pub fn journal(&self) -> &Journal
-        ensures { result.now.entries ≡ self.now.journal }
+        ensures entries { result.now.entries ≡ self.now.journal }
+        ensures sound { IsSound self.now }
     {
+        entries_tell_steps();
         &self.core.journal
     }
 

@@ -2,9 +2,8 @@ use Rattle.std.proofs.Common.{◌≡◌, ◌∙◌, ℕ, ℤ, false, List, [], l
 use Rattle.std.specs.Arc.{arc_value}
 use Rattle.std.proofs.lemmas.List.{get_or_read}
 use Rattle.std.proofs.lemmas.Option.{slice_get_within}
-use Rattle.kernel_gate.specs.Signed.{Counts, counts_of}
+use Rattle.kernel_gate.specs.Signed.{Counts}
 use Rattle.kernel_gate.specs.Value.{Places}
-use Rattle.kernel_gate.specs.declared.signature.Signature.{Signature}
 use Rattle.pisdf_model.specs.Ports.{inherited_count}
 use Rattle.pisdf_model.specs.declared.graph.Graph.{Graph}
 use Rattle.pisdf_model.specs.declared.graph.Graphs.{Graphs}
@@ -51,9 +50,9 @@ invariant_of-result c =
     let held : c.of-top.result.value ≡ top_job key = c.of-top.ensures ∙ firing in
     let graphs = s.started.graphs_are in
     let workers = s.started.workers_are in
-    let signatures = c.in_ok-signatures.ensures.items in
+    let signatures = c.in_ok-signatures.ensures in
     let key_is : key_with c.in_ok-signatures.signatures.items c.of-top.result.value i ≡ key =
-    (λ x. record { graphs = graphs x; signatures = map counts_of (signatures x); delays = (held x).state; ins = (held x).inputs; workers = workers x }) in
+    (λ x. record { graphs = graphs x; signatures = signatures x; delays = (held x).state; ins = (held x).inputs; workers = workers x }) in
     let keeps = begins c.boards_keep.ensures.start c.tables_suit.ensures.starts_with c.tables_suit.ensures.start key c.requires i s in
     (subst (λ (k : Key). Keeps k i false) (sym key_is) keeps, c.in_ok-compiling.ensures ∙ sym keeps.one_each)
 
@@ -73,9 +72,9 @@ returns c =
     let held : c.of-top.result.value ≡ top_job key = c.of-top.ensures ∙ firing in
     let graphs = s.started.graphs_are in
     let workers = s.started.workers_are in
-    let signatures = c.in_ok-signatures.ensures.items in
+    let signatures = c.in_ok-signatures.ensures in
     let key_is : key_with c.in_ok-signatures.signatures.items c.of-top.result.value i ≡ key =
-    (λ x. record { graphs = graphs x; signatures = map counts_of (signatures x); delays = (held x).state; ins = (held x).inputs; workers = workers x }) in
+    (λ x. record { graphs = graphs x; signatures = signatures x; delays = (held x).state; ins = (held x).inputs; workers = workers x }) in
     let lent : lent_of i.table i.running.items ≡ replicate c.args.workers None = ap (lent_of i.table) s.running_are ∙ none_lent i.table c.args.workers in
     let entries = s.entries_are in
     λ x. record { key = key_is x; journal = entries x; starved = false; lent = lent x }
