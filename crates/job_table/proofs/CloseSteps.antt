@@ -1,6 +1,5 @@
 -- One step of the closings: a job is closed, and the item that called it is finished.
-use Rattle.std.proofs.Common.{◌≡◌, ◌≢◌, ◌↔◌, ℕ, ◌<◌, Bool, true, false, IsTrue, List, [], ◌∷◌, ◌++◌, length, get_or, set, slice_index, Option, Some, None, Result, refl, sym, ap, ◌∙◌, subst, arith}
-use Rattle.std.proofs.lemmas.List.{get_or_read, length-set}
+use Rattle.std.proofs.Common.{◌≡◌, ◌≢◌, ◌↔◌, ℕ, ◌<◌, Bool, IsTrue, length, get_or, set, slice_index, Option, Some, None, Result, sym, ap, ◌∙◌, subst, arith}
 use Rattle.job_preparing.specs.Handing.{EndSuits, end_of, mark_at}
 use Rattle.job_preparing.specs.declared.handing.JobGiven.{JobGiven}
 use Rattle.job_rules.specs.Words.{answer_of}
@@ -18,7 +17,7 @@ use Rattle.job_table.specs.Slots.{InSlot, change_row}
 use Rattle.job_table.specs.Suits.{IsUpper, Suits}
 use Rattle.job_table.specs.View.{TableView, row_at, with_job}
 use Rattle.job_table.specs.declared.row.Row.{Row}
-use Rattle.job_table.proofs.Closings.{AllLawful, HasUpper, called, depth_of, end_so, keys_apart, left, next_so, next_stays, rows_less, rows_same, rows_through, stop_so, top_in, upper_in}
+use Rattle.job_table.proofs.Closings.{AllLawful, HasUpper, called, depth_of, end_so, keys_apart, left, next_so, next_stays, rows_less, stop_so, top_in, upper_in}
 use Rattle.job_table.proofs.Rows.{inside_of, the_same}
 use Rattle.job_table.proofs.Writes.{slot_row}
 

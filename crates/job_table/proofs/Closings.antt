@@ -1,9 +1,9 @@
 -- The table while jobs are closed, from one row up.
-use Rattle.std.proofs.Common.{◌≡◌, ◌≢◌, ⊎_elim, ℕ, ◌<◌, Bool, true, false, List, [], ◌∷◌, ◌++◌, length, get_or, set, Option, Some, None, Result, refl, sym, ap, ◌∙◌, subst, arith}
+use Rattle.std.proofs.Common.{◌≡◌, ◌≢◌, ⊎_elim, ℕ, ◌<◌, Bool, true, false, List, [], ◌∷◌, length, get_or, set, Option, Some, None, Result, refl, sym, ap, ◌∙◌, subst}
 use Rattle.std.proofs.lemmas.Bool.{cases_eq}
-use Rattle.std.proofs.lemmas.List.{get_or-set_other, get_or-set_same, length-set}
+use Rattle.std.proofs.lemmas.List.{get_or-set_other, get_or-set_same}
 use Rattle.std.specs.Option.{option_map}
-use Rattle.job_preparing.specs.Handing.{ItemMarks, end_of, mark_at}
+use Rattle.job_preparing.specs.Handing.{end_of, mark_at}
 use Rattle.job_preparing.specs.declared.handing.JobGiven.{JobGiven}
 use Rattle.job_rules.specs.Items.{job_rules, outcome}
 use Rattle.job_rules.specs.Meant.{rank}
@@ -14,22 +14,20 @@ use Rattle.nested_jobs.proofs.Places.{cons_ne}
 use Rattle.nested_jobs.proofs.Tabling.{none_below, put_row_at, stops}
 use Rattle.nested_jobs.specs.Journals as steps
 use Rattle.nested_jobs.specs.Journals.{after, start}
-use Rattle.nested_jobs.specs.Kept.{Nested}
 use Rattle.nested_jobs.specs.Marks as mark
 use Rattle.nested_jobs.specs.Marks.{Done, Free, Mark, Marks, Open, put}
 use Rattle.nested_jobs.specs.Meanings.{Lawful}
 use Rattle.nested_jobs.specs.Rules.{Place}
-use Rattle.nested_jobs.specs.Steps.{closed}
-use Rattle.nested_jobs.specs.Tables.{StandsFor, answers_in, is_quiet_row, put_row, with_mark}
+use Rattle.nested_jobs.specs.Tables.{answers_in, is_quiet_row, put_row, with_mark}
 use Rattle.open_job.specs.Calls as job
-use Rattle.open_job.specs.View.{IsQuiet, OpenView, answered, outcome_in}
+use Rattle.open_job.specs.View.{IsQuiet, answered, outcome_in}
 use Rattle.pisdf_meaning.specs.declared.firing.Firing.{Firing}
 use Rattle.pisdf_meaning.specs.declared.refusal.Refusal.{Refusal}
 use Rattle.pisdf_model.specs.declared.graph.Graphs.{Graphs}
 use Rattle.board_rules.specs.Asking.{JobRow}
-use Rattle.board_rules.specs.Board.{IsClosing, KeptAs, OpenJobs}
+use Rattle.board_rules.specs.Board.{IsClosing, OpenJobs}
 use Rattle.board_rules.specs.BoardLaws.{ClosingsEnd, ClosingsGoOn, ClosingsStop, IsOver}
-use Rattle.board_rules.specs.Entries.{BoardState, Step}
+use Rattle.board_rules.specs.Entries.{BoardState}
 use Rattle.board_rules.specs.Keys.{IsKey, Key, rules, top_job}
 use Rattle.board_rules.specs.Legal.{state_after}
 use Rattle.job_table.specs.Calls.{StaysAs}

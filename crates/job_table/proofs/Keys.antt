@@ -1,5 +1,5 @@
 -- The keys of the rows of a table.
-use Rattle.std.proofs.Common.{◌≡◌, ◌≢◌, ℕ, zero, suc, ◌+◌, ◌<◌, List, [], ◌∷◌, length, get_or, Option, Some, None, cond, is_some, refl, sym, ap, ◌∙◌, subst, arith}
+use Rattle.std.proofs.Common.{◌≡◌, ◌≢◌, ℕ, suc, ◌+◌, ◌<◌, List, [], ◌∷◌, length, get_or, Option, Some, None, cond, is_some, refl, ap, ◌∙◌, arith}
 use Rattle.std.proofs.lemmas.List.Recursion.{is_count_by}
 use Rattle.std.specs.List.{AllByRecursion, count_by}
 use Rattle.std.specs.Option.{option_map}

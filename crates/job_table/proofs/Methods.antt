@@ -1,21 +1,20 @@
 -- What the methods of a table give, from what they do to one row.
-use Rattle.std.proofs.Common.{◌≡◌, ◌≢◌, ◌⊎◌, ⊎_elim, ℕ, ◌<◌, List, [], ◌∷◌, ◌++◌, length, get_or, set, Option, Some, None, Result, Ok, Err, OnOk, OnErr, All, refl, sym, ap, ◌∙◌, subst, arith, length-append}
+use Rattle.std.proofs.Common.{◌≡◌, ℕ, ◌<◌, List, [], ◌∷◌, ◌++◌, length, get_or, set, Option, Some, None, Result, Ok, Err, OnOk, OnErr, All, refl, sym, ap, ◌∙◌, subst, arith, length-append}
 use Rattle.std.proofs.lemmas.List.{get_or_append_left, get_or_at}
 use Rattle.std.proofs.lemmas.List.Elements.{All-from_get_or, All-get_or}
 use Rattle.std.specs.declared.alloc.AllocError.{AllocError}
-use Rattle.job_preparing.specs.Handing.{IsNothingLent, ItemMarks, Lent, lent_at, mark_at}
+use Rattle.job_preparing.specs.Handing.{lent_at, mark_at}
 use Rattle.job_preparing.specs.declared.compiling.CompileEnd.{CompileEnd}
 use Rattle.job_rules.specs.Words.{Answer}
 use Rattle.kernel_gate.specs.Value.{Places}
-use Rattle.nested_jobs.specs.Marks.{Busy, Done, Free, Mark}
-use Rattle.open_job.specs.Calls.{FinishesCompilation, with_item, with_mark}
-use Rattle.open_job.specs.View.{HasItem, OpenView, compilation_of}
+use Rattle.nested_jobs.specs.Marks.{Busy, Done, Mark}
+use Rattle.open_job.specs.Calls.{with_item, with_mark}
+use Rattle.open_job.specs.View.{OpenView, compilation_of}
 use Rattle.pisdf_meaning.specs.declared.firing.Firing.{Firing}
 use Rattle.job_table.specs.Calls.{FinishesIn, LendsAsBefore, LendsItem, MarksItem}
 use Rattle.job_table.specs.Slots.{CompilesSlot, InSlot, IsUnlent, change_row}
 use Rattle.job_table.specs.View.{HasJob, NothingIsLent, TableView, lent_by, lent_in, row_at, with_job}
 use Rattle.job_table.specs.declared.row.Row.{Row}
-use Rattle.job_table.proofs.Rows.{inside_of, the_same}
 use Rattle.job_table.proofs.Writes.{in_slot, lends_item, lends_same, lent_inside, mark_inside, marks_item, marks_set, slot_row}
 
 -- a table, as it is and as it is seen, and what stands at a key of it

@@ -4,9 +4,7 @@ use Rattle.std.proofs.lemmas.Bool.{cases_eq}
 use Rattle.std.proofs.lemmas.List.{get_or-set_other, get_or-set_same, get_or_read, length-set}
 use Rattle.std.specs.declared.alloc.AllocError.{AllocError}
 use Rattle.job_preparing.specs.Handing.{IsNothingLent, ItemMarks, Lent, lent_at, mark_at}
-use Rattle.job_preparing.specs.View.{HasInherited}
 use Rattle.job_rules.specs.Words.{Answer}
-use Rattle.kernel_gate.specs.Value.{Places}
 use Rattle.nested_jobs.specs.Marks.{Busy, Free, Mark, Open, answer_of}
 use Rattle.nested_jobs.specs.Rules.{Call}
 use Rattle.open_job.specs.Calls.{with_mark}

@@ -1,9 +1,8 @@
 -- The path of an open job stays while items are marked.
-use Rattle.std.proofs.Common.{◌≡◌, ◌≢◌, ◌⊎◌, ⊎_elim, inl, inr, ℕ, zero, suc, ◌-◌, ◌<◌, nat_lt, Bool, true, false, List, [], ◌∷◌, ◌++◌, length, map, slice_index, Option, Some, None, if◌then◌else◌, refl, sym, ap, ◌∙◌, subst, arith}
+use Rattle.std.proofs.Common.{◌≡◌, ◌⊎◌, ⊎_elim, inl, inr, ℕ, zero, suc, ◌-◌, ◌<◌, nat_lt, List, [], ◌∷◌, ◌++◌, length, map, slice_index, Option, Some, None, if◌then◌else◌, refl, sym, ap, ◌∙◌, arith}
 use Rattle.job_flow.specs.Graphs.{node_at}
 use Rattle.job_rules.specs.Items.{Prepared, compile_number, compile_rule, graph_of, left_in, node_base, node_rule, nodes_in, prepared_in, rule, rule_from}
 use Rattle.job_rules.specs.Meant.{rank}
-use Rattle.job_rules.specs.Words as words
 use Rattle.job_rules.specs.Words.{Answer}
 use Rattle.job_running.specs.View as running
 use Rattle.nested_jobs.proofs.Nesting.{grown, of_open}
@@ -11,7 +10,7 @@ use Rattle.nested_jobs.proofs.Places.{one_open, put_at}
 use Rattle.nested_jobs.specs.Kept.{Nested}
 use Rattle.nested_jobs.specs.Marks.{Free, Mark, Marks, Open, answer_of, put, values}
 use Rattle.nested_jobs.specs.Meanings.{Lawful, Within}
-use Rattle.nested_jobs.specs.Rules.{Call, Place, Task, Values}
+use Rattle.nested_jobs.specs.Rules.{Call, Place, Values}
 use Rattle.open_job.specs.Paths as job
 use Rattle.pisdf_meaning.specs.Configuring.{Configuration, configurations}
 use Rattle.pisdf_meaning.specs.declared.firing.Configured.{Configured}

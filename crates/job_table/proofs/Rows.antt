@@ -1,5 +1,5 @@
 -- The rows of a table after a call, as boards see them.
-use Rattle.std.proofs.Common.{◌≡◌, ◌≢◌, ⊎_elim, ℕ, zero, suc, ◌<◌, Bool, true, false, cond, eqb, List, [], ◌∷◌, length, get_or, Option, Some, None, refl, sym, ap, ◌∙◌, subst, arith}
+use Rattle.std.proofs.Common.{◌≡◌, ◌≢◌, ⊎_elim, ℕ, zero, suc, ◌<◌, true, false, cond, eqb, List, [], ◌∷◌, length, get_or, Option, Some, None, refl, sym, ap, ◌∙◌, arith}
 use Rattle.std.proofs.lemmas.Bool.{eq-eqb, eqb-true}
 use Rattle.std.specs.Option.{option_map}
 use Rattle.board_rules.specs.Asking.{JobRow}
@@ -8,7 +8,6 @@ use Rattle.job_rules.specs.Words.{Answer}
 use Rattle.nested_jobs.proofs.Tabling.{put_row_at}
 use Rattle.nested_jobs.specs.Marks.{Mark, Open}
 use Rattle.nested_jobs.specs.Tables.{fresh_row, put_row, with_mark}
-use Rattle.open_job.specs.View.{OpenView}
 use Rattle.pisdf_meaning.specs.declared.firing.Firing.{Firing}
 use Rattle.pisdf_model.specs.declared.graph.Graphs.{Graphs}
 use Rattle.job_table.specs.Calls.{IsStarted, MarksItem, OpensChild, StaysAs}

@@ -1,25 +1,24 @@
 -- A table suits the marks after a call, where it suited those before.
-use Rattle.std.proofs.Common.{◌≡◌, ◌≢◌, ⊎_elim, ℕ, List, [], ◌∷◌, ◌++◌, Option, Some, None, refl, sym, ap, ◌∙◌, subst}
+use Rattle.std.proofs.Common.{◌≡◌, ⊎_elim, ℕ, [], ◌∷◌, ◌++◌, Option, Some, None, refl, sym, ap, ◌∙◌, subst}
 use Rattle.std.proofs.lemmas.Bool.{cases_eq}
 use Rattle.std.specs.Option.{option_map}
-use Rattle.job_preparing.specs.Handing.{answers, mark_at}
+use Rattle.job_preparing.specs.Handing.{mark_at}
 use Rattle.job_rules.specs.Items.{graph_of, prepared_in, rule}
 use Rattle.job_rules.specs.Meant.{rank}
 use Rattle.job_rules.specs.Words.{Answer, Work as ItemWork}
 use Rattle.nested_jobs.proofs.Finding.{claimed_ready}
 use Rattle.nested_jobs.proofs.Nesting.{begins_nested, start_nested}
-use Rattle.nested_jobs.proofs.Places.{put_here}
 use Rattle.nested_jobs.proofs.Tabling.{answers_are, claims, finishes_so, opens_so, starts_with}
 use Rattle.nested_jobs.specs.Journals.{start, start_mark}
 use Rattle.nested_jobs.specs.Kept.{InJob, Nested}
 use Rattle.nested_jobs.specs.Marks as mark
 use Rattle.nested_jobs.specs.Marks.{Busy, Done, Free, Mark, Marks, Open, put, values}
 use Rattle.nested_jobs.specs.Meanings.{Lawful}
-use Rattle.nested_jobs.specs.Rules.{Call, Place, Task, Values, Work}
+use Rattle.nested_jobs.specs.Rules.{Call, Place, Values, Work}
 use Rattle.nested_jobs.specs.Steps.{claimed}
 use Rattle.nested_jobs.specs.Tables.{IsRow, StandsFor, answers_in, put_row, with_mark}
 use Rattle.open_job.specs.Paths as job
-use Rattle.open_job.specs.View.{IsOfferedWork, OpenView, answered, graph_in, task}
+use Rattle.open_job.specs.View.{task}
 use Rattle.pisdf_meaning.specs.declared.firing.Firing.{Firing}
 use Rattle.pisdf_model.specs.declared.graph.Graphs.{Graphs}
 use Rattle.board_rules.specs.Asking.{JobRow}

@@ -5,14 +5,14 @@ use Rattle.std.proofs.lemmas.List.{get_or-set_other, get_or-set_same, get_or_pas
 use Rattle.job_preparing.specs.Handing.{ItemMarks, Lent, lent_at, mark_at}
 use Rattle.job_rules.specs.Words.{Answer}
 use Rattle.kernel_gate.specs.Value.{Places}
-use Rattle.nested_jobs.specs.Marks.{Busy, Free, Mark, Open}
+use Rattle.nested_jobs.specs.Marks.{Free, Mark}
 use Rattle.open_job.specs.View.{OpenView}
 use Rattle.pisdf_meaning.specs.declared.firing.Firing.{Firing}
-use Rattle.job_table.specs.Calls.{LendsAsBefore, LendsItem, MarksItem, OthersStay, StaysAs}
+use Rattle.job_table.specs.Calls.{LendsAsBefore, LendsItem, MarksItem}
 use Rattle.job_table.specs.Slots.{InSlot}
 use Rattle.job_table.specs.View.{HasJob, TableView, lent_by, lent_in, row_at, with_job}
 use Rattle.job_table.specs.declared.row.Row.{Row}
-use Rattle.job_table.proofs.Rows.{inside_of, the_same}
+use Rattle.job_table.proofs.Rows.{inside_of}
 
 -- ---- reading
 

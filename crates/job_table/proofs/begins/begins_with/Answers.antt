@@ -1,4 +1,3 @@
-use Rattle.std.proofs.Common.{ℕ}
 use Rattle.job_table.proofs.Beginnings.{first_calls, none_first}
 use Rattle.job_table.proofs.begins.begins_with.Goals as goal
 

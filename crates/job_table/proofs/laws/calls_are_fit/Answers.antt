@@ -1,7 +1,6 @@
-use Rattle.std.proofs.Common.{◌≡◌, ℕ, List, Option, Some, None, ap, ◌∙◌, refl}
-use Rattle.board_rules.proofs.Known.{BoardLaws, board_laws, known}
+use Rattle.std.proofs.Common.{◌≡◌, Some, None, ap, ◌∙◌}
+use Rattle.board_rules.proofs.Known.{board_laws, known}
 use Rattle.board_rules.specs.JobLaws.{JobsHaveLaws}
-use Rattle.board_rules.specs.Keys.{IsKey, Key}
 use Rattle.board_rules.specs.Legal.{state_after}
 use Rattle.job_rules.specs.Items.{rule}
 use Rattle.job_rules.specs.Words.{Answer}

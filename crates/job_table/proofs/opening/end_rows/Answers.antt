@@ -1,6 +1,5 @@
-use Rattle.std.proofs.Common.{List, Option, Some, ◌∷◌, [], ◌++◌, All, ap, subst}
+use Rattle.std.proofs.Common.{All, subst}
 use Rattle.job_table.specs.Slots.{IsUnlent}
-use Rattle.job_table.specs.declared.row.Row.{Row}
 use Rattle.job_table.proofs.Methods.{all_before, all_last}
 use Rattle.job_table.proofs.opening.end_rows.Goals as goal
 

@@ -1,4 +1,4 @@
-use Rattle.std.proofs.Common.{◌≡◌, ℕ, List, Bool, true, false, IsTrue, Option, Some, None, get_or, set, length, slice_index, refl, sym, ap, ◌∙◌, subst, arith}
+use Rattle.std.proofs.Common.{◌≡◌, ℕ, Some, None, get_or, set, length, slice_index, sym, ap, ◌∙◌, subst, arith}
 use Rattle.std.proofs.lemmas.Result.{IfOk-weaker}
 use Rattle.std.specs.Arc.{arc_value}
 use Rattle.job_preparing.specs.Handing.{EndSuits, end_of, mark_at}
@@ -9,7 +9,6 @@ use Rattle.open_job.specs.View.{OpenView}
 use Rattle.pisdf_meaning.specs.declared.firing.Firing.{Firing}
 use Rattle.job_table.specs.Slots.{InSlot, change_row}
 use Rattle.job_table.specs.View.{TableView, row_at}
-use Rattle.job_table.specs.declared.row.Row.{Row}
 use Rattle.job_table.proofs.Closings.{AllLawful, rows_less, rows_through}
 use Rattle.job_table.proofs.CloseSteps.{HasClosed, closes_on, ends, falls, may_finish, mid, next, place_some, quiet_by, rest_stays, stays_on, stops, unquiet_by, upper_inside}
 use Rattle.job_table.proofs.Rows.{inside_of}

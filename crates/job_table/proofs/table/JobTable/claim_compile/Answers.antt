@@ -1,4 +1,4 @@
-use Rattle.std.proofs.Common.{Some, ◌≡◌}
+use Rattle.std.proofs.Common.{◌≡◌}
 use Rattle.std.proofs.lemmas.Result.{IfOk-weaker, on_ok_weaker}
 use Rattle.std.specs.Arc.{arc_value}
 use Rattle.std.specs.Option.{option_map}
@@ -6,8 +6,6 @@ use Rattle.nested_jobs.specs.Marks.{Busy}
 use Rattle.open_job.specs.Calls.{with_mark}
 use Rattle.open_job.specs.View.{HasItem, OpenView, compilation_of, left_by}
 use Rattle.job_preparing.specs.CompileTasks.{CompileView}
-use Rattle.job_table.specs.Slots.{InSlot}
-use Rattle.job_table.specs.View.{HasJob}
 use Rattle.job_table.proofs.Methods.{changed, in_row, mark_marked}
 use Rattle.job_table.proofs.table.JobTable.claim_compile.Goals as goal
 

@@ -1,9 +1,8 @@
-use Rattle.std.proofs.Common.{None, Some, ap, ◌∙◌, sym, subst}
-use Rattle.job_preparing.specs.Handing.{answer_with, mark_at}
-use Rattle.nested_jobs.specs.Marks.{Busy, Done}
+use Rattle.std.proofs.Common.{None}
+use Rattle.job_preparing.specs.Handing.{answer_with}
+use Rattle.nested_jobs.specs.Marks.{Done}
 use Rattle.open_job.specs.Calls.{with_item}
 use Rattle.open_job.specs.View.{OpenView, task}
-use Rattle.job_table.specs.Slots.{InSlot}
 use Rattle.job_table.proofs.Methods.{busy_inside, changed, item_lent, item_marked, lent_there}
 use Rattle.job_table.proofs.table.JobTable.finish.Goals as goal
 

@@ -1,4 +1,4 @@
-use Rattle.std.proofs.Common.{◌≡◌, List, ◌∷◌, [], ◌++◌, ℕ, ◌+◌, Option, Some, None, Result, Ok, refl, sym, ap, ◌∙◌, subst}
+use Rattle.std.proofs.Common.{◌≡◌, ◌∷◌, [], ◌++◌, ◌+◌, Some, Result, refl, sym, ap, ◌∙◌, subst}
 use Rattle.std.specs.Arc.{arc_value}
 use Rattle.std.specs.declared.alloc.AllocError.{AllocError}
 use Rattle.job_preparing.specs.View.{HasInherited}
@@ -11,7 +11,7 @@ use Rattle.open_job.specs.Paths.{step_of}
 use Rattle.open_job.specs.View.{IsOfferedCall, OpenView, task}
 use Rattle.pisdf_meaning.specs.declared.firing.Firing.{Firing}
 use Rattle.pisdf_model.specs.declared.graph.Graphs.{Graphs}
-use Rattle.job_table.specs.Slots.{CallsIn, CallsItem, InSlot}
+use Rattle.job_table.specs.Slots.{CallsIn, InSlot}
 use Rattle.job_table.specs.View.{TableView, row_at, with_job}
 use Rattle.job_table.specs.declared.row.Row.{Row}
 use Rattle.job_table.proofs.Openings.{call_of, call_spoils, err_with, is_fresh, item_there, opened_mark, opened_others, opened_stays, opens, opens_lent, read_row, row_slot, vacant_slot}

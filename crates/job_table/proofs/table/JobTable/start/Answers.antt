@@ -1,7 +1,6 @@
-use Rattle.std.proofs.Common.{◌≡◌, ◌+◌, List, [], ◌∷◌, ◌++◌, Option, Some, refl, sym, ap, ◌∙◌, subst}
+use Rattle.std.proofs.Common.{◌≡◌, ◌+◌, List, [], ◌∷◌, ◌++◌, Option, Some, sym, ap, ◌∙◌, subst}
 use Rattle.std.specs.Arc.{arc_value}
 use Rattle.job_rules.specs.Items.{compile_number, graph_of}
-use Rattle.open_job.specs.View.{OpenView}
 use Rattle.job_table.specs.Calls.{IsFresh}
 use Rattle.job_table.specs.declared.row.Row.{Row}
 use Rattle.job_table.proofs.Openings.{is_fresh, started}
