@@ -10,6 +10,6 @@ abbrev pub IsAnswerOf : LevelView → Result LevelSchedule Unscheduled → Type 
 IsAnswerOf level (Ok s) = IsScheduled level s
 IsAnswerOf level (Err fault) = IsUnscheduled level fault
 
--- the level has a schedule, or a fault for which it has none
+-- the level has a schedule, or a fault and then no schedule
 abbrev pub HasAnswer : LevelView → Type 0
 HasAnswer level = (answer : Result LevelSchedule Unscheduled) × IsAnswerOf level answer

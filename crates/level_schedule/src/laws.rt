@@ -3,7 +3,7 @@ ghost use Rattle.sdf_level.specs.View.{LevelView};
 ghost use Rattle.sdf_level.specs.Kept.{IsLevel};
 ghost use Rattle.level_schedule.specs.Laws.{HasAnswer};
 
-/// Every level has a schedule or a fault for which it has none, whether or not there is memory to work it out.
+/// Every level has a schedule, or a fault and then no schedule, whether or not there is memory to work it out.
 pub fn schedules_exist()
     ensures { (level : LevelView) → IsLevel level → HasAnswer level }
 {}

@@ -95,7 +95,7 @@ pub(crate) struct ConfigCall<'a> {
     pub(crate) sets: u32,
 }
 
-/// What a configuration actor leaves that fires a kernel.
+/// What a configuration actor that fires a kernel leaves.
 pub(crate) fn leave_config<K: Gate>(
     alloc: Global,
     gate: &K,

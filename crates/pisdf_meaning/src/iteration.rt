@@ -36,8 +36,10 @@ fn top_early(alloc: Global, graphs: &Graphs) -> Result<Early, AllocError>
     requires in_range { InRange graphs.now }
     requires well_formed { WellFormed graphs.now }
     requires none_inherited { inherited_count (slice_get graphs.now.graphs graphs.now.top) ≡ 0 }
+    requires sound { early_faults graphs.now.graphs graphs.now.top [] ≡ [] }
     ensures { IfOk result (λ known. known ≡ early_of graphs.now.graphs graphs.now.top []) }
 {
+    // The early check has no fault, so that only memory can be wanting.
     match early(alloc, graphs, graphs.top, &[]) {
         Ok(known) => Ok(known),
         Err(_) => Err(AllocError),
@@ -64,7 +66,7 @@ fn top_firing(
 }
 
 /// What an iteration begins with: what is known of the top graph, and its firing with these inputs and this state.
-fn opening(
+fn begin_iteration(
     alloc: Global,
     graphs: &Graphs,
     delays: &Delays,
@@ -73,6 +75,7 @@ fn opening(
     requires in_range { InRange graphs.now }
     requires well_formed { WellFormed graphs.now }
     requires none_inherited { inherited_count (slice_get graphs.now.graphs graphs.now.top) ≡ 0 }
+    requires sound { early_faults graphs.now.graphs graphs.now.top [] ≡ [] }
     ensures early { IfOk result (λ begun. begun.0 ≡ early_of graphs.now.graphs graphs.now.top []) }
     ensures firing { IfOk result (λ begun. (top : OneGraph) → slice_get graphs.now.graphs graphs.now.top ≡ Some top → begun.1 ≡ top_firing top graphs.now.top ins.now delays.now.lists) }
 {
@@ -99,7 +102,7 @@ fn iterate<K: Gate>(
     ensures unchanged { OnErr result (delays.new ≡ delays.old) }
 {
     runnable();
-    let (early, firing) = opening(alloc, graphs, delays, ins)?;
+    let (early, firing) = begin_iteration(alloc, graphs, delays, ins)?;
     let given = fire_graph(alloc, graphs, gate, &early, &firing, MAX_NESTING)?;
     delays.lists = given.state;
     Ok(Iteration {
@@ -157,7 +160,7 @@ fn lead_to_level<K: Gate>(
     ensures refused { IfErr result (IfRefused (TopLevelRefused graphs.now ins.now delays.now.lists)) }
 {
     runnable();
-    let (early, firing) = opening(alloc, graphs, delays, ins)?;
+    let (early, firing) = begin_iteration(alloc, graphs, delays, ins)?;
     let top = &graphs.graphs.items()[graphs.top as usize];
     let levels = MAX_NESTING - 1;
     let configured = configure(alloc, graphs, gate, top, &early, &firing, levels)?;

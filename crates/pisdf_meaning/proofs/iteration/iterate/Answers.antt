@@ -5,8 +5,8 @@ use Rattle.pisdf_meaning.proofs.Iterating.{can_run, some_top, top_ends, top_give
 use Rattle.pisdf_meaning.proofs.Passing.{passed_on, refused-map}
 use Rattle.pisdf_meaning.proofs.iteration.iterate.Goals as goal
 
-pub opening-requires-clause-none_inherited : goal.opening-requires-clause-none_inherited
-opening-requires-clause-none_inherited g c = (c.runnable.ensures (unnamed (g.K.Gate.kernels c.args.gate.now)) c.args.graphs.now c.requires.in_range c.requires.well_formed c.requires.kernels).none_inherited
+pub begin_iteration-requires-clause-none_inherited : goal.begin_iteration-requires-clause-none_inherited
+begin_iteration-requires-clause-none_inherited g c = (c.runnable.ensures (unnamed (g.K.Gate.kernels c.args.gate.now)) c.args.graphs.now c.requires.in_range c.requires.well_formed c.requires.kernels).none_inherited
 
 pub fire_graph-requires-clause-can : goal.fire_graph-requires-clause-can
 fire_graph-requires-clause-can g c = can_run _ c.args.graphs.now c.requires.in_range c.requires.well_formed (c.runnable.ensures (unnamed (g.K.Gate.kernels c.args.gate.now)) c.args.graphs.now c.requires.in_range c.requires.well_formed c.requires.kernels)

@@ -4,8 +4,8 @@ use Rattle.pisdf_meaning.proofs.Iterating.{top_here, top_levelled, top_unconfigu
 use Rattle.pisdf_meaning.proofs.Passing.{err-map, ok-on, passed_on, refused-map}
 use Rattle.pisdf_meaning.proofs.iteration.lead_to_level.Goals as goal
 
-pub opening-requires-clause-none_inherited : goal.opening-requires-clause-none_inherited
-opening-requires-clause-none_inherited g c = (c.runnable.ensures (unnamed (g.K.Gate.kernels c.args.gate.now)) c.args.graphs.now c.requires.in_range c.requires.well_formed c.requires.kernels).none_inherited
+pub begin_iteration-requires-clause-none_inherited : goal.begin_iteration-requires-clause-none_inherited
+begin_iteration-requires-clause-none_inherited g c = (c.runnable.ensures (unnamed (g.K.Gate.kernels c.args.gate.now)) c.args.graphs.now c.requires.in_range c.requires.well_formed c.requires.kernels).none_inherited
 
 pub configure-requires : goal.configure-requires
 configure-requires g c = top_underway c.args.graphs.now c.args.ins.now c.args.delays.now.lists c.index-items-graphs.result c.in_ok-early.firing (element_of c.items.result.now c.args.graphs.now.graphs c.args.graphs.now.top c.index-items-graphs.result c.items.ensures c.requires.in_range.top c.index-items-graphs.is) (c.in_ok-early.ensures.firing c.index-items-graphs.result (element_of c.items.result.now c.args.graphs.now.graphs c.args.graphs.now.top c.index-items-graphs.result c.items.ensures c.requires.in_range.top c.index-items-graphs.is)) _ c.in_ok-early.early c.requires.in_range c.requires.well_formed (c.runnable.ensures (unnamed (g.K.Gate.kernels c.args.gate.now)) c.args.graphs.now c.requires.in_range c.requires.well_formed c.requires.kernels) c.in_ok-early.ensures.early c.requires.sound
