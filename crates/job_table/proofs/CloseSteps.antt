@@ -17,7 +17,7 @@ use Rattle.job_table.specs.Slots.{InSlot, change_row}
 use Rattle.job_table.specs.Suits.{IsUpper, Suits}
 use Rattle.job_table.specs.View.{TableView, row_at, with_job}
 use Rattle.job_table.specs.declared.row.Row.{Row}
-use Rattle.job_table.proofs.Closings.{AllLawful, HasUpper, called, depth_of, end_so, keys_apart, left, next_so, next_stays, rows_less, stop_so, top_in, upper_in}
+use Rattle.job_table.proofs.Closings.{AllLawful, HasUpper, called, depth_of, end_so, keys_apart, left, next_so, next_stays, none_busy_at, rows_less, stop_so, top_in, top_so, upper_in}
 use Rattle.job_table.proofs.Rows.{inside_of, the_same}
 use Rattle.job_table.proofs.Writes.{slot_row}
 
@@ -33,6 +33,7 @@ pub stops : (lawful : AllLawful) (stop : ClosingsStop) (now : TableView) (k : �
 stops lawful stop now k row here unquiet = record {
   closed = λ c. (at c).0;
   suits = λ c. (at c).1;
+  top = λ c none. top_so lawful now k c (at c).1;
 }
   where
     at : (c : IsClosingFrom now k) → ClosesTo c now None × Suits c.key (state_after c.key (steps_with c)).marks now
@@ -50,15 +51,15 @@ pub record HasClosed (now : TableView) (k : ℕ) (row : Row) (end : Result JobGi
   pub rows_are : rest.rows ≡ set now.rows k None
 
 module _ (lawful : AllLawful) (now : TableView) (k : ℕ) (row : Row) (end : Result JobGiven Refusal) (rest : TableView) (s : HasClosed now k row end rest) where
-  pub rest_stays : RowsStay now rest
-  rest_stays = rows_less now rest k s.graphs_are s.workers_are s.rows_are (inside_of now.rows k row s.here)
-
   module _ (c : IsClosingFrom now k) where
     same : row ≡ c.row
     same = the_same (row_at now k) row c.row s.here c.here
 
     pub quiet_own : IsQuiet c.row.job
     quiet_own = subst (λ (r : Row). IsQuiet r.job) same s.quiet
+
+    pub rest_stays : RowsStay now rest
+    rest_stays = rows_less now rest k s.graphs_are s.workers_are s.rows_are (inside_of now.rows k row s.here) (none_busy_at lawful now k c quiet_own)
 
     pub outcome_own : answer_of (end_of end) ≡ outcome_in c.row.job
     outcome_own = s.outcome ∙ ap (λ (r : Row). outcome_in r.job) same
@@ -68,7 +69,7 @@ module _ (lawful : AllLawful) (now : TableView) (k : ℕ) (row : Row) (end : Res
 
   -- which was the top job
   pub ends : ClosingsEnd → row.upper ≡ None → Closes now k rest (Some end)
-  ends law top = record { closed = λ c. (at c).0; suits = λ c. (at c).1 }
+  ends law top = record { closed = λ c. (at c).0; suits = λ c. (at c).1; top = λ c (none : Some end ≡ None). absurd (cc) }
     where
       at : (c : IsClosingFrom now k) → ClosesTo c rest (Some end) × Suits c.key (state_after c.key (steps_with c)).marks rest
       at c = end_so lawful now k c (quiet_own c) law rest (top_in now c.row.place (subst (IsUpper now c.row.place) top (upper_own c))) s.graphs_are s.workers_are s.rows_are end (outcome_own c)
@@ -135,6 +136,7 @@ module _ (lawful : AllLawful) (now : TableView) (k : ℕ) (row : Row) (end : Res
     closes_on slot slot' read written new o closes = record {
       closed = λ c. go c o (closes.closed (next c slot slot' read written));
       suits = λ c. closes.suits (next c slot slot' read written);
+      top = λ c none. closes.top (next c slot slot' read written) none;
     }
       where
         go : (c : IsClosingFrom now k) (o : Option (Result JobGiven Refusal)) → ClosesTo (next c slot slot' read written) new o → ClosesTo c new o

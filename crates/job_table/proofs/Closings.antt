@@ -3,20 +3,20 @@ use Rattle.std.proofs.Common.{◌≡◌, ◌≢◌, ⊎_elim, ℕ, ◌<◌, Bool
 use Rattle.std.proofs.lemmas.Bool.{cases_eq}
 use Rattle.std.proofs.lemmas.List.{get_or-set_other, get_or-set_same}
 use Rattle.std.specs.Option.{option_map}
-use Rattle.job_preparing.specs.Handing.{end_of, mark_at}
+use Rattle.job_preparing.specs.Handing.{answers, end_of, mark_at}
 use Rattle.job_preparing.specs.declared.handing.JobGiven.{JobGiven}
 use Rattle.job_rules.specs.Items.{job_rules, outcome}
 use Rattle.job_rules.specs.Meant.{rank}
 use Rattle.job_rules.specs.Words.{Answer, answer_of}
 use Rattle.nested_jobs.proofs.Appending.{state-snoc}
-use Rattle.nested_jobs.proofs.Nesting.{journal_nested, top_open}
+use Rattle.nested_jobs.proofs.Nesting.{journal_nested, quiet_idle, top_open}
 use Rattle.nested_jobs.proofs.Places.{cons_ne}
-use Rattle.nested_jobs.proofs.Tabling.{none_below, put_row_at, stops}
+use Rattle.nested_jobs.proofs.Tabling.{none_below, put_row_at, quiet_is, stops}
 use Rattle.nested_jobs.specs.Journals as steps
 use Rattle.nested_jobs.specs.Journals.{after, start}
 use Rattle.nested_jobs.specs.Marks as mark
-use Rattle.nested_jobs.specs.Marks.{Done, Free, Mark, Marks, Open, put}
-use Rattle.nested_jobs.specs.Meanings.{Lawful}
+use Rattle.nested_jobs.specs.Marks.{Busy, Done, Free, Mark, Marks, Open, put}
+use Rattle.nested_jobs.specs.Meanings.{Lawful, Within}
 use Rattle.nested_jobs.specs.Rules.{Place}
 use Rattle.nested_jobs.specs.Tables.{answers_in, is_quiet_row, put_row, with_mark}
 use Rattle.open_job.specs.Calls as job
@@ -84,15 +84,24 @@ table_less old new k rows inside =
     λ x l. at l x
 
 pub rows_same : (v : TableView) → RowsStay v v
-rows_same v = record { graphs_are = refl; workers_are = refl; rows = λ j after now. (after, now, stays_same after, refl) }
+rows_same v = record {
+  graphs_are = refl;
+  workers_are = refl;
+  rows = λ j after now. (after, now, stays_same after, refl);
+  busy = λ j i before here is. (before, here, stays_same before, λ n still. still, λ n a told. told);
+}
 
-pub rows_less : (old new : TableView) (k : ℕ) → new.graphs ≡ old.graphs → new.workers ≡ old.workers → new.rows ≡ set old.rows k None → k < length old.rows → RowsStay old new
-rows_less old new k graphs workers rows inside = record {
+pub rows_less : (old new : TableView) (k : ℕ) → new.graphs ≡ old.graphs → new.workers ≡ old.workers → new.rows ≡ set old.rows k None → k < length old.rows → ((row : Row) → row_at old k ≡ Some row → (i : ℕ) → mark_at row.job.marks i ≢ Busy) → RowsStay old new
+rows_less old new k graphs workers rows inside idle = record {
   graphs_are = graphs;
   workers_are = workers;
   rows = λ j after now. ⊎_elim
       (λ (e : j ≡ k). let no : None ≡ Some after = sym (gone old new k rows inside) ∙ (ap (row_at new) (sym e) ∙ now) in absurd (cc))
       (λ apart. (after, sym (left old new k rows j apart) ∙ now, stays_same after, refl))
+      (cases_eq j k);
+  busy = λ j i before here is. ⊎_elim
+      (λ (e : j ≡ k). absurd (idle before (ap (row_at old) (sym e) ∙ here) i is))
+      (λ apart. (before, left old new k rows j apart ∙ here, stays_same before, λ n still. still, λ n a told. told))
       (cases_eq j k);
 }
 
@@ -114,6 +123,10 @@ rows_through one two three a b = record {
       let t = b.rows j after now in
       let u = a.rows j t.0 t.1 in
       (u.0, u.1, stays_through u.0 t.0 after u.2 t.2, t.3 ∙ u.3);
+  busy = λ j i before here is.
+      let t = a.busy j i before here is in
+      let u = b.busy j i t.0 t.1 (t.3 i is) in
+      (u.0, u.1, stays_through before t.0 u.0 t.2 u.2, λ n still. u.3 n (t.3 n still), λ n x told. u.4 n x (t.4 n x told));
 }
 
 -- ---- quiet jobs
@@ -151,6 +164,21 @@ module _ (lawful : AllLawful) (v : TableView) (k : ℕ) (c : IsClosingFrom v k) 
 
   next_is : state_after c.key (steps_with c) ≡ after (rules c.key) (state_after c.key c.taken) (steps.Finish c.worker c.answer)
   next_is = state-snoc (rules c.key) (start (top_job c.key)) c.taken (steps.Finish c.worker c.answer)
+
+  -- no item of a quiet job is busy
+  pub none_busy : IsQuiet c.row.job → (i : ℕ) → mark_at c.row.job.marks i ≢ Busy
+  none_busy quiet i busy =
+      let is = c.suits.stands.rows k row here in
+      let quiet_there = quiet_is (rules c.key) c.marks row is ∙ quiet_so c.key c.row graphs_so quiet in
+      (quiet_idle (rules c.key) (rank c.key.graphs.graphs) law (top_job c.key) c.marks row.job row.place i c.closing.nested is.is_open quiet_there).0 (is.items i ∙ busy)
+
+  pub none_busy_at : IsQuiet c.row.job → (r : Row) → row_at v k ≡ Some r → (i : ℕ) → mark_at r.job.marks i ≢ Busy
+  none_busy_at quiet r at = subst (λ (x : Row). (i : ℕ) → mark_at x.job.marks i ≢ Busy) (the_same (row_at v k) c.row r c.here at) (none_busy quiet)
+
+  -- the top job is open where the row's job is
+  pub top_so : Suits c.key (state_after c.key (steps_with c)).marks v → (job : Firing) × ((state_after c.key (steps_with c)).marks [] ≡ Open job)
+  top_so suited =
+      top_open (rules c.key) (rank c.key.graphs.graphs) law (top_job c.key) (state_after c.key (steps_with c)).marks c.row.place c.row.job.firing suited.nested (suited.stands.rows k row here).is_open
 
   -- it stops at a job that isn't quiet
   pub stop_so : ClosingsStop → ¬ (IsQuiet c.row.job) → ClosesTo c v None × Suits c.key (state_after c.key (steps_with c)).marks v
@@ -240,6 +268,21 @@ module _ (lawful : AllLawful) (v : TableView) (k : ℕ) (c : IsClosingFrom v k) 
             (put_row_at (put_row (table_of v) k None) l (Some (with_mark (job_row up) item (Done y))) j) in
             λ x j. at j x
 
+        up_unmarked : (n : ℕ) → n ≢ item → mark_at now_up.job.marks n ≡ mark_at up.job.marks n
+        up_unmarked n apart = get_or-set_other up.job.marks item n (Done y) Free apart
+
+        still_busy : (n : ℕ) → mark_at up.job.marks n ≡ Busy → mark_at now_up.job.marks n ≡ Busy
+        still_busy n busy = ⊎_elim
+            (λ (e : n ≡ item). let no : Busy ≡ Open c.row.job.firing = sym busy ∙ (ap (mark_at up.job.marks) e ∙ called) in absurd (cc))
+            (λ apart. up_unmarked n apart ∙ busy)
+            (cases_eq n item)
+
+        still_answered : Within (answers up.job.marks) (answers now_up.job.marks)
+        still_answered n a told = ⊎_elim
+            (λ (e : n ≡ item). let no : Some a ≡ None = sym told ∙ ap mark.answer_of (ap (mark_at up.job.marks) e ∙ called) in absurd (cc))
+            (λ apart. ap mark.answer_of (up_unmarked n apart) ∙ told)
+            (cases_eq n item)
+
         abbrev marks : Marks Firing Answer
         marks = put c.marks (item ∷ up.place) (Done y)
 
@@ -295,6 +338,17 @@ module _ (lawful : AllLawful) (v : TableView) (k : ℕ) (c : IsClosingFrom v k) 
               (λ apart. ⊎_elim
               (λ (e : j ≡ k). let no : None ≡ Some after = sym mid_gone ∙ (ap (row_at mid) (sym e) ∙ now) in absurd (cc))
               (λ other_key. (after, sym (left v rest k less j other_key) ∙ (sym (mid_other j apart) ∙ now), stays_same after, refl))
+              (cases_eq j k))
+              (cases_eq j l);
+          busy = λ j i before at is. ⊎_elim
+              (λ (e : j ≡ l).
+              let same : up ≡ before = the_same (row_at v l) up before above (ap (row_at v) (sym e) ∙ at) in
+              let P : Row → Type 0 = λ (r : Row). StaysAs r now_up × ((n : ℕ) → mark_at r.job.marks n ≡ Busy → mark_at now_up.job.marks n ≡ Busy) × Within (answers r.job.marks) (answers now_up.job.marks) in
+              let kept = subst P same (up_stays, still_busy, still_answered) in
+              (now_up, ap (row_at mid) e ∙ mid_up, kept.0, kept.1, kept.2))
+              (λ apart. ⊎_elim
+              (λ (e : j ≡ k). absurd (none_busy_at quiet before (ap (row_at v) (sym e) ∙ at) i is))
+              (λ other_key. (before, mid_other j apart ∙ (left v rest k less j other_key ∙ at), stays_same before, λ n still. still, λ n a told. told))
               (cases_eq j k))
               (cases_eq j l);
         }

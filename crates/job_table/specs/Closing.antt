@@ -5,7 +5,9 @@ use Rattle.board_rules.specs.BoardLaws.{IsOver}
 use Rattle.board_rules.specs.Entries.{Step}
 use Rattle.board_rules.specs.Keys.{Key}
 use Rattle.board_rules.specs.Legal.{state_after}
-use Rattle.job_preparing.specs.Handing.{end_of}
+use Rattle.job_preparing.specs.Handing.{answers, end_of, mark_at}
+use Rattle.nested_jobs.specs.Marks.{Busy, Open}
+use Rattle.nested_jobs.specs.Meanings.{Within}
 use Rattle.job_preparing.specs.declared.handing.JobGiven.{JobGiven}
 use Rattle.job_rules.specs.Words.{Answer, answer_of}
 use Rattle.nested_jobs.specs.Journals as steps
@@ -46,9 +48,11 @@ ClosesTo c new (Some end) = IsOver c.key (steps_with c) (table_of new) (held_aft
 pub record Closes (old : TableView) (k : ℕ) (new : TableView) (end : Option (Result JobGiven Refusal)) : Type 0 where
   pub closed : (c : IsClosingFrom old k) → ClosesTo c new end
   pub suits : (c : IsClosingFrom old k) → Suits c.key (state_after c.key (steps_with c)).marks new
+  pub top : (c : IsClosingFrom old k) → end ≡ None → (job : Firing) × ((state_after c.key (steps_with c)).marks [] ≡ Open job)
 
 -- each row that is left is as it was, but for its marks
 pub record RowsStay (old new : TableView) : Type 0 where
   pub graphs_are : new.graphs ≡ old.graphs
   pub workers_are : new.workers ≡ old.workers
   pub rows : (k : ℕ) (after : Row) → row_at new k ≡ Some after → (before : Row) × (row_at old k ≡ Some before) × StaysAs before after × (after.job.lent ≡ before.job.lent)
+  pub busy : (k i : ℕ) (before : Row) → row_at old k ≡ Some before → mark_at before.job.marks i ≡ Busy → (after : Row) × (row_at new k ≡ Some after) × StaysAs before after × ((j : ℕ) → mark_at before.job.marks j ≡ Busy → mark_at after.job.marks j ≡ Busy) × Within (answers before.job.marks) (answers after.job.marks)

@@ -5,13 +5,14 @@ use Rattle.job_preparing.specs.Handing.{EndSuits, end_of, mark_at}
 use Rattle.job_rules.specs.Words.{answer_of}
 use Rattle.nested_jobs.specs.Marks.{Done, Open}
 use Rattle.open_job.specs.Calls as job
-use Rattle.open_job.specs.View.{OpenView}
+use Rattle.open_job.specs.View.{IsQuiet, OpenView}
 use Rattle.pisdf_meaning.specs.declared.firing.Firing.{Firing}
 use Rattle.job_table.specs.Slots.{InSlot, change_row}
 use Rattle.job_table.specs.View.{TableView, row_at}
-use Rattle.job_table.proofs.Closings.{AllLawful, rows_less, rows_through}
+use Rattle.job_table.specs.declared.row.Row.{Row}
+use Rattle.job_table.proofs.Closings.{AllLawful, none_busy_at, rows_less, rows_through}
 use Rattle.job_table.proofs.CloseSteps.{HasClosed, closes_on, ends, falls, may_finish, mid, next, place_some, quiet_by, rest_stays, stays_on, stops, unquiet_by, upper_inside}
-use Rattle.job_table.proofs.Rows.{inside_of}
+use Rattle.job_table.proofs.Rows.{inside_of, the_same}
 use Rattle.job_table.proofs.Writes.{slot_row}
 use Rattle.job_table.proofs.table.JobTable.+close_from.Goals as goal
 
@@ -55,7 +56,9 @@ returns-in_err-end-clause-stay t c =
     let graphs : rest.graphs ≡ now.graphs = ap (λ (x : TableView). x.graphs) e in
     let workers : rest.workers ≡ now.workers = ap (λ (x : TableView). x.workers) e in
     let less : rest.rows ≡ set now.rows k None = ap (λ (x : TableView). set x.rows k c.take_row-job.new.slot) e ∙ ap (set now.rows k) c.take_row-job.ensures.rest in
-    rows_less now rest k graphs workers less (inside_of now.rows k row here)
+    let own = the_same (row_at now k) row c.requires.row here c.requires.here in
+    let idle = none_busy_at lawful now k c.requires (subst (λ (r : Row). IsQuiet r.job) own quiet) in
+    rows_less now rest k graphs workers less (inside_of now.rows k row here) idle
 
 pub returns-in-None-clause-closed : goal.returns-in-None-clause-closed
 returns-in-None-clause-closed t c =
@@ -97,7 +100,7 @@ returns-in-None-clause-stay t c =
     let less : rest.rows ≡ set now.rows k None = ap (λ (x : TableView). set x.rows k c.take_row-job.new.slot) e ∙ ap (set now.rows k) c.take_row-job.ensures.rest in
     let end = c.in_ok-end.end in
     let closed : HasClosed now k row end rest = record { here = here; quiet = quiet; outcome = c.in_ok-end.ensures.outcome; suits = c.in_ok-end.ensures.suits; graphs_are = graphs; workers_are = workers; rows_are = less } in
-    rest_stays lawful now k row end rest closed
+    rest_stays lawful now k row end rest closed c.requires
 
 pub index_mut-requires-in-Some : goal.index_mut-requires-in-Some
 index_mut-requires-in-Some t c =
