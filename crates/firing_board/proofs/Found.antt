@@ -10,7 +10,7 @@ use Rattle.open_job.specs.View.{IsOfferedCall, IsOfferedWork, answered, task}
 use Rattle.pisdf_meaning.specs.declared.firing.Firing.{Firing}
 use Rattle.pisdf_model.specs.declared.graph.Graphs.{Graphs}
 use Rattle.board_rules.specs.Asking.{IsFirstOfAll, IsOffered, JobRow, NoRowOffers}
-use Rattle.board_rules.specs.AskingLaws.{FirstWorkIsPicked, NothingIsEnabled, OpenedWorkIsPicked}
+use Rattle.board_rules.specs.AskingLaws.{FirstWorkIsPicked, NothingIsEnabled, OpenedWorkIsPicked, PathsAreApart}
 use Rattle.board_rules.specs.Board.{HasOpened}
 use Rattle.board_rules.specs.BoardLaws.{NothingOpened}
 use Rattle.board_rules.specs.Entries.{Step}
@@ -18,7 +18,7 @@ use Rattle.board_rules.specs.Keys.{Key, rules}
 use Rattle.board_rules.specs.Legal.{state_after}
 use Rattle.board_rules.specs.Offers.{calls}
 use Rattle.board_rules.specs.Picks.{IsPick}
-use Rattle.job_table.specs.Asked.{IsAsked, offer_of}
+use Rattle.job_table.specs.Asked.{IsAsked, PathsDiffer, offer_of}
 use Rattle.job_table.specs.Laws.{CallsAreFit}
 use Rattle.job_table.specs.Suits.{Suits}
 use Rattle.job_table.specs.View.{TableView, job_row, row_at, table_of}
@@ -50,7 +50,10 @@ pub task_in : (key : Key) (v : TableView) (row : Row) (item : ℕ) (t : Option (
     → rule key.graphs.graphs row.job.firing (answered row.job) item ≡ t → task row.job item ≡ t
 task_in key v row item t graphs is = subst (λ (g : Graphs). rule g.graphs row.job.firing (answered row.job) item ≡ t) (sym graphs) is
 
-module _ (key : Key) (taken : List Step) (old : Core) (s : StandsAt key taken old) where
+module _ (paths_apart : PathsAreApart) (key : Key) (taken : List Step) (old : Core) (s : StandsAt key taken old) where
+  differ : PathsDiffer key (state_after key taken).marks
+  differ p q c d one two same = paths_apart key taken p q c d s.suits.is_key s.kept.legal one two same
+
   offered_call : (jr : JobRow) (row : Row) (k item : ℕ) → row_at old.table k ≡ Some row → jr ≡ job_row row → IsOffered key true jr item → IsOfferedCall row.job item
   offered_call jr row k item here is offered =
       let o = subst (λ (r : JobRow). IsOffered key true r item) is offered in
@@ -74,7 +77,7 @@ module _ (key : Key) (taken : List Step) (old : Core) (s : StandsAt key taken ol
   -- the first call may be opened
   pub first_calls : CallsAreFit → (w : ℕ) (asked : Asked) → IsAsked w true old.table (Some asked) → Calls key (state_after key taken).marks old.table record { row = asked.row; item = asked.offer.item }
   first_calls fit w asked is =
-      let f = is key (state_after key taken).marks s.suits in
+      let f = is key (state_after key taken).marks s.suits differ in
       let b = row_behind (row_at old.table asked.row) f.0 f.1.here in
       record {
         suits = s.suits;
@@ -89,7 +92,7 @@ module _ (key : Key) (taken : List Step) (old : Core) (s : StandsAt key taken ol
   pub work_found : NothingOpened → FirstWorkIsPicked → (w : ℕ) (asked : Asked) → IsAsked w false old.table (Some asked) → IsFound key taken old w old record { row = asked.row; item = asked.offer.item }
   work_found nothing picked w asked is =
       let m = (state_after key taken).marks in
-      let f = is key m s.suits in
+      let f = is key m s.suits differ in
       let b = row_behind (row_at old.table asked.row) f.0 f.1.here in
       let place : f.0.place ≡ b.0.place = ap (λ (r : JobRow). r.place) b.2 in
       record {
@@ -110,7 +113,7 @@ module _ (key : Key) (taken : List Step) (old : Core) (s : StandsAt key taken ol
       let m = (state_after key taken).marks in
       let held = held_of old.running.items in
       let table = table_of old.table in
-      let f = is key m s.suits in
+      let f = is key m s.suits differ in
       let c = first_calls fit w asked is in
       let r = way.reaches key m c in
       let b = row_behind (row_at old.table asked.row) f.0 f.1.here in
@@ -131,4 +134,8 @@ module _ (key : Key) (taken : List Step) (old : Core) (s : StandsAt key taken ol
       }
 
   pub none_found : NothingIsEnabled → NoRowOffers key false (table_of old.table) → (w : ℕ) → IsAsked w true old.table None → (a : Place) → ¬ (Rattle.nested_jobs.specs.Steps.IsEnabled (rules key) (state_after key taken).marks a)
-  none_found nothing none w is a = nothing key taken (table_of old.table) (held_of old.running.items) a s.suits.is_key s.kept none (is key (state_after key taken).marks s.suits)
+  none_found nothing none w is a = nothing key taken (table_of old.table) (held_of old.running.items) a s.suits.is_key s.kept none (is key (state_after key taken).marks s.suits differ)
+
+  -- no row offers work
+  pub no_work : (w : ℕ) → IsAsked w false old.table None → HasNoWork key taken old
+  no_work w is = record { stands = s; none = is key (state_after key taken).marks s.suits differ }

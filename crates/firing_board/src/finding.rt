@@ -9,7 +9,7 @@ ghost use Rattle.firing_board.specs.Core.{StandsAt};
 use crate::core::Core;
 use crate::numbering::number_row;
 use crate::run::Run;
-use board_rules::{boards_keep, rows_are_asked};
+use board_rules::{boards_keep, paths_stay, rows_are_asked};
 use job_rules::rules_are_lawful;
 use job_table::{Begins, calls_are_fit, tables_suit};
 use std::alloc::{AllocError, Global};
@@ -69,6 +69,7 @@ pub(crate) fn find(alloc: Global, core: &mut Core, worker: u32) -> Result<Option
 {
     boards_keep();
     rows_are_asked();
+    paths_stay();
     calls_are_fit();
     match core.table.first_work(worker) {
         Some(asked) => Ok(Some(Run {
@@ -91,6 +92,7 @@ fn find_call(alloc: Global, core: &mut Core, worker: u32) -> Result<Option<Run>,
 {
     boards_keep();
     rows_are_asked();
+    paths_stay();
     calls_are_fit();
     match core.table.first_call(worker) {
         Some(asked) => {
