@@ -1,5 +1,5 @@
 -- What an iteration is given is what a board is started with.
-use Rattle.std.proofs.Common.{◌≡◌, ℕ, ◌<◌, ◌≤◌, ℤ, List, [], map, slice_get, Some, refl, sym, ap, ◌∙◌, subst, length}
+use Rattle.std.proofs.Common.{◌≡◌, ℕ, ◌<◌, ◌≤◌, ℤ, List, [], map, slice_get, Some, None, Result, Ok, Err, IfOk, false, refl, sym, ap, ◌∙◌, subst, length, replicate}
 use Rattle.std.proofs.lemmas.Option.{slice_get-get_or}
 use Rattle.std.proofs.lemmas.Simd.{map-map}
 use Rattle.kernel_gate.specs.Signed.{Counts, SignatureView, counts_of, signature_view, unnamed}
@@ -16,9 +16,11 @@ use Rattle.pisdf_meaning.specs.Sound.{KernelsFit}
 use Rattle.pisdf_meaning.specs.declared.outcome.Delays.{Delays}
 use Rattle.job_rules.specs.Items.{no_graph}
 use Rattle.job_rules.specs.Meant.{IsFit}
-use Rattle.board_rules.specs.Keys.{IsKey, top_job}
+use Rattle.board_rules.specs.Keys.{IsKey, Key, top_job}
+use Rattle.firing_board.specs.Runs.{AreAllIdle}
 use Rattle.firing_board.specs.Starts.{key_from}
-use Rattle.quiescent_driver.specs.Given.{IsTopState}
+use Rattle.firing_board.specs.View.{BoardView}
+use Rattle.quiescent_driver.specs.Given.{IsTopState, key_with}
 
 -- signatures without their names
 pub counts_told : (signatures : List Signature) (kernels : List SignatureView) → map signature_view signatures ≡ kernels → map counts_of signatures ≡ unnamed kernels
@@ -38,3 +40,23 @@ is_key graphs signatures kernels delays ins workers told range well fit give sou
       some = some;
       few = few;
     }
+
+-- ---- the board that is started
+
+abbrev new_board : Key → ℕ → BoardView
+new_board key workers = record { key = key; journal = []; starved = false; lent = replicate workers None }
+
+new_is_idle : (key : Key) (workers : ℕ) → AreAllIdle (new_board key workers)
+new_is_idle key workers = record { taken = []; at = record { legal = record { allowed = tt; picked = tt }; entered = refl }; run_none = λ w lt. refl }
+
+pub started_key : {E : Type 0} (graphs : Graphs) (signatures : List Signature) (kernels : List SignatureView) (delays : Delays) (ins : List (List ℤ)) (workers : ℕ) (result : Result BoardView E) →
+    map signature_view signatures ≡ kernels → IfOk result (λ b. b ≡ new_board (key_from graphs signatures delays ins workers) workers) → IfOk result (λ b. b.key ≡ key_with graphs kernels delays.lists ins workers)
+started_key graphs signatures kernels delays ins workers (Ok b) told is =
+    let same : key_from graphs signatures delays ins workers ≡ key_with graphs kernels delays.lists ins workers =
+        ap (λ s. record { graphs = graphs; signatures = s; delays = delays.lists; ins = ins; workers = workers }) (counts_told signatures kernels told) in
+    ap (λ (x : BoardView). x.key) is ∙ same
+started_key graphs signatures kernels delays ins workers (Err e) told is = tt
+
+pub started_idle : {E : Type 0} (key : Key) (workers : ℕ) (result : Result BoardView E) → IfOk result (λ b. b ≡ new_board key workers) → IfOk result AreAllIdle
+started_idle key workers (Ok b) is = subst AreAllIdle (sym is) (new_is_idle key workers)
+started_idle key workers (Err e) is = tt

@@ -12,6 +12,7 @@ ghost use Rattle.pisdf_meaning.specs.Sound.{KernelsFit};
 ghost use Rattle.pisdf_meaning.specs.declared.outcome.Iteration.{Iteration as Outcome};
 ghost use Rattle.pisdf_meaning.specs.declared.refusal.Refusal.{Refusal as Cause};
 ghost use Rattle.board_journal.specs.View.{JournalView};
+ghost use Rattle.firing_board.specs.Runs.{AreAllIdle};
 ghost use Rattle.quiescent_driver.specs.Endings.{HasWholeJournal, IfRefused};
 ghost use Rattle.quiescent_driver.specs.Given.{IsTopState, key_with};
 
@@ -24,9 +25,40 @@ use kernel_gate::Gate;
 use pisdf_meaning::{Delays, Iteration, one_meaning, runnable, sizes_kept};
 use pisdf_model::Graphs;
 use sdf_level::List;
-use std::alloc::Global;
+use std::alloc::{AllocError, Global};
 use std::sync::{Arc, Wait};
 use std::thread::Threads;
+
+/// The board of an iteration, in which nothing is claimed.
+fn start_board<K: Gate>(
+    alloc: Global,
+    graphs: &Arc<Graphs>,
+    delays: &Delays,
+    ins: &[List<i64>],
+    workers: u32,
+    gate: &K,
+) -> Result<Board, AllocError>
+    requires in_range { InRange (arc_value graphs.now) }
+    requires well_formed { WellFormed (arc_value graphs.now) }
+    requires kernels { KernelsFit (unnamed (K.kernels gate.now)) (arc_value graphs.now).graphs }
+    requires lengths { GiveLengths (unnamed (K.kernels gate.now)) }
+    requires sound { early_faults (arc_value graphs.now).graphs (arc_value graphs.now).top [] ≡ [] }
+    requires inputs { lengths ins.now ≡ top_needs (arc_value graphs.now) }
+    requires state { IsTopState (arc_value graphs.now) delays.now.lists }
+    requires some { 0 < workers }
+    requires few { workers ≤ 16 }
+    ensures key { IfOk result (λ b. b.key ≡ key_with (arc_value graphs.now) (K.kernels gate.now) delays.now.lists ins.now workers) }
+    ensures idle { IfOk result AreAllIdle }
+{
+    Board::start(
+        alloc,
+        graphs.clone()?,
+        gate.signatures(),
+        delays,
+        ins,
+        workers,
+    )
+}
 
 /// One iteration by many workers, which gives or is refused.
 fn iterate<K: Gate + Sync, R: Threads + Wait + Sync>(
@@ -53,14 +85,7 @@ fn iterate<K: Gate + Sync, R: Threads + Wait + Sync>(
     ensures unchanged { OnErr result (delays.new ≡ delays.old) }
     ensures journal { HasWholeJournal (key_with (arc_value graphs.now) (K.kernels gate.now) delays.old.lists ins.now workers) result }
 {
-    let board = Board::start(
-        alloc,
-        graphs.clone()?,
-        gate.signatures(),
-        delays,
-        ins,
-        workers,
-    )?;
+    let board = start_board(alloc, graphs, delays, ins, workers, gate)?;
     match drive(rt, alloc, board, workers, kept, gate)? {
         BoardEnd::Done {
             iteration,
