@@ -11,5 +11,7 @@ pub enum EntryAt<'a> {
         item: Item,
     },
     /// The worker finishes the item that it runs.
-    Finish { worker: u32 },
+    Finish {
+        worker: u32,
+    },
 }

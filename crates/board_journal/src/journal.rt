@@ -41,10 +41,7 @@ impl Journal {
         }
     }
 
-    #[tactic(
-        auto,
-        using(crate::proofs::Paths::entries_stay, crate::proofs::Paths::names_stay)
-    )]
+    #[tactic(auto, using(crate::proofs::Paths::entries_stay, crate::proofs::Paths::names_stay))]
     /// Puts in the path of a job, and gives the number by which entries name it.
     ///
     /// # Errors

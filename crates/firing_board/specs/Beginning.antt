@@ -12,6 +12,7 @@ use Rattle.firing_board.specs.declared.ending.BoardEnd.TheVariants as ends
 pub record IsStartedOn (graphs : Graphs) (workers : ℕ) (firing : Firing) (c : Core) : Type 0 where
   pub started : IsStarted graphs workers firing c.table
   pub running_are : c.running.items ≡ replicate workers None
+  pub numbers_are : c.numbers.items ≡ []
   pub paths_are : c.journal.paths ≡ firing.path ∷ []
   pub entries_are : c.journal.entries ≡ []
   pub end_is : c.end ≡ None

@@ -3,7 +3,7 @@ use Rattle.std.specs.Prelude.{◌≡◌, ℕ, suc, ◌+◌, ◌<◌, List, [], �
 use Rattle.std.specs.Option.{option_map}
 use Rattle.kernel_gate.specs.Value.{Places}
 use Rattle.nested_jobs.specs.Marks.{Done, Mark}
-use Rattle.job_preparing.specs.Handing.{end_of, lent_at}
+use Rattle.job_preparing.specs.Handing.{end_of}
 use Rattle.job_preparing.specs.declared.handing.JobGiven.{JobGiven}
 use Rattle.job_rules.specs.Words.{Answer, answer_of}
 use Rattle.pisdf_meaning.specs.declared.firing.Firing.{Firing}
@@ -14,7 +14,7 @@ use Rattle.board_rules.specs.Keys.{Key}
 use Rattle.board_rules.specs.Legal.{journal_of, state_after}
 use Rattle.board_journal.specs.View.{path_at}
 use Rattle.job_table.specs.Suits.{Suits}
-use Rattle.job_table.specs.View.{TableView, row_at, table_of}
+use Rattle.job_table.specs.View.{TableView, lent_in, row_at, table_of}
 use Rattle.job_table.specs.declared.row.Row.{Row}
 use Rattle.firing_board.specs.declared.core.Core.{Core}
 use Rattle.firing_board.specs.declared.run.Run.{Run}
@@ -33,14 +33,10 @@ runners (Some run ∷ running) = suc (runners running)
 
 -- ---- what is lent
 
-abbrev pub lent_by : Option Row → ℕ → Option Places
-lent_by None i = None
-lent_by (Some row) i = lent_at row.job.lent i
-
 -- where the leases lie that are out with what a worker runs
 abbrev pub lent_with : TableView → Option Run → Option Places
 lent_with table None = None
-lent_with table (Some run) = lent_by (row_at table run.row) run.item
+lent_with table (Some run) = lent_in table run.row run.item
 
 abbrev pub lent_of : TableView → List (Option Run) → List (Option Places)
 lent_of table running = map (lent_with table) running
@@ -48,13 +44,12 @@ lent_of table running = map (lent_with table) running
 -- nothing else is lent
 abbrev pub IsLentToRunners : TableView → List (Option Run) → Type 0
 IsLentToRunners table running =
-    (k i : ℕ) (row : Row) (places : Places) → row_at table k ≡ Some row → lent_at row.job.lent i ≡ Some places → (w : ℕ) × (held_of running w ≡ Some (k, i))
+    (k i : ℕ) (places : Places) → lent_in table k i ≡ Some places → (w : ℕ) × (held_of running w ≡ Some (k, i))
 
 -- ---- paths
 
--- the journal has this path, by the number that is kept for a row
+-- the journal has this path, by the number that is kept for a row, or 0
 pub record IsNumbered (numbers : List ℕ) (paths : List (List ℕ)) (k : ℕ) (path : List ℕ) : Type 0 where
-  pub inside : k < length numbers
   pub known : slice_index_or numbers k 0 < length paths
   pub path_is : path_at paths (slice_index_or numbers k 0) ≡ path
 

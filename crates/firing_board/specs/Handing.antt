@@ -2,7 +2,7 @@
 use Rattle.std.specs.Prelude.{◌≡◌, ◌⊎◌, ℕ, ◌-◌, ◌<◌, ◌≤◌, List, [], ◌∷◌, ◌++◌, Option, Some, None, length, slice_index_or, slice_set}
 use Rattle.nested_jobs.specs.Marks.{Busy}
 use Rattle.job_compiler.specs.Compilation.{Compilation}
-use Rattle.open_job.specs.Calls.{IsHanded, frame_of, with_item, with_mark}
+use Rattle.open_job.specs.Calls.{IsHanded, frame_of}
 use Rattle.open_job.specs.View.{compilation_of, graph_in, left_by}
 use Rattle.open_job.specs.declared.handed.Handed.{Handed}
 use Rattle.open_job.specs.declared.handed.Handed.TheVariants as handed
@@ -10,7 +10,8 @@ use Rattle.board_rules.specs.Entries.{item_of}
 use Rattle.board_rules.specs.declared.entry.Entry.TheVariants as entry
 use Rattle.board_rules.specs.declared.entry.Item.{Item}
 use Rattle.board_journal.specs.View.{JournalView, path_at}
-use Rattle.job_table.specs.View.{change_job, row_at}
+use Rattle.job_table.specs.Calls.{LendsAsBefore, LendsItem, MarksItem}
+use Rattle.job_table.specs.View.{row_at}
 use Rattle.job_table.specs.declared.row.Row.{Row}
 use Rattle.firing_board.specs.declared.claim.Claim.{Claim}
 use Rattle.firing_board.specs.declared.claim.Claim.TheVariants as claim
@@ -54,7 +55,6 @@ pub record KeepsAll (old new : Core) : Type 0 where
 -- the claim of a worker can be entered
 pub record MayEnter (c : Core) (w : ℕ) (run : Run) : Type 0 where
   pub is_worker : w < length c.running.items
-  pub numbered : run.row < length c.numbers.items
   pub known : slice_index_or c.numbers.items run.row 0 < length c.journal.paths
   pub room : 0 < c.journal.room
 
@@ -65,7 +65,8 @@ pub record HandsFrame (old : Core) (w : ℕ) (run : Run) (item : Item) (new : Co
   pub handed : Handed
   pub handed_so : IsHanded row.job run.item handed
   pub claimed : Core
-  pub table_is : claimed.table ≡ change_job old.table run.row (λ job. with_item job run.item Busy (Some (frame_of handed).places))
+  pub marks : MarksItem run.row run.item Busy old.table claimed.table
+  pub lends : LendsItem run.row run.item (Some (frame_of handed).places) old.table claimed.table
   pub running_is : claimed.running ≡ old.running
   pub numbers_are : claimed.numbers ≡ old.numbers
   pub journal_is : claimed.journal ≡ old.journal
@@ -80,7 +81,8 @@ pub record HandsCompilation (old : Core) (w : ℕ) (run : Run) (item : Item) (ne
   pub here : row_at old.table run.row ≡ Some row
   pub kept : Option Compilation
   pub claimed : Core
-  pub table_is : claimed.table ≡ change_job old.table run.row (λ job. with_mark job (compilation_of job) Busy)
+  pub marks : MarksItem run.row (compilation_of row.job) Busy old.table claimed.table
+  pub lends : LendsAsBefore old.table claimed.table
   pub running_is : claimed.running ≡ old.running
   pub numbers_are : claimed.numbers ≡ old.numbers
   pub journal_is : claimed.journal ≡ old.journal

@@ -1,18 +1,18 @@
 -- The fields of a board.
 use Rattle.std.specs.Prelude.{◌≡◌, ℕ, ◌≤◌, Bool, true, false, List, Option, length, map}
-use Rattle.kernel_gate.specs.Signed.{counts_of}
-use Rattle.kernel_gate.specs.declared.signature.Signature.{Signature}
 use Rattle.pisdf_meaning.specs.declared.firing.Firing.{Firing}
 use Rattle.board_rules.specs.Entries.{Step}
 use Rattle.board_rules.specs.Keys.{IsKey, Key}
 use Rattle.firing_board.specs.Core.{IsLentToRunners, StandsAt, lent_of, runners}
 use Rattle.firing_board.specs.Starved.{StarvesAt}
+use Rattle.firing_board.specs.Counted.{counts_kept}
 use Rattle.firing_board.specs.View.{BoardView}
+use Rattle.firing_board.specs.declared.counts.KernelCounts.{KernelCounts}
 use Rattle.firing_board.specs.declared.board.Board.TheInside.{Inside}
 use Rattle.firing_board.specs.declared.core.Core.{Core}
 
-abbrev pub key_with : List Signature → Firing → Core → Key
-key_with signatures top c = record { graphs = c.table.graphs; signatures = map counts_of signatures; delays = top.state; ins = top.inputs; workers = c.table.workers }
+abbrev pub key_with : List KernelCounts → Firing → Core → Key
+key_with signatures top c = record { graphs = c.table.graphs; signatures = map counts_kept signatures; delays = top.state; ins = top.inputs; workers = c.table.workers }
 
 abbrev pub view_with : Key → Core → Bool → BoardView
 view_with key c starved = record { key = key; journal = c.journal.entries; starved = starved; lent = lent_of c.table c.running.items }

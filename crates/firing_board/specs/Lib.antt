@@ -4,7 +4,6 @@ pub mod Runs
 pub mod Claims
 pub mod Finishes
 pub mod Ends
-pub mod Laws
 pub mod Core
 pub mod Starved
 pub mod Opening
@@ -15,3 +14,5 @@ pub mod Beginning
 pub mod Closing
 pub mod Kept
 pub mod OnCore
+pub mod Locking
+pub mod Counted

@@ -1,8 +1,9 @@
 -- How jobs are opened for a claim.
 use Rattle.std.specs.Prelude.{◌≡◌, ℕ, List, [], ◌∷◌, ◌++◌, Some}
 use Rattle.nested_jobs.specs.Marks.{Free, Marks}
-use Rattle.nested_jobs.specs.Rules.{Place, Work}
-use Rattle.job_preparing.specs.Handing.{answers, mark_at}
+use Rattle.nested_jobs.specs.Rules.{Call, Place, Work}
+use Rattle.job_preparing.specs.Handing.{mark_at}
+use Rattle.job_rules.specs.Meant.{IsFit}
 use Rattle.job_rules.specs.Words as words
 use Rattle.job_rules.specs.Words.{Answer}
 use Rattle.open_job.specs.View.{IsOfferedCall, task}
@@ -10,23 +11,22 @@ use Rattle.pisdf_meaning.specs.declared.firing.Firing.{Firing}
 use Rattle.board_rules.specs.Board.{HasOpened, OpenJobs}
 use Rattle.board_rules.specs.Keys.{Key}
 use Rattle.board_rules.specs.Offers.{AreFirst}
-use Rattle.job_table.specs.Calls.{OpensChild}
+use Rattle.job_table.specs.Calls.{LendsAsBefore, OpensChild}
 use Rattle.job_table.specs.Suits.{Suits}
 use Rattle.job_table.specs.View.{TableView, row_at, table_of}
 use Rattle.job_table.specs.declared.row.Row.{Row}
 use Rattle.firing_board.specs.Core.{AreNumbered}
-use Rattle.firing_board.specs.Laws.{IsSoundJob}
 use Rattle.firing_board.specs.Starved.{Lasts}
 use Rattle.firing_board.specs.declared.core.Core.{Core}
 use Rattle.firing_board.specs.declared.run.Run.{Run}
 
--- an item of an open job, which is free and calls a job
+-- an item of an open job, which is free and calls a job that is given what its graph takes
 pub record Calls (key : Key) (m : Marks Firing Answer) (table : TableView) (at : Run) : Type 0 where
   pub suits : Suits key m table
   pub row : Row
   pub here : row_at table at.row ≡ Some row
   pub offered : IsOfferedCall row.job at.item
-  pub sound : IsSoundJob key row.job.firing (answers row.job.marks)
+  pub fit : (firing : Firing) → task row.job at.item ≡ Some (Call firing) → IsFit key.graphs.graphs firing
 
 -- a table of some key and some marks has one there
 pub record MayOpen (c : Core) (at : Run) : Type 0 where
@@ -41,6 +41,7 @@ pub record KeepsRuns (old new : Core) : Type 0 where
   pub end_is : new.end ≡ old.end
   pub room_is : new.journal.room ≡ old.journal.room
   pub lasts : Lasts old.table new.table
+  pub lent : LendsAsBefore old.table new.table
 
 -- a job is opened, and the journal has its path
 pub record OpensAt (old : Core) (at : Run) (child : ℕ) (new : Core) : Type 0 where

@@ -1,34 +1,37 @@
 -- How a worker gives back what it runs.
 use Rattle.std.specs.Prelude.{◌≡◌, ℕ, ◌-◌, List, [], ◌∷◌, ◌++◌, Option, Some, None, Result, slice_index_or, slice_set}
-use Rattle.kernel_gate.specs.Value.{FrameView}
+use Rattle.kernel_gate.specs.Value.{FrameView, Places}
 use Rattle.kernel_gate.specs.declared.fault.KernelFault.{KernelFault}
 use Rattle.nested_jobs.specs.Marks.{Busy, Done}
 use Rattle.job_preparing.specs.CompileTasks.{IsEndOf}
-use Rattle.job_preparing.specs.Handing.{answer_with, lent_at, mark_at}
+use Rattle.job_preparing.specs.Handing.{answer_with, mark_at}
 use Rattle.job_preparing.specs.declared.compiling.CompileEnd.{CompileEnd}
-use Rattle.open_job.specs.Calls.{IsSoundFor, with_item}
+use Rattle.open_job.specs.Calls.{IsSoundFor}
 use Rattle.open_job.specs.View.{OpenView, compilation_of, left_by, task}
 use Rattle.board_rules.specs.declared.entry.Entry.TheVariants as entry
 use Rattle.board_journal.specs.View.{JournalView}
-use Rattle.job_table.specs.Calls.{CompilesIn}
-use Rattle.job_table.specs.View.{HasJob, change_job}
+use Rattle.job_table.specs.Calls.{FinishesIn, LendsAsBefore, LendsItem, MarksItem}
+use Rattle.job_table.specs.View.{lent_in, row_at}
+use Rattle.job_table.specs.declared.row.Row.{Row}
 use Rattle.firing_board.specs.declared.core.Core.{Core}
 use Rattle.firing_board.specs.declared.run.Run.{Run}
 
--- a worker runs an item of a job, and this holds of them
-pub record RunsItem (P : OpenView → ℕ → Type 0) (c : Core) (w : ℕ) : Type 0 where
+-- a worker runs an item of a job, and this holds of the job, the item, and where the leases of its frame lie
+pub record RunsItem (P : OpenView → ℕ → Option Places → Type 0) (c : Core) (w : ℕ) : Type 0 where
   pub run : Run
   pub runs : slice_index_or c.running.items w None ≡ Some run
-  pub so : HasJob (λ job. P job run.item) c.table run.row
+  pub row : Row
+  pub here : row_at c.table run.row ≡ Some row
+  pub so : P row.job run.item (lent_in c.table run.row run.item)
 
 -- the item's frame, which is out, may come back with this result
-pub record MayReturn (frame : FrameView) (sound : Type 0) (job : OpenView) (i : ℕ) : Type 0 where
+pub record MayReturn (frame : FrameView) (sound : Type 0) (job : OpenView) (i : ℕ) (places : Option Places) : Type 0 where
   pub busy : mark_at job.marks i ≡ Busy
-  pub lent : lent_at job.lent i ≡ Some frame.places
+  pub lent : places ≡ Some frame.places
   pub sound_so : IsSoundFor (task job i) sound
 
 -- the item is the job's compilation, which may end so
-pub record MayCompile (end : CompileEnd) (job : OpenView) (i : ℕ) : Type 0 where
+pub record MayCompile (end : CompileEnd) (job : OpenView) (i : ℕ) (places : Option Places) : Type 0 where
   pub is_compilation : i ≡ compilation_of job
   pub busy : mark_at job.marks i ≡ Busy
   pub ends : IsEndOf job.graphs.graphs job.workers job.firing (left_by job) end
@@ -49,14 +52,20 @@ pub record Returns (frame : FrameView) (result : Result (Unit {0}) KernelFault) 
   pub run : Run
   pub row_is : k ≡ run.row
   pub leaves : Leaves old w run new
-  pub table_is : new.table ≡ change_job old.table run.row (λ job. with_item job run.item (Done (answer_with (task job run.item) frame result)) None)
+  pub row : Row
+  pub here : row_at old.table run.row ≡ Some row
+  pub marks : MarksItem run.row run.item (Done (answer_with (task row.job run.item) frame result)) old.table new.table
+  pub lends : LendsItem run.row run.item None old.table new.table
 
 -- the compilation is done
 pub record Compiles (end : CompileEnd) (old : Core) (w : ℕ) (new : Core) (k : ℕ) : Type 0 where
   pub run : Run
   pub row_is : k ≡ run.row
   pub leaves : Leaves old w run new
-  pub compiles : CompilesIn run.row end old.table new.table
+  pub row : Row
+  pub here : row_at old.table run.row ≡ Some row
+  pub finishes : FinishesIn run.row end old.table new.table row.job
+  pub lends : LendsAsBefore old.table new.table
 
 -- the worker leaves the compilation, whose job is as before
 pub record GivesUp (old : Core) (w : ℕ) (new : Core) : Type 0 where

@@ -1,12 +1,12 @@
 -- What a worker runs.
-use Rattle.std.specs.Prelude.{◌≡◌, ℕ, ◌<◌, List, Some, None}
+use Rattle.std.specs.Prelude.{◌≡◌, ℕ, ◌<◌, List, Some, None, length}
 use Rattle.nested_jobs.specs.Journals.{task_of}
 use Rattle.nested_jobs.specs.Rules.{Place, Work}
 use Rattle.job_rules.specs.Words as words
 use Rattle.board_rules.specs.Entries.{BoardState, Step}
-use Rattle.board_rules.specs.Keys.{Key, rules}
+use Rattle.board_rules.specs.Keys.{IsKey, Key, rules}
 use Rattle.board_rules.specs.Legal.{state_after}
-use Rattle.firing_board.specs.View.{BoardView, IsAt}
+use Rattle.firing_board.specs.View.{BoardView, IsAt, lent_to}
 
 -- a worker runs an item, whose task is this work
 pub record RunsWork (key : Key) (s : BoardState) (w : ℕ) (work : words.Work) : Type 0 where
@@ -35,3 +35,12 @@ pub record Runs (b : BoardView) (w : ℕ) (P : words.Work → Type 0) : Type 0 w
   pub work : words.Work
   pub runs : RunsWork b.key (state_after b.key taken) w work
   pub so : P work
+
+-- what is true of every board: its key is one, each worker has a place for what is lent to it, steps were taken, and a worker
+-- that runs nothing has no frame
+pub record IsSound (b : BoardView) : Type 0 where
+  pub is_key : IsKey b.key
+  pub one_each : length b.lent ≡ b.key.workers
+  pub taken : List Step
+  pub at : IsAt b taken
+  pub unlent : (w : ℕ) → (state_after b.key taken).running w ≡ None → lent_to b w ≡ None

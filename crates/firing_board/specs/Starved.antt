@@ -1,15 +1,16 @@
 -- What is still known of the open jobs once memory was wanted: the items that workers run can be finished.
-use Rattle.std.specs.Prelude.{◌≡◌, ◌⊎◌, ℕ, ◌<◌, Option, Some, None, List}
+use Rattle.std.specs.Prelude.{◌≡◌, ℕ, ◌<◌, Option, Some, None, List, ◌∷◌}
 use Rattle.nested_jobs.specs.Journals.{task_of}
 use Rattle.nested_jobs.specs.Marks.{Busy}
 use Rattle.nested_jobs.specs.Meanings.{Within}
 use Rattle.nested_jobs.specs.Rules.{Place, Work}
-use Rattle.job_preparing.specs.Handing.{answers, lent_at, mark_at}
+use Rattle.job_preparing.specs.Handing.{answers, mark_at}
 use Rattle.job_rules.specs.Words as words
-use Rattle.open_job.specs.View.{OpenView, task}
+use Rattle.open_job.specs.View.{task}
 use Rattle.board_rules.specs.Entries.{BoardState, Step}
 use Rattle.board_rules.specs.Keys.{Key, rules}
 use Rattle.board_rules.specs.Legal.{AreLegal, journal_of, state_after}
+use Rattle.job_table.specs.Calls.{StaysAs}
 use Rattle.job_table.specs.View.{TableView, row_at}
 use Rattle.job_table.specs.declared.row.Row.{Row}
 use Rattle.firing_board.specs.Core.{held_of}
@@ -24,9 +25,8 @@ pub record IsStillRun (key : Key) (s : BoardState) (table : TableView) (runs : O
   pub busy : mark_at row.job.marks i ≡ Busy
   pub work : words.Work
   pub task_is : task row.job i ≡ Some (Work work)
-  pub place : Place
-  pub place_is : runs ≡ Some place
-  pub same : task_of (rules key) s.marks place ≡ Some (Work work)
+  pub place_is : runs ≡ Some (i ∷ row.place)
+  pub same : task_of (rules key) s.marks (i ∷ row.place) ≡ Some (Work work)
 
 -- the worker runs nothing, or such an item
 abbrev pub StillRuns : Key → BoardState → TableView → Option Place → Option (ℕ × ℕ) → Type 0
@@ -41,18 +41,14 @@ pub record StarvesAt (key : Key) (taken : List Step) (c : Core) : Type 0 where
 
 -- ---- what lasts
 
--- a job's busy items stay so, its answers stay, and what is lent of it
-pub record LastsIn (before after : OpenView) : Type 0 where
-  pub graphs_are : after.graphs ≡ before.graphs
-  pub workers_are : after.workers ≡ before.workers
-  pub firing_is : after.firing ≡ before.firing
-  pub busy : (i : ℕ) → mark_at before.marks i ≡ Busy → mark_at after.marks i ≡ Busy
-  pub answered : Within (answers before.marks) (answers after.marks)
-  pub lent : (i : ℕ) → lent_at after.lent i ≡ lent_at before.lent i
+-- a row's busy items stay so, and its answers stay
+pub record LastsIn (before after : Row) : Type 0 where
+  pub stays : StaysAs before after
+  pub busy : (i : ℕ) → mark_at before.job.marks i ≡ Busy → mark_at after.job.marks i ≡ Busy
+  pub answered : Within (answers before.job.marks) (answers after.job.marks)
 
--- each row with a busy item lasts so, and what is lent in a row was lent there before
+-- each row with a busy item lasts so
 pub record Lasts (old new : TableView) : Type 0 where
   pub graphs_are : new.graphs ≡ old.graphs
   pub workers_are : new.workers ≡ old.workers
-  pub busy : (k i : ℕ) (before : Row) → row_at old k ≡ Some before → mark_at before.job.marks i ≡ Busy → (after : Row) × (row_at new k ≡ Some after) × LastsIn before.job after.job
-  pub lent : (k i : ℕ) (after : Row) → row_at new k ≡ Some after → (lent_at after.job.lent i ≡ None) ⊎ ((before : Row) × (row_at old k ≡ Some before) × (lent_at after.job.lent i ≡ lent_at before.job.lent i))
+  pub rows : (k i : ℕ) (before : Row) → row_at old k ≡ Some before → mark_at before.job.marks i ≡ Busy → (after : Row) × (row_at new k ≡ Some after) × LastsIn before after

@@ -5,6 +5,7 @@ ghost use Rattle.std.specs.Arc.{arc_value};
 use crate::claim::{Claim, Ticket};
 use crate::claiming;
 use crate::core::Core;
+use crate::counts::{KernelCounts, all_counts};
 use crate::ending::{BoardEnd, end_core, outcome_of};
 use crate::finishing::{finish_compilation, finish_frame};
 use crate::keeping::{keep_ready, take_key};
@@ -13,6 +14,7 @@ use board_journal::Journal;
 use board_rules::{boards_end, boards_keep, entries_tell_steps};
 use job_compiler::{Kept, Key};
 use job_preparing::CompileEnd;
+use job_table::tables_suit;
 use kernel_gate::{Frame, KernelFault, Signature};
 use pisdf_meaning::{Delays, Firing, runnable};
 use pisdf_model::Graphs;
@@ -26,7 +28,7 @@ use std::sync::Arc;
 /// A run of one firing of the top graph by several workers: the open jobs, what each worker runs of them, and the journal of
 /// their claims and finishes. It is neither `Drop` nor `Clone`: it is given up by `outcome` or `end`.
 pub struct Board {
-    pub(crate) signatures: Vec<Signature>,
+    pub(crate) signatures: Vec<KernelCounts>,
     pub(crate) top: Snapshot<Firing>,
     pub(crate) core: Core,
     /// The compilations that are kept from one board to the next.
@@ -59,7 +61,7 @@ impl Board {
     ghost use Rattle.firing_board.specs.Claims.{Claims};
     ghost use Rattle.firing_board.specs.Ends.{EndsAs, IsOver};
     ghost use Rattle.firing_board.specs.Finishes.{Finishes, MayComeBack, MayEnd};
-    ghost use Rattle.firing_board.specs.Runs.{AreAllIdle, IsIdle, Runs};
+    ghost use Rattle.firing_board.specs.Runs.{AreAllIdle, IsIdle, IsSound, Runs};
     ghost use Rattle.firing_board.specs.Starts.{key_from};
     ghost use Rattle.firing_board.specs.View.{lent_to};
 
@@ -82,11 +84,11 @@ impl Board {
     {
         runnable();
         boards_keep();
-        boards_end();
+        tables_suit();
         let top = &graphs.graphs.items()[graphs.top as usize];
         let firing = top_firing(alloc, top, graphs.top, delays, ins)?;
         let top = Snapshot::of(&firing);
-        let signatures = Vec::from_slice(alloc, signatures)?;
+        let signatures = all_counts(alloc, signatures)?;
         let compiling = nothing_compiles(alloc, workers)?;
         let core = start_core(alloc, graphs, workers, firing)?;
         Ok(Board {
@@ -107,6 +109,7 @@ impl Board {
         ensures claims { Claims self.old self.new worker result }
         ensures starved { self.old.starved ≡ true → result ≡ Claim.Starved }
     {
+        entries_tell_steps();
         if self.starved {
             return Claim::Starved;
         }
@@ -163,21 +166,29 @@ impl Board {
         ticket: Ticket,
         end: CompileEnd,
     ) -> Result<(), AllocError>
-        requires { Runs self.old ticket.worker (MayEnd self.old.key end) }
+        requires runs { Runs self.old ticket.worker (MayEnd self.old.key end) }
+        requires lent { lent_to self.old ticket.worker ≡ None }
         ensures finishes { Finishes self.old self.new ticket.worker }
         ensures live { OnOk result (self.new.starved ≡ false) }
         ensures starved { OnErr result (self.new.starved ≡ true) }
+        ensures stays { self.old.starved ≡ true → self.new.starved ≡ true }
     {
         let key = take_key(&mut self.compiling, ticket.worker);
         keep_ready(&mut self.kept, key, &end);
         self.starved = finish_compilation(alloc, &mut self.core, self.starved, ticket.worker, end);
-        if self.starved { Err(AllocError) } else { Ok(()) }
+        if self.starved {
+            Err(AllocError)
+        } else {
+            Ok(())
+        }
     }
 
-    /// The steps that were taken.
+    /// The steps that were taken, which are legal.
     pub fn journal(&self) -> &Journal
-        ensures { result.now.entries ≡ self.now.journal }
+        ensures entries { result.now.entries ≡ self.now.journal }
+        ensures sound { IsSound self.now }
     {
+        entries_tell_steps();
         &self.core.journal
     }
 
@@ -205,7 +216,6 @@ impl Board {
         ensures { IfOk result (EndsAs self) }
     {
         boards_end();
-        boards_keep();
         entries_tell_steps();
         let Board {
             signatures: _,

@@ -12,9 +12,12 @@ use crate::claim::{Claim, Ticket};
 use crate::core::Core;
 use crate::finding::find;
 use crate::keeping::kept_for;
+use crate::numbering::number_of;
 use crate::run::Run;
-use board_rules::{Item, boards_keep, journals_grow, workers_are_answered};
+use board_rules::{Item, boards_end, boards_keep, journals_grow};
 use job_compiler::{Compiled, Kept, Key};
+use job_rules::rules_are_lawful;
+use job_table::tables_suit;
 use open_job::{Handed, OpenJob};
 use std::alloc::{AllocError, Global};
 use std::sync::Arc;
@@ -58,7 +61,8 @@ fn enter(core: &mut Core, worker: u32, run: Run, item: Item) -> Ticket
     ensures { Enters core.old worker run item result core.new }
 {
     let entry = core.journal.len();
-    core.journal.claim(worker, core.numbers[run.row], item);
+    let number = number_of(&core.numbers, run.row);
+    core.journal.claim(worker, number, item);
     core.running[worker as usize] = Some(run);
     Ticket { worker, entry }
 }
@@ -88,15 +92,16 @@ fn hand_compilation(
     core: &mut Core,
     worker: u32,
     run: Run,
+    item: Item,
     compiled: Option<Arc<Compiled>>,
 ) -> Result<Claim, AllocError>
     requires enter { MayEnter core.old worker run }
     requires offered { HasJob IsOfferedCompilation core.old.table run.row }
-    ensures handed { IfOk result (HandsCompilation core.old worker run Item.Compile core.new) }
+    ensures handed { IfOk result (HandsCompilation core.old worker run item core.new) }
     ensures refused { OnErr result (core.new ≡ core.old) }
 {
     let task = core.table.claim_compile(alloc, run.row, compiled)?;
-    let ticket = enter(core, worker, run, Item::Compile);
+    let ticket = enter(core, worker, run, item);
     Ok(Claim::Compile(ticket, task))
 }
 
@@ -122,7 +127,7 @@ fn hand_out(
     let job = core.table.job(run.row);
     let item = item_at(job, run.item)?;
     if run.item == job.compilation() {
-        hand_compilation(alloc, core, worker, run, compiled)
+        hand_compilation(alloc, core, worker, run, item, compiled)
     } else {
         Ok(hand_frame(core, worker, run, item))
     }
@@ -154,8 +159,10 @@ pub(crate) fn claim(
     ensures kept { KeepsKey core.old core.new × (length compiling.new.items ≡ length compiling.old.items) }
 {
     boards_keep();
+    boards_end();
     journals_grow();
-    workers_are_answered();
+    rules_are_lawful();
+    tables_suit();
     match find(alloc, core, worker)? {
         Some(run) => {
             let compiled = look_up(alloc, core, worker, run, kept, compiling);

@@ -2,7 +2,7 @@
 ghost use Rattle.std.specs.Prelude.{◌≡◌, IfOk, Result as Outcome, Some, false};
 ghost use Rattle.job_preparing.specs.declared.handing.JobGiven.{JobGiven};
 ghost use Rattle.pisdf_meaning.specs.declared.refusal.Refusal.{Refusal};
-ghost use Rattle.job_table.specs.Calls.{NothingIsLent};
+ghost use Rattle.job_table.specs.View.{NothingIsLent};
 ghost use Rattle.firing_board.specs.Beginning.{EndsWith};
 
 use crate::core::Core;
@@ -35,8 +35,9 @@ pub enum BoardEnd {
 fn list_of(alloc: Global, rows: LinkedList<TraceRow>) -> Result<List<TraceRow>, AllocError>
     ensures { IfOk result (λ list. list ≡ rows) }
 {
+    let mut rows = rows;
     let mut list = Vec::new(alloc);
-    for row in rows {
+    while let Some(row) = rows.pop_front() {
         list.push(row)?;
     }
     Ok(List::new(list))

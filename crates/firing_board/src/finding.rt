@@ -7,12 +7,11 @@ ghost use Rattle.firing_board.specs.Opening.{KeepsRuns, MayOpen, OpensAt, OpensW
 ghost use Rattle.firing_board.specs.Core.{StandsAt};
 
 use crate::core::Core;
-use crate::laws::known_jobs;
 use crate::numbering::number_row;
 use crate::run::Run;
-use board_rules::{boards_keep, rows_are_asked};
-use job_rules::{jobs_mean_firings, rules_are_lawful};
-use job_table::Begins;
+use board_rules::{boards_keep, paths_stay, rows_are_asked};
+use job_rules::rules_are_lawful;
+use job_table::{Begins, calls_are_fit, tables_suit};
 use std::alloc::{AllocError, Global};
 
 /// Opens the job that an item calls: the key of its row.
@@ -25,7 +24,6 @@ fn open(alloc: Global, core: &mut Core, at: Run) -> Result<usize, AllocError>
     ensures opened { IfOk result (λ child. OpensAt core.old at child core.new) }
     ensures kept { KeepsRuns core.old core.new }
 {
-    jobs_mean_firings();
     let child = core.table.open_child(alloc, at.row, at.item)?;
     let path = core.table.job(child).firing().path.copy()?;
     let number = core.journal.add_path(path)?;
@@ -45,8 +43,9 @@ pub(crate) fn open_way(alloc: Global, core: &mut Core, at: Run) -> Result<Run, A
     ensures kept { KeepsRuns core.old core.new }
 {
     boards_keep();
+    calls_are_fit();
+    tables_suit();
     rules_are_lawful();
-    jobs_mean_firings();
     let child = open(alloc, core, at)?;
     let first = Run {
         row: child,
@@ -70,7 +69,8 @@ pub(crate) fn find(alloc: Global, core: &mut Core, worker: u32) -> Result<Option
 {
     boards_keep();
     rows_are_asked();
-    known_jobs();
+    paths_stay();
+    calls_are_fit();
     match core.table.first_work(worker) {
         Some(asked) => Ok(Some(Run {
             row: asked.row,
@@ -92,7 +92,8 @@ fn find_call(alloc: Global, core: &mut Core, worker: u32) -> Result<Option<Run>,
 {
     boards_keep();
     rows_are_asked();
-    known_jobs();
+    paths_stay();
+    calls_are_fit();
     match core.table.first_call(worker) {
         Some(asked) => {
             let at = Run {

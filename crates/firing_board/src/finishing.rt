@@ -9,9 +9,10 @@ ghost use Rattle.firing_board.specs.Returning.{Compiles, GivesUp, Leaves, MayCom
 
 use crate::core::Core;
 use crate::run::Run;
-use board_rules::{boards_end, boards_keep, entries_tell_steps, journals_grow};
+use board_rules::{boards_keep, entries_tell_steps, journals_grow};
 use job_preparing::CompileEnd;
 use job_rules::rules_are_lawful;
+use job_table::tables_suit;
 use kernel_gate::{Frame, KernelFault};
 use std::alloc::{AllocError, Global};
 use std::mem;
@@ -39,12 +40,7 @@ fn leave(core: &mut Core, worker: u32) -> Run
 }
 
 /// Takes back the frame of the item that a worker runs: the row of its job.
-fn take_back(
-    core: &mut Core,
-    worker: u32,
-    frame: Frame,
-    answer: Result<(), KernelFault>,
-) -> usize
+fn take_back(core: &mut Core, worker: u32, frame: Frame, answer: Result<(), KernelFault>) -> usize
     requires item { RunsItem (MayReturn frame (IsOk answer)) core.old worker }
     requires room { 0 < core.old.journal.room }
     ensures { Returns frame answer core.old worker core.new result }
@@ -104,10 +100,10 @@ pub(crate) fn finish_frame(
     ensures kept { KeepsKey core.old core.new }
 {
     boards_keep();
-    boards_end();
     journals_grow();
     entries_tell_steps();
     rules_are_lawful();
+    tables_suit();
     let row = take_back(core, worker, frame, answer);
     starved || close(core, row).is_err()
 }
@@ -125,10 +121,10 @@ pub(crate) fn finish_compilation(
     ensures kept { KeepsKey core.old core.new }
 {
     boards_keep();
-    boards_end();
     journals_grow();
     entries_tell_steps();
     rules_are_lawful();
+    tables_suit();
     if starved {
         let _run = leave(core, worker);
         return true;

@@ -42,22 +42,16 @@ pub(crate) fn top_firing(
 pub(crate) fn nothing_runs(alloc: Global, workers: u32) -> Result<Vec<Option<Run>>, AllocError>
     ensures { IfOk result (λ running. running.items ≡ replicate workers None) }
 {
-    let mut running = Vec::new(alloc);
-    for _worker in 0..workers {
-        running.push(None)?;
-    }
-    Ok(running)
+    vec![in alloc; None; workers as usize]
 }
 
 /// No worker has a compilation.
-pub(crate) fn nothing_compiles(
-    alloc: Global,
-    workers: u32,
-) -> Result<Vec<Option<Key>>, AllocError>
+pub(crate) fn nothing_compiles(alloc: Global, workers: u32) -> Result<Vec<Option<Key>>, AllocError>
     ensures { IfOk result (λ compiling. length compiling.items ≡ workers) }
 {
     let mut compiling = Vec::new(alloc);
-    for _worker in 0..workers {
+    for worker in 0..workers {
+        let _worker = worker;
         compiling.push(None)?;
     }
     Ok(compiling)

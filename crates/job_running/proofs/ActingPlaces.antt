@@ -58,4 +58,4 @@ told_here each g n x is graphs holds told actors same are all =
     let j : ℕ = slice_index (acting_places g) n in
     let there : slice_get actors j ≡ Some x = ap (λ (l : List Actor). slice_get l j) same ∙ (each [] g [] n x is).place in
     subst (λ (h : List ℕ). TellHoldsTo graphs h x.body) (sym are)
-      (subst (λ (y : Actor). TellHoldsTo graphs holds y.body) (get_or_from_slice_get actors j x x there) (all j x (slice_get_within actors j x there)))
+    (subst (λ (y : Actor). TellHoldsTo graphs holds y.body) (get_or_from_slice_get actors j x x there) (all j x (slice_get_within actors j x there)))

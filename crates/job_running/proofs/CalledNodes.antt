@@ -1,16 +1,12 @@
 -- A node of a running firing calls the firing of a graph, and is answered.
-use Rattle.std.proofs.Common.{◌≡◌, ◌≢◌, ℕ, zero, suc, ◌+◌, ◌<◌, ◌≤◌, ◌^◌, ⊎_elim, inl, inr, ℤ, Bool, true, false, List, [], ◌∷◌, ◌++◌, length, map, set, get_or, slice_get, Option, Some, None, Result, Ok, Err, IfOk, OnErr, refl, sym, ap, ap₂, ◌∙◌, subst, arith, if◌then◌else◌, append-nil, length-append}
-use Rattle.std.specs.Prelude.{Vec, is_none, unwrap_or, ◌↔◌, ◌⊎◌, IsOk}
+use Rattle.std.proofs.Common.{◌≡◌, ℕ, zero, suc, ◌<◌, ◌≤◌, ◌^◌, ℤ, Bool, true, false, List, [], ◌∷◌, ◌++◌, length, map, set, get_or, slice_get, Option, Some, None, Result, Ok, Err, IfOk, OnErr, refl, sym, ap, ap₂, ◌∙◌, subst, arith, if◌then◌else◌, append-nil, length-append}
+use Rattle.std.specs.Prelude.{Vec}
 use Rattle.std.specs.Global.{Global}
-use Rattle.std.specs.declared.snapshot.Snapshot.{Snapshot}
-use Rattle.job_running.specs.declared.told.Told.{Told}
-use Rattle.std.proofs.lemmas.Bool.{cases_lt}
-use Rattle.std.proofs.lemmas.List.{get_or-set_other, get_or-set_same, get_or_past, length-set, map-set}
-use Rattle.kernel_gate.specs.Value.{FrameView, Places, lengths}
-use Rattle.kernel_gate.specs.declared.fault.KernelFault.{KernelFault}
+use Rattle.std.proofs.lemmas.List.{get_or-set_other, get_or-set_same, length-set}
+use Rattle.kernel_gate.specs.Value.{FrameView, lengths}
 use Rattle.nested_jobs.specs.Marks as mark
 use Rattle.nested_jobs.specs.Marks.{Mark}
-use Rattle.nested_jobs.specs.Rules.{Task, Work, Call}
+use Rattle.nested_jobs.specs.Rules.{Call}
 use Rattle.param_resolver.specs.Numbering.{acting, has_state}
 use Rattle.pisdf_model.specs.declared.actor.Actor.{Actor}
 use Rattle.pisdf_model.specs.declared.actor.Body.{Body}
@@ -21,7 +17,6 @@ use Rattle.pisdf_meaning.specs.declared.outcome.TraceRow.{TraceRow}
 use Rattle.pisdf_meaning.specs.declared.refusal.Refusal.{Refusal}
 use Rattle.sdf_level.specs.declared.node.Node.{Node}
 use Rattle.sdf_level.specs.declared.node.Node.TheVariants as node
-use Rattle.job_flow.specs.Frames as flow
 use Rattle.job_flow.specs.Frames.{arriving, arriving_below, inputs, lens, reads}
 use Rattle.param_resolver.specs.declared.level_set.LevelSet.{LevelSet}
 use Rattle.param_resolver.specs.LevelOf.{child_of}
@@ -33,34 +28,26 @@ use Rattle.job_flow.specs.Graphs.{JobGraph, node_at}
 use Rattle.job_flow.specs.Events.{IsReady}
 use Rattle.job_flow.specs.Laws.{InputsInAnyWords, ReadyInAnyWords, ReadyStays}
 use Rattle.job_rules.specs.Items.{actor_of, actor_task, firing_task, keeps_state, node_task}
-use Rattle.job_rules.specs.Words as words
-use Rattle.job_rules.specs.Words.{Answer, Spot, given_outs}
-use Rattle.one_job.specs.Calls.{finished_with}
 use Rattle.one_job.specs.Marks as one
-use Rattle.one_job.specs.Pick.{is_child_in}
 use Rattle.one_job.specs.View as leased
 use Rattle.one_job.specs.View.{IsFiring}
-use Rattle.job_preparing.specs.Handing.{answer_with, lent_at, mark_at}
-use Rattle.job_running.specs.Calls.{IsHanded, handed_out}
+use Rattle.job_preparing.specs.Handing.{lent_at}
 use Rattle.job_running.specs.Kept.{view_with}
-use Rattle.job_running.specs.Parts.{AllStand, Fixed, KeepsAll, Stands, fired, frame_at, job_in, kernel_in, kind_of_actor, values_of}
-use Rattle.job_running.specs.Sizes.{place_lens}
-use Rattle.job_running.specs.Stages.{FitsLens, FitsSort, IsEnded, held_by, job_mark, lent_of, lents_of, mark_of, spot_of, stage_at, trace_in}
-use Rattle.job_running.specs.View.{IsOfferedWork, RunningView, nodes_of, task}
+use Rattle.job_running.specs.Parts.{Fixed, KeepsAll, Stands, fired, frame_at, job_in, values_of}
+use Rattle.job_running.specs.Stages.{lent_of, mark_of, trace_in}
+use Rattle.job_running.specs.View.{RunningView, task}
 use Rattle.job_running.specs.declared.stage.Stage.{Stage}
-use Rattle.job_running.specs.declared.stage.Stage.TheVariants.{Free, Busy, Lost, Open, Fired, Failed, Gave, Refused}
-use Rattle.job_running.proofs.NodeMarks.{IsBusy, fired_stage, free_stage, lent_busy, lent_here, mark_here, marks_set}
-use Rattle.job_running.proofs.NodeSteps.{same_traces, step}
-use Rattle.job_running.proofs.NodeTasks.{HasFrame, enabled, free_job, handed_so, has_task, kernel_lens, nodes_are, own_ready, ready_task, results, same_inputs, sort_of, told_ready}
+use Rattle.job_running.specs.declared.stage.Stage.TheVariants.{Lost, Open}
+use Rattle.job_running.proofs.NodeMarks.{lent_here}
+use Rattle.job_running.proofs.NodeTasks.{has_task, nodes_are, results, same_inputs, sort_of}
 use Rattle.std.specs.declared.alloc.AllocError.{AllocError}
-use Rattle.std.specs.Prelude.{slice_index}
 use Rattle.std.proofs.lemmas.Bool.{eqb-true}
 use Rattle.std.proofs.lemmas.List.{length-map, map-append, set-get_or}
 use Rattle.std.proofs.lemmas.Option.{get_or_from_slice_get, slice_get_within}
 use Rattle.param_expr.specs.Tree.{Tree}
 use Rattle.param_resolver.specs.EarlyCheck.{early_of}
 use Rattle.param_resolver.specs.EarlyView.{EarlyView}
-use Rattle.param_resolver.specs.LevelOf.{level_args, level_children, out_rates}
+use Rattle.param_resolver.specs.LevelOf.{level_args, out_rates}
 use Rattle.param_resolver.specs.Numbering.{acting_places, state_size}
 use Rattle.param_resolver.specs.Rates.{arg_values}
 use Rattle.pisdf_model.specs.Hold.{in_line, initial}
@@ -74,13 +61,12 @@ use Rattle.pisdf_meaning.proofs.KeptSizes.{args_at, body_args}
 use Rattle.pisdf_meaning.proofs.LinkSizes.{placed}
 use Rattle.pisdf_meaning.proofs.StateSizes.{same_line}
 use Rattle.job_rules.specs.Items.{no_graph}
-use Rattle.job_preparing.specs.Handing.{EndSuits, SuitsCall, end_of}
 use Rattle.job_preparing.specs.View.{HasInherited}
 use Rattle.job_running.specs.Sizes.{call_lens, child_outs}
 use Rattle.job_running.specs.Stages.{IsLost, IsOpened, IsWaiting}
 use Rattle.job_running.specs.View.{IsOfferedCall}
 use Rattle.job_running.proofs.ActingPlaces.{EachPlaced, OneEach}
-use Rattle.job_running.proofs.ClaimedNodes.{Fires, inside, is_call, item_is, job_was_free, keeps_on, no_frame, no_trace, no_value, spot, stage, state_kept, view_step, was_free, was_ready}
+use Rattle.job_running.proofs.ClaimedNodes.{Fires, is_call, keeps_on, no_trace, no_value, spot, state_kept, view_step, was_free, was_ready}
 use Rattle.job_running.proofs.NodeMarks.{lost_stage, opened_stage}
 use Rattle.job_running.proofs.NodeTasks.{here, lens_written}
 use Rattle.job_running.proofs.OutputRates.{own_rate}
@@ -253,10 +239,11 @@ module _ (f : Fixed) (stages : List Stage) (frames : List (Option FrameView)) (r
         omega arith
 
     pub child_known : EachPlaced → (own : LevelSet) (a : ℕ) → a ≡ calls.a → own ≡ f.set → (early : EarlyView) × (slice_get own.children a ≡ Some (Some early))
-    child_known each own a same is =
-        (early_of G calls.place (arg_values (values_of f) calls.exprs),
-        ap (λ (x : LevelSet). slice_get x.children a) is ∙ ap₂ (λ (l : List (Option EarlyView)) b. slice_get l b) keeps.parts.set_is.children same ∙ (each G g (values_of f) calls.a calls.actor calls.own).child
-        ∙ ap (λ b. Some (child_of G (values_of f) b)) calls.body_is)
+    child_known each own a same is = (
+      early_of G calls.place (arg_values (values_of f) calls.exprs),
+      ap (λ (x : LevelSet). slice_get x.children a) is ∙ ap₂ (λ (l : List (Option EarlyView)) b. slice_get l b) keeps.parts.set_is.children same ∙ (each G g (values_of f) calls.a calls.actor calls.own).child
+          ∙ ap (λ b. Some (child_of G (values_of f) b)) calls.body_is,
+    )
 
     pub caller_is : (graphs : List Graph) (caller : Actor) (a : ℕ) → graphs ≡ G → a ≡ calls.a → ((h : Graph) → slice_get graphs f.place ≡ Some h → slice_get (acting h) a ≡ Some caller) → slice_get (acting g) a ≡ Some caller
     caller_is graphs caller a are same at = at g (ap₂ (λ (l : List Graph) p. slice_get l p) are keeps.parts.place_is ∙ here f stages frames rows j keeps)

@@ -1,17 +1,14 @@
 -- What a running firing gives is as long as the early check of its graph says.
-use Rattle.std.proofs.Common.{◌≡◌, ◌≢◌, ℕ, zero, suc, ◌+◌, ◌*◌, ◌<◌, ◌≤◌, ⊎_elim, ℤ, Bool, true, false, List, [], ◌∷◌, ◌++◌, length, map, set, get_or, drop, slice_get, slice_index, slice_index_or, Option, Some, None, Result, Ok, Err, refl, sym, ap, ap₂, ◌∙◌, subst, arith, if◌then◌else◌, nat_lt}
-use Rattle.std.specs.Prelude.{Vec}
-use Rattle.std.specs.Global.{Global}
+use Rattle.std.proofs.Common.{◌≡◌, ℕ, zero, suc, ◌+◌, ◌*◌, ◌<◌, ◌≤◌, ⊎_elim, ℤ, true, false, List, [], ◌∷◌, ◌++◌, length, map, drop, slice_index, slice_index_or, Option, Some, None, Result, Ok, Err, refl, sym, ap, ap₂, ◌∙◌, subst, arith, nat_lt}
 use Rattle.std.specs.List.{AllByRecursion, filter}
 use Rattle.std.proofs.Math.Nat.{mul_comm}
 use Rattle.std.proofs.lemmas.Bool.{cases_Bool, cases_eq, cases_lt, ltb-false, ne_eqb}
-use Rattle.std.proofs.lemmas.List.{get_or_past, length-append, length-drop, length-map, map-append}
-use Rattle.kernel_gate.specs.Value.{FrameView, lengths}
+use Rattle.std.proofs.lemmas.List.{length-append, length-drop, map-append}
+use Rattle.kernel_gate.specs.Value.{lengths}
 use Rattle.sdf_level.specs.View.{LevelView}
-use Rattle.sdf_level.specs.Balance.{IsBalanced}
 use Rattle.sdf_level.specs.Firings.{actors_of, firings}
 use Rattle.sdf_level.specs.Interfaces.{last}
-use Rattle.sdf_level.specs.Kept.{HasSoundDelay, TouchesActor, how_many, is_into_sink}
+use Rattle.sdf_level.specs.Kept.{TouchesActor, how_many, is_into_sink}
 use Rattle.sdf_level.specs.Laws.{Reaches}
 use Rattle.sdf_level.specs.LevelRun.{Ended, HasRate, HaveDelays, HaveRates, end_of as level_end, kept_at, left_of, written}
 use Rattle.sdf_level.specs.Links.{EachOuter, OfOuter}
@@ -37,7 +34,7 @@ use Rattle.single_rate.specs.Laws.{FlowsDeliver, GraphsHaveOneFlow, HasOneFlow, 
 use Rattle.single_rate.specs.Names.{names}
 use Rattle.single_rate.specs.Nodes.{same}
 use Rattle.single_rate.proofs.Unique.{same-node}
-use Rattle.job_flow.specs.Events.{IsDone, IsFinished, IsQuiet, IsReady}
+use Rattle.job_flow.specs.Events.{IsDone, IsFinished, IsQuiet}
 use Rattle.job_flow.specs.Frames.{Values, arriving_below, given, lens, lengths_written, sizes_below}
 use Rattle.job_flow.specs.GraphLaws.{GraphLaws}
 use Rattle.job_flow.specs.Graphs.{IsJobGraph, JobGraph, node_at}
@@ -62,7 +59,7 @@ use Rattle.pisdf_model.specs.declared.graph.Graph.{Graph}
 use Rattle.pisdf_meaning.specs.Configuring.{Configuration, configurations_from}
 use Rattle.pisdf_meaning.specs.Running.{actor_states, fifo_states, state_after, state_of_first}
 use Rattle.pisdf_meaning.specs.Sizes.{IsWired}
-use Rattle.pisdf_meaning.specs.States.{goes_on, tokens_at}
+use Rattle.pisdf_meaning.specs.States.{goes_on}
 use Rattle.pisdf_meaning.specs.declared.firing.Configured.{Configured}
 use Rattle.pisdf_meaning.proofs.LinkSizes.{no_delay}
 use Rattle.pisdf_meaning.proofs.StateSizes.{actor_size, fifo_size}
@@ -277,13 +274,13 @@ module _ (graphs : List Graph) (g : Graph) (values : List ℤ) where
       let s = split (link_of graphs g values f) (from_number (i + 1) of_fifo fifos ++ links) left (subst P first here) in
       let again = fifos_left (i + 1) fifos links s.rest none.1 s.others in
       let head : length (goes_on f.life s.one) ≡ fifo_size f = goes_long f.life f.delay s.one s.long in
-      (rw (kept, s.is) (ap (λ n. n ∷ lengths (fifo_states g fifos s.rest)) head ∙ ap (λ (l : List ℕ). fifo_size f ∷ l) again.0), rw (kept, s.is) again.1))
+      (rw (kept, s.is) (ap₂ (λ (n : ℕ) (l : List ℕ). n ∷ l) head again.0), rw (kept, s.is) again.1))
       (λ (other : is_kept g f ≡ false).
       let P : List Link → Type 0 = λ l. HaveDelays l left in
       let first : from_number i of_fifo (f ∷ fifos) ++ links ≡ from_number (i + 1) of_fifo fifos ++ links = rw other refl in
       let again = fifos_left (i + 1) fifos links left none.1 (subst P first here) in
       let head : 0 ≡ fifo_size f = no_tokens f.life f.delay (none.0 other) in
-      (rw other (ap (λ n. n ∷ lengths (fifo_states g fifos left)) head ∙ ap (λ (l : List ℕ). fifo_size f ∷ l) again.0), rw other again.1))
+      (rw other (ap₂ (λ (n : ℕ) (l : List ℕ). n ∷ l) head again.0), rw other again.1))
       (cases_Bool (is_kept g f))
 
   abbrev StatesLong : List Configuration → List Configured → Type 0
@@ -304,7 +301,7 @@ module _ (graphs : List Graph) (g : Graph) (values : List ℤ) where
       let first : configurations_from c a (x ∷ actors) ≡ record { number = c; place = a; name = x.name; body = x.body } ∷ configurations_from (c + 1) (a + 1) actors = rw is refl in
       let s = first_state (actor_size graphs x) (map (λ (k : Configuration). length (actor_state (initial graphs) k.body)) (configurations_from (c + 1) (a + 1) actors)) configured (all ∙ ap (map (λ (k : Configuration). length (actor_state (initial graphs) k.body))) first) in
       let again = actors_left (c + 1) (a + 1) actors (drop 1 configured) left s.1 links' in
-      rw is (ap (λ n. n ∷ lengths (actor_states graphs actors (drop 1 configured) left)) s.0 ∙ ap (λ (l : List ℕ). actor_size graphs x ∷ l) again))
+      rw is (ap₂ (λ (n : ℕ) (l : List ℕ). n ∷ l) s.0 again))
       (λ (acts : is_configuration x.body ≡ false).
       let others : configurations_from c a (x ∷ actors) ≡ configurations_from c (a + 1) actors = rw acts refl in
       let all' : StatesLong (configurations_from c (a + 1) actors) configured = all ∙ ap (map (λ (k : Configuration). length (actor_state (initial graphs) k.body))) others in
@@ -314,12 +311,12 @@ module _ (graphs : List Graph) (g : Graph) (values : List ℤ) where
       let s = split (state_link graphs g a x.body) (from_number (a + 1) of_state actors) left (subst P first links) in
       let head : length s.one ≡ actor_size graphs x = s.long ∙ sym (state_held graphs x.body has) in
       let again = actors_left c (a + 1) actors configured s.rest all' s.others in
-      rw (acts, has, s.is) (ap (λ n. n ∷ lengths (actor_states graphs actors configured s.rest)) head ∙ ap (λ (l : List ℕ). actor_size graphs x ∷ l) again))
+      rw (acts, has, s.is) (ap₂ (λ (n : ℕ) (l : List ℕ). n ∷ l) head again))
       (λ (none : has_state graphs x ≡ false).
       let first : from_number a of_state (x ∷ actors) ≡ from_number (a + 1) of_state actors = rw none refl in
       let head : 0 ≡ actor_size graphs x = sym (no_held graphs x.body acts none) in
       let again = actors_left c (a + 1) actors configured left all' (subst P first links) in
-      rw (acts, none) (ap (λ n. n ∷ lengths (actor_states graphs actors configured left)) head ∙ ap (λ (l : List ℕ). actor_size graphs x ∷ l) again))
+      rw (acts, none) (ap₂ (λ (n : ℕ) (l : List ℕ). n ∷ l) head again))
       (cases_Bool (has_state graphs x)))
       (cases_Bool (is_configuration x.body))
 

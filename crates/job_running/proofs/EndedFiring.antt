@@ -1,22 +1,15 @@
 -- A running firing that ends.
-use Rattle.std.proofs.Common.{◌≡◌, ◌≢◌, ℕ, zero, suc, ◌+◌, ◌<◌, ◌≤◌, ⊎_elim, inl, inr, ℤ, Bool, true, false, List, [], ◌∷◌, ◌++◌, length, map, set, get_or, take, drop, slice_get, All, Option, Some, None, Result, Ok, Err, refl, sym, ap, ap₂, ◌∙◌, subst, arith, append_assoc, append-nil, take_all}
-use Rattle.std.specs.Prelude.{Vec, is_none, unwrap_or, ◌↔◌, ◌⊎◌, IsOk}
+use Rattle.std.proofs.Common.{◌≡◌, ℕ, zero, suc, ◌+◌, ◌<◌, ◌≤◌, ⊎_elim, ℤ, Bool, true, false, List, [], ◌∷◌, ◌++◌, length, get_or, take, drop, All, Option, Some, None, Result, Ok, Err, refl, sym, ap, ap₂, ◌∙◌, subst, arith, append_assoc, append-nil, take_all}
+use Rattle.std.specs.Prelude.{Vec}
 use Rattle.std.specs.Global.{Global}
-use Rattle.std.specs.declared.snapshot.Snapshot.{Snapshot}
-use Rattle.job_running.specs.declared.told.Told.{Told}
 use Rattle.std.proofs.lemmas.Bool.{cases_Bool, cases_lt}
-use Rattle.std.proofs.lemmas.List.{get_or-set_other, get_or-set_same, get_or_past, length-set, map-set}
-use Rattle.kernel_gate.specs.Value.{FrameView, Places, lengths}
-use Rattle.kernel_gate.specs.declared.fault.KernelFault.{KernelFault}
+use Rattle.std.proofs.lemmas.List.{get_or_past}
+use Rattle.kernel_gate.specs.Value.{FrameView, Places}
 use Rattle.nested_jobs.specs.Marks as mark
 use Rattle.nested_jobs.specs.Marks.{Mark}
-use Rattle.nested_jobs.specs.Rules.{Task, Work, Call}
-use Rattle.param_resolver.specs.Numbering.{acting, has_state}
+use Rattle.param_resolver.specs.Numbering.{has_state}
 use Rattle.pisdf_model.specs.declared.actor.Actor.{Actor}
-use Rattle.pisdf_model.specs.declared.actor.Body.{Body}
-use Rattle.pisdf_model.specs.declared.actor.Body.TheVariants.{Kernel, Config, Child, ConfigChild}
 use Rattle.pisdf_model.specs.declared.graph.Graph.{Graph}
-use Rattle.pisdf_meaning.specs.declared.firing.Firing.{Firing}
 use Rattle.pisdf_meaning.specs.declared.outcome.TraceRow.{TraceRow}
 use Rattle.pisdf_meaning.specs.declared.refusal.Refusal.{Refusal}
 use Rattle.sdf_level.specs.declared.node.Node.{Node}
@@ -24,51 +17,38 @@ use Rattle.sdf_level.specs.declared.node.Node.TheVariants as node
 use Rattle.job_flow.specs.Frames as flow
 use Rattle.job_flow.specs.Frames.{inputs, lens}
 use Rattle.job_flow.specs.Graphs.{JobGraph, node_at}
-use Rattle.job_flow.specs.Events.{IsReady}
-use Rattle.job_flow.specs.Laws.{InputsInAnyWords, ReadyInAnyWords, ReadyStays}
-use Rattle.job_rules.specs.Items.{actor_of, actor_task, firing_task, keeps_state, node_task}
-use Rattle.job_rules.specs.Words as words
-use Rattle.job_rules.specs.Words.{Answer, Spot, given_outs}
-use Rattle.one_job.specs.Calls.{finished_with}
+use Rattle.job_rules.specs.Words.{Answer, Spot}
 use Rattle.one_job.specs.Marks as one
-use Rattle.one_job.specs.Pick.{is_child_in}
 use Rattle.one_job.specs.View as leased
 use Rattle.one_job.specs.View.{IsFiring}
-use Rattle.job_preparing.specs.Handing.{answer_with, lent_at, mark_at}
-use Rattle.job_running.specs.Calls.{IsHanded, handed_out}
 use Rattle.job_running.specs.Kept.{view_with}
-use Rattle.job_running.specs.Parts.{AllStand, Fixed, KeepsAll, Stands, fired, frame_at, job_in, kernel_in, kind_of_actor, values_of}
-use Rattle.job_running.specs.Sizes.{place_lens}
-use Rattle.job_running.specs.Stages.{FitsLens, FitsSort, IsEnded, held_by, job_mark, lent_of, lents_of, mark_of, spot_of, stage_at, trace_in}
-use Rattle.job_running.specs.View.{IsOfferedWork, RunningView, nodes_of, task}
+use Rattle.job_running.specs.Parts.{Fixed, KeepsAll, fired, frame_at, job_in}
+use Rattle.job_running.specs.Stages.{FitsSort, held_by, job_mark, lent_of, mark_of, stage_at, trace_in}
 use Rattle.job_running.specs.declared.stage.Stage.{Stage}
 use Rattle.job_running.specs.declared.stage.Stage.TheVariants.{Free, Busy, Lost, Open, Fired, Failed, Gave, Refused}
-use Rattle.job_running.proofs.NodeMarks.{IsBusy, fired_stage, free_stage, lent_busy, lent_here, mark_here, marks_set}
-use Rattle.job_running.proofs.NodeSteps.{same_traces, step}
-use Rattle.job_running.proofs.NodeTasks.{HasFrame, enabled, free_job, handed_so, has_task, kernel_lens, nodes_are, own_ready, ready_task, results, same_inputs, sort_of, told_ready}
+use Rattle.job_running.proofs.NodeMarks.{lent_here}
+use Rattle.job_running.proofs.NodeTasks.{nodes_are, results}
 use Rattle.std.specs.Prelude.{slice_index}
 use Rattle.std.specs.List.{filter}
 use Rattle.std.specs.Option.{option_map}
-use Rattle.std.proofs.lemmas.List.{get_or_default, length-map}
+use Rattle.std.proofs.lemmas.List.{get_or_default}
 use Rattle.param_resolver.specs.Numbering.{is_kept}
 use Rattle.pisdf_model.specs.InterfaceWires.{is_configuration}
-use Rattle.pisdf_model.specs.declared.fifo.Fifo.{Fifo}
 use Rattle.pisdf_meaning.specs.Running.{actor_states, fifo_states, state_after, state_of_first, traces_below}
 use Rattle.pisdf_meaning.specs.declared.firing.Configured.{Configured}
 use Rattle.single_rate.specs.Expanded.{place_of}
-use Rattle.single_rate.specs.Stages.{FiringsAreAll, FiringsAreThere, FiringsStandInOrder, NodesAreFound}
+use Rattle.single_rate.specs.Stages.{FiringsAreThere, NodesAreFound}
 use Rattle.job_flow.specs.Events.{IsQuiet}
 use Rattle.job_flow.specs.Laws.{EndedInAnyWords, FailureInOtherWords}
 use Rattle.job_flow.specs.Outcomes.{Failure, ended, failure, failure_from, failure_or}
 use Rattle.job_flow.specs.Renamed.{renamed, renamed_failure}
 use Rattle.job_rules.specs.Items.{first_refusal, node_result, refusal_or, trace_of}
 use Rattle.job_rules.specs.Words.{Answer, Gives, Refuses, Schedules}
-use Rattle.nested_jobs.specs.Rules.{Values}
 use Rattle.job_preparing.specs.Handing.{IsNothingLent, answers, with_traces}
-use Rattle.job_running.specs.Parts.{AreTraces, HaveTraces, HoldClaimed, flat, row_at}
+use Rattle.job_running.specs.Parts.{HaveTraces, HoldClaimed, flat, row_at}
 use Rattle.job_running.specs.Stages.{refusal_for}
-use Rattle.job_running.specs.View.{is_quiet, node_values_of, results as results_of, traces_of}
-use Rattle.job_running.proofs.ClaimedNodes.{Fires, inside, is_call, item_is, spot, stage, state_kept}
+use Rattle.job_running.specs.View.{traces_of}
+use Rattle.job_running.proofs.ClaimedNodes.{item_is, spot}
 use Rattle.job_running.proofs.NodeTies.{values_are, words as told_words}
 use Rattle.job_running.proofs.OfferedNodes.{never_claimed}
 use Rattle.job_running.proofs.AnsweredNodes.{is_firing}
@@ -214,13 +194,13 @@ module _ (f : Fixed) (stages : List Stage) (frames : List (Option FrameView)) (r
 
   traced : (sp : Option Spot) (s : Stage) → trace_of (mark.answer_of (mark_of sp s)) ≡ trace_in s
   traced sp Free = refl
-  traced sp (Busy told) = refl
-  traced sp (Lost told) = refl
-  traced sp (Open job told) = refl
-  traced None (Fired told) = refl
-  traced (Some sp) (Fired told) = refl
+  traced sp (Busy _) = refl
+  traced sp (Lost _) = refl
+  traced sp (Open job _) = refl
+  traced None (Fired _) = refl
+  traced (Some sp) (Fired _) = refl
   traced sp (Failed code) = refl
-  traced sp (Gave told) = refl
+  traced sp (Gave _) = refl
   traced sp (Refused refusal) = refl
 
   flat_more : (xs : List (List TraceRow)) (x : List TraceRow) → flat (xs ++ x ∷ []) ≡ flat xs ++ x

@@ -1,8 +1,7 @@
 -- The marks of nodes by their stages.
-use Rattle.std.proofs.Common.{◌≡◌, ◌≢◌, ℕ, zero, suc, ◌+◌, ◌<◌, ◌≤◌, ⊎_elim, ℤ, Bool, true, false, List, [], ◌∷◌, length, map, set, replicate, get_or, slice_get, Option, Some, None, Result, Ok, Err, refl, sym, ap, ap₂, ◌∙◌, subst, arith}
+use Rattle.std.proofs.Common.{◌≡◌, ℕ, zero, suc, ℤ, Bool, false, List, [], ◌∷◌, length, map, set, replicate, Option, Some, None, Ok, refl, ap, arith}
 use Rattle.std.specs.Option.{option_map}
-use Rattle.std.proofs.lemmas.List.{get_or-set_other, get_or-set_same, length-set, length-map, append-nil, get_or_past}
-use Rattle.std.proofs.lemmas.Bool.{cases_eq, cases_lt}
+use Rattle.std.proofs.lemmas.List.{append-nil}
 use Rattle.std.specs.declared.snapshot.Snapshot.{Snapshot}
 use Rattle.job_running.specs.declared.told.Told.{Told}
 use Rattle.kernel_gate.specs.Value.{FrameView, Places}
@@ -10,12 +9,11 @@ use Rattle.nested_jobs.specs.Marks as mark
 use Rattle.nested_jobs.specs.Marks.{Mark}
 use Rattle.pisdf_model.specs.declared.actor.Actor.{Actor}
 use Rattle.pisdf_meaning.specs.declared.firing.Firing.{Firing}
-use Rattle.pisdf_meaning.specs.declared.refusal.Refusal.{Refusal}
 use Rattle.sdf_level.specs.declared.node.Node.{Node}
 use Rattle.job_flow.specs.Graphs.{node_at}
 use Rattle.job_flow.specs.Renamed.{renamed_answer}
 use Rattle.job_rules.specs.Items.{node_result}
-use Rattle.job_rules.specs.Words.{Answer, Spot}
+use Rattle.job_rules.specs.Words.{Spot}
 use Rattle.one_job.specs.Marks as one
 use Rattle.job_preparing.specs.Handing.{ItemMarks, lent_at, mark_at}
 use Rattle.job_running.specs.Stages.{FitsSort, IsFired, IsLost, IsOpened, fired_in, job_mark, lent_of, mark_of, marks_of, refusal_for, spot_of, stage_at}

@@ -1,25 +1,17 @@
 -- What the nodes of a running firing are to do, in the words of its rules and by its job of leases.
-use Rattle.std.proofs.Common.{◌≡◌, ◌≢◌, ℕ, zero, suc, ◌+◌, ◌<◌, ◌≤◌, ◌&&◌, nat_lt, ⊎_elim, ℤ, Bool, true, false, List, [], ◌∷◌, ◌++◌, length, map, set, get_or, slice_get, Option, Some, None, Result, Ok, Err, refl, sym, ap, ap₂, ◌∙◌, subst, arith, append-nil, if◌then◌else◌}
-use Rattle.std.specs.Prelude.{Vec, is_none, unwrap_or, ◌↔◌}
+use Rattle.std.proofs.Common.{◌≡◌, ℕ, zero, suc, ◌&&◌, nat_lt, ℤ, Bool, true, false, List, [], ◌∷◌, ◌++◌, length, map, get_or, slice_get, Option, Some, None, refl, sym, ap, ◌∙◌, subst, append-nil}
+use Rattle.std.specs.Prelude.{Vec, is_none, unwrap_or}
 use Rattle.std.specs.Global.{Global}
 use Rattle.std.proofs.lemmas.Option.{get_or_from_slice_get}
-use Rattle.std.proofs.lemmas.Bool.{cases_lt}
-use Rattle.std.proofs.lemmas.List.{get_or_past}
 use Rattle.kernel_gate.specs.Value.{FrameView, lengths}
 use Rattle.nested_jobs.specs.Marks as mark
 use Rattle.nested_jobs.specs.Rules.{Task, Work, Call}
-use Rattle.param_expr.specs.Tree.{Tree}
-use Rattle.param_resolver.specs.EarlyCheck.{early_of}
-use Rattle.param_resolver.specs.LevelOf.{level_args, links_of, out_rates}
+use Rattle.param_resolver.specs.LevelOf.{level_args, out_rates}
 use Rattle.param_resolver.specs.Numbering.{acting, has_state, state_size}
-use Rattle.param_resolver.specs.Rates.{arg_values}
-use Rattle.pisdf_model.specs.Hold.{in_line, initial}
-use Rattle.pisdf_model.specs.Parts.{input_count}
 use Rattle.pisdf_model.specs.declared.actor.Actor.{Actor}
 use Rattle.pisdf_model.specs.declared.actor.Body.{Body}
 use Rattle.pisdf_model.specs.declared.actor.Body.TheVariants.{Kernel, Config, Child, ConfigChild}
 use Rattle.pisdf_model.specs.declared.graph.Graph.{Graph}
-use Rattle.pisdf_meaning.specs.Running.{child_firing}
 use Rattle.pisdf_meaning.specs.States.{tokens_at}
 use Rattle.pisdf_meaning.specs.declared.firing.Firing.{Firing}
 use Rattle.pisdf_meaning.specs.declared.outcome.TraceRow.{TraceRow}
@@ -31,22 +23,21 @@ use Rattle.job_flow.specs.Frames.{inputs, lens, lengths_written, output_rates}
 use Rattle.job_flow.specs.Graphs.{JobGraph, node_at}
 use Rattle.job_flow.specs.Events.{IsReady}
 use Rattle.job_flow.specs.Laws.{InputsInAnyWords, ReadyInAnyWords}
-use Rattle.job_rules.specs.Items.{actor_of, actor_task, edges_in, firing_task, is_ready_by, keeps_state, no_graph, node_task, nodes_in}
+use Rattle.job_rules.specs.Items.{actor_task, edges_in, firing_task, is_ready_by, no_graph, node_task, nodes_in}
 use Rattle.job_rules.specs.Words as words
 use Rattle.job_rules.proofs.Growing.{is_ready, ready_is}
 use Rattle.job_rules.proofs.Parts.{passed}
 use Rattle.one_job.specs.Marks as one
-use Rattle.one_job.specs.Pick.{IsOffered, is_child_in}
+use Rattle.one_job.specs.Pick.{is_child_in}
 use Rattle.one_job.specs.View as leased
-use Rattle.job_preparing.specs.Handing.{AsksFor, CopiesIn, mark_at}
+use Rattle.job_preparing.specs.Handing.{AsksFor, mark_at}
 use Rattle.job_running.specs.Calls.{IsHanded, handed_out}
 use Rattle.job_running.specs.Kept.{view_with}
-use Rattle.job_running.specs.Parts.{AllStand, Fixed, KeepsAll, fired, job_in, kernel_in, kind_of_actor, prepared_of, values_of}
-use Rattle.job_running.specs.Sizes.{call_lens}
-use Rattle.job_running.specs.View.{IsOfferedCall, IsOfferedWork, RunningView, node_values_of, task}
+use Rattle.job_running.specs.Parts.{Fixed, KeepsAll, fired, job_in, kernel_in, kind_of_actor, prepared_of, values_of}
+use Rattle.job_running.specs.View.{RunningView, task}
 use Rattle.job_running.specs.declared.stage.Stage.{Stage}
 use Rattle.job_running.specs.declared.handed.Handed.TheVariants.{Copy, Fire}
-use Rattle.job_running.proofs.NodeTies.{free_item, free_mark, inputs_are, ready_own, ready_told, told, values_are}
+use Rattle.job_running.proofs.NodeTies.{free_item, free_mark, inputs_are, ready_own, ready_told, told}
 use Rattle.job_running.proofs.OutputRates.{own_rate, written}
 
 -- what holds of frames that are handed out

@@ -1,17 +1,16 @@
 -- The nodes of a running firing in the words of its rules, and in those of its job of leases.
-use Rattle.std.proofs.Common.{◌≡◌, ◌≢◌, ℕ, zero, suc, ◌+◌, ◌<◌, ◌≤◌, ⊎_elim, ℤ, Bool, true, false, List, [], ◌∷◌, length, map, set, get_or, slice_get, Option, Some, None, Result, Ok, Err, refl, sym, ap, ap₂, ◌∙◌, subst, arith}
-use Rattle.std.specs.Prelude.{is_none, ◌↔◌}
+use Rattle.std.proofs.Common.{◌≡◌, ℕ, zero, suc, ◌<◌, ◌≤◌, ⊎_elim, ℤ, false, List, [], ◌∷◌, length, map, get_or, slice_get, Option, None, refl, sym, ap, ◌∙◌, subst, arith}
+use Rattle.std.specs.Prelude.{is_none}
 use Rattle.std.specs.Option.{option_map}
 use Rattle.std.proofs.lemmas.Bool.{cases_lt}
-use Rattle.std.proofs.lemmas.List.{get_or_past, get_or-map}
+use Rattle.std.proofs.lemmas.List.{get_or_past}
 use Rattle.kernel_gate.specs.Value.{FrameView}
 use Rattle.nested_jobs.specs.Marks as mark
-use Rattle.param_resolver.specs.Numbering.{acting, has_state, state_size}
+use Rattle.param_resolver.specs.Numbering.{acting, state_size}
 use Rattle.pisdf_model.specs.declared.actor.Actor.{Actor}
 use Rattle.pisdf_model.specs.declared.actor.Body.{Body}
 use Rattle.pisdf_model.specs.declared.actor.Body.TheVariants.{Kernel, Config, Child, ConfigChild}
 use Rattle.pisdf_model.specs.declared.graph.Graph.{Graph}
-use Rattle.pisdf_meaning.specs.declared.firing.Firing.{Firing}
 use Rattle.pisdf_meaning.specs.declared.refusal.Refusal.{Refusal}
 use Rattle.sdf_level.specs.declared.node.Node.{Node}
 use Rattle.sdf_level.specs.declared.node.Node.TheVariants as node
@@ -22,11 +21,10 @@ use Rattle.job_flow.specs.Events.{IsReady}
 use Rattle.job_flow.specs.Laws.{InputsInAnyWords, ReadyInAnyWords}
 use Rattle.job_flow.specs.Renamed.{renamed, renamed_answer}
 use Rattle.job_rules.specs.Items.{actor_of, keeps_state, node_result}
-use Rattle.job_rules.specs.Words.{Answer}
 use Rattle.one_job.specs.Marks as one
 use Rattle.one_job.specs.Pick.{is_child_in}
 use Rattle.one_job.specs.View.{IsFiring}
-use Rattle.job_preparing.specs.Handing.{ItemMarks, answers, mark_at}
+use Rattle.job_preparing.specs.Handing.{ItemMarks, mark_at}
 use Rattle.job_running.specs.Parts.{AllStand, kernel_in, kind_of_actor}
 use Rattle.job_running.specs.Stages.{job_mark, mark_of, marks_of, refusal_for, spot_of, stage_at}
 use Rattle.job_running.specs.View.{results}

@@ -1,53 +1,38 @@
 -- Which nodes are on offer, and when nothing more will come of any.
-use Rattle.std.proofs.Common.{◌≡◌, ◌≢◌, ℕ, zero, suc, ◌+◌, ◌<◌, ◌≤◌, ◌&&◌, nat_lt, ⊎_elim, inl, inr, ℤ, Bool, true, false, List, [], ◌∷◌, ◌++◌, length, map, set, get_or, slice_get, Option, Some, None, Result, Ok, Err, refl, sym, ap, ◌∙◌, subst, arith, if◌then◌else◌}
-use Rattle.std.specs.Prelude.{Vec, is_none, unwrap_or, ◌↔◌, ◌⊎◌, IsOk}
+use Rattle.std.proofs.Common.{◌≡◌, ℕ, zero, suc, ◌<◌, ◌&&◌, nat_lt, ⊎_elim, ℤ, Bool, true, false, List, length, get_or, slice_get, Option, Some, None, refl, sym, ap, ◌∙◌, subst, arith}
+use Rattle.std.specs.Prelude.{Vec, is_none}
 use Rattle.std.specs.Global.{Global}
-use Rattle.std.specs.declared.snapshot.Snapshot.{Snapshot}
-use Rattle.job_running.specs.declared.told.Told.{Told}
-use Rattle.std.proofs.lemmas.Bool.{cases_lt}
-use Rattle.std.proofs.lemmas.List.{get_or-set_other, get_or-set_same, get_or_past, length-set, map-set}
-use Rattle.kernel_gate.specs.Value.{FrameView, Places, lengths}
-use Rattle.kernel_gate.specs.declared.fault.KernelFault.{KernelFault}
-use Rattle.nested_jobs.specs.Marks as mark
-use Rattle.nested_jobs.specs.Marks.{Mark}
+use Rattle.kernel_gate.specs.Value.{FrameView, Places}
 use Rattle.nested_jobs.specs.Rules.{Task, Work, Call}
-use Rattle.param_resolver.specs.Numbering.{acting, has_state}
+use Rattle.param_resolver.specs.Numbering.{acting}
 use Rattle.pisdf_model.specs.declared.actor.Actor.{Actor}
-use Rattle.pisdf_model.specs.declared.actor.Body.{Body}
-use Rattle.pisdf_model.specs.declared.actor.Body.TheVariants.{Kernel, Config, Child, ConfigChild}
 use Rattle.pisdf_model.specs.declared.graph.Graph.{Graph}
 use Rattle.pisdf_meaning.specs.declared.firing.Firing.{Firing}
 use Rattle.pisdf_meaning.specs.declared.outcome.TraceRow.{TraceRow}
 use Rattle.pisdf_meaning.specs.declared.refusal.Refusal.{Refusal}
 use Rattle.sdf_level.specs.declared.node.Node.{Node}
 use Rattle.sdf_level.specs.declared.node.Node.TheVariants as node
-use Rattle.job_flow.specs.Frames as flow
 use Rattle.job_flow.specs.Frames.{inputs, lens}
 use Rattle.job_flow.specs.Graphs.{JobGraph, node_at}
 use Rattle.job_flow.specs.Events.{IsReady}
-use Rattle.job_flow.specs.Laws.{InputsInAnyWords, ReadyInAnyWords, ReadyStays}
-use Rattle.job_rules.specs.Items.{actor_of, actor_task, firing_task, keeps_state, node_task}
+use Rattle.job_flow.specs.Laws.{InputsInAnyWords, ReadyInAnyWords}
+use Rattle.job_rules.specs.Items.{actor_task, node_task}
 use Rattle.job_rules.specs.Words as words
 use Rattle.job_rules.specs.Words.{Answer, Spot, given_outs}
-use Rattle.one_job.specs.Calls.{finished_with}
 use Rattle.one_job.specs.Marks as one
 use Rattle.one_job.specs.Pick.{is_child_in}
 use Rattle.one_job.specs.View as leased
 use Rattle.one_job.specs.View.{IsFiring}
-use Rattle.job_preparing.specs.Handing.{answer_with, lent_at, mark_at}
-use Rattle.job_running.specs.Calls.{IsHanded, handed_out}
+use Rattle.job_preparing.specs.Handing.{mark_at}
 use Rattle.job_running.specs.Kept.{view_with}
-use Rattle.job_running.specs.Parts.{AllStand, Fixed, KeepsAll, Stands, fired, frame_at, job_in, kernel_in, kind_of_actor, values_of}
-use Rattle.job_running.specs.Sizes.{place_lens}
-use Rattle.job_running.specs.Stages.{FitsLens, FitsSort, IsEnded, held_by, job_mark, lent_of, lents_of, mark_of, spot_of, stage_at, trace_in}
-use Rattle.job_running.specs.View.{IsOfferedWork, RunningView, nodes_of, task}
+use Rattle.job_running.specs.Parts.{Fixed, KeepsAll, fired, job_in, values_of}
+use Rattle.job_running.specs.Stages.{job_mark, mark_of, stage_at}
+use Rattle.job_running.specs.View.{IsOfferedWork, task}
 use Rattle.job_running.specs.declared.stage.Stage.{Stage}
 use Rattle.job_running.specs.declared.stage.Stage.TheVariants.{Free, Busy, Lost, Open, Fired, Failed, Gave, Refused}
-use Rattle.job_running.proofs.NodeMarks.{IsBusy, fired_stage, free_stage, lent_busy, lent_here, mark_here, marks_set}
-use Rattle.job_running.proofs.NodeSteps.{same_traces, step}
-use Rattle.job_running.proofs.NodeTasks.{HasFrame, enabled, free_job, handed_so, has_task, kernel_lens, nodes_are, own_ready, ready_task, results, same_inputs, sort_of, told_ready}
+use Rattle.job_running.proofs.NodeTasks.{enabled, has_task, nodes_are, own_ready, ready_task, results, sort_of, told_ready}
 use Rattle.std.specs.Prelude.{IsTrue, slice_index}
-use Rattle.std.proofs.lemmas.Bool.{and_from, and_parts, cases_Bool, cases_eq, not-true}
+use Rattle.std.proofs.lemmas.Bool.{and_from, and_parts, cases_eq, not-true}
 use Rattle.std.proofs.lemmas.Option.{slice_get-get_or}
 use Rattle.param_resolver.specs.Numbering.{fires}
 use Rattle.pisdf_model.specs.InterfaceWires.{is_configuration}
@@ -61,11 +46,11 @@ use Rattle.job_rules.specs.Items.{edges_in, is_ready_by, nodes_in}
 use Rattle.job_rules.proofs.Growing.{ready_is}
 use Rattle.job_rules.proofs.OfActors.{of_actor, within}
 use Rattle.job_rules.proofs.Settled.{body_has_task, inside_of}
-use Rattle.one_job.specs.Pick.{GoesBefore, IsFirst, IsOffered}
+use Rattle.one_job.specs.Pick.{IsFirst, IsOffered}
 use Rattle.worker_mapping.specs.declared.mapping.Mapping.{Mapping}
 use Rattle.job_running.specs.Parts.{prepared_of}
 use Rattle.job_running.specs.View.{IsOfferedCall, is_quiet}
-use Rattle.job_running.proofs.ClaimedNodes.{is_call, item_is, spot, stage, state_kept}
+use Rattle.job_running.proofs.ClaimedNodes.{item_is, spot, state_kept}
 use Rattle.job_running.proofs.NodeTasks.{job_free, leased_ready, ready_leased}
 
 -- what is so below a number, is so of all below it

@@ -1,12 +1,10 @@
 -- How much the firing of an actor of a level writes: as its body says, and its state on the last output, where that goes on.
-use Rattle.std.proofs.Common.{◌≡◌, ℕ, ◌+◌, ◌<◌, Bool, true, false, ℤ, pos, List, [], ◌∷◌, ◌++◌, length, map, get_or, replicate, slice_get, slice_index, Some, refl, sym, ap, ◌∙◌, subst, arith, length-append}
+use Rattle.std.proofs.Common.{◌≡◌, ℕ, ◌+◌, Bool, true, false, ℤ, pos, List, [], ◌∷◌, ◌++◌, length, map, replicate, slice_get, slice_index, Some, refl, sym, ap, ◌∙◌, arith, length-append}
 use Rattle.std.proofs.lemmas.List.{get_or-append-add, get_or_append_left, length-map, length-replicate}
 use Rattle.kernel_gate.specs.Value.{lengths}
-use Rattle.param_expr.specs.Tree.{Tree}
-use Rattle.param_resolver.specs.EarlyCheck.{early_of}
 use Rattle.param_resolver.specs.LevelOf.{links_of, out_rates}
-use Rattle.param_resolver.specs.Numbering.{acting, fires, has_state, output_count, state_size}
-use Rattle.param_resolver.specs.Rates.{arg_values, port_rates}
+use Rattle.param_resolver.specs.Numbering.{acting, has_state, output_count, state_size}
+use Rattle.param_resolver.specs.Rates.{arg_values}
 use Rattle.param_resolver.proofs.Passing.{one}
 use Rattle.param_resolver.proofs.Sound.{resolvable}
 use Rattle.param_resolver.proofs.Wired.{AreWired, well_wired}

@@ -1,26 +1,25 @@
 -- A running firing at its start.
-use Rattle.std.proofs.Common.{◌≡◌, ◌≢◌, ℕ, zero, suc, ◌+◌, ◌<◌, ◌≤◌, ⊎_elim, ℤ, Bool, true, false, List, [], ◌∷◌, ◌++◌, length, map, get_or, replicate, slice_get, Option, Some, None, Result, Ok, Err, Vec, Global, refl, sym, ap, ap₂, ◌∙◌, subst, arith}
+use Rattle.std.proofs.Common.{◌≡◌, ℕ, zero, suc, ◌<◌, ◌≤◌, ⊎_elim, ℤ, List, [], ◌∷◌, length, map, get_or, replicate, slice_get, Option, Some, None, Ok, Vec, Global, refl, sym, ap, ◌∙◌, subst, arith}
 use Rattle.std.specs.Prelude.{slice_index}
 use Rattle.std.proofs.lemmas.Bool.{cases_lt}
 use Rattle.std.proofs.lemmas.List.{get_or-replicate, get_or_past, length-map, length-replicate}
 use Rattle.std.proofs.lemmas.Option.{get_or_from_slice_get, slice_get_within}
 use Rattle.kernel_gate.specs.Value.{FrameView, lengths}
-use Rattle.param_resolver.specs.EarlyCheck.{as_refusal}
-use Rattle.param_resolver.specs.LevelOf.{AreOneEach, level_args, level_faults, links_of, sources_of}
+use Rattle.param_resolver.specs.LevelOf.{AreOneEach, level_faults, links_of, sources_of}
 use Rattle.param_resolver.specs.Numbering.{acting}
 use Rattle.param_resolver.specs.Refusal as part
-use Rattle.param_resolver.specs.declared.level_set.LevelSet.{LevelSet}
 use Rattle.pisdf_model.specs.Range.{InRange}
 use Rattle.pisdf_model.specs.WellFormed.{WellFormed}
 use Rattle.pisdf_model.specs.declared.graph.Graph.{Graph}
+use Rattle.pisdf_model.specs.declared.graph.Graphs.{Graphs}
 use Rattle.pisdf_meaning.specs.Causes.{unless_refused}
 use Rattle.pisdf_meaning.specs.Configuring.{early_in}
-use Rattle.pisdf_meaning.specs.Preparing.{level_in, rated, resolved}
+use Rattle.pisdf_meaning.specs.Preparing.{level_in}
 use Rattle.pisdf_meaning.specs.Running.{link_starts, source_tokens}
 use Rattle.pisdf_meaning.specs.TopLevel.{IsLevelSet}
 use Rattle.pisdf_meaning.specs.declared.outcome.TraceRow.{TraceRow}
+use Rattle.pisdf_meaning.specs.declared.firing.Configured.{Configured}
 use Rattle.pisdf_meaning.specs.declared.firing.Firing.{Firing}
-use Rattle.pisdf_meaning.specs.declared.refusal.Refusal.{Refusal}
 use Rattle.pisdf_meaning.proofs.KeptSizes.{Levelled}
 use Rattle.pisdf_meaning.proofs.MadeLevels.{levels_made}
 use Rattle.pisdf_meaning.proofs.SoundGraphs.{levelled}
@@ -33,9 +32,8 @@ use Rattle.sdf_level.specs.Repetition.{IsRepetition}
 use Rattle.sdf_level.specs.View.{LevelView}
 use Rattle.sdf_level.specs.declared.node.Node.{Node}
 use Rattle.single_rate.specs.Expanded.{edges, nodes}
-use Rattle.job_compiler.specs.Compilation.{Compilation}
 use Rattle.job_flow.specs.Frames.{lens}
-use Rattle.job_flow.specs.Graphs.{IsJobGraph, JobGraph, node_at}
+use Rattle.job_flow.specs.Graphs.{IsJobGraph, node_at}
 use Rattle.job_rules.specs.Items.{actor_of, graph_of, keeps_state, no_graph}
 use Rattle.one_job.specs.Pick.{is_child_in}
 use Rattle.job_rules.specs.Meant.{IsFit}
@@ -47,8 +45,8 @@ use Rattle.job_rules.specs.Words.{Answer}
 use Rattle.one_job.specs.Marks as one
 use Rattle.one_job.specs.View as leased
 use Rattle.job_preparing.specs.CompileTasks.{IsReadyWith}
-use Rattle.job_running.specs.Parts.{AllStand, AreParts, AreTraces, Fixed, IsSetUp, KeepsAll, Stands, Start, fired, frame_at, job_in, kind_of_actor, prepared_of, row_at, start_of, values_of}
-use Rattle.job_running.specs.Sizes.{LeftSuits}
+use Rattle.job_running.specs.Parts.{AreParts, Fixed, IsSetUp, KeepsAll, Stands, fired, frame_at, job_in, kind_of_actor, row_at, start_of, values_of}
+use Rattle.job_preparing.specs.Handing.{LeftSuits}
 use Rattle.job_running.specs.Kept.{view_with}
 use Rattle.job_running.specs.Stages.{lents_of, marks_of, stage_at, trace_in}
 use Rattle.job_running.specs.View.{nodes_of}
@@ -85,6 +83,32 @@ module _ (graphs : List Graph) (firing : Firing) (fit : IsFit graphs firing) (al
   pub graph_is : (x : Graph) → x ≡ get_or all place x → x ≡ graph_of graphs firing
   graph_is x is =
       is ∙ rw (place_is, same) (get_or_from_slice_get graphs firing.graph fit.g x fit.here ∙ sym (get_or_from_slice_get graphs firing.graph fit.g no_graph fit.here))
+
+-- ---- what the job of leases is started with
+
+-- the sources and links of the firing's level have these tokens
+pub record AreGiven (graphs : List Graph) (firing : Firing) (left : List Configured) (sources stored : List (List ℤ)) : Type 0 where
+  pub sources_are : sources ≡ source_tokens (graph_of graphs firing) firing left
+  pub sources_long : lengths sources ≡ sources_of (graph_of graphs firing) (early_in graphs firing)
+  pub stored_are : stored ≡ link_starts graphs (graph_of graphs firing) firing
+
+-- the configuration actors have the same graphs
+module _ (gs asked : Graphs) (graphs_are : gs ≡ asked) (firing : Firing) (left : List Configured) where
+  pub suits_here : LeftSuits gs.graphs (graph_of asked.graphs firing) firing left → LeftSuits gs.graphs (graph_of gs.graphs firing) firing left
+  suits_here = subst (λ (x : Graphs). LeftSuits gs.graphs (graph_of x.graphs firing) firing left) (sym graphs_are)
+
+  -- as the code found them
+  pub given_here : (found : Firing) (all : List Graph) (x : Graph) (told : List Configured) (sources stored : List (List ℤ)) → found ≡ firing → all ≡ gs.graphs → x ≡ graph_of gs.graphs firing →
+      source_tokens (graph_of asked.graphs firing) firing told ≡ source_tokens (graph_of asked.graphs firing) firing left →
+      lengths (source_tokens (graph_of asked.graphs firing) firing told) ≡ sources_of (graph_of asked.graphs firing) (early_in asked.graphs firing) →
+      sources ≡ source_tokens x found told → stored ≡ link_starts all x found → AreGiven gs.graphs firing left sources stored
+  given_here found all x told sources stored found_is all_is here same long sources_are stored_are =
+      let there : sources ≡ source_tokens (graph_of asked.graphs firing) firing told = sources_are ∙ (λ k. source_tokens (here k) (found_is k) told) ∙ ap (λ (y : Graphs). source_tokens (graph_of y.graphs firing) firing told) graphs_are in
+      record {
+        sources_are = there ∙ same ∙ ap (λ (y : Graphs). source_tokens (graph_of y.graphs firing) firing left) (sym graphs_are);
+        sources_long = ap lengths there ∙ long ∙ ap (λ (y : Graphs). sources_of (graph_of y.graphs firing) (early_in y.graphs firing)) (sym graphs_are);
+        stored_are = stored_are ∙ (λ k. link_starts (all_is k) (here k) (found_is k));
+      }
 
 -- ---- what isn't refused
 
@@ -133,15 +157,12 @@ module _ (f : Fixed) (workers : ℕ) (values : List ℤ) (range : InRange f.grap
   pub lents_start : (stages : List Stage) → stages ≡ replicate (length f.compilation.graph.nodes) Free → (view_with f stages).lent ≡ replicate (length (nodes_of (view_with f stages))) None
   lents_start stages are = ap lents_of (are ∙ ap (λ (l : List Node). replicate (length l) Free) nodes_here) ∙ lents_free (length (job_in f).nodes)
 
-  module _ (sources stored : List (List ℤ)) (sources_are : sources ≡ source_tokens g f.firing f.left) (sources_long : lengths sources ≡ sources_of g (early_in G f.firing)) (stored_are : stored ≡ link_starts G g f.firing) where
-    nodes_same : f.compilation.graph.nodes ≡ (job_in f).nodes
-    nodes_same = compiled.compiled.expanded.nodes_are ∙ ap (λ (l : LevelView). nodes l f.compilation.counts f.compilation.order) level_is
-
+  module _ (sources stored : List (List ℤ)) (given : AreGiven G f.firing f.left sources stored) where
     edges_same : f.compilation.graph.edges ≡ (job_in f).edges
     edges_same = compiled.compiled.expanded.edges_are ∙ ap (λ (l : LevelView). edges l f.compilation.counts f.compilation.order) level_is
 
     graph_same : leased.job_graph f.compilation sources stored ≡ job_in f
-    graph_same = λ k. record { level = level_is k; nodes = nodes_same k; edges = edges_same k; sources = sources_are k; delays = stored_are k }
+    graph_same = λ k. record { level = level_is k; nodes = nodes_here k; edges = edges_same k; sources = given.sources_are k; delays = given.stored_are k }
 
     is_job : IsJobGraph f.compilation.counts f.compilation.order (job_in f)
     is_job = record {
@@ -150,15 +171,15 @@ module _ (f : Fixed) (workers : ℕ) (values : List ℤ) (range : InRange f.grap
       order = subst (λ (l : LevelView). IsTurnOrder l f.compilation.counts f.compilation.order) level_is compiled.compiled.order_is;
       nodes_are = refl;
       edges_are = refl;
-      sources_fit = ap lengths (sym sources_are) ∙ sources_long;
+      sources_fit = ap lengths (sym given.sources_are) ∙ given.sources_long;
       delays_fit = delays_fit;
     }
 
     pub sources_asked : map length sources ≡ f.compilation.level.sources
-    sources_asked = sources_long ∙ ap (λ (l : LevelView). l.sources) (sym level_is)
+    sources_asked = given.sources_long ∙ ap (λ (l : LevelView). l.sources) (sym level_is)
 
     pub stored_asked : HaveDelays f.compilation.level.links stored
-    stored_asked = subst (HaveDelays f.compilation.level.links) (sym stored_are) (subst (λ (l : LevelView). HaveDelays l.links (link_starts G g f.firing)) (sym level_is) delays_fit)
+    stored_asked = subst (HaveDelays f.compilation.level.links) (sym given.stored_are) (subst (λ (l : LevelView). HaveDelays l.links (link_starts G g f.firing)) (sym level_is) delays_fit)
 
     module _ (kinds : List (Option ℕ)) (args : List (List ℤ)) (kinds_are : kinds ≡ map kind_of_actor (acting g)) (args_are : args ≡ f.set.args) where
       pub kinds_asked : length kinds ≡ f.compilation.level.actors
@@ -189,9 +210,9 @@ module _ (f : Fixed) (workers : ℕ) (values : List ℤ) (range : InRange f.grap
       keeps_at_start j started j_kinds marks_are stages stages_are frames frames_are rows rows_are parts = record {
         set_up = subst (IsSetUp f) (sym started) set_up;
         stand = record {
-          one_stage = ap length stages_are ∙ length-replicate (length f.compilation.graph.nodes) Free ∙ ap length nodes_same;
-          one_mark = ap length marks_are ∙ length-replicate (length f.compilation.graph.nodes) one.Free ∙ ap length nodes_same;
-          one_frame = ap length frames_are ∙ length-replicate (length f.compilation.graph.nodes) None ∙ ap length nodes_same;
+          one_stage = ap length stages_are ∙ length-replicate (length f.compilation.graph.nodes) Free ∙ ap length nodes_here;
+          one_mark = ap length marks_are ∙ length-replicate (length f.compilation.graph.nodes) one.Free ∙ ap length nodes_here;
+          one_frame = ap length frames_are ∙ length-replicate (length f.compilation.graph.nodes) None ∙ ap length nodes_here;
           each = λ n below.
               let P : Stage → Type 0 = λ s. Stands G (lens (job_in f) n) (keeps_state G (actor_of g (node_at (job_in f).nodes n))) (is_child_in j.kinds (node_at (job_in f).nodes n)) (leased.IsFiring (node_at (job_in f).nodes n)) s (one.mark_at j.marks n) (frame_at frames n) in
               subst P (sym (ap (λ l. stage_at l n) stages_are ∙ any_replicate (length f.compilation.graph.nodes) n Free)) record {

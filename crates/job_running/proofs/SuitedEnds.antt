@@ -1,73 +1,34 @@
 -- What a running firing gives suits the call.
-use Rattle.std.proofs.Common.{◌≡◌, ◌≢◌, ℕ, zero, suc, ◌+◌, ◌<◌, ◌≤◌, ℤ, Bool, true, false, List, [], ◌∷◌, ◌++◌, length, map, set, get_or, slice_get, Option, Some, None, Result, Ok, Err, refl, sym, ap, ap₂, ◌∙◌, subst, arith}
-use Rattle.std.specs.Prelude.{Vec, is_none, unwrap_or, ◌↔◌, ◌⊎◌, IsOk}
+use Rattle.std.proofs.Common.{◌≡◌, ℕ, ◌<◌, ◌≤◌, ℤ, Bool, List, length, map, Option, Some, None, Ok, sym, ap, ◌∙◌, subst, arith}
+use Rattle.std.specs.Prelude.{Vec}
 use Rattle.std.specs.Global.{Global}
-use Rattle.std.specs.declared.snapshot.Snapshot.{Snapshot}
-use Rattle.job_running.specs.declared.told.Told.{Told}
-use Rattle.std.proofs.lemmas.Bool.{cases_lt}
-use Rattle.std.proofs.lemmas.List.{get_or-set_other, get_or-set_same, get_or_past, length-set, map-set}
-use Rattle.kernel_gate.specs.Value.{FrameView, Places, lengths}
-use Rattle.kernel_gate.specs.declared.fault.KernelFault.{KernelFault}
-use Rattle.nested_jobs.specs.Marks as mark
-use Rattle.nested_jobs.specs.Marks.{Mark}
-use Rattle.nested_jobs.specs.Rules.{Task, Work, Call}
-use Rattle.param_resolver.specs.Numbering.{acting, has_state}
-use Rattle.pisdf_model.specs.declared.actor.Actor.{Actor}
-use Rattle.pisdf_model.specs.declared.actor.Body.{Body}
-use Rattle.pisdf_model.specs.declared.actor.Body.TheVariants.{Kernel, Config, Child, ConfigChild}
+use Rattle.std.proofs.lemmas.List.{get_or_past}
+use Rattle.kernel_gate.specs.Value.{FrameView, lengths}
 use Rattle.pisdf_model.specs.declared.graph.Graph.{Graph}
-use Rattle.pisdf_meaning.specs.declared.firing.Firing.{Firing}
 use Rattle.pisdf_meaning.specs.declared.outcome.TraceRow.{TraceRow}
-use Rattle.pisdf_meaning.specs.declared.refusal.Refusal.{Refusal}
-use Rattle.sdf_level.specs.declared.node.Node.{Node}
-use Rattle.sdf_level.specs.declared.node.Node.TheVariants as node
 use Rattle.job_flow.specs.Frames as flow
 use Rattle.job_flow.specs.Frames.{inputs, lens}
-use Rattle.job_flow.specs.Graphs.{JobGraph, node_at}
-use Rattle.job_flow.specs.Events.{IsReady}
-use Rattle.job_flow.specs.Laws.{InputsInAnyWords, ReadyInAnyWords, ReadyStays}
-use Rattle.job_rules.specs.Items.{actor_of, actor_task, firing_task, keeps_state, node_task}
-use Rattle.job_rules.specs.Words as words
-use Rattle.job_rules.specs.Words.{Answer, Spot, given_outs}
-use Rattle.one_job.specs.Calls.{finished_with}
+use Rattle.job_flow.specs.Graphs.{JobGraph}
 use Rattle.one_job.specs.Marks as one
-use Rattle.one_job.specs.Pick.{is_child_in}
 use Rattle.one_job.specs.View as leased
 use Rattle.one_job.specs.View.{IsFiring}
-use Rattle.job_preparing.specs.Handing.{answer_with, lent_at, mark_at}
-use Rattle.job_running.specs.Calls.{IsHanded, handed_out}
-use Rattle.job_running.specs.Kept.{view_with}
-use Rattle.job_running.specs.Parts.{AllStand, Fixed, KeepsAll, Stands, fired, frame_at, job_in, kernel_in, kind_of_actor, values_of}
-use Rattle.job_running.specs.Sizes.{child_outs, place_lens}
-use Rattle.job_running.specs.Stages.{FitsLens, FitsSort, IsEnded, held_by, job_mark, lent_of, lents_of, mark_of, spot_of, stage_at, trace_in}
-use Rattle.job_running.specs.View.{IsOfferedWork, RunningView, nodes_of, task}
+use Rattle.job_running.specs.Parts.{Fixed, KeepsAll, fired, job_in, values_of}
+use Rattle.job_running.specs.Sizes.{child_outs}
+use Rattle.job_running.specs.Stages.{FitsLens, job_mark, stage_at}
 use Rattle.job_running.specs.declared.stage.Stage.{Stage}
 use Rattle.job_running.specs.declared.stage.Stage.TheVariants.{Free, Busy, Lost, Open, Fired, Failed, Gave, Refused}
-use Rattle.job_running.proofs.NodeMarks.{IsBusy, fired_stage, free_stage, lent_busy, lent_here, mark_here, marks_set}
-use Rattle.job_running.proofs.NodeSteps.{same_traces, step}
-use Rattle.job_running.proofs.NodeTasks.{HasFrame, enabled, free_job, handed_so, has_task, kernel_lens, nodes_are, own_ready, ready_task, results, same_inputs, sort_of, told_ready}
-use Rattle.pisdf_meaning.specs.Running.{chosen_rows, child_rows, state_after, value_at}
+use Rattle.pisdf_meaning.specs.Running.{state_after, value_at}
 use Rattle.pisdf_meaning.specs.declared.firing.Configured.{Configured}
-use Rattle.job_flow.specs.Laws.{EndedInAnyWords, FailureInOtherWords}
-use Rattle.job_flow.specs.Outcomes.{Failure, ended, failure}
+use Rattle.job_flow.specs.Outcomes.{ended, failure}
 use Rattle.sdf_level.specs.LevelRun.{Ended}
-use Rattle.one_job.specs.Calls.{end_with as leased_end}
-use Rattle.one_job.specs.declared.job.JobEnd.{JobEnd}
-use Rattle.one_job.specs.declared.job.JobEnd.TheVariants.{Done as EndDone, Fault as EndFault}
-use Rattle.job_preparing.specs.Handing.{end_of, given_of, with_traces}
-use Rattle.job_preparing.specs.declared.handing.JobGiven.{JobGiven}
-use Rattle.job_running.specs.Stages.{refusal_for}
-use Rattle.job_running.specs.View.{end_with, given_in, outcome_of, traces_of}
-use Rattle.job_running.proofs.ClaimedNodes.{spot}
-use Rattle.job_running.proofs.EndedFiring.{ended_is, no_refusal, refusal_is, state_same}
+use Rattle.job_preparing.specs.Handing.{end_of, with_traces}
+use Rattle.job_running.proofs.EndedFiring.{state_same}
 use Rattle.std.proofs.lemmas.List.{length-map}
 use Rattle.sdf_level.specs.LevelRun.{HaveDelays}
 use Rattle.sdf_level.specs.declared.token_name.TokenName.{TokenName}
 use Rattle.single_rate.specs.Laws.{FlowsDeliver, GraphsHaveOneFlow}
 use Rattle.job_flow.specs.Events.{IsQuiet}
 use Rattle.job_flow.specs.GraphLaws.{GraphLaws}
-use Rattle.job_flow.specs.Graphs.{IsJobGraph}
-use Rattle.pisdf_model.specs.Hold.{initial}
 use Rattle.pisdf_meaning.proofs.KeptSizes.{Levelled}
 use Rattle.pisdf_meaning.proofs.MadeLevels.{levels_made}
 use Rattle.pisdf_meaning.proofs.SoundGraphs.{levelled}

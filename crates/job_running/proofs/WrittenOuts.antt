@@ -1,10 +1,9 @@
 -- Outputs of a frame that are written one after the other.
-use Rattle.std.proofs.Common.{◌≡◌, ℕ, zero, suc, ◌+◌, ◌<◌, ◌≤◌, ℤ, Bool, true, false, List, [], ◌∷◌, ◌++◌, length, map, set, get_or, take, drop, refl, sym, ap, ◌∙◌, arith, length-append, take_all}
-use Rattle.std.proofs.lemmas.List.{get_or-append-add, get_or_append_left, length-take-le, length-drop, length-map, take-append-le, drop_all}
+use Rattle.std.proofs.Common.{◌≡◌, ℕ, zero, suc, ◌+◌, ◌<◌, ◌≤◌, ℤ, Bool, true, false, List, [], ◌∷◌, ◌++◌, length, set, get_or, take, drop, refl, sym, ap, ◌∙◌, arith, length-append, take_all}
+use Rattle.std.proofs.lemmas.List.{get_or-append-add, get_or_append_left, length-take-le, length-map, take-append-le, drop_all}
 use Rattle.kernel_gate.specs.Value.{FrameView, lengths, port, with_output}
 use Rattle.split_block.specs.View.{refit}
 use Rattle.pisdf_model.specs.Hold.{in_line}
-use Rattle.pisdf_meaning.specs.States.{tokens_at}
 use Rattle.pisdf_meaning.proofs.StateSizes.{size_at}
 use Rattle.job_running.specs.Sizes.{child_outs}
 

@@ -1,5 +1,5 @@
 -- What a running firing is set up with, and what it keeps for its end.
-use Rattle.std.specs.Prelude.{◌≡◌, ◌≢◌, ℕ, ◌+◌, ◌<◌, ◌≤◌, ℤ, Bool, false, List, [], map, length, slice_get, slice_index, slice_index_or, Option, Some, None, vec_capacity, vec_len, Vec}
+use Rattle.std.specs.Prelude.{◌≡◌, ◌≢◌, ℕ, ◌+◌, ◌<◌, ◌≤◌, ℤ, Bool, List, [], map, length, slice_index, slice_index_or, Option, Some, None, vec_capacity, vec_len, Vec}
 use Rattle.std.specs.Global.{Global}
 use Rattle.std.specs.List.{flat_map}
 use Rattle.sdf_level.specs.Lists.{lists_of}
@@ -31,7 +31,7 @@ use Rattle.job_rules.specs.Meant.{IsFit}
 use Rattle.one_job.specs.Marks as one
 use Rattle.one_job.specs.Pick.{is_child_in}
 use Rattle.one_job.specs.View as leased
-use Rattle.job_running.specs.Sizes.{LeftSuits}
+use Rattle.job_preparing.specs.Handing.{LeftSuits}
 use Rattle.job_running.specs.Stages.{FitsLens, FitsSort, held_by, job_mark, stage_at, trace_in}
 use Rattle.job_running.specs.declared.stage.Stage.{Stage}
 

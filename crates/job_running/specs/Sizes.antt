@@ -1,19 +1,11 @@
 -- Sizes of what is given.
-use Rattle.std.specs.Prelude.{◌≡◌, ℕ, ℤ, Bool, List, [], ◌∷◌, ◌++◌, map, length, if◌then◌else◌}
-use Rattle.std.specs.List.{flat_map}
-use Rattle.kernel_gate.specs.Value.{Places, lengths}
+use Rattle.std.specs.Prelude.{ℕ, ℤ, Bool, List, [], ◌∷◌, ◌++◌, map, length, if◌then◌else◌}
+use Rattle.kernel_gate.specs.Value.{Places}
 use Rattle.split_block.specs.View.{LeasePlace}
 use Rattle.param_resolver.specs.EarlyCheck.{early_of}
-use Rattle.pisdf_model.specs.Hold.{actor_state, in_line, initial}
+use Rattle.pisdf_model.specs.Hold.{in_line, initial}
 use Rattle.pisdf_model.specs.declared.graph.Graph.{Graph}
-use Rattle.pisdf_meaning.specs.Configuring.{Configuration, configurations, early_in}
-use Rattle.pisdf_meaning.specs.declared.firing.Configured.{Configured}
 use Rattle.pisdf_meaning.specs.declared.firing.Firing.{Firing}
-
--- what configuration actors left is as long as the early check says, and their states as long as those of their graphs
-pub record LeftSuits (graphs : List Graph) (g : Graph) (firing : Firing) (left : List Configured) : Type 0 where
-  pub outs : lengths (flat_map (λ (one : Configured). one.outs) left) ≡ flat_map (λ (rates : List ℕ). rates) (early_in graphs firing).outs
-  pub states : map (λ (one : Configured). length one.state) left ≡ map (λ (c : Configuration). length (actor_state (initial graphs) c.body)) (configurations g)
 
 -- how long the outputs are that lie at these places
 abbrev pub place_lens : Places → List ℕ

@@ -1,5 +1,5 @@
 -- How far nodes are, as the code has it.
-use Rattle.std.specs.Prelude.{◌≡◌, ℕ, ℤ, Bool, true, false, List, [], ◌∷◌, map, slice_get, slice_index_or, Option, Some, None, Result, Ok, Err}
+use Rattle.std.specs.Prelude.{◌≡◌, ℕ, Bool, true, false, List, [], ◌∷◌, map, slice_get, slice_index_or, Option, Some, None, Result, Ok, Err}
 use Rattle.std.specs.declared.alloc.AllocError.{AllocError}
 use Rattle.kernel_gate.specs.Value.{FrameView, Places, lengths}
 use Rattle.kernel_gate.specs.declared.fault.KernelFault.{KernelFault}

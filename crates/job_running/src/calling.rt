@@ -139,7 +139,15 @@ fn call_graph(
         args: caller.set.args.items()[number].items(),
         early,
     };
-    child_firing(alloc, caller.graphs, &here, &call, caller.keeps, inputs, read)
+    child_firing(
+        alloc,
+        caller.graphs,
+        &here,
+        &call,
+        caller.keeps,
+        inputs,
+        read,
+    )
 }
 
 /// The firing that an actor's firing calls, in the job with this path, where it reads what the frame does.

@@ -178,7 +178,13 @@ pub(crate) fn job_given(
         configured,
         traces,
     } = left;
-    append_traces(alloc, graph.actors.items(), traces.into_items(), own_traces, &mut rows)?;
+    append_traces(
+        alloc,
+        graph.actors.items(),
+        traces.into_items(),
+        own_traces,
+        &mut rows,
+    )?;
     let state = state_left(alloc, graph, &keeps, configured, stored, state);
     Ok(JobGiven {
         outs,

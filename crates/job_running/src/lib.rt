@@ -4,7 +4,6 @@
 
 mod calling;
 mod ending;
-mod tracing;
 mod frames;
 mod given;
 mod handed;
@@ -12,6 +11,7 @@ mod running;
 mod stage;
 mod starting;
 mod told;
+mod tracing;
 mod writing;
 
 pub use handed::Handed;

@@ -18,15 +18,15 @@ use crate::stage::{Stage, ended, waiting};
 use crate::told::{ToldBefore, told_of};
 use crate::writing::write_child;
 use job_compiler::Compiled;
-use job_preparing::{JobGiven, Left};
 use job_flow::{faults_renamed, ready_stays};
+use job_preparing::{JobGiven, Left};
 use kernel_gate::{Frame, KernelFault};
 use one_job::{Job, JobEnd};
 use param_expr::Name;
 use param_resolver::{LevelSet, level_by_actor};
 use pisdf_meaning::{Firing, Path, Refusal, TraceRow};
 use pisdf_model::Graphs;
-use sdf_level::{List, TokenName};
+use sdf_level::{List, Node, TokenName};
 use single_rate::{graphs_numbered, tokens_delivered};
 use std::alloc::{AllocError, Global};
 use std::collections::LinkedList;
@@ -78,7 +78,7 @@ impl Model for Running {
 }
 
 impl Running {
-    ghost use Rattle.job_running.specs.View.{IsOfferedCall, IsOfferedWork, RunningView, is_quiet, nodes_of, outcome_of, task};
+    ghost use Rattle.job_running.specs.View.{IsOfferedCall, IsOfferedWork, RunningView, graph_in, is_quiet, nodes_of, outcome_of, step_of_node, task};
     ghost use Rattle.job_running.specs.Calls.{IsEndOfCall, IsHanded, IsLeft, frame_of};
 
     /// The number of nodes.
@@ -121,6 +121,27 @@ impl Running {
         ensures { result ≡ slice_index self.now.mapping.priority node }
     {
         self.job.priority(node)
+    }
+
+    /// Of a firing of an actor the place of the actor among all actors of the graph, and the number of the firing. Of another
+    /// node 0 and 0.
+    pub fn step(&self, node: u32) -> (u32, u32)
+        requires { node < length (nodes_of self.now) }
+        ensures { result ≡ step_of_node (graph_in self.now) (node_at (nodes_of self.now) node) }
+    {
+        graphs_numbered();
+        level_by_actor();
+        match self.job.node(node) {
+            Node::Firing { actor, turn } => (self.set.places.items()[actor as usize], turn),
+            Node::Source(_)
+            | Node::Init(_)
+            | Node::End(_)
+            | Node::Sink(_)
+            | Node::Broadcast(_)
+            | Node::Fork { .. }
+            | Node::Join { .. }
+            | Node::Round(_) => (0, 0),
+        }
     }
 
     /// Claims a node that has work of its own. Its frame has what the work says. It takes no memory.

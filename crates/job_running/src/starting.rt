@@ -12,8 +12,8 @@ ghost use Rattle.pisdf_model.specs.declared.actor.Actor.{Actor as ActorView};
 ghost use Rattle.pisdf_meaning.specs.Running.{chosen_row, chosen_rows, link_starts, source_tokens, value_at};
 ghost use Rattle.job_rules.specs.Meant.{IsFit};
 ghost use Rattle.job_preparing.specs.CompileTasks.{IsReadyWith};
+ghost use Rattle.job_preparing.specs.Handing.{LeftSuits};
 ghost use Rattle.job_preparing.specs.View.{IsReady, graph_in, left_by};
-ghost use Rattle.job_running.specs.Sizes.{LeftSuits};
 ghost use Rattle.job_running.specs.Parts.{kernel_in, kind_of_actor, prepared_with};
 ghost use Rattle.job_running.specs.View.{nodes_of};
 
@@ -30,7 +30,8 @@ use one_job::{Job, start};
 use param_expr::Name;
 use param_resolver::{LevelSet, level_by_actor};
 use pisdf_meaning::{
-    Configured, Firing, Path, TraceRow, copy_lists, copy_name, has_state, holds_for, link_starts, source_tokens,
+    Configured, Firing, Path, TraceRow, copy_lists, copy_name, has_state, holds_for, link_starts,
+    source_tokens,
 };
 use pisdf_model::{Body, Graph, Graphs, Param, ParamKind};
 use sdf_level::List;
@@ -42,11 +43,7 @@ use std::sync::Arc;
 // ---- the actors of the level
 
 /// For each actor at these places the place of its kernel, or none where it names a graph.
-fn kinds_at(
-    alloc: Global,
-    graph: &Graph,
-    places: &[u32],
-) -> Result<List<Option<u32>>, AllocError>
+fn kinds_at(alloc: Global, graph: &Graph, places: &[u32]) -> Result<List<Option<u32>>, AllocError>
     requires { places.now ≡ acting_places graph.now }
     ensures { IfOk result (λ kinds. kinds ≡ map kind_of_actor (acting graph.now)) }
 {
@@ -274,7 +271,11 @@ fn level_parts(
 {
     let names = names_at(alloc, graph, places)?;
     let keeps = keeps_at(alloc, all, graph, places)?;
-    let lists = graph.fifos.items().len().saturating_add(graph.actors.items().len());
+    let lists = graph
+        .fifos
+        .items()
+        .len()
+        .saturating_add(graph.actors.items().len());
     let state = Vec::with_capacity(alloc, lists)?;
     Ok(LevelParts {
         keeps,
@@ -307,11 +308,7 @@ struct Started {
 }
 
 /// The job of leases of a firing at its start, where no frame waits.
-fn start_job(
-    alloc: Global,
-    compiled: Arc<Compiled>,
-    lists: JobLists,
-) -> Result<Started, AllocError>
+fn start_job(alloc: Global, compiled: Arc<Compiled>, lists: JobLists) -> Result<Started, AllocError>
     requires kinds { length lists.kinds ≡ (arc_value compiled).level.actors }
     requires args { length lists.args ≡ (arc_value compiled).level.actors }
     requires sources { map length lists.sources ≡ (arc_value compiled).level.sources }
@@ -323,7 +320,14 @@ fn start_job(
 {
     let nodes = compiled.graph().nodes.items().len();
     let frames = Vec::with_capacity(alloc, nodes)?;
-    match start(alloc, compiled, lists.kinds, lists.args, lists.sources, lists.stored) {
+    match start(
+        alloc,
+        compiled,
+        lists.kinds,
+        lists.args,
+        lists.sources,
+        lists.stored,
+    ) {
         Ok(job) => Ok(Started {
             job,
             frames: no_frames(frames, nodes),
@@ -369,7 +373,11 @@ pub fn run(
     let lists = job_lists(alloc, all, graph, firing, preparing.left(), &set)?;
     let own = own_rows(alloc, graph, &firing.path, values.items())?;
     let parts = level_parts(alloc, all, graph, set.places.items())?;
-    let free = free_nodes(alloc, compiled.counts(), compiled.graph().nodes.items().len())?;
+    let free = free_nodes(
+        alloc,
+        compiled.counts(),
+        compiled.graph().nodes.items().len(),
+    )?;
     let told = Snapshot::of(firing);
     let place = firing.graph;
     let shared = Arc::try_clone(&compiled)?;

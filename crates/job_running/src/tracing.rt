@@ -12,10 +12,7 @@ use std::alloc::{AllocError, Global};
 use std::collections::{LinkedList, VecDeque};
 
 /// Moves rows to the end of others.
-fn append(
-    rows: &mut LinkedList<TraceRow>,
-    mut more: LinkedList<TraceRow>,
-) -> Result<(), AllocError>
+fn append(rows: &mut LinkedList<TraceRow>, mut more: LinkedList<TraceRow>) -> Result<(), AllocError>
     ensures { OnOk result (rows.new ≡ rows.old ++ more) }
 {
     rows.append(&mut more)

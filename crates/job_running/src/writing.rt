@@ -34,12 +34,7 @@ fn write_outs(frame: &mut Frame, outs: &[List<i64>])
 }
 
 /// Writes what a child gave: a list for each output, and its state in one line on the last one, where it goes on.
-pub(crate) fn write_child(
-    frame: &mut Frame,
-    keeps: bool,
-    outs: &[List<i64>],
-    state: &[List<i64>],
-)
+pub(crate) fn write_child(frame: &mut Frame, keeps: bool, outs: &[List<i64>], state: &[List<i64>])
     requires few { length outs.now < 2 ^ 32 }
     requires long { lengths frame.old.outputs ≡ lengths (child_outs keeps outs.now state.now) }
     ensures { frame.new ≡ record frame.old { outputs = child_outs keeps outs.now state.now } }

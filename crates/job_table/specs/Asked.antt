@@ -3,8 +3,10 @@ use Rattle.std.specs.Prelude.{◌≡◌, ℕ, Bool, List, Option, Some, None}
 use Rattle.board_rules.specs.Asking.{IsFirstOfAll, JobRow, NoRowOffers}
 use Rattle.board_rules.specs.Asking as board
 use Rattle.board_rules.specs.Keys.{Key}
+use Rattle.board_rules.specs.Picks.{steps_to}
 use Rattle.job_rules.specs.Words.{Answer}
-use Rattle.nested_jobs.specs.Marks.{Marks}
+use Rattle.nested_jobs.specs.Marks.{Marks, Open}
+use Rattle.nested_jobs.specs.Rules.{Place}
 use Rattle.open_job.specs.declared.offer.Offer.{Offer}
 use Rattle.pisdf_meaning.specs.declared.firing.Firing.{Firing}
 use Rattle.job_table.specs.Suits.{Suits}
@@ -21,9 +23,13 @@ abbrev pub IsFirstOffer : Key → Marks Firing Answer → ℕ → Bool → Table
 IsFirstOffer key m w opens v None = NoRowOffers key opens (table_of v)
 IsFirstOffer key m w opens v (Some asked) = (row : JobRow) × IsFirstOfAll key m w opens (table_of v) asked.row row (offer_of asked.offer)
 
--- whatever the table stands for
+-- no two open jobs have one path
+abbrev pub PathsDiffer : Key → Marks Firing Answer → Type 0
+PathsDiffer key m = (p q : Place) (c d : Firing) → m p ≡ Open c → m q ≡ Open d → steps_to key m p ≡ steps_to key m q → p ≡ q
+
+-- whatever the table stands for, where no two of its jobs have one path
 abbrev pub IsAsked : ℕ → Bool → TableView → Option Asked → Type 0
-IsAsked w opens v answer = (key : Key) (m : Marks Firing Answer) → Suits key m v → IsFirstOffer key m w opens v answer
+IsAsked w opens v answer = (key : Key) (m : Marks Firing Answer) → Suits key m v → PathsDiffer key m → IsFirstOffer key m w opens v answer
 
 -- the same of a table with these rows
 abbrev pub IsAskedOf : ℕ → Bool → List (Option Row) → Option Asked → Type 0

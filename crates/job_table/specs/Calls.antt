@@ -1,16 +1,19 @@
 -- What the calls of a table change.
-use Rattle.std.specs.Prelude.{◌≡◌, ◌≢◌, ℕ, List, [], ◌∷◌, ◌++◌, Option, Some, None, slice_set}
+use Rattle.std.specs.Prelude.{◌≡◌, ◌≢◌, ℕ, [], ◌∷◌, ◌++◌, Option, Some, None}
 use Rattle.job_preparing.specs.Handing.{IsNothingLent, mark_at}
 use Rattle.job_preparing.specs.declared.compiling.CompileEnd.{CompileEnd}
+use Rattle.job_rules.specs.Doing.{Answers}
 use Rattle.job_rules.specs.Words as words
-use Rattle.nested_jobs.specs.Marks.{Free, Open, answer_of}
-use Rattle.nested_jobs.specs.Rules.{Call, Task, Work}
-use Rattle.open_job.specs.Calls.{FinishesCompilation, with_mark}
-use Rattle.open_job.specs.View.{OpenView, task}
+use Rattle.job_rules.specs.Words.{Answer}
+use Rattle.kernel_gate.specs.Value.{Places}
+use Rattle.nested_jobs.specs.Marks.{Done, Free, Mark, Open, answer_of}
+use Rattle.nested_jobs.specs.Rules.{Call, Work}
+use Rattle.open_job.specs.Calls.{compile_answer}
+use Rattle.open_job.specs.View.{OpenView, compilation_of, left_by, task}
 use Rattle.pisdf_model.specs.declared.graph.Graphs.{Graphs}
 use Rattle.pisdf_meaning.specs.declared.firing.Firing.{Firing}
-use Rattle.job_table.specs.Steps.{step_of}
-use Rattle.job_table.specs.View.{TableView, row_at, with_job}
+use Rattle.open_job.specs.Paths.{step_of}
+use Rattle.job_table.specs.View.{TableView, lent_in, row_at}
 use Rattle.job_table.specs.declared.begins.Begins.{Begins}
 use Rattle.job_table.specs.declared.begins.Begins.TheVariants as begins
 use Rattle.job_table.specs.declared.row.Row.{Row}
@@ -38,6 +41,44 @@ pub record IsStarted (graphs : Graphs) (workers : ℕ) (firing : Firing) (v : Ta
   pub steps_are : top.steps ≡ []
   pub others : (k : ℕ) → k ≢ key → row_at v k ≡ None
 
+-- the same row, but for its marks and for what is lent
+pub record StaysAs (before after : Row) : Type 0 where
+  pub place_is : after.place ≡ before.place
+  pub upper_is : after.upper ≡ before.upper
+  pub steps_are : after.steps ≡ before.steps
+  pub graphs_are : after.job.graphs ≡ before.job.graphs
+  pub workers_are : after.job.workers ≡ before.job.workers
+  pub firing_is : after.job.firing ≡ before.job.firing
+
+-- the same rows at all keys but these
+abbrev pub OthersStay : (k l : ℕ) → (old new : TableView) → Type 0
+OthersStay k l old new = (j : ℕ) → j ≢ k → j ≢ l → row_at new j ≡ row_at old j
+
+-- ---- marks
+
+-- one item of the job in a row is marked so
+pub record MarksItem (k item : ℕ) (mark : Mark Firing Answer) (old new : TableView) : Type 0 where
+  pub graphs_are : new.graphs ≡ old.graphs
+  pub workers_are : new.workers ≡ old.workers
+  pub before : Row
+  pub here : row_at old k ≡ Some before
+  pub after : Row
+  pub now : row_at new k ≡ Some after
+  pub stays : StaysAs before after
+  pub marked : mark_at after.job.marks item ≡ mark
+  pub unmarked : (i : ℕ) → i ≢ item → mark_at after.job.marks i ≡ mark_at before.job.marks i
+  pub others : OthersStay k k old new
+
+-- what is lent of one item of the job in a row is this, and else as before
+pub record LendsItem (k item : ℕ) (places : Option Places) (old new : TableView) : Type 0 where
+  pub here : lent_in new k item ≡ places
+  pub in_job : (i : ℕ) → i ≢ item → lent_in new k i ≡ lent_in old k i
+  pub others : (j i : ℕ) → j ≢ k → lent_in new j i ≡ lent_in old j i
+
+-- what is lent is as before
+abbrev pub LendsAsBefore : (old new : TableView) → Type 0
+LendsAsBefore old new = (k i : ℕ) → lent_in new k i ≡ lent_in old k i
+
 -- ---- openings
 
 -- an item calls a job, which was opened at this key, where no row was
@@ -48,7 +89,12 @@ pub record OpensChild (k item : ℕ) (old : TableView) (l : ℕ) (new : TableVie
   pub here : row_at old k ≡ Some upper
   pub firing : Firing
   pub task_is : task upper.job item ≡ Some (Call firing)
-  pub opened : row_at new k ≡ Some (with_job upper (with_mark upper.job item (Open firing)))
+  pub free : mark_at upper.job.marks item ≡ Free
+  pub after : Row
+  pub now : row_at new k ≡ Some after
+  pub stays : StaysAs upper after
+  pub marked : mark_at after.job.marks item ≡ Open firing
+  pub unmarked : (i : ℕ) → i ≢ item → mark_at after.job.marks i ≡ mark_at upper.job.marks i
   pub vacant : row_at old l ≡ None
   pub child : Row
   pub added : row_at new l ≡ Some child
@@ -56,30 +102,20 @@ pub record OpensChild (k item : ℕ) (old : TableView) (l : ℕ) (new : TableVie
   pub place_is : child.place ≡ item ∷ upper.place
   pub upper_is : child.upper ≡ Some k
   pub steps_are : child.steps ≡ upper.steps ++ step_of upper.job item ∷ []
-  pub others : (j : ℕ) → j ≢ k → j ≢ l → row_at new j ≡ row_at old j
+  pub others : OthersStay k l old new
 
--- the same row, but for the mark of an item, which has no answer then
-pub record SpoilsItem (item : ℕ) (before after : Row) : Type 0 where
-  pub place_is : after.place ≡ before.place
-  pub upper_is : after.upper ≡ before.upper
-  pub steps_are : after.steps ≡ before.steps
-  pub graphs_are : after.job.graphs ≡ before.job.graphs
-  pub workers_are : after.job.workers ≡ before.job.workers
-  pub firing_is : after.job.firing ≡ before.job.firing
-  pub lent_is : after.job.lent ≡ before.job.lent
-  pub marks : (i : ℕ) → i ≢ item → mark_at after.job.marks i ≡ mark_at before.job.marks i
-  pub unanswered : answer_of (mark_at after.job.marks item) ≡ None
-
--- the same rows, but for that
-pub record Spoils (k item : ℕ) (old new : TableView) : Type 0 where
+-- the rows are as before, but for the mark of an item, which has no answer
+pub record SpoilsItem (k item : ℕ) (old new : TableView) : Type 0 where
   pub graphs_are : new.graphs ≡ old.graphs
   pub workers_are : new.workers ≡ old.workers
   pub before : Row
   pub here : row_at old k ≡ Some before
   pub after : Row
   pub now : row_at new k ≡ Some after
-  pub spoils : SpoilsItem item before after
-  pub others : (j : ℕ) → j ≢ k → row_at new j ≡ row_at old j
+  pub stays : StaysAs before after
+  pub unanswered : answer_of (mark_at after.job.marks item) ≡ None
+  pub unmarked : (i : ℕ) → i ≢ item → mark_at after.job.marks i ≡ mark_at before.job.marks i
+  pub others : OthersStay k k old new
 
 -- ---- the first item
 
@@ -90,18 +126,9 @@ BeginsWith job begins.Call = (firing : Firing) × (task job 0 ≡ Some (Call fir
 
 -- ---- the compilation
 
--- the compilation of the job of a row ended so, and all else is as before
-pub record CompilesIn (k : ℕ) (end : CompileEnd) (old new : TableView) : Type 0 where
-  pub graphs_are : new.graphs ≡ old.graphs
-  pub workers_are : new.workers ≡ old.workers
-  pub before : Row
-  pub here : row_at old k ≡ Some before
-  pub job : OpenView
-  pub finishes : FinishesCompilation end before.job job
-  pub rows_are : new.rows ≡ slice_set old.rows k (Some (with_job before job))
-
--- ---- giving up
-
--- no frame is out
-abbrev pub NothingIsLent : TableView → Type 0
-NothingIsLent v = (k : ℕ) (row : Row) → row_at v k ≡ Some row → IsNothingLent row.job.lent
+-- the compilation of the job in a row, which ended so, is done with this answer
+pub record FinishesIn (k : ℕ) (end : CompileEnd) (old new : TableView) (job : OpenView) : Type 0 where
+  pub answer : Answer
+  pub answer_is : compile_answer job.firing end ≡ Some answer
+  pub answered : Answers job.graphs.graphs (words.Compiles job.firing (left_by job)) answer
+  pub marks : MarksItem k (compilation_of job) (Done answer) old new

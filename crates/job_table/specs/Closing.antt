@@ -12,6 +12,7 @@ use Rattle.nested_jobs.specs.Journals as steps
 use Rattle.nested_jobs.specs.Marks.{Marks}
 use Rattle.pisdf_meaning.specs.declared.firing.Firing.{Firing}
 use Rattle.pisdf_meaning.specs.declared.refusal.Refusal.{Refusal}
+use Rattle.job_table.specs.Calls.{StaysAs}
 use Rattle.job_table.specs.Suits.{Suits}
 use Rattle.job_table.specs.View.{TableView, row_at, table_of}
 use Rattle.job_table.specs.declared.row.Row.{Row}
@@ -46,17 +47,8 @@ pub record Closes (old : TableView) (k : ℕ) (new : TableView) (end : Option (R
   pub closed : (c : IsClosingFrom old k) → ClosesTo c new end
   pub suits : (c : IsClosingFrom old k) → Suits c.key (state_after c.key (steps_with c)).marks new
 
--- each row that stays is as it was, but for marks
-pub record StaysAs (before after : Row) : Type 0 where
-  pub place_is : after.place ≡ before.place
-  pub upper_is : after.upper ≡ before.upper
-  pub steps_are : after.steps ≡ before.steps
-  pub graphs_are : after.job.graphs ≡ before.job.graphs
-  pub workers_are : after.job.workers ≡ before.job.workers
-  pub firing_is : after.job.firing ≡ before.job.firing
-  pub lent_is : after.job.lent ≡ before.job.lent
-
+-- each row that is left is as it was, but for its marks
 pub record RowsStay (old new : TableView) : Type 0 where
   pub graphs_are : new.graphs ≡ old.graphs
   pub workers_are : new.workers ≡ old.workers
-  pub rows : (k : ℕ) (after : Row) → row_at new k ≡ Some after → (before : Row) × (row_at old k ≡ Some before) × StaysAs before after
+  pub rows : (k : ℕ) (after : Row) → row_at new k ≡ Some after → (before : Row) × (row_at old k ≡ Some before) × StaysAs before after × (after.job.lent ≡ before.job.lent)

@@ -1,7 +1,8 @@
 pub mod View
+pub mod Slots
 pub mod Suits
-pub mod Steps
 pub mod Calls
 pub mod Closing
 pub mod Asked
+pub mod AskedRows
 pub mod Laws

@@ -1,5 +1,5 @@
 -- What the rows of a table keep of the marks that the table stands for.
-use Rattle.std.specs.Prelude.{◌≡◌, ℕ, List, [], ◌∷◌, Option, Some, None}
+use Rattle.std.specs.Prelude.{◌≡◌, ℕ, [], ◌∷◌, Option, Some, None}
 use Rattle.board_rules.specs.Keys.{IsKey, Key, rules, top_job}
 use Rattle.board_rules.specs.Picks.{steps_to}
 use Rattle.job_rules.specs.Words.{Answer}

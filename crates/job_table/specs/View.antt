@@ -1,9 +1,10 @@
 -- A table of open jobs as plain data.
-use Rattle.std.specs.Prelude.{◌≡◌, ℕ, List, [], ◌∷◌, Option, Some, None, slice_index_or, slice_set}
+use Rattle.std.specs.Prelude.{◌≡◌, ℕ, ◌+◌, List, [], ◌∷◌, Option, Some, None, slice_index_or}
 use Rattle.std.specs.Option.{option_map}
 use Rattle.board_rules.specs.Asking.{JobRow}
 use Rattle.board_rules.specs.Board.{OpenJobs}
-use Rattle.job_preparing.specs.Handing.{mark_at}
+use Rattle.job_preparing.specs.Handing.{lent_at, mark_at}
+use Rattle.kernel_gate.specs.Value.{Places}
 use Rattle.pisdf_model.specs.declared.graph.Graphs.{Graphs}
 use Rattle.open_job.specs.View.{OpenView}
 use Rattle.job_table.specs.declared.row.Row.{Row}
@@ -26,9 +27,26 @@ HasJob P v k = (row : Row) × (row_at v k ≡ Some row) × P row.job
 abbrev pub with_job : Row → OpenView → Row
 with_job row job = record row { job = job }
 
--- the table, where the job of the row at this key is changed so
-abbrev pub change_job : TableView → ℕ → (OpenView → OpenView) → TableView
-change_job v k change = record v { rows = slice_set v.rows k (option_map (λ (row : Row). with_job row (change row.job)) (row_at v k)) }
+-- where the leases of the frame lie that is out for an item of the job in a row
+abbrev pub lent_by : Option Row → ℕ → Option Places
+lent_by None i = None
+lent_by (Some row) i = lent_at row.job.lent i
+
+abbrev pub lent_in : TableView → ℕ → ℕ → Option Places
+lent_in v k i = lent_by (row_at v k) i
+
+-- no frame is out
+abbrev pub NothingIsLent : TableView → Type 0
+NothingIsLent v = (k i : ℕ) → lent_in v k i ≡ None
+
+-- the keys of the rows, the first of which has this key
+abbrev pub keys_from : ℕ → List (Option Row) → List ℕ
+keys_from k [] = []
+keys_from k (None ∷ rows) = keys_from (k + 1) rows
+keys_from k (Some row ∷ rows) = k ∷ keys_from (k + 1) rows
+
+abbrev pub keys_of : TableView → List ℕ
+keys_of v = keys_from 0 v.rows
 
 -- ---- the words of boards
 

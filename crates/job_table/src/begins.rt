@@ -1,3 +1,12 @@
+// What jobs begin with.
+ghost use Rattle.std.specs.Prelude.{◌≡◌, ℕ};
+ghost use Rattle.job_preparing.specs.Handing.{mark_at};
+ghost use Rattle.nested_jobs.specs.Marks.{Free};
+ghost use Rattle.job_table.specs.Calls.{BeginsWith};
+
+use board_rules::rows_are_asked;
+use open_job::OpenJob;
+
 /// What the first item of a job does.
 #[derive(Debug, Clone, Copy, PartialEq, Eq)]
 pub enum Begins {
@@ -5,4 +14,22 @@ pub enum Begins {
     Work,
     /// It calls a job.
     Call,
+}
+
+/// What the first item of a job does of which nothing is claimed.
+pub(crate) fn begins_with(job: &OpenJob) -> Begins
+    requires { (i : ℕ) → mark_at job.now.marks i ≡ Free }
+    ensures { BeginsWith job.now result }
+{
+    rows_are_asked();
+    match job.pick(0) {
+        Some(offer) => {
+            if offer.item == 0 {
+                Begins::Work
+            } else {
+                Begins::Call
+            }
+        }
+        None => Begins::Call,
+    }
 }

@@ -4,9 +4,13 @@
 
 mod asking;
 mod begins;
+mod laws;
+mod opening;
 mod row;
+mod slots;
 mod table;
 
 pub use asking::Asked;
 pub use begins::Begins;
+pub use laws::{calls_are_fit, tables_suit};
 pub use table::JobTable;

@@ -5,12 +5,19 @@ ghost use Rattle.std.specs.Option.{option_map};
 
 use crate::asking;
 use crate::asking::Asked;
-use crate::begins::Begins;
+use crate::begins::{Begins, begins_with};
+use crate::opening::{child_place, child_steps, count_rows, end_rows, top_row, vacant_key};
 use crate::row::Row;
+use crate::slots::{
+    call_in, calling_item, claim_compile_in, claim_in, finish_call_in, finish_compile_in,
+    finish_in, is_quiet, put_row, row_in, take_row,
+};
+use board_rules::boards_keep;
 use job_compiler::Compiled;
 use job_preparing::{CompileEnd, CompileTask, JobGiven};
+use job_rules::rules_are_lawful;
 use kernel_gate::{Frame, KernelFault};
-use open_job::{Handed, OpenJob};
+use open_job::{Handed, OpenJob, open};
 use pisdf_meaning::{Firing, Refusal};
 use pisdf_model::Graphs;
 use std::alloc::{AllocError, Global};
@@ -41,19 +48,19 @@ impl Model for JobTable {
 
 impl JobTable {
     ghost use Rattle.job_preparing.specs.CompileTasks.{IsEndOf};
-    ghost use Rattle.job_preparing.specs.Handing.{answer_with, end_of, lent_at, mark_at};
+    ghost use Rattle.job_preparing.specs.Handing.{answer_with, mark_at};
     ghost use Rattle.job_preparing.specs.View.{HasInherited};
     ghost use Rattle.job_rules.specs.Meant.{IsFit};
     ghost use Rattle.nested_jobs.specs.Marks.{Busy, Done, Free};
     ghost use Rattle.nested_jobs.specs.Rules.{Call};
     ghost use Rattle.pisdf_model.specs.Range.{InRange};
     ghost use Rattle.pisdf_model.specs.WellFormed.{WellFormed};
-    ghost use Rattle.open_job.specs.Calls.{IsHanded, IsSoundFor, frame_of, with_item, with_mark};
+    ghost use Rattle.open_job.specs.Calls.{IsHanded, IsSoundFor, frame_of};
     ghost use Rattle.open_job.specs.View.{IsOfferedCall, IsOfferedCompilation, IsOfferedWork, compilation_of, left_by, task};
     ghost use Rattle.job_table.specs.Asked.{IsAsked};
-    ghost use Rattle.job_table.specs.Calls.{BeginsWith, CompilesIn, IsStarted, NothingIsLent, OpensChild, Spoils};
+    ghost use Rattle.job_table.specs.Calls.{BeginsWith, FinishesIn, IsStarted, LendsAsBefore, LendsItem, MarksItem, OpensChild, SpoilsItem};
     ghost use Rattle.job_table.specs.Closing.{Closes, IsClosingFrom, RowsStay};
-    ghost use Rattle.job_table.specs.View.{HasJob, change_job};
+    ghost use Rattle.job_table.specs.View.{HasJob, NothingIsLent, keys_of, lent_in};
 
     /// A table of one job, the top one, of which nothing is claimed. The jobs will be mapped on so many workers.
     ///
@@ -73,7 +80,23 @@ impl JobTable {
         requires some { 1 ≤ workers }
         ensures { IfOk result (IsStarted (arc_value graphs) workers firing) }
     {
-        unreachable!()
+        let own = Arc::try_clone(&graphs)?;
+        // Rows must be spent: from here on no `?` stands.
+        let mut rows = Vec::with_capacity(alloc, 8)?;
+        match open(alloc, own, workers, firing) {
+            Ok(job) => {
+                rows.push_reserved(Some(top_row(alloc, job)));
+                Ok(JobTable {
+                    graphs,
+                    workers,
+                    rows,
+                })
+            }
+            Err(error) => {
+                rows.destroy_empty();
+                Err(error)
+            }
+        }
     }
 
     /// The job in a row.
@@ -81,7 +104,14 @@ impl JobTable {
         requires { HasJob (λ job. Unit {0}) self.now row }
         ensures { HasJob (λ job. result.now ≡ job) self.now row }
     {
-        unreachable!()
+        &row_in(&self.rows[row]).job
+    }
+
+    /// How many jobs are open.
+    pub fn open_jobs(&self) -> usize
+        ensures { result ≡ length (keys_of self.now) }
+    {
+        count_rows(self.rows.as_slice())
     }
 
     /// The work that goes first for a worker, of all that the jobs offer; none where none offers any.
@@ -103,7 +133,7 @@ impl JobTable {
         requires { HasJob (λ job. (i : ℕ) → mark_at job.marks i ≡ Free) self.now row }
         ensures { HasJob (λ job. BeginsWith job result) self.now row }
     {
-        unreachable!()
+        begins_with(&row_in(&self.rows[row]).job)
     }
 
     /// Opens the job that an item calls: the key of its row.
@@ -111,25 +141,47 @@ impl JobTable {
     /// # Errors
     ///
     /// Want of memory. The item may not be free any more then, without an answer; all else is as before.
-    pub fn open_child(&mut self, alloc: Global, row: usize, item: usize) -> Result<usize, AllocError>
+    pub fn open_child(
+        &mut self,
+        alloc: Global,
+        row: usize,
+        item: usize,
+    ) -> Result<usize, AllocError>
         requires range { InRange self.old.graphs }
         requires well { WellFormed self.old.graphs }
         requires some { 1 ≤ self.old.workers }
         requires offered { HasJob (λ job. (job.graphs ≡ self.old.graphs) × IsOfferedCall job item) self.old row }
         requires fit { HasJob (λ job. (firing : Firing) → task job item ≡ Some (Call firing) → IsFit job.graphs.graphs firing) self.old row }
         ensures opened { IfOk result (λ child. OpensChild row item self.old child self.new) }
-        ensures refused { OnErr result (Spoils row item self.old self.new) }
+        ensures refused { OnErr result (SpoilsItem row item self.old self.new) }
+        ensures lent { LendsAsBefore self.old self.new }
     {
-        unreachable!()
+        let key = vacant_key(&mut self.rows)?;
+        let place = child_place(alloc, row_in(&self.rows[row]), item)?;
+        let steps = child_steps(alloc, row_in(&self.rows[row]), item)?;
+        let graphs = Arc::try_clone(&self.graphs)?;
+        let firing = call_in(&mut self.rows[row], alloc, item)?;
+        let job = open(alloc, graphs, self.workers, firing)?;
+        put_row(
+            &mut self.rows[key],
+            Row {
+                job,
+                upper: Some(row),
+                place,
+                steps,
+            },
+        );
+        Ok(key)
     }
 
     /// Claims an item that has work of its own, other than the compilation. It takes no memory.
     pub fn claim(&mut self, row: usize, item: usize) -> Handed
         requires { HasJob (λ job. IsOfferedWork job item × (item ≢ compilation_of job)) self.old row }
         ensures handed { HasJob (λ job. IsHanded job item result) self.old row }
-        ensures claimed { self.new ≡ change_job self.old row (λ job. with_item job item Busy (Some (frame_of result).places)) }
+        ensures claimed { MarksItem row item Busy self.old self.new }
+        ensures lent { LendsItem row item (Some (frame_of result).places) self.old self.new }
     {
-        unreachable!()
+        claim_in(&mut self.rows[row], item)
     }
 
     /// Claims the compilation of a job, for which one may be at hand that is kept by its key.
@@ -145,21 +197,23 @@ impl JobTable {
     ) -> Result<CompileTask, AllocError>
         requires { HasJob IsOfferedCompilation self.old row }
         ensures task { IfOk result (λ task. HasJob (λ job. task ≡ record { graphs = job.graphs; workers = job.workers; firing = job.firing; left = left_by job; kept = option_map arc_value kept }) self.old row) }
-        ensures claimed { OnOk result (self.new ≡ change_job self.old row (λ job. with_mark job (compilation_of job) Busy)) }
+        ensures claimed { OnOk result (HasJob (λ job. MarksItem row (compilation_of job) Busy self.old self.new) self.old row) }
         ensures refused { OnErr result (self.new ≡ self.old) }
+        ensures lent { LendsAsBefore self.old self.new }
     {
-        unreachable!()
+        claim_compile_in(&mut self.rows[row], alloc, kept)
     }
 
     /// Finishes an item whose frame is out: it comes back with what its kernel or its node wrote, or with the fault of the
     /// kernel. It takes no memory, and closes no job.
     pub fn finish(&mut self, row: usize, item: usize, frame: Frame, answer: Result<(), KernelFault>)
         requires busy { HasJob (λ job. mark_at job.marks item ≡ Busy) self.old row }
-        requires lent { HasJob (λ job. lent_at job.lent item ≡ Some frame.places) self.old row }
+        requires lent { lent_in self.old row item ≡ Some frame.places }
         requires sound { HasJob (λ job. IsSoundFor (task job item) (IsOk answer)) self.old row }
-        ensures { self.new ≡ change_job self.old row (λ job. with_item job item (Done (answer_with (task job item) frame answer)) None) }
+        ensures finished { HasJob (λ job. MarksItem row item (Done (answer_with (task job item) frame answer)) self.old self.new) self.old row }
+        ensures lent { LendsItem row item None self.old self.new }
     {
-        unreachable!()
+        finish_in(&mut self.rows[row], item, frame, answer)
     }
 
     /// Finishes the compilation of a job. It closes no job.
@@ -175,10 +229,11 @@ impl JobTable {
     ) -> Result<(), AllocError>
         requires busy { HasJob (λ job. mark_at job.marks (compilation_of job) ≡ Busy) self.old row }
         requires end { HasJob (λ job. IsEndOf job.graphs.graphs job.workers job.firing (left_by job) end) self.old row }
-        ensures compiled { OnOk result (CompilesIn row end self.old self.new) }
+        ensures compiled { OnOk result (HasJob (FinishesIn row end self.old self.new) self.old row) }
         ensures refused { OnErr result (self.new ≡ self.old) }
+        ensures lent { LendsAsBefore self.old self.new }
     {
-        unreachable!()
+        finish_compile_in(&mut self.rows[row], alloc, end)
     }
 
     /// Closes the job in a row where nothing more will come of it, tells the item that called it how it ended, and so on
@@ -187,18 +242,44 @@ impl JobTable {
     /// # Errors
     ///
     /// Want of memory: a trace would have 2^63 rows or more.
-    pub fn close_from(&mut self, row: usize) -> Result<Option<Result<JobGiven, Refusal>>, AllocError>
+    pub fn close_from(
+        &mut self,
+        row: usize,
+    ) -> Result<Option<Result<JobGiven, Refusal>>, AllocError>
         requires { IsClosingFrom self.old row }
         ensures closed { IfOk result (Closes self.old row self.new) }
         ensures stay { RowsStay self.old self.new }
     {
-        unreachable!()
+        boards_keep();
+        rules_are_lawful();
+        if !is_quiet(&self.rows[row]) {
+            return Ok(None);
+        }
+        let Row {
+            job,
+            upper,
+            place,
+            steps: _,
+        } = take_row(&mut self.rows[row]);
+        let end = job.outcome()?;
+        match upper {
+            None => Ok(Some(end)),
+            Some(upper) => {
+                finish_call_in(&mut self.rows[upper], calling_item(&place), end);
+                self.close_from(upper)
+            }
+        }
     }
 
     /// Gives up all jobs, of which no frame is out.
     pub fn end(self)
         requires { NothingIsLent self }
     {
-        unreachable!()
+        let JobTable {
+            graphs: _,
+            workers: _,
+            rows,
+        } = self;
+        end_rows(rows)
     }
 }

@@ -1,7 +1,6 @@
 -- A level has either a schedule or one fault.
 use Rattle.std.proofs.Common.{◌≡◌, ◌⊎◌, inl, inr, ⊎_elim, ℕ, List, Result, Ok, Err, IfOk, IfErr, refl, ap, sym, ◌∙◌, subst, arith}
 use Rattle.sdf_level.specs.View.{LevelView}
-use Rattle.sdf_level.specs.Repetition.{HasNoRepetition}
 use Rattle.sdf_level.specs.Limits.{IsWithinLimits}
 use Rattle.sdf_level.specs.Orders.{IsDeadlocked, IsTurnOrder, IsLeft}
 use Rattle.sdf_level.proofs.OnlyOne.{repetition_only, turn_order_only, left_only}

@@ -1,3 +1,4 @@
 pub mod Schedules
 pub mod Causes
 pub mod Ends
+pub mod Laws

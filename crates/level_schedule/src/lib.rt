@@ -4,8 +4,10 @@
 
 mod counting;
 mod excess;
+mod laws;
 mod scheduling;
 mod unscheduled;
 
+pub use laws::schedules_exist;
 pub use scheduling::{LevelSchedule, schedule};
 pub use unscheduled::{Unscheduled, What};

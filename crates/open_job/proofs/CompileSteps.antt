@@ -47,7 +47,7 @@ compile_answers graphs workers firing left compiling.Memory a fit is answer = ab
 
 -- ---- lists of one element
 
-read_copies : {T : Type 0} (m n : ℕ) (d : T) → get_or (replicate m d) n d ≡ d
+pub read_copies : {T : Type 0} (m n : ℕ) (d : T) → get_or (replicate m d) n d ≡ d
 read_copies zero n d = refl
 read_copies (suc m) zero d = refl
 read_copies (suc m) (suc n) d = read_copies m n d

@@ -19,7 +19,7 @@ use Rattle.pisdf_meaning.specs.declared.firing.Firing.{Firing}
 use Rattle.pisdf_meaning.specs.declared.refusal.Refusal.{Refusal}
 use Rattle.job_rules.specs.Words as words
 use Rattle.job_rules.specs.Words.{Answer, Gives, Schedules, Refuses}
-use Rattle.job_rules.specs.Items.{both, compile_number, compile_rule, config_task, count, first_refusal, leaves, left_from, node_base, outcome_of, refusal_or, schedule_of}
+use Rattle.job_rules.specs.Items.{both, compile_number, compile_rule, config_task, first_refusal, leaves, left_from, node_base, outcome_of, refusal_or, schedule_of}
 use Rattle.job_rules.proofs.Parts.{both_are}
 use Rattle.job_rules.proofs.Sources.{found}
 use Rattle.job_preparing.specs.Handing.{answers, mark_at}

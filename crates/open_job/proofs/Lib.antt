@@ -15,3 +15,7 @@ pub mod CompileSteps
 pub mod NodeMethods
 pub mod ActorCalls
 pub mod Placed
+pub mod Paths
+pub mod There
+pub mod Opened
+pub mod OfferedCompilation

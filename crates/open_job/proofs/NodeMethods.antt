@@ -32,7 +32,7 @@ never_open Compiling d e = cc
 never_open (Refused refusal) d e = cc
 never_open (Nodes r) d e = cc
 
-never_called : (firing d : Firing) (o : Option (List Configured)) → compile_rule firing o ≡ Some (Call d) → ⊥
+pub never_called : (firing d : Firing) (o : Option (List Configured)) → compile_rule firing o ≡ Some (Call d) → ⊥
 never_called firing d None e = cc
 never_called firing d (Some left) e = cc
 

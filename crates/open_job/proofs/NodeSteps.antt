@@ -42,7 +42,7 @@ use Rattle.open_job.proofs.Steps.{stands_inside}
 
 -- ---- nodes with tasks
 
-task_inside : (r : RunningView) (n : ℕ) (t : Task Firing words.Work) → running.task r n ≡ Some t → n < length (running.nodes_of r)
+pub task_inside : (r : RunningView) (n : ℕ) (t : Task Firing words.Work) → running.task r n ≡ Some t → n < length (running.nodes_of r)
 task_inside r n t is =
     let g = running.graph_in r in
     let test : Bool = is_ready_by (edges_in r.graphs.graphs g r.firing r.prepared) (running.node_values_of r) n in
@@ -151,7 +151,7 @@ module _ (c : ConfiguringView) (workers n item : ℕ) (at : item ≡ compile_num
       let P : RunningView → Type 0 = λ x. MarkedSo (Nodes r) (Nodes x) m in
       subst P (sym is) record { keeps = steps.keeps_node_mark c workers r keeps n m; view_is = steps.mark_after c workers r keeps n m ∙ ap (λ i. with_mark (v (Nodes r)) i m) (sym at) }
 
-  task_is : (r : RunningView) → KeepsWith c workers (Nodes r) → task (v (Nodes r)) item ≡ running.task r n
+  pub task_is : (r : RunningView) → KeepsWith c workers (Nodes r) → task (v (Nodes r)) item ≡ running.task r n
   task_is r keeps = ap (task (v (Nodes r))) at ∙ nodes.task_of_node c workers r keeps.marks_many keeps.stage_fits n
 
   pub claimed : (handed : Handed) (old new : Stage) → KeepsWith c workers old → NodesGoOn (ClaimsNode n handed) old new → GoesOn old new Busy (Some (frame_of handed).places) × IsHanded (v old) item handed

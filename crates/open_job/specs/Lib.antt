@@ -1,5 +1,6 @@
 pub mod View
 pub mod Places
+pub mod Paths
 pub mod Offers
 pub mod Calls
 pub mod Running

@@ -11,7 +11,7 @@ use Rattle.job_preparing.specs.declared.handing.JobGiven.{JobGiven}
 use Rattle.job_flow.specs.Graphs.{node_at}
 use Rattle.job_running.specs.Calls.{IsEndOfCall}
 use Rattle.job_running.specs.View as running
-use Rattle.job_running.specs.View.{RunningView}
+use Rattle.job_running.specs.View.{RunningView, step_of_node}
 use Rattle.job_running.specs.declared.handed.Handed as handed
 use Rattle.job_running.specs.declared.handed.Handed.TheVariants.{Fire as Fired, Copy as Copied}
 use Rattle.one_job.specs.View.{IsFiring}
@@ -135,6 +135,14 @@ pub record MayFinish (n : ℕ) (frame : FrameView) (sound : Type 0) (r : Running
 pub record MayAnswer (n : ℕ) (end : Result JobGiven Refusal) (r : RunningView) : Type 0 where
   pub inside : n < length (running.nodes_of r)
   pub is_end : IsEndOfCall r n end
+
+-- there is such a node
+abbrev pub IsNode : ℕ → RunningView → Type 0
+IsNode n r = n < length (running.nodes_of r)
+
+-- the actor and the firing that a node is
+abbrev pub IsNodeStep : ℕ → ℕ × ℕ → RunningView → Type 0
+IsNodeStep n step r = step ≡ step_of_node (running.graph_in r) (node_at (running.nodes_of r) n)
 
 abbrev pub FinishesNode : ℕ → FrameView → Result (Unit {0}) KernelFault → RunningView → RunningView → Type 0
 FinishesNode n frame answer old new = new ≡ with_node old n (Done (answer_with (running.task old n) frame answer)) None

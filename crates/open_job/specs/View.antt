@@ -1,6 +1,6 @@
 -- One open job as plain data, and what its items are to do, by the numbers of the job's rules: configuration actors in file
 -- order, the compilation, and once that is there the nodes of the single-rate graph.
-use Rattle.std.specs.Prelude.{◌≡◌, ℕ, true, List, [], Option, Some, IsSome, unwrap_or}
+use Rattle.std.specs.Prelude.{◌≡◌, ℕ, ◌<◌, true, List, [], length, Option, Some, IsSome, unwrap_or}
 use Rattle.job_compiler.specs.declared.key.Key.{Key}
 use Rattle.job_preparing.specs.Handing.{ItemMarks, Lent, answers, mark_at}
 use Rattle.job_preparing.specs.View.{key_of}
@@ -43,6 +43,11 @@ count_of v = count v.graphs.graphs v.firing (answered v)
 -- the number of the compilation
 abbrev pub compilation_of : OpenView → ℕ
 compilation_of v = compile_number (graph_in v)
+
+-- the item has a mark, and a place for what is lent with it
+pub record HasItem (v : OpenView) (i : ℕ) : Type 0 where
+  pub marked : i < length v.marks
+  pub lendable : i < length v.lent
 
 -- ---- what may be claimed
 

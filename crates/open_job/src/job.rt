@@ -5,7 +5,7 @@ ghost use Rattle.std.specs.Option.{option_map};
 
 use crate::going::{end_stage, go_on, next_stage, refused_early};
 use crate::handed::Handed;
-use crate::nodes::{call_node, claim_node, finish_node, finish_node_call};
+use crate::nodes::{call_node, claim_node, finish_node, finish_node_call, node_step};
 use crate::offer::Offer;
 use crate::picking::{first_call, first_call_waiting, first_node, first_waiting};
 use crate::places::nth_configuration;
@@ -51,9 +51,10 @@ impl OpenJob {
     ghost use Rattle.job_rules.specs.Words.{answer_of};
     ghost use Rattle.nested_jobs.specs.Marks.{Busy, Done, Open};
     ghost use Rattle.nested_jobs.specs.Rules.{Call};
-    ghost use Rattle.open_job.specs.View.{IsOfferedCall, IsOfferedCompilation, IsOfferedWork, IsQuiet, compilation_of, graph_in, key_in, left_by, outcome_in, task};
+    ghost use Rattle.open_job.specs.View.{HasItem, IsOfferedCall, IsOfferedCompilation, IsOfferedWork, IsQuiet, compilation_of, graph_in, key_in, left_by, outcome_in, task};
     ghost use Rattle.open_job.specs.Places.{config_places};
     ghost use Rattle.open_job.specs.Offers.{IsPick};
+    ghost use Rattle.open_job.specs.Paths.{IsCall, step_of};
     ghost use Rattle.open_job.specs.Calls.{FinishesCompilation, IsHanded, IsSoundFor, frame_of, with_item, with_mark};
 
     /// The firing of which this is the job.
@@ -78,6 +79,20 @@ impl OpenJob {
         let graph = self.configuring.firing().graph as usize;
         let graphs = self.configuring.graphs();
         nth_configuration(graphs.graphs.items()[graph].actors.items(), item)
+    }
+
+    /// How the path goes on of the job that an item calls: by the place of the item's actor among all actors of the graph, and
+    /// the number of its firing, which is 0 for a configuration actor.
+    pub fn step(&self, item: usize) -> (u32, u32)
+        requires { IsCall self.now item }
+        ensures { result ≡ step_of self.now item }
+    {
+        let compilation = self.configuring.count() as usize;
+        if item < compilation {
+            (self.config_place(item) as u32, 0)
+        } else {
+            node_step(&self.stage, item - compilation - 1)
+        }
     }
 
     /// Which of the items that are free and have work of their own goes first for a worker.
@@ -112,6 +127,7 @@ impl OpenJob {
     pub fn claim(&mut self, item: usize) -> Handed
         requires offered { IsOfferedWork self.old item }
         requires framed { item ≢ compilation_of self.old }
+        ensures there { HasItem self.old item }
         ensures handed { IsHanded self.old item result }
         ensures claimed { self.new ≡ with_item self.old item Busy (Some (frame_of result).places) }
     {
@@ -146,6 +162,7 @@ impl OpenJob {
         kept: Option<Arc<Compiled>>,
     ) -> Result<CompileTask, AllocError>
         requires { IsOfferedCompilation self.old }
+        ensures there { HasItem self.old (compilation_of self.old) }
         ensures task { IfOk result (λ task. task ≡ record { graphs = self.old.graphs; workers = self.old.workers; firing = self.old.firing; left = left_by self.old; kept = option_map arc_value kept }) }
         ensures claimed { OnOk result (self.new ≡ with_mark self.old (compilation_of self.old) Busy) }
         ensures refused { OnErr result (self.new ≡ self.old) }
@@ -162,6 +179,7 @@ impl OpenJob {
     /// Want of memory. No more is lent than before, and the job is good for `end` alone.
     pub fn call(&mut self, alloc: Global, item: usize) -> Result<Firing, AllocError>
         requires { IsOfferedCall self.old item }
+        ensures there { HasItem self.old item }
         ensures firing { IfOk result (λ firing. task self.old item ≡ Some (Call firing)) }
         ensures inherited { IfOk result (HasInherited self.old.graphs.graphs) }
         ensures opened { IfOk result (λ firing. self.new ≡ with_mark self.old item (Open firing)) }

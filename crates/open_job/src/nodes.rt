@@ -1,7 +1,7 @@
 // The nodes of a job, by the stage that has them.
 ghost use Rattle.std.specs.Prelude.{◌≡◌, ◌<◌, length, IsOk};
 ghost use Rattle.job_running.specs.View.{nodes_of};
-ghost use Rattle.open_job.specs.Stages.{CallsNode, ClaimsNode, FinishesCall, FinishesNode, HasNodes, MayAnswer, MayCall, MayClaim, MayFinish, NodesGoOn, handed_as};
+ghost use Rattle.open_job.specs.Stages.{CallsNode, ClaimsNode, FinishesCall, FinishesNode, HasNodes, IsNode, IsNodeStep, MayAnswer, MayCall, MayClaim, MayFinish, NodesGoOn, handed_as};
 
 use crate::handed::Handed;
 use crate::stage::Stage;
@@ -28,6 +28,19 @@ fn handed_node(handed: job_running::Handed) -> Handed
     match handed {
         job_running::Handed::Fire(frame) => Handed::Fire(frame),
         job_running::Handed::Copy(node, frame) => Handed::Copy(node, frame),
+    }
+}
+
+/// The actor and the firing that a node is.
+pub(crate) fn node_step(stage: &Stage, node: usize) -> (u32, u32)
+    requires { HasNodes (IsNode node) stage.now }
+    ensures { HasNodes (IsNodeStep node result) stage.now }
+{
+    match stage {
+        Stage::Nodes(running) => running.step(number_of(running, node)),
+        Stage::Waiting => unreachable!(),
+        Stage::Compiling => unreachable!(),
+        Stage::Refused(_) => unreachable!(),
     }
 }
 

@@ -1,9 +1,11 @@
 -- The firing of a top graph.
-use Rattle.std.proofs.Common.{◌≡◌, ℕ, ◌-◌, ℤ, List, [], ◌⊎◌, inl, inr, slice_get, Some, Result, Ok, Err, IfOk, IfErr, refl, ap, sym, ◌∙◌, subst}
+use Rattle.std.proofs.Common.{◌≡◌, ℕ, ◌-◌, ℤ, List, [], ◌⊎◌, inl, inr, slice_get, Some, Result, Ok, Err, IfOk, IfErr, refl, ap, sym, ◌∙◌, subst, get_or}
+use Rattle.std.proofs.lemmas.Option.{slice_get-get_or}
 use Rattle.kernel_gate.specs.Signed.{Counts}
 use Rattle.param_resolver.specs.EarlyCheck.{early_of, early_faults}
 use Rattle.param_resolver.specs.EarlyView.{EarlyView}
 use Rattle.param_resolver.specs.declared.level_set.LevelSet.{LevelSet}
+use Rattle.param_resolver.proofs.Levels.{some_graph}
 use Rattle.pisdf_model.specs.Nesting.{nesting_limit}
 use Rattle.pisdf_model.specs.Range.{InRange}
 use Rattle.pisdf_model.specs.WellFormed.{WellFormed}
@@ -91,6 +93,10 @@ module _ (graphs : Graphs) (ins state : List (List ℤ)) (top : Graph) (firing :
       top_levelled set rated_so is =
           let P : Firing → Type 0 = λ f. IsLevelSet graphs.graphs top f known set in
           record { values = known; leads = onward (Ok known) (sym rated_so); set_is = subst P firing_is is }
+
+-- the top graph is there
+pub some_top : (graphs : Graphs) → InRange graphs → (top : Graph) × (slice_get graphs.graphs graphs.top ≡ Some top)
+some_top graphs range = let d = some_graph graphs.graphs graphs.top range.top in (get_or graphs.graphs graphs.top d, slice_get-get_or graphs.graphs graphs.top d range.top)
 
 -- an iteration has only one end
 pub one_end : (graphs : Graphs) (ins state : List (List ℤ)) (one other : End) → HasOneMeaning graphs.graphs → IterationEnds graphs ins state one → IterationEnds graphs ins state other → one ≡ other

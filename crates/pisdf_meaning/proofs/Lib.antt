@@ -33,3 +33,5 @@ pub mod KeptSizes
 pub mod SoundGraphs
 pub mod MadeLevels
 pub mod OneRun
+pub mod SomeMeaning
+pub mod SomeRun

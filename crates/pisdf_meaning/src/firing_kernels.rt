@@ -78,38 +78,49 @@ pub(crate) fn leave_kernel<K: Gate>(
     }
 }
 
-/// The firing of the kernel configuration actor of this number, which stands at a place of its graph, has so many inputs
-/// and sets so many parameters.
+/// The one firing of a configuration actor that fires a kernel.
+#[derive(Drop)]
+pub(crate) struct ConfigCall<'a> {
+    /// The actor's name.
+    pub(crate) actor: &'a Name,
+    /// The actor's number among the configuration actors of its graph.
+    pub(crate) number: usize,
+    /// The actor's place among all actors of its graph.
+    pub(crate) place: usize,
+    /// The kernel that it fires.
+    pub(crate) kernel: u32,
+    /// How many inputs it has.
+    pub(crate) inputs: usize,
+    /// How many parameters it sets.
+    pub(crate) sets: u32,
+}
+
+/// What a configuration actor leaves that fires a kernel.
 pub(crate) fn leave_config<K: Gate>(
     alloc: Global,
     gate: &K,
     graph: &Graph,
     early: &Early,
     firing: &Firing,
-    number: usize,
-    place: usize,
-    actor: &Name,
-    kernel: u32,
-    ports: usize,
-    sets: u32,
+    call: &ConfigCall<'_>,
 ) -> Result<Configured, PlainFault>
-    requires { FitsKernel (unnamed (K.kernels gate.now)) kernel (length (tokens_at early.now.args number)) ports (length (slice_index_or early.now.outs number [])) sets }
-    ensures leaves { IfOk result (λ one. Ok one ≡ kernel_leaves firing.now.path actor.now (the_value kernel (tokens_at early.now.args number) (fed_to graph.now firing.now.inputs place ports) (slice_index_or early.now.outs number []) sets)) }
-    ensures outs { IfOk result (λ one. length one.outs ≡ length (slice_index_or early.now.outs number [])) }
-    ensures refused { IfErr result (IfRefused (λ refusal. Err refusal ≡ kernel_leaves firing.now.path actor.now (the_value kernel (tokens_at early.now.args number) (fed_to graph.now firing.now.inputs place ports) (slice_index_or early.now.outs number []) sets))) }
+    requires { FitsKernel (unnamed (K.kernels gate.now)) call.now.kernel (length (tokens_at early.now.args call.now.number)) call.now.inputs (length (slice_index_or early.now.outs call.now.number [])) call.now.sets }
+    ensures leaves { IfOk result (λ one. Ok one ≡ kernel_leaves firing.now.path call.now.actor.now (the_value call.now.kernel (tokens_at early.now.args call.now.number) (fed_to graph.now firing.now.inputs call.now.place call.now.inputs) (slice_index_or early.now.outs call.now.number []) call.now.sets)) }
+    ensures outs { IfOk result (λ one. length one.outs ≡ length (slice_index_or early.now.outs call.now.number [])) }
+    ensures refused { IfErr result (IfRefused (λ refusal. Err refusal ≡ kernel_leaves firing.now.path call.now.actor.now (the_value call.now.kernel (tokens_at early.now.args call.now.number) (fed_to graph.now firing.now.inputs call.now.place call.now.inputs) (slice_index_or early.now.outs call.now.number []) call.now.sets))) }
 {
-    let read = fed_to(alloc, graph, firing.inputs.items(), place, ports)?;
-    let args = tokens_at(early.args.items(), number);
-    let rates = rates_at(early.outs.items(), number);
+    let read = fed_to(alloc, graph, firing.inputs.items(), call.place, call.inputs)?;
+    let args = tokens_at(early.args.items(), call.number);
+    let rates = rates_at(early.outs.items(), call.number);
     leave_kernel(
         alloc,
         gate,
         &firing.path,
-        actor,
-        kernel,
+        call.actor,
+        call.kernel,
         args,
         read,
         rates,
-        sets,
+        call.sets,
     )
 }

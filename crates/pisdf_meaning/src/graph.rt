@@ -25,7 +25,7 @@ ghost use Rattle.pisdf_meaning.specs.declared.outcome.TraceRow.{TraceRow as Row}
 
 use crate::children::{ChildCall, child_firing, child_left, child_made, config_firing};
 use crate::firing::{Configured, Firing, Given, Made};
-use crate::firing_kernels::{fire_kernel_actor, leave_config};
+use crate::firing_kernels::{ConfigCall, fire_kernel_actor, leave_config};
 use crate::giving::given_by;
 use crate::lists::tokens_at;
 use crate::parts::{Prepared, parts_of};
@@ -70,19 +70,17 @@ fn leave<K: Gate>(
             ins,
             sets,
             ..
-        } => leave_config(
-            alloc,
-            gate,
-            graph,
-            early,
-            firing,
-            number,
-            place,
-            &actor.name,
-            *kernel,
-            ins.items().len(),
-            sets.items().len() as u32,
-        ),
+        } => {
+            let call = ConfigCall {
+                actor: &actor.name,
+                number,
+                place,
+                kernel: *kernel,
+                inputs: ins.items().len(),
+                sets: sets.items().len() as u32,
+            };
+            leave_config(alloc, gate, graph, early, firing, &call)
+        }
         Body::ConfigChild { graph: child, .. } => {
             let inputs = graphs.graphs.items()[*child as usize].inputs.items().len();
             let inner = config_firing(

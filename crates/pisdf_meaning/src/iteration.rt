@@ -1,11 +1,12 @@
 // One iteration of a run.
-ghost use Rattle.std.specs.Prelude.{◌≡◌, ◌⊎◌, ℤ, List as Seq, [], Ok, Err, slice_get, IfOk, IfErr, OnErr};
+ghost use Rattle.std.specs.Prelude.{◌≡◌, ◌⊎◌, ℤ, List as Seq, [], Some, Ok, Err, slice_get, IfOk, IfErr, OnErr};
 ghost use Rattle.kernel_gate.specs.Signed.{unnamed};
 ghost use Rattle.param_resolver.specs.EarlyCheck.{early_faults, early_of};
 ghost use Rattle.param_resolver.specs.declared.level_set.LevelSet.{LevelSet as SetOfLevel};
 ghost use Rattle.pisdf_model.specs.Ports.{inherited_count};
 ghost use Rattle.pisdf_model.specs.Range.{InRange};
 ghost use Rattle.pisdf_model.specs.WellFormed.{WellFormed};
+ghost use Rattle.pisdf_model.specs.declared.graph.Graph.{Graph as OneGraph};
 ghost use Rattle.pisdf_meaning.specs.Endings.{IfRefused};
 ghost use Rattle.pisdf_meaning.specs.Run.{IterationEnds, IterationGives, top_firing};
 ghost use Rattle.pisdf_meaning.specs.Sound.{KernelsFit};
@@ -62,6 +63,25 @@ fn top_firing(
     })
 }
 
+/// What an iteration begins with: what is known of the top graph, and its firing with these inputs and this state.
+fn opening(
+    alloc: Global,
+    graphs: &Graphs,
+    delays: &Delays,
+    ins: &[List<i64>],
+) -> Result<(Early, Firing), AllocError>
+    requires in_range { InRange graphs.now }
+    requires well_formed { WellFormed graphs.now }
+    requires none_inherited { inherited_count (slice_get graphs.now.graphs graphs.now.top) ≡ 0 }
+    ensures early { IfOk result (λ begun. begun.0 ≡ early_of graphs.now.graphs graphs.now.top []) }
+    ensures firing { IfOk result (λ begun. (top : OneGraph) → slice_get graphs.now.graphs graphs.now.top ≡ Some top → begun.1 ≡ top_firing top graphs.now.top ins.now delays.now.lists) }
+{
+    let early = top_early(alloc, graphs)?;
+    let top = &graphs.graphs.items()[graphs.top as usize];
+    let firing = top_firing(alloc, top, graphs.top, delays, ins)?;
+    Ok((early, firing))
+}
+
 /// One iteration in one thread, which gives or is refused.
 fn iterate<K: Gate>(
     alloc: Global,
@@ -79,9 +99,7 @@ fn iterate<K: Gate>(
     ensures unchanged { OnErr result (delays.new ≡ delays.old) }
 {
     runnable();
-    let early = top_early(alloc, graphs)?;
-    let top = &graphs.graphs.items()[graphs.top as usize];
-    let firing = top_firing(alloc, top, graphs.top, delays, ins)?;
+    let (early, firing) = opening(alloc, graphs, delays, ins)?;
     let given = fire_graph(alloc, graphs, gate, &early, &firing, MAX_NESTING)?;
     delays.lists = given.state;
     Ok(Iteration {
@@ -139,9 +157,8 @@ fn lead_to_level<K: Gate>(
     ensures refused { IfErr result (IfRefused (TopLevelRefused graphs.now ins.now delays.now.lists)) }
 {
     runnable();
-    let early = top_early(alloc, graphs)?;
+    let (early, firing) = opening(alloc, graphs, delays, ins)?;
     let top = &graphs.graphs.items()[graphs.top as usize];
-    let firing = top_firing(alloc, top, graphs.top, delays, ins)?;
     let levels = MAX_NESTING - 1;
     let configured = configure(alloc, graphs, gate, top, &early, &firing, levels)?;
     let values = resolved(alloc, graphs, top, &early, &firing, &configured)?;

@@ -5,9 +5,12 @@ ghost use Rattle.pisdf_model.specs.Range.{InRange};
 ghost use Rattle.pisdf_model.specs.WellFormed.{WellFormed};
 ghost use Rattle.pisdf_model.specs.declared.graph.Graph.{Graph};
 ghost use Rattle.pisdf_model.specs.declared.graph.Graphs.{Graphs};
-ghost use Rattle.pisdf_meaning.specs.Laws.{HasOneMeaning, HasOneRun};
+ghost use Rattle.pisdf_meaning.specs.Laws.{HasMeanings, HasOneMeaning, HasOneRun, HasRuns};
 ghost use Rattle.pisdf_meaning.specs.Sizes.{GiveLengths, KeepsSizes};
 ghost use Rattle.pisdf_meaning.specs.Sound.{AllFit};
+
+use level_schedule::schedules_exist;
+use param_resolver::early_unfolds;
 
 /// A firing of a graph has only one end: what it gives, its state and its trace, or the refusal, doesn't depend on who
 /// makes it. Nor has a run more than one. This holds of any graphs.
@@ -15,6 +18,17 @@ pub fn one_meaning()
     ensures firings { (graphs : Seq Graph) → HasOneMeaning graphs }
     ensures runs { (graphs : Graphs) → HasOneRun graphs }
 {}
+
+/// A firing of a graph has an end, if the graph is there and its early check finds nothing: what it gives, or the refusal.
+/// And a run has one, whatever its streams hold. This holds of well-formed graphs whose numbers refer to parts, and of any
+/// inputs, states and kernels, whether or not there is memory to work it out. With `one_meaning` it is exactly one.
+pub fn meanings_exist()
+    ensures firings { (graphs : Graphs) → InRange graphs → WellFormed graphs → HasMeanings graphs.graphs }
+    ensures runs { (graphs : Graphs) → InRange graphs → WellFormed graphs → HasRuns graphs }
+{
+    schedules_exist();
+    early_unfolds();
+}
 
 /// A firing of a graph that is done gives each output as many tokens as its rate, and leaves a state whose lists are as
 /// long as those with which the graph begins, if the firing began with lists of these lengths. It asks nothing of the

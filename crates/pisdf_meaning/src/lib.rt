@@ -38,7 +38,7 @@ pub use firing::{Configured, Firing, Given};
 pub use holding::{has_state, holds_for};
 pub use iteration::{plain_iteration, top_level};
 pub use kernels::lists_of_leases;
-pub use laws::{one_meaning, sizes_kept};
+pub use laws::{meanings_exist, one_meaning, sizes_kept};
 pub use lists::{copy_lists, copy_tokens};
 pub use naming::{copy_name, refused};
 pub use needs::top_needs;

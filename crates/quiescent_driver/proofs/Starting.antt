@@ -53,7 +53,7 @@ pub started_key : {E : Type 0} (graphs : Graphs) (signatures : List Signature) (
     map signature_view signatures ≡ kernels → IfOk result (λ b. b ≡ new_board (key_from graphs signatures delays ins workers) workers) → IfOk result (λ b. b.key ≡ key_with graphs kernels delays.lists ins workers)
 started_key graphs signatures kernels delays ins workers (Ok b) told is =
     let same : key_from graphs signatures delays ins workers ≡ key_with graphs kernels delays.lists ins workers =
-        ap (λ s. record { graphs = graphs; signatures = s; delays = delays.lists; ins = ins; workers = workers }) (counts_told signatures kernels told) in
+    ap (λ s. record { graphs = graphs; signatures = s; delays = delays.lists; ins = ins; workers = workers }) (counts_told signatures kernels told) in
     ap (λ (x : BoardView). x.key) is ∙ same
 started_key graphs signatures kernels delays ins workers (Err e) told is = tt
 

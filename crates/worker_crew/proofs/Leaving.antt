@@ -1,6 +1,7 @@
 -- How a pass finds a board, and what it knows once it has left it.
 use Rattle.std.proofs.Common.{◌≡◌, ◌≢◌, ℕ, zero, suc, ◌+◌, ◌<◌, Bool, true, false, Option, Some, None, List, [], ◌∷◌, ◌++◌, length, drop, get_or, All, refl, sym, ap, ◌∙◌, subst, arith, append_assoc, append-nil}
 use Rattle.std.specs.Prelude.{is_some}
+use Rattle.kernel_gate.specs.Signed.{Counts}
 use Rattle.kernel_gate.specs.Value.{Places}
 use Rattle.job_rules.specs.Words.{Work}
 use Rattle.board_lock.specs.Meant.{entries_of}
@@ -15,7 +16,7 @@ use Rattle.firing_board.specs.Runs.{IsIdle, IsSound, Runs, RunsWork}
 use Rattle.firing_board.specs.View.{BoardView, IsAt, lent_to}
 use Rattle.worker_crew.specs.Asked.{HasClaimed}
 use Rattle.worker_crew.specs.Laws.{BoardLaws, BoardsHaveLaws}
-use Rattle.worker_crew.specs.Passes.{BoardPass, IsIdleAt, entries_at, last_claims}
+use Rattle.worker_crew.specs.Passes.{BoardPass, IsIdleAt, MayWork, entries_at, last_claims}
 use Rattle.worker_crew.specs.Worked.{HasAdded}
 use Rattle.worker_crew.proofs.Lists.{drop_front, front_same}
 
@@ -24,7 +25,7 @@ use Rattle.worker_crew.proofs.Lists.{drop_front, front_same}
 some_is : {A : Type 0} (x y : A) → Some x ≡ Some y → x ≡ y
 some_is x y e = cc
 
-none_is : {A : Type 0} (o : Option A) → is_some o ≡ false → o ≡ None
+pub none_is : {A : Type 0} (o : Option A) → is_some o ≡ false → o ≡ None
 none_is None e = refl
 none_is (Some x) e = absurd (cc)
 
@@ -47,7 +48,7 @@ module _ (p : BoardPass) (x : BoardView) (found : Finds board_meant p x) where
   found_entries some =
       ap (entries_of worker_of w) found.opening
       ∙ (entries-append worker_of w p.opening found.tail
-      ∙ ((λ i. entries_of worker_of (number_is (~ i)) p.opening ++ entries_of worker_of (number_is (~ i)) found.tail)
+      ∙ (ap (λ (n : ℕ). entries_of worker_of n p.opening ++ entries_of worker_of n found.tail) (sym number_is)
       ∙ ap (λ (l : List Entry). entries_of worker_of (w + 0) p.opening ++ l) (sym (found.own 0 some))))
 
   pub found_idle : BoardsHaveLaws → IsSound x → 0 < length p.own → IsIdleAt p 0 → w < x.key.workers → IsIdle x w
@@ -82,12 +83,9 @@ module _ (p : BoardPass) (x : BoardView) (found : Finds board_meant p x) where
         work = claimed.work;
         runs = (laws x.key sound.is_key).lasts claimed.taken sound.taken found.seen.0 w claimed.work (subst (λ (k : Key). AreLegal k claimed.taken) (sym same) claimed.legal) sound.at.legal journal
             (found_others claimed.some found.seen.0 found.seen.1)
-            (subst (λ (k : Key). Runs_of k) (sym same) claimed.runs);
+            (subst (λ (k : Key). RunsWork k (state_after k claimed.taken) w claimed.work) (sym same) claimed.runs);
         so = subst (λ (k : Key). P k claimed.work) (sym same) claimed.so;
       }
-    where
-      abbrev Runs_of : Key → Type 0
-      Runs_of k = RunsWork k (state_after k claimed.taken) w claimed.work
 
   pub found_lent : (places : Places) (P : Key → Work → Type 0) → HasClaimed p (Some places) P → lent_to x w ≡ Some places
   found_lent places P claimed =
@@ -103,6 +101,10 @@ pub record Changes (x y : BoardView) (w : ℕ) (more : List Entry) : Type 0 wher
   pub mine : All (λ e. worker_of e ≡ w) more
   pub lent : (n : ℕ) → n ≢ w → lent_to y n ≡ lent_to x n
   pub starved : x.starved ≡ true → y.starved ≡ true
+
+-- what a pass knows that found a board and left it so
+abbrev pub left_by : BoardPass → BoardView → BoardView → BoardPass
+left_by p x y = known_after board_meant (seen_in board_meant p x) y
 
 module _ (p : BoardPass) (x y : BoardView) (more : List Entry) (found : Finds board_meant p x) (changes : Changes x y p.number more) where
   unseen_is : drop (length x.journal) y.journal ≡ more
@@ -120,14 +122,11 @@ module _ (p : BoardPass) (x y : BoardView) (more : List Entry) (found : Finds bo
   pub may_leave_as : (known : BoardPass) (was : Option BoardView) → known ≡ seen_in board_meant p x → was ≡ Some x → MayLeave board_meant known was y
   may_leave_as known was known_is was_is = subst (λ (k : BoardPass). MayLeave board_meant k was y) (sym known_is) (subst (λ (o : Option BoardView). MayLeave board_meant (seen_in board_meant p x) o y) (sym was_is) may_leave)
 
-  abbrev left : BoardPass
-  left = known_after board_meant (seen_in board_meant p x) y
-
   gained_length : {E : Type 0} (own : List (List E)) (added : List E) → length (first_gains own added) ≡ length own
   gained_length [] added = refl
   gained_length (o ∷ own) added = refl
 
-  added_left : HasAdded p left more
+  pub added_left : HasAdded p (left_by p x y) more
   added_left = record {
     later = record {
       key = refl;
@@ -141,5 +140,10 @@ module _ (p : BoardPass) (x y : BoardView) (more : List Entry) (found : Finds bo
     own = ap (first_gains p.own) unseen_is;
   }
 
-  pub added : (known after : BoardPass) → known ≡ seen_in board_meant p x → after ≡ known_after board_meant known y → HasAdded p after more
-  added known after known_is after_is = subst (HasAdded p) (sym (after_is ∙ ap (λ (k : BoardPass). known_after board_meant k y) known_is)) added_left
+-- the pass as the lock's calls tell it
+pub left_as : (p : BoardPass) (x y : BoardView) (known after : BoardPass) → known ≡ seen_in board_meant p x → after ≡ known_after board_meant known y → after ≡ left_by p x y
+left_as p x y known after known_is after_is = after_is ∙ ap (λ (k : BoardPass). known_after board_meant k y) known_is
+
+-- the pass is of a worker of the board that is found
+pub found_worker : (kernels : List Counts) (p : BoardPass) (x : BoardView) → Finds board_meant p x → MayWork kernels p → p.number < x.key.workers
+found_worker kernels p x found may = subst (λ (k : Key). p.number < k.workers) (sym (found_key p x found may.key may.key_is)) may.is_worker

@@ -31,9 +31,9 @@ taken_at (x ∷ xs) (suc n) zero d lt = refl
 taken_at (x ∷ xs) (suc n) (suc k) d lt = taken_at xs n k d (omega arith)
 
 pub dropped_at : {A : Type 0} (xs : List A) (n k : ℕ) (d : A) → get_or (drop n xs) k d ≡ get_or xs (n + k) d
-dropped_at xs zero k d = refl
+dropped_at xs zero k d = ap (λ (n : ℕ). get_or xs n d) (omega arith)
 dropped_at [] (suc n) k d = refl
-dropped_at (x ∷ xs) (suc n) k d = dropped_at xs n k d
+dropped_at (x ∷ xs) (suc n) k d = dropped_at xs n k d ∙ ap (λ (m : ℕ). get_or (x ∷ xs) m d) {x = suc (n + k)} (omega arith)
 
 pub left_at : {A : Type 0} (xs ys : List A) (k : ℕ) (d : A) → k < length xs → get_or (xs ++ ys) k d ≡ get_or xs k d
 left_at [] ys k d lt = absurd (omega arith)
@@ -41,5 +41,5 @@ left_at (x ∷ xs) ys zero d lt = refl
 left_at (x ∷ xs) ys (suc k) d lt = left_at xs ys k d (omega arith)
 
 pub right_at : {A : Type 0} (xs ys : List A) (k : ℕ) (d : A) → get_or (xs ++ ys) (length xs + k) d ≡ get_or ys k d
-right_at [] ys k d = refl
-right_at (x ∷ xs) ys k d = right_at xs ys k d
+right_at [] ys k d = ap (λ (n : ℕ). get_or ys n d) (omega arith)
+right_at (x ∷ xs) ys k d = ap (λ (m : ℕ). get_or (x ∷ xs ++ ys) m d) {y = suc (length xs + k)} (omega arith) ∙ right_at xs ys k d

@@ -8,7 +8,7 @@ use Rattle.job_preparing.specs.CompileTasks.{CompileView}
 use Rattle.job_preparing.specs.Handing.{AsksFor, CopiesIn}
 use Rattle.job_rules.specs.Words.{Compiles, Copies, Fires, Work}
 use Rattle.board_rules.specs.Entries.{Step}
-use Rattle.board_rules.specs.Keys.{Key}
+use Rattle.board_rules.specs.Keys.{IsKey, Key}
 use Rattle.board_rules.specs.Legal.{AreLegal, journal_of, state_after}
 use Rattle.firing_board.specs.Locking.{places_of}
 use Rattle.firing_board.specs.Runs.{RunsWork}
@@ -22,6 +22,7 @@ use Rattle.worker_crew.specs.Worked.{AddsClaim, HasAdded}
 pub record HasClaimed (p : BoardPass) (frame : Option Places) (P : Key → Work → Type 0) : Type 0 where
   pub key : Key
   pub key_is : p.key ≡ Some key
+  pub is_key : IsKey key
   pub some : 0 < length p.own
   pub is_worker : p.number < key.workers
   pub taken : List Step

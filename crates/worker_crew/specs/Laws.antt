@@ -1,12 +1,15 @@
 -- What the journal of a board tells of its workers.
-use Rattle.std.specs.Prelude.{◌≡◌, ℕ, false, List, [], ◌∷◌, ◌++◌, Some, is_some, slice_get}
-use Rattle.pisdf_model.specs.declared.graph.Graph.{Graph}
+use Rattle.std.specs.Prelude.{◌≡◌, ℕ, false, ◌<◌, ◌^◌, List, [], ◌∷◌, ◌++◌, length, is_some}
+use Rattle.kernel_gate.specs.Signed.{Counts}
+use Rattle.kernel_gate.specs.Value.{lengths}
+use Rattle.special_actors.specs.Fitting.{HasLengths}
 use Rattle.pisdf_meaning.specs.declared.firing.Configured.{Configured}
 use Rattle.pisdf_meaning.specs.declared.firing.Firing.{Firing}
 use Rattle.nested_jobs.specs.Journals as steps
 use Rattle.nested_jobs.specs.Rules.{Place}
 use Rattle.job_rules.specs.Doing.{Answers}
-use Rattle.job_rules.specs.Words.{Answer, Compiles, Work}
+use Rattle.job_rules.specs.Fitting.{FitsAsked}
+use Rattle.job_rules.specs.Words.{Answer, Compiles, Copies, Fires, Work}
 use Rattle.board_lock.specs.Meant.{entries_of}
 use Rattle.board_rules.specs.Entries.{Step}
 use Rattle.board_rules.specs.Keys.{IsKey, Key}
@@ -56,8 +59,19 @@ pub record BoardLaws (key : Key) : Type 0 where
 abbrev pub BoardsHaveLaws : Type 0
 BoardsHaveLaws = (key : Key) → IsKey key → BoardLaws key
 
--- a compilation of a graph that is there has an answer
+-- a compilation that a worker runs has an answer
 abbrev pub CompilationsEnd : Type 0
 CompilationsEnd =
-    (graphs : List Graph) (firing : Firing) (left : List Configured) (g : Graph) → slice_get graphs firing.graph ≡ Some g →
-    (answer : Answer) × Answers graphs (Compiles firing left) answer
+    (key : Key) (taken : List Step) (w : ℕ) (firing : Firing) (left : List Configured) → IsKey key → AreLegal key taken →
+    RunsWork key (state_after key taken) w (Compiles firing left) → (answer : Answer) × Answers key.graphs.graphs (Compiles firing left) answer
+
+-- a frame with what such work asks can be run: it fits the kernel's signature, or is one of the node, with a number of 32 bits
+-- for each port
+abbrev pub IsFitWork : List Counts → Work → Type 0
+IsFitWork signatures (Fires spot asked) = FitsAsked signatures asked
+IsFitWork signatures (Copies node read lens) = HasLengths node (lengths read) lens × (length read < 2 ^ 32) × (length lens < 2 ^ 32)
+IsFitWork signatures (Compiles firing left) = Unit {0}
+
+-- so can what a worker runs
+abbrev pub WorkFits : Type 0
+WorkFits = (key : Key) (taken : List Step) (w : ℕ) (work : Work) → IsKey key → AreLegal key taken → RunsWork key (state_after key taken) w work → IsFitWork key.signatures work

@@ -4,7 +4,7 @@ ghost use Rattle.kernel_gate.specs.Signed.{Counts};
 ghost use Rattle.worker_crew.specs.Asked.{Asked};
 ghost use Rattle.worker_crew.specs.Passes.{IsIdleAt, MayWork};
 
-use crate::laws::board_laws;
+use crate::laws::{board_laws, work_fits};
 use board_lock::{Lock, Pass};
 use firing_board::{Board, Claim};
 use std::alloc::Global;
@@ -24,6 +24,7 @@ pub(crate) fn ask<R: Wait>(
     ensures asked { Asked pass.known result.0.known result.1 }
 {
     board_laws();
+    work_fits();
     let worker = pass.number();
     let mut held = lock.enter(rt, pass);
     // Each board says of itself that its journal is legal.

@@ -43,10 +43,7 @@ fn take_turn<K: Gate, R: Wait>(
 {
     let (pass, claim) = ask(rt, alloc, lock, pass);
     match claim {
-        Claim::Fire(ticket, frame) => (
-            fire(rt, lock, pass, gate, ticket, frame),
-            TurnEnd::Ran,
-        ),
+        Claim::Fire(ticket, frame) => (fire(rt, lock, pass, gate, ticket, frame), TurnEnd::Ran),
         Claim::Configure(ticket, frame) => (
             configure(rt, lock, pass, gate, ticket, frame),
             TurnEnd::Ran,
@@ -72,7 +69,7 @@ pub fn work<K: Gate + Sync, R: Wait>(
     rt: &R,
     alloc: Global,
     lock: &Lock<Board>,
-    pass: Pass<Board>,
+    mut pass: Pass<Board>,
     gate: &K,
 ) -> Pass<Board>
     requires lock { pass.lock ≡ lock.now }
@@ -82,7 +79,6 @@ pub fn work<K: Gate + Sync, R: Wait>(
     ensures worked { HasWorked pass.known result.known }
     ensures over { HasSeenOver result.known }
 {
-    let mut pass = pass;
     let pause = Backoff::new();
     for _ in rt.forever() {
         let (next, end) = take_turn(rt, alloc, lock, pass, gate);

@@ -1,4 +1,4 @@
-use Rattle.std.proofs.Common.{◌≡◌, ◌+◌, ◌≤◌, ◌++◌, ℕ, List, drop, length, map, vec_capacity, vec_len}
+use Rattle.std.proofs.Common.{◌≡◌, ◌+◌, ◌++◌, List, drop, length, map, vec_capacity, vec_len}
 use Rattle.param_resolver.specs.Numbering.{acting, fires, has_state}
 use Rattle.std.specs.List.{filter}
 use Rattle.pisdf_model.specs.declared.graph.Graph.{Graph}

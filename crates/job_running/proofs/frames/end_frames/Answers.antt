@@ -1,6 +1,5 @@
-use Rattle.std.proofs.Common.{rules, arith, ◌≡◌, ℕ, Some, None, List, ◌∷◌, [], ◌++◌, length, set, refl, sym, ap, ◌∙◌, subst}
-use Rattle.kernel_gate.specs.Value.{FrameView}
-use Rattle.one_job.specs.Marks.{Claimed, Finished, mark_at}
+use Rattle.std.proofs.Common.{rules, ◌≡◌, length, set, sym, ap, ◌∙◌, subst}
+use Rattle.one_job.specs.Marks.{Finished, mark_at}
 use Rattle.one_job.specs.View.{JobView}
 use Rattle.job_running.specs.Parts.{HoldClaimed}
 use Rattle.job_running.proofs.HeldFrames.{last_claimed, none_last, some_last, none_claimed}

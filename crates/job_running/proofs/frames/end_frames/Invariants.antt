@@ -1,4 +1,4 @@
-use Rattle.std.proofs.Common.{◌≡◌, ◌<◌, ◌^◌, length}
+use Rattle.std.proofs.Common.{◌<◌, ◌^◌, length}
 use Rattle.job_running.specs.Parts.{HoldClaimed}
 use Rattle.job_running.proofs.frames.end_frames.Given as goal
 

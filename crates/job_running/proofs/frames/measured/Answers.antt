@@ -1,4 +1,4 @@
-use Rattle.std.proofs.Common.{ℕ, List, ap, sym, ◌∙◌, map}
+use Rattle.std.proofs.Common.{ap, sym, ◌∙◌, map}
 use Rattle.kernel_gate.specs.Value.{lengths}
 use Rattle.split_block.specs.View.{LeasePlace}
 use Rattle.job_running.proofs.HeldFrames.{leases_long}

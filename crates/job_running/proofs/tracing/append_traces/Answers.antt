@@ -16,18 +16,29 @@ loop-actor-preserved c =
     let n = was.1 in
     let lists = c.from_vec-left.result.items in
     elim c.if-is_configuration.branch [
-      | then-is_configuration+in_ok-append w ↦ record { rows = (b, n + 1, rw w.own-is was.2,
+      | then-is_configuration+in_ok-append w ↦ record {
+        rows = (
+          b,
+          n + 1,
+          rw w.own-is was.2,
           rw w.left-is (w.next_rows-more.ensures.rest ∙ ap (drop 1) was.3 ∙ drop-drop 1 n lists),
           λ counts traces configured long have. config_rows actors i x c.loop-actor-test.true c.actor-item.is (drop n (with_traces configured lists)) c.loop-actor.rows c.if-is_configuration.rows w.next_rows-more.result _ counts traces b
-            (was.4 counts traces configured long have) (w.rows-is ∙ w.in_ok-append.ensures)
-            (sym c.is_configuration.ensures ∙ w.if-is_configuration.true)
-            (w.next_rows-more.ensures.taken ∙ ap (λ l. get_or l 0 []) was.3 ∙ sym (trace_at configured lists n long))
-            (drop (n + 1) (with_traces configured lists)) (sym (drop-drop 1 n (with_traces configured lists)))) }
-      | else-is_configuration+in_ok-append_all w ↦ record { rows = (b + 1, n,
+              (was.4 counts traces configured long have) (w.rows-is ∙ w.in_ok-append.ensures)
+              (sym c.is_configuration.ensures ∙ w.if-is_configuration.true)
+              (w.next_rows-more.ensures.taken ∙ ap (λ l. get_or l 0 []) was.3 ∙ sym (trace_at configured lists n long))
+              (drop (n + 1) (with_traces configured lists)) (sym (drop-drop 1 n (with_traces configured lists))),
+        );
+      }
+      | else-is_configuration+in_ok-append_all w ↦ record {
+        rows = (
+          b + 1,
+          n,
           rw w.own-is (w.next_lists-lists.ensures.rest ∙ ap (drop 1) was.2 ∙ drop-drop 1 b c.from_vec-own.result.items),
           rw w.left-is was.3,
           λ counts traces configured long have. level_rows actors i x c.loop-actor-test.true c.actor-item.is (drop n (with_traces configured lists)) c.loop-actor.rows c.if-is_configuration.rows (flat w.next_lists-lists.result.items) _ counts traces b
-            (was.4 counts traces configured long have) (w.rows-is ∙ w.in_ok-append_all.ensures)
-            (sym c.is_configuration.ensures ∙ w.if-is_configuration.false)
-            (ap flat w.next_lists-lists.ensures.taken ∙ rows_here counts traces c.from_vec-own.result.items c.loop-actor.own.items b was.2 have)) }
+              (was.4 counts traces configured long have) (w.rows-is ∙ w.in_ok-append_all.ensures)
+              (sym c.is_configuration.ensures ∙ w.if-is_configuration.false)
+              (ap flat w.next_lists-lists.ensures.taken ∙ rows_here counts traces c.from_vec-own.result.items c.loop-actor.own.items b was.2 have),
+        );
+      }
     ]

@@ -1,4 +1,4 @@
-use Rattle.std.proofs.Common.{◌≡◌, ℕ, ◌≤◌, List, ◌++◌, drop, length}
+use Rattle.std.proofs.Common.{◌≡◌, ℕ, List, ◌++◌, drop, length}
 use Rattle.pisdf_meaning.specs.Running.{Traces, child_rows}
 use Rattle.pisdf_meaning.specs.declared.firing.Configured.{Configured}
 use Rattle.job_preparing.specs.Handing.{with_traces}

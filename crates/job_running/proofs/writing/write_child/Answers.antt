@@ -1,4 +1,4 @@
-use Rattle.std.proofs.Common.{arith, ◌≡◌, ◌<◌, ℕ, ℤ, Bool, List, true, [], length, get_or, sym, ap, ◌∙◌, subst}
+use Rattle.std.proofs.Common.{ℤ, Bool, List, [], length, get_or, sym, ap, ◌∙◌}
 use Rattle.kernel_gate.specs.Value.{FrameView, lengths}
 use Rattle.job_running.specs.Sizes.{child_outs}
 use Rattle.job_running.proofs.WrittenOuts.{line_long, out_long, write_state}

@@ -1,5 +1,4 @@
-use Rattle.std.proofs.Common.{rules, arith, ◌≡◌, ◌+◌, ◌≤◌, length, get_or, sym, ap, ◌∙◌}
-use Rattle.pisdf_model.specs.Hold.{in_line}
+use Rattle.std.proofs.Common.{arith, ◌≡◌, length, get_or, ap, ◌∙◌}
 use Rattle.job_running.proofs.WrittenOuts.{line_more}
 use Rattle.job_running.proofs.writing.write_line.Goals as goal
 

@@ -1,4 +1,4 @@
-use Rattle.std.proofs.Common.{arith, ◌≡◌, [], get_or, sym, ap, ◌∙◌}
+use Rattle.std.proofs.Common.{[], ◌∙◌}
 use Rattle.job_running.proofs.WrittenOuts.{write_next}
 use Rattle.std.proofs.lemmas.List.{get_or_default}
 use Rattle.job_running.proofs.writing.write_outs.Goals as goal

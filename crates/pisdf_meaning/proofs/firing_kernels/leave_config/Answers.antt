@@ -7,9 +7,9 @@ use Rattle.pisdf_meaning.proofs.firing_kernels.leave_config.Goals as goal
 
 pub leave_kernel-requires : goal.leave_kernel-requires
 leave_kernel-requires g c =
-    let args : length c.tokens_at-args.result.now ≡ length (tokens_at c.args.early.now.args c.args.number) =
-    ap (λ (l : List ℤ). length l) (c.tokens_at-args.ensures ∙ ap (λ l. tokens_at l c.args.number) c.items-2.ensures ∙ ap (λ (e : EarlyView). tokens_at e.args c.args.number) c.early.view_is) in
-    let rates : length c.rates_at-rates.result.now ≡ length (get_or c.args.early.now.outs c.args.number []) =
-    ap (λ (l : List ℕ). length l) (c.rates_at-rates.ensures ∙ ap (λ l. get_or l c.args.number []) c.items-3.ensures ∙ ap (λ (e : EarlyView). get_or e.outs c.args.number []) c.early.view_is) in
-    let read : length c.in_ok-read.read ≡ c.args.ports = ap (λ (l : List (List ℤ)). length l) c.in_ok-read.ensures ∙ length-map _ _ ∙ length-range_with_len 0 c.args.ports in
+    let args : length c.tokens_at-args.result.now ≡ length (tokens_at c.args.early.now.args c.args.call.now.number) =
+    ap (λ (l : List ℤ). length l) (c.tokens_at-args.ensures ∙ ap (λ l. tokens_at l c.args.call.now.number) c.items-2.ensures ∙ ap (λ (e : EarlyView). tokens_at e.args c.args.call.now.number) c.early.view_is) in
+    let rates : length c.rates_at-rates.result.now ≡ length (get_or c.args.early.now.outs c.args.call.now.number []) =
+    ap (λ (l : List ℕ). length l) (c.rates_at-rates.ensures ∙ ap (λ l. get_or l c.args.call.now.number []) c.items-3.ensures ∙ ap (λ (e : EarlyView). get_or e.outs c.args.call.now.number []) c.early.view_is) in
+    let read : length c.in_ok-read.read ≡ c.args.call.now.inputs = ap (λ (l : List (List ℤ)). length l) c.in_ok-read.ensures ∙ length-map _ _ ∙ length-range_with_len 0 c.args.call.now.inputs in
     rw (args, rates, read) c.requires

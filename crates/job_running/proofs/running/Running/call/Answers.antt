@@ -1,14 +1,13 @@
-use Rattle.std.proofs.Common.{◌≡◌, ℕ, ℤ, Bool, List, [], length, set, Option, Some, sym, ap, ◌∙◌, subst}
+use Rattle.std.proofs.Common.{List, length, set, Option, Some, sym, ap, ◌∙◌, subst}
 use Rattle.std.proofs.lemmas.List.{with_items_is}
 use Rattle.kernel_gate.specs.Value.{FrameView}
 use Rattle.nested_jobs.specs.Rules.{Call}
 use Rattle.pisdf_model.specs.declared.graph.Graphs.{Graphs}
-use Rattle.one_job.specs.Marks as one
 use Rattle.one_job.specs.View as leased
-use Rattle.job_running.specs.Kept.{fixed_of, view_of}
+use Rattle.job_running.specs.Kept.{fixed_of}
 use Rattle.job_running.specs.Parts.{KeepsAll, frame_at}
 use Rattle.job_running.specs.View.{IsOfferedCall, RunningView}
-use Rattle.job_running.proofs.CalledNodes.{args_inside, called_ok, caller_so, calls, calls_graph, child_known, few_read, inherits_of, inside_of, keeps_inside, keeps_waiting, numbers, place_inside, places_are, set_inside, task_of, view_err, view_ok}
+use Rattle.job_running.proofs.CalledNodes.{args_inside, called_ok, caller_so, calls, calls_graph, child_known, few_read, inherits_of, inside_of, keeps_inside, keeps_waiting, numbers, places_are, set_inside, task_of, view_err, view_ok}
 use Rattle.job_running.proofs.ClaimedNodes.{no_frame}
 use Rattle.job_running.proofs.NodeTasks.{enabled}
 use Rattle.job_running.proofs.running.Running.call.Goals as goal

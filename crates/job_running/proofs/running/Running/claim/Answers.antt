@@ -1,19 +1,15 @@
-use Rattle.std.proofs.Common.{◌≡◌, ℕ, ℤ, List, [], set, Some, sym, ap, ◌∙◌, subst}
+use Rattle.std.proofs.Common.{◌≡◌, set, Some, sym, ap, ◌∙◌, subst}
 use Rattle.kernel_gate.specs.Value.{FrameView, lengths}
 use Rattle.nested_jobs.specs.Marks.{Busy}
 use Rattle.nested_jobs.specs.Rules.{Work}
 use Rattle.sdf_level.specs.declared.node.Node.{Node}
-use Rattle.job_flow.specs.Frames.{inputs, lens}
 use Rattle.job_flow.specs.Graphs.{node_at}
-use Rattle.one_job.specs.Marks as one
 use Rattle.one_job.specs.View as leased
 use Rattle.job_running.specs.Calls.{IsHanded, frame_of, handed_out}
 use Rattle.job_running.specs.Kept.{fixed_of, view_of}
 use Rattle.job_running.specs.Parts.{KeepsAll}
 use Rattle.job_running.specs.Sizes.{place_lens}
-use Rattle.job_running.specs.Stages.{stage_at}
 use Rattle.job_running.specs.View.{IsOfferedWork, RunningView, task}
-use Rattle.job_running.specs.declared.running.Running.TheInside.{Inside}
 use Rattle.job_running.specs.declared.stage.Stage.TheVariants as stage
 use Rattle.job_running.specs.declared.handed.Handed.{Handed}
 use Rattle.job_running.proofs.ClaimedNodes.{frame_out, handed, keeps_claimed, view_claimed}

@@ -1,4 +1,4 @@
-use Rattle.std.proofs.Common.{◌≡◌, ℕ, ℤ, List, [], set, Some, None, sym, ap, ◌∙◌, subst}
+use Rattle.std.proofs.Common.{◌≡◌, set, Some, None, sym, ap, ◌∙◌, subst}
 use Rattle.std.specs.Prelude.{◌⊎◌, IsOk}
 use Rattle.kernel_gate.specs.Value.{FrameView, lengths}
 use Rattle.nested_jobs.specs.Marks.{Done}
@@ -8,7 +8,7 @@ use Rattle.one_job.specs.Marks as one
 use Rattle.one_job.specs.View as leased
 use Rattle.one_job.specs.View.{IsFiring}
 use Rattle.job_preparing.specs.Handing.{answer_with, lent_at}
-use Rattle.job_running.specs.Kept.{fixed_of, view_of}
+use Rattle.job_running.specs.Kept.{fixed_of}
 use Rattle.job_running.specs.Parts.{KeepsAll}
 use Rattle.job_running.specs.Sizes.{place_lens}
 use Rattle.job_running.specs.Stages.{IsEnded}

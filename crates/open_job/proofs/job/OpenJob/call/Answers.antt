@@ -3,6 +3,7 @@ use Rattle.nested_jobs.specs.Marks as mark
 use Rattle.open_job.proofs.Methods.{actor_call}
 use Rattle.open_job.proofs.NodeMethods.{above, call_ok, call_other, called_firing, called_inherited, called_keeps, called_view, uncalled_view}
 use Rattle.open_job.proofs.ActorCalls.{call_inherits, call_keeps, call_tasks, call_view}
+use Rattle.open_job.proofs.There.{item_there}
 use Rattle.open_job.proofs.job.OpenJob.call.Goals as goal
 
 pub call-requires : goal.call-requires
@@ -64,3 +65,13 @@ pub returns-else-item-compilation-clause-inherited : goal.returns-else-item-comp
 returns-else-item-compilation-clause-inherited c =
     let i = c.self.inside in
     called_inherited i.configuring i.workers i.stage c.self.invariant c.args.self.now c.self.view_is c.args.item c.count-compilation.result c.count-compilation.ensures c.if-item-compilation.false (call_other i.configuring i.workers i.stage c.self.invariant c.args.self.now c.self.view_is c.args.item c.requires) c.call_node.new.stage c.call_node.result c.call_node.ensures
+
+pub returns-then-item-compilation-clause-there : goal.returns-then-item-compilation-clause-there
+returns-then-item-compilation-clause-there c =
+    let i = c.self.inside in
+    item_there i.configuring i.workers i.stage c.self.invariant c.args.self.now c.self.view_is c.args.item _ c.requires.task_is
+
+pub returns-else-item-compilation-clause-there : goal.returns-else-item-compilation-clause-there
+returns-else-item-compilation-clause-there c =
+    let i = c.self.inside in
+    item_there i.configuring i.workers i.stage c.self.invariant c.args.self.now c.self.view_is c.args.item _ c.requires.task_is

@@ -3,6 +3,7 @@ use Rattle.nested_jobs.specs.Marks as mark
 use Rattle.nested_jobs.specs.Marks.{Busy}
 use Rattle.open_job.proofs.Methods.{actor_handed, actor_work, step_keeps, step_view}
 use Rattle.open_job.proofs.NodeMethods.{claim_ok, claimed_handed, claimed_keeps, claimed_view}
+use Rattle.open_job.proofs.There.{item_there}
 use Rattle.open_job.proofs.job.OpenJob.claim.Goals as goal
 
 pub claim-requires : goal.claim-requires
@@ -44,3 +45,13 @@ pub invariant_of-self-else-item-compilation : goal.invariant_of-self-else-item-c
 invariant_of-self-else-item-compilation c =
     let i = c.self.inside in
     claimed_keeps i.configuring i.workers i.stage c.self.invariant c.args.self.now c.self.view_is c.args.item c.count-compilation.result c.count-compilation.ensures c.if-item-compilation.false c.requires.framed c.claim_node.new.stage c.claim_node.result c.claim_node.ensures
+
+pub returns-then-item-compilation-clause-there : goal.returns-then-item-compilation-clause-there
+returns-then-item-compilation-clause-there c =
+    let i = c.self.inside in
+    item_there i.configuring i.workers i.stage c.self.invariant c.args.self.now c.self.view_is c.args.item _ c.requires.offered.task_is
+
+pub returns-else-item-compilation-clause-there : goal.returns-else-item-compilation-clause-there
+returns-else-item-compilation-clause-there c =
+    let i = c.self.inside in
+    item_there i.configuring i.workers i.stage c.self.invariant c.args.self.now c.self.view_is c.args.item _ c.requires.offered.task_is

@@ -2,6 +2,7 @@ use Rattle.std.proofs.Common.{sym, ap, ◌∙◌, subst}
 use Rattle.open_job.proofs.CompileSteps.{claim_keeps, claim_view, no_nodes_waiting, ready_so, task_view, waits}
 use Rattle.open_job.specs.Kept.{KeepsWith, view_with}
 use Rattle.open_job.specs.declared.stage.Stage.{Stage}
+use Rattle.open_job.proofs.There.{compilation_there}
 use Rattle.open_job.proofs.job.OpenJob.claim_compile.Goals as goal
 
 pub compile_task-requires-clause-ready : goal.compile_task-requires-clause-ready
@@ -28,3 +29,8 @@ pub returns-clause-claimed : goal.returns-clause-claimed
 returns-clause-claimed c =
     let i = c.self.inside in
     ap (view_with i.configuring i.workers) c.go_on.ensures ∙ claim_view i.configuring i.workers i.stage c.self.invariant c.args.self.now c.self.view_is (waits i.configuring i.workers i.stage c.self.invariant c.args.self.now c.self.view_is c.requires.free)
+
+pub returns-clause-there : goal.returns-clause-there
+returns-clause-there c =
+    let i = c.self.inside in
+    compilation_there i.configuring i.workers i.stage c.self.invariant c.args.self.now c.self.view_is

@@ -1,0 +1,149 @@
+-- What a worker is handed is what a claim says.
+use Rattle.std.proofs.Common.{◌≡◌, ◌⊎◌, ⊎_elim, ℕ, true, false, Bool, nat_lt, List, [], ◌∷◌, ◌++◌, length, get_or, Option, Some, None, refl, sym, ap, ◌∙◌, subst}
+use Rattle.std.specs.Option.{option_map}
+use Rattle.kernel_gate.specs.Value.{Places}
+use Rattle.job_rules.specs.Words as words
+use Rattle.nested_jobs.specs.Marks.{Busy}
+use Rattle.nested_jobs.specs.Rules.{Task, Work}
+use Rattle.open_job.proofs.OfferedCompilation.{compiles, may_compile}
+use Rattle.open_job.specs.Calls.{IsHanded, IsHandedFor, frame_of}
+use Rattle.open_job.specs.View.{IsOfferedWork, compilation_of, graph_in, left_by, task}
+use Rattle.open_job.specs.declared.handed.Handed.{Handed}
+use Rattle.open_job.specs.declared.handed.Handed.TheVariants as handed
+use Rattle.pisdf_meaning.specs.declared.firing.Firing.{Firing}
+use Rattle.pisdf_model.specs.declared.graph.Graphs.{Graphs}
+use Rattle.board_rules.specs.Entries.{item_of}
+use Rattle.board_rules.specs.Keys.{Key}
+use Rattle.board_rules.specs.declared.entry.Entry.{Entry}
+use Rattle.board_rules.specs.declared.entry.Item.{Item}
+use Rattle.job_table.specs.Calls.{LendsItem, MarksItem}
+use Rattle.job_table.specs.View.{TableView, lent_in, row_at}
+use Rattle.job_table.specs.declared.row.Row.{Row}
+use Rattle.firing_board.specs.Claims.{Claims, IsTicket, Picks}
+use Rattle.firing_board.specs.Core.{held_of, lent_of}
+use Rattle.firing_board.specs.Finding.{IsFound}
+use Rattle.firing_board.specs.Handing.{HandsCompilation, HandsFrame, HandsOut, claim_of}
+use Rattle.firing_board.specs.Kept.{view_with}
+use Rattle.firing_board.specs.OnCore.{ClaimsOn, MayClaim}
+use Rattle.firing_board.specs.Opening.{KeepsRuns}
+use Rattle.firing_board.specs.View.{BoardView}
+use Rattle.firing_board.specs.declared.claim.Claim.{Claim}
+use Rattle.firing_board.specs.declared.claim.Claim.TheVariants as claim
+use Rattle.firing_board.specs.declared.claim.Ticket.{Ticket}
+use Rattle.firing_board.specs.declared.core.Core.{Core}
+use Rattle.firing_board.specs.declared.run.Run.{Run}
+use Rattle.firing_board.proofs.Claimed.{ClaimLaws, apart, entered_next, keeps_next, kept_next, lent_next, work_next}
+use Rattle.firing_board.proofs.Rows.{the_same}
+use Rattle.firing_board.proofs.Runners.{held_as}
+use Rattle.firing_board.proofs.Took.{Took, as_before_through, lends_through, marks_through, took}
+
+-- a frame for this work
+handed_claims : (before : Bool) (work : words.Work) (h : Handed) (ticket : Ticket) (old new : BoardView) (w : ℕ) → IsHandedFor before (Some (Work work)) h → IsTicket old w ticket → Picks old new w work (Some (frame_of h).places)
+    → Claims old new w (claim_of ticket h)
+handed_claims true (words.Fires spot asked) (handed.Configure frame) ticket old new w is t p = (t, spot, asked, is, p)
+handed_claims true (words.Fires spot asked) (handed.Fire frame) ticket old new w is t p = absurd is
+handed_claims true (words.Fires spot asked) (handed.Copy node frame) ticket old new w is t p = absurd is
+handed_claims false (words.Fires spot asked) (handed.Configure frame) ticket old new w is t p = absurd is
+handed_claims false (words.Fires spot asked) (handed.Fire frame) ticket old new w is t p = (t, spot, asked, is, p)
+handed_claims false (words.Fires spot asked) (handed.Copy node frame) ticket old new w is t p = absurd is
+handed_claims true (words.Copies node read lens) (handed.Configure frame) ticket old new w is t p = absurd is
+handed_claims true (words.Copies node read lens) (handed.Fire frame) ticket old new w is t p = absurd is
+handed_claims true (words.Copies node read lens) (handed.Copy other frame) ticket old new w is t p = (t, read, lens, is.1, subst (λ n. Picks old new w (words.Copies n read lens) (Some frame.places)) (sym is.0) p)
+handed_claims false (words.Copies node read lens) (handed.Configure frame) ticket old new w is t p = absurd is
+handed_claims false (words.Copies node read lens) (handed.Fire frame) ticket old new w is t p = absurd is
+handed_claims false (words.Copies node read lens) (handed.Copy other frame) ticket old new w is t p = (t, read, lens, is.1, subst (λ n. Picks old new w (words.Copies n read lens) (Some frame.places)) (sym is.0) p)
+handed_claims true (words.Compiles firing left) h ticket old new w is t p = absurd is
+handed_claims false (words.Compiles firing left) h ticket old new w is t p = absurd is
+
+-- which run it is that a worker holds
+pub run_of : (r : Option Run) (k i : ℕ) → held_as r ≡ Some (k, i) → (run : Run) × (r ≡ Some run) × (run.row ≡ k) × (run.item ≡ i)
+run_of None k i is = absurd (cc)
+run_of (Some run) k i is = (run, refl, ap (λ (o : Option (ℕ × ℕ)). row_or o) is, ap (λ (o : Option (ℕ × ℕ)). item_or o) is)
+  where
+    row_or : Option (ℕ × ℕ) → ℕ
+    row_or None = 0
+    row_or (Some h) = h.0
+
+    item_or : Option (ℕ × ℕ) → ℕ
+    item_or None = 0
+    item_or (Some h) = h.1
+
+pub none_if : (o : Option Places) → ((places : Places) → o ≡ Some places → ⊥) → o ≡ None
+none_if None not = refl
+none_if (Some places) not = absurd (not places refl)
+
+module _ (laws : ClaimLaws) (key : Key) (old : Core) (w : ℕ) (may : MayClaim key old w) (mid : Core) (run : Run) (found : IsFound key may.keeps.taken old w mid run) (kept : KeepsRuns old mid) (new : Core) where
+  picks : (item : Item) (ticket : Ticket) (item_is : item ≡ item_of (graph_in found.row.job) run.item) (marks : MarksItem run.row run.item Busy mid.table new.table) (frame : Option Places)
+      (lends : LendsItem run.row run.item frame mid.table new.table) (t : Took mid w run item ticket new) → Picks (view_with key old false) (view_with key new false) w found.offered.work frame
+  picks item ticket item_is marks frame lends t =
+      let next = kept_next laws key old w may mid run found kept new item ticket item_is marks frame lends t in
+      record {
+        taken = may.keeps.taken;
+        before = record { legal = may.keeps.at.kept.legal; entered = may.keeps.at.entered };
+        item = run.item;
+        place = found.row.place;
+        picked = found.picked;
+        after = record { legal = next.legal; entered = entered_next laws key old w may mid run found kept new item ticket item_is marks frame lends t };
+        runs = work_next laws key old w may mid run found kept new item ticket item_is marks frame lends t;
+        live = refl;
+        new_is = ap (λ (l : List (Option Places)). record { key = key; journal = new.journal.entries; starved = false; lent = l }) (lent_next laws key old w may mid run found kept new item ticket item_is marks frame lends t);
+      }
+
+  module _ (result : Claim) (h : HandsOut mid w run new result) where
+    is_row : h.row ≡ found.row
+    is_row = the_same (row_at mid.table run.row) h.row found.row h.here found.here
+
+    item_is : h.item ≡ item_of (graph_in found.row.job) run.item
+    item_is = h.item_is ∙ ap (λ (r : Row). item_of (graph_in r.job) run.item) is_row
+
+    frame_claims : HandsFrame h.reserved w run h.item new result → ClaimsOn key old w new result
+    frame_claims f =
+        let t = took mid h.reserved f.claimed new w run h.item f.ticket h.keeps f.running_is f.numbers_are f.journal_is f.end_is h.room f.enters in
+        let marks = marks_through mid.table h.reserved.table f.claimed.table new.table run.row run.item h.keeps.table_is f.enters.table_is f.marks in
+        let places : Option Places = Some (frame_of f.handed).places in
+        let lends = lends_through mid.table h.reserved.table f.claimed.table new.table run.row run.item places h.keeps.table_is f.enters.table_is f.lends in
+        let p = picks h.item f.ticket item_is marks places lends t in
+        let row : f.row ≡ found.row = the_same (row_at mid.table run.row) f.row found.row (subst (λ (v : TableView). row_at v run.row ≡ Some f.row) h.keeps.table_is f.here) found.here in
+        let so : IsHanded found.row.job run.item f.handed = subst (λ (r : Row). IsHanded r.job run.item f.handed) row f.handed_so in
+        let work = subst (λ (x : Option (Task Firing words.Work)). IsHandedFor (nat_lt run.item (compilation_of found.row.job)) x f.handed) found.offered.task_is so in
+        let ticket : IsTicket (view_with key old false) w f.ticket = t.ticket_is ∙ ap (λ (es : List Entry). record { worker = w; entry = length es }) kept.entries_are in
+        let c = handed_claims (nat_lt run.item (compilation_of found.row.job)) found.offered.work f.handed f.ticket (view_with key old false) (view_with key new false) w work ticket p in
+        record {
+          claims = subst (Claims (view_with key old false) (view_with key new false) w) (sym f.result_is) c;
+          keeps = keeps_next laws key old w may mid run found kept new h.item f.ticket item_is marks places lends t;
+        }
+
+    compilation_claims : run.item ≡ compilation_of h.row.job → HandsCompilation h.reserved w run h.item new result → ClaimsOn key old w new result
+    compilation_claims at f =
+        let t = took mid h.reserved f.claimed new w run h.item f.ticket h.keeps f.running_is f.numbers_are f.journal_is f.end_is h.room f.enters in
+        let row : f.row ≡ found.row = the_same (row_at mid.table run.row) f.row found.row (subst (λ (v : TableView). row_at v run.row ≡ Some f.row) h.keeps.table_is f.here) found.here in
+        let item : run.item ≡ compilation_of found.row.job = at ∙ ap (λ (r : Row). compilation_of r.job) is_row in
+        let place : compilation_of f.row.job ≡ run.item = ap (λ (r : Row). compilation_of r.job) row ∙ sym item in
+        let marks = marks_through mid.table h.reserved.table f.claimed.table new.table run.row run.item h.keeps.table_is f.enters.table_is (subst (λ (i : ℕ). MarksItem run.row i Busy h.reserved.table f.claimed.table) place f.marks) in
+        let as_before = as_before_through mid.table h.reserved.table f.claimed.table new.table h.keeps.table_is f.enters.table_is f.lends in
+        let unlent : lent_in mid.table run.row run.item ≡ None = none_if (lent_in mid.table run.row run.item) (λ places e.
+        let v = may.keeps.lent run.row run.item places (sym (kept.lent run.row run.item) ∙ e) in
+        let r = run_of (get_or old.running.items v.0 None) run.row run.item v.1 in
+        apart laws key old w may mid run found kept v.0 r.0 r.1 r.2 r.3) in
+        let lends : LendsItem run.row run.item None mid.table new.table = record {
+          here = as_before run.row run.item ∙ unlent;
+          in_job = λ i other. as_before run.row i;
+          others = λ j i other. as_before j i;
+        } in
+        let offered = subst (IsOfferedWork found.row.job) item found.offered in
+        let work : words.Compiles found.row.job.firing (left_by found.row.job) ≡ found.offered.work =
+        (let one = compiles found.row.job (may_compile found.row.job offered) in
+        let two : task found.row.job (compilation_of found.row.job) ≡ Some (Work found.offered.work) = ap (task found.row.job) (sym item) ∙ found.offered.task_is in
+        cc) in
+        let p = subst (λ x. Picks (view_with key old false) (view_with key new false) w x None) (sym work) (picks h.item f.ticket item_is marks None lends t) in
+        let suits = found.suits.rows run.row found.row found.here in
+        let ticket : IsTicket (view_with key old false) w f.ticket = t.ticket_is ∙ ap (λ (es : List Entry). record { worker = w; entry = length es }) kept.entries_are in
+        let c : (r : Row) → r ≡ found.row → Claims (view_with key old false) (view_with key new false) w (claim.Compile f.ticket record { graphs = r.job.graphs; workers = r.job.workers; firing = r.job.firing; left = left_by r.job; kept = f.kept }) =
+        λ r e. subst (λ (x : Row). Claims (view_with key old false) (view_with key new false) w (claim.Compile f.ticket record { graphs = x.job.graphs; workers = x.job.workers; firing = x.job.firing; left = left_by x.job; kept = f.kept })) (sym e) (ticket, suits.graphs_are, suits.workers_are, p) in
+        record {
+          claims = subst (Claims (view_with key old false) (view_with key new false) w) (sym f.result_is) (c f.row row);
+          keeps = keeps_next laws key old w may mid run found kept new h.item f.ticket item_is marks None lends t;
+        }
+
+    pub hands_claims : ClaimsOn key old w new result
+    hands_claims = ⊎_elim (λ f. frame_claims f) (λ k. compilation_claims k.0 k.1) h.handed

@@ -1,0 +1,17 @@
+pub mod Rows
+pub mod Openings
+pub mod Found
+pub mod Runners
+pub mod Took
+pub mod Claimed
+pub mod Starving
+pub mod Handed
+pub mod Idle
+pub mod Fields
+pub mod Ended
+pub mod Leaving
+pub mod Framed
+pub mod Started
+pub mod Compilations
+pub mod Abandoned
+pub mod Sound

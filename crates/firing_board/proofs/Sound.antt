@@ -1,0 +1,34 @@
+-- What is true of every board.
+use Rattle.std.proofs.Common.{◌≡◌, ⊎_elim, ℕ, ◌<◌, ◌≤◌, Bool, Option, Some, None, length, get_or, refl, sym, ap, ◌∙◌, subst, arith}
+use Rattle.std.proofs.lemmas.Bool.{cases_lt}
+use Rattle.std.proofs.lemmas.List.{get_or_past, length-map}
+use Rattle.board_rules.specs.Keys.{Key}
+use Rattle.board_rules.specs.Laws.{JournalsTellSteps}
+use Rattle.board_rules.specs.Legal.{state_after}
+use Rattle.firing_board.specs.Core.{lent_of, lent_with}
+use Rattle.firing_board.specs.Kept.{Keeps, view_with}
+use Rattle.firing_board.specs.Runs.{IsSound}
+use Rattle.firing_board.specs.View.{IsAt, lent_to}
+use Rattle.firing_board.specs.declared.core.Core.{Core}
+use Rattle.firing_board.specs.declared.run.Run.{Run}
+use Rattle.firing_board.proofs.Fields.{entered_by, legal_by, nothing_held}
+use Rattle.firing_board.proofs.Leaving.{lent_at_worker}
+
+module _ (tell : JournalsTellSteps) (key : Key) (c : Core) (starved : Bool) (keeps : Keeps key c starved) where
+  at : IsAt (view_with key c starved) keeps.taken
+  at = record { legal = legal_by starved key keeps.taken c keeps.at; entered = entered_by starved key keeps.taken c keeps.at }
+
+  many : length (lent_of c.table c.running.items) ≡ key.workers
+  many = length-map c.running.items (lent_with c.table) ∙ keeps.one_each
+
+  pub is_sound : IsSound (view_with key c starved)
+  is_sound = record {
+    is_key = keeps.is_key;
+    one_each = many;
+    taken = keeps.taken;
+    at = at;
+    unlent = λ w none. ⊎_elim
+        (λ (lt : w < key.workers). lent_at_worker c.table c.running.items w ∙ ap (lent_with c.table) (nothing_held tell key c starved keeps keeps.taken at w lt none))
+        (λ (le : key.workers ≤ w). get_or_past (lent_of c.table c.running.items) w None (let m = many in omega arith))
+        (cases_lt w key.workers);
+  }

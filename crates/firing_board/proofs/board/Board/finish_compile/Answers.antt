@@ -1,0 +1,52 @@
+use Rattle.std.proofs.Common.{◌≡◌, ◌∙◌, None, sym, ap, subst}
+use Rattle.board_rules.specs.Keys.{Key}
+use Rattle.firing_board.specs.Finishes.{Finishes, MayEnd}
+use Rattle.firing_board.specs.Kept.{Keeps, key_of, key_with, view_of, view_with}
+use Rattle.firing_board.specs.Runs.{Runs}
+use Rattle.firing_board.specs.View.{BoardView, lent_to}
+use Rattle.firing_board.proofs.Fields.{key_same}
+use Rattle.firing_board.proofs.board.Board.finish_compile.Goals as goal
+
+pub finish_compilation-self-inside-requires : goal.finish_compilation-self-inside-requires
+finish_compilation-self-inside-requires c =
+    let i = c.self.inside in
+    let key = key_of i in
+    let w = c.args.ticket.worker in (
+      key,
+      record {
+        keeps = c.self.invariant.0;
+        runs = subst (λ (b : BoardView). Runs b w (MayEnd b.key c.args.end)) (sym c.self.view_is) c.requires.runs;
+        lent = ap (λ (b : BoardView). lent_to b w) c.self.view_is ∙ c.requires.lent;
+      },
+    )
+
+pub invariant_of-self : goal.invariant_of-self
+invariant_of-self c =
+    let i = c.self.inside in
+    let key = key_of i in
+    let w = c.args.ticket.worker in
+    let new = c.finish_compilation-self-inside.new.core in
+    let kept = c.finish_compilation-self-inside.ensures.kept in
+    let f = c.finish_compilation-self-inside.ensures.finished key record {
+      keeps = c.self.invariant.0;
+      runs = subst (λ (b : BoardView). Runs b w (MayEnd b.key c.args.end)) (sym c.self.view_is) c.requires.runs;
+      lent = ap (λ (b : BoardView). lent_to b w) c.self.view_is ∙ c.requires.lent;
+    } in
+    let same = key_same i.signatures.items i.top.value i.core new kept in
+    (subst (λ (k : Key). Keeps k new c.finish_compilation-self-inside.result) (sym same) f.keeps, c.take_key-key.ensures ∙ (c.self.invariant.1 ∙ sym kept.one_each))
+
+pub returns-clause-finishes : goal.returns-clause-finishes
+returns-clause-finishes c =
+    let i = c.self.inside in
+    let key = key_of i in
+    let w = c.args.ticket.worker in
+    let new = c.finish_compilation-self-inside.new.core in
+    let after = c.finish_compilation-self-inside.result in
+    let f = c.finish_compilation-self-inside.ensures.finished key record {
+      keeps = c.self.invariant.0;
+      runs = subst (λ (b : BoardView). Runs b w (MayEnd b.key c.args.end)) (sym c.self.view_is) c.requires.runs;
+      lent = ap (λ (b : BoardView). lent_to b w) c.self.view_is ∙ c.requires.lent;
+    } in
+    let same = key_same i.signatures.items i.top.value i.core new c.finish_compilation-self-inside.ensures.kept in
+    subst (λ (b : BoardView). Finishes b (view_with (key_with i.signatures.items i.top.value new) new after) w) c.self.view_is
+    (subst (λ (k : Key). Finishes (view_of i) (view_with k new after) w) (sym same) f.finishes)

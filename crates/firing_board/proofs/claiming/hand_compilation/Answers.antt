@@ -1,0 +1,34 @@
+use Rattle.std.proofs.Common.{◌≡◌, refl, ap, subst}
+use Rattle.std.specs.Arc.{arc_value}
+use Rattle.std.specs.Option.{option_map}
+use Rattle.nested_jobs.specs.Marks.{Busy}
+use Rattle.job_preparing.specs.CompileTasks.{CompileView}
+use Rattle.open_job.specs.View.{compilation_of}
+use Rattle.job_table.specs.Calls.{MarksItem}
+use Rattle.job_table.specs.View.{row_at}
+use Rattle.job_table.specs.declared.row.Row.{Row}
+use Rattle.firing_board.specs.declared.claim.Claim.TheVariants as claim
+use Rattle.firing_board.proofs.Rows.{the_same}
+use Rattle.firing_board.proofs.claiming.hand_compilation.Goals as goal
+
+pub returns-clause-handed : goal.returns-clause-handed
+returns-clause-handed c =
+    let old = c.args.core.now in
+    let k = c.args.run.row in
+    let task = c.in_ok-task.ensures.task in
+    let marks = c.in_ok-task.ensures.claimed in
+    record {
+      row = task.0;
+      here = task.1;
+      kept = option_map arc_value c.args.compiled;
+      claimed = record { table = c.claim_compile.new.self; running = old.running; numbers = old.numbers; journal = old.journal; end = old.end };
+      marks = subst (λ (r : Row). MarksItem k (compilation_of r.job) Busy old.table c.claim_compile.new.self) (the_same (row_at old.table k) marks.0 task.0 marks.1 task.1) marks.2;
+      lends = c.in_ok-task.ensures.lent;
+      running_is = refl;
+      numbers_are = refl;
+      journal_is = refl;
+      end_is = refl;
+      ticket = c.enter-ticket.result;
+      enters = c.enter-ticket.ensures;
+      result_is = ap (λ (t : CompileView). claim.Compile c.enter-ticket.result t) task.2;
+    }

@@ -1,0 +1,91 @@
+use Rattle.std.proofs.Common.{◌≡◌, ◌∙◌, ℕ, Some, refl, sym, ap, subst}
+use Rattle.job_preparing.specs.Handing.{mark_at}
+use Rattle.job_rules.specs.Meant.{IsFit}
+use Rattle.nested_jobs.specs.Marks.{Free}
+use Rattle.open_job.specs.View.{OpenView}
+use Rattle.pisdf_meaning.specs.declared.firing.Firing.{Firing}
+use Rattle.pisdf_model.specs.declared.graph.Graphs.{Graphs}
+use Rattle.board_journal.specs.View.{JournalView}
+use Rattle.job_table.specs.View.{row_at}
+use Rattle.job_table.specs.declared.row.Row.{Row}
+use Rattle.firing_board.proofs.Rows.{opens_lasts, spoils_lasts, the_same}
+use Rattle.firing_board.proofs.Openings.{numbered_so}
+use Rattle.firing_board.proofs.finding.open.Goals as goal
+
+pub open_child-requires-clause-offered : goal.open_child-requires-clause-offered
+open_child-requires-clause-offered c =
+    let calls = c.requires.calls in
+    (calls.row, calls.here, ((calls.suits.rows c.args.at.row calls.row calls.here).graphs_are ∙ sym calls.suits.graphs_are, calls.offered))
+
+pub open_child-requires-clause-fit : goal.open_child-requires-clause-fit
+open_child-requires-clause-fit c =
+    let calls = c.requires.calls in
+    (calls.row, calls.here, λ firing t. subst (λ (g : Graphs). IsFit g.graphs firing) (sym (calls.suits.rows c.args.at.row calls.row calls.here).graphs_are) (calls.fit firing t))
+
+pub returns-in_err-child-clause-kept : goal.returns-in_err-child-clause-kept
+returns-in_err-child-clause-kept c =
+    let calls = c.requires.calls in
+    let s = c.in_err-child.ensures.refused in
+    let same : s.before ≡ calls.row = the_same (row_at c.args.core.now.table c.args.at.row) s.before calls.row s.here calls.here in
+    record {
+      running_is = refl;
+      entries_are = refl;
+      end_is = refl;
+      room_is = refl;
+      lasts = spoils_lasts c.args.at.row c.args.at.item c.args.core.now.table c.open_child.new.self s (ap (λ (r : Row). mark_at r.job.marks c.args.at.item) same ∙ calls.offered.free);
+      lent = c.in_err-child.ensures.lent;
+    }
+
+pub returns-in_err-path-clause-kept : goal.returns-in_err-path-clause-kept
+returns-in_err-path-clause-kept c = record {
+  running_is = refl;
+  entries_are = refl;
+  end_is = refl;
+  room_is = refl;
+  lasts = opens_lasts c.args.at.row c.args.at.item c.in_ok-child.child c.args.core.now.table c.open_child.new.self c.in_ok-child.ensures.opened;
+  lent = c.in_ok-child.ensures.lent;
+}
+
+pub returns-in_err-number-clause-kept : goal.returns-in_err-number-clause-kept
+returns-in_err-number-clause-kept c = record {
+  running_is = refl;
+  entries_are = ap (λ (j : JournalView). j.entries) c.in_err-number.ensures.refused;
+  end_is = refl;
+  room_is = ap (λ (j : JournalView). j.room) c.in_err-number.ensures.refused;
+  lasts = opens_lasts c.args.at.row c.args.at.item c.in_ok-child.child c.args.core.now.table c.open_child.new.self c.in_ok-child.ensures.opened;
+  lent = c.in_ok-child.ensures.lent;
+}
+
+pub returns-in_err-number_row-clause-kept : goal.returns-in_err-number_row-clause-kept
+returns-in_err-number_row-clause-kept c = record {
+  running_is = refl;
+  entries_are = ap (λ (j : JournalView). j.entries) c.in_ok-number.ensures.added;
+  end_is = refl;
+  room_is = ap (λ (j : JournalView). j.room) c.in_ok-number.ensures.added;
+  lasts = opens_lasts c.args.at.row c.args.at.item c.in_ok-child.child c.args.core.now.table c.open_child.new.self c.in_ok-child.ensures.opened;
+  lent = c.in_ok-child.ensures.lent;
+}
+
+pub returns-clause-opened : goal.returns-clause-opened
+returns-clause-opened c =
+    let o = c.in_ok-child.ensures.opened in
+    let old = c.args.core.now in
+    record {
+      opens = o;
+      numbered = numbered_so old.table c.open_child.new.self c.args.at.row c.args.at.item c.in_ok-child.child o old.numbers.items c.number_row.new.numbers.items old.journal.paths c.add_path.new.self.paths c.in_ok-number.number c.in_ok-path.path
+          c.in_ok-number.ensures.number
+          (ap (λ (j : JournalView). j.paths) c.in_ok-number.ensures.added)
+          (c.in_ok-path.ensures ∙ (ap (λ (f : Firing). f.path) c.firing.ensures ∙ (ap (λ (j : OpenView). j.firing.path) c.job.ensures.2 ∙ ap (λ (r : Row). r.job.firing.path) (the_same (row_at c.open_child.new.self c.in_ok-child.child) c.job.ensures.0 o.child c.job.ensures.1 o.added))))
+          c.in_ok-number_row.ensures.here
+          c.in_ok-number_row.ensures.others;
+    }
+
+pub returns-clause-kept : goal.returns-clause-kept
+returns-clause-kept c = record {
+  running_is = refl;
+  entries_are = ap (λ (j : JournalView). j.entries) c.in_ok-number.ensures.added;
+  end_is = refl;
+  room_is = ap (λ (j : JournalView). j.room) c.in_ok-number.ensures.added;
+  lasts = opens_lasts c.args.at.row c.args.at.item c.in_ok-child.child c.args.core.now.table c.open_child.new.self c.in_ok-child.ensures.opened;
+  lent = c.in_ok-child.ensures.lent;
+}

@@ -1,0 +1,209 @@
+use Rattle.std.proofs.Common.{◌≡◌, ◌∙◌, Bool, true, false, None, refl, sym, ap, subst}
+use Rattle.std.specs.Prelude.{is_err}
+use Rattle.board_rules.specs.Keys.{Key}
+use Rattle.board_rules.specs.Legal.{state_after}
+use Rattle.job_table.specs.Closing.{IsClosingFrom}
+use Rattle.firing_board.specs.Closing.{ClosesOn}
+use Rattle.firing_board.specs.Finishes.{MayEnd}
+use Rattle.firing_board.specs.OnCore.{FinishesOn, MayLeave}
+use Rattle.firing_board.proofs.Abandoned.{abandons, comes_back, compilation, may_come, unlent}
+use Rattle.firing_board.proofs.Framed.{FinishLaws, by_result, closes_finishes, closing_from, has_room, runs_at, wanted_finishes}
+use Rattle.firing_board.proofs.Leaving.{mine}
+use Rattle.firing_board.proofs.Openings.{if_ok}
+use Rattle.firing_board.proofs.finishing.finish_compilation.Goals as goal
+
+pub leave-run-requires-clause-runs : goal.leave-run-requires-clause-runs
+leave-run-requires-clause-runs c =
+    let old = c.args.core.now in
+    let w = c.args.worker in
+    let key = c.requires.0 in
+    let may = c.requires.1 in
+    let laws : FinishLaws key = record {
+      held = c.boards_keep.ensures.held;
+      begin = c.boards_keep.ensures.finish;
+      entered = c.journals_grow.ensures.finish;
+      one = c.entries_tell_steps.ensures.answers;
+      tell = c.entries_tell_steps.ensures.steps;
+      suit = c.tables_suit.ensures.finish;
+      marks = c.tables_suit.ensures.marks;
+      lawful = c.rules_are_lawful.ensures key.graphs may.keeps.is_key.in_range may.keeps.is_key.well_formed;
+    } in
+    let i = compilation key c.args.end may.runs.work may.runs.so in
+    let runs = runs_at laws.tell key old c.args.starved may.keeps w (MayEnd key c.args.end) may.runs in
+    let s = state_after key may.keeps.taken in
+    let a = mine laws.held key laws.lawful c.args.starved old may.keeps w may.runs.is_worker may.runs.work runs in
+    let none = unlent key s old w may.runs.work a may.lent in
+    (a.run, a.runs)
+
+pub leave-run-requires-clause-room : goal.leave-run-requires-clause-room
+leave-run-requires-clause-room c =
+    let old = c.args.core.now in
+    let w = c.args.worker in
+    let key = c.requires.0 in
+    let may = c.requires.1 in
+    let laws : FinishLaws key = record {
+      held = c.boards_keep.ensures.held;
+      begin = c.boards_keep.ensures.finish;
+      entered = c.journals_grow.ensures.finish;
+      one = c.entries_tell_steps.ensures.answers;
+      tell = c.entries_tell_steps.ensures.steps;
+      suit = c.tables_suit.ensures.finish;
+      marks = c.tables_suit.ensures.marks;
+      lawful = c.rules_are_lawful.ensures key.graphs may.keeps.is_key.in_range may.keeps.is_key.well_formed;
+    } in
+    let i = compilation key c.args.end may.runs.work may.runs.so in
+    let runs = runs_at laws.tell key old c.args.starved may.keeps w (MayEnd key c.args.end) may.runs in
+    let s = state_after key may.keeps.taken in
+    let a = mine laws.held key laws.lawful c.args.starved old may.keeps w may.runs.is_worker may.runs.work runs in
+    let none = unlent key s old w may.runs.work a may.lent in
+    has_room key s old c.args.starved may.keeps w may.runs.work a
+
+pub returns-then-starved-clause-finished : goal.returns-then-starved-clause-finished
+returns-then-starved-clause-finished c = λ key was.
+    let old = c.args.core.now in
+    let w = c.args.worker in
+    let may = was in
+    let laws : FinishLaws key = record {
+      held = c.boards_keep.ensures.held;
+      begin = c.boards_keep.ensures.finish;
+      entered = c.journals_grow.ensures.finish;
+      one = c.entries_tell_steps.ensures.answers;
+      tell = c.entries_tell_steps.ensures.steps;
+      suit = c.tables_suit.ensures.finish;
+      marks = c.tables_suit.ensures.marks;
+      lawful = c.rules_are_lawful.ensures key.graphs may.keeps.is_key.in_range may.keeps.is_key.well_formed;
+    } in
+    let i = compilation key c.args.end may.runs.work may.runs.so in
+    let runs = runs_at laws.tell key old c.args.starved may.keeps w (MayEnd key c.args.end) may.runs in
+    let s = state_after key may.keeps.taken in
+    let a = mine laws.held key laws.lawful c.args.starved old may.keeps w may.runs.is_worker may.runs.work runs in
+    let none = unlent key s old w may.runs.work a may.lent in
+    abandons key laws old c.args.starved may.keeps w may.runs.is_worker may.runs.work runs i.answer i.answered c.leave-run.new.core c.leave-run.ensures.1 c.leave-run.ensures.0.running_are c.leave-run.ensures.0.journal_is none
+
+pub take_compilation-requires-clause-item : goal.take_compilation-requires-clause-item
+take_compilation-requires-clause-item c =
+    let old = c.args.core.now in
+    let w = c.args.worker in
+    let key = c.requires.0 in
+    let may = subst (λ (b : Bool). MayLeave key old b w (MayEnd key c.args.end) None) c.if-starved.false c.requires.1 in
+    let laws : FinishLaws key = record {
+      held = c.boards_keep.ensures.held;
+      begin = c.boards_keep.ensures.finish;
+      entered = c.journals_grow.ensures.finish;
+      one = c.entries_tell_steps.ensures.answers;
+      tell = c.entries_tell_steps.ensures.steps;
+      suit = c.tables_suit.ensures.finish;
+      marks = c.tables_suit.ensures.marks;
+      lawful = c.rules_are_lawful.ensures key.graphs may.keeps.is_key.in_range may.keeps.is_key.well_formed;
+    } in
+    let i = compilation key c.args.end may.runs.work may.runs.so in
+    let runs = runs_at laws.tell key old false may.keeps w (MayEnd key c.args.end) may.runs in
+    let s = state_after key may.keeps.taken in
+    let a = mine laws.held key laws.lawful false old may.keeps w may.runs.is_worker may.runs.work runs in
+    let none = unlent key s old w may.runs.work a may.lent in
+    may_come key s old w may.runs.work a c.args.end i
+
+pub take_compilation-requires-clause-room : goal.take_compilation-requires-clause-room
+take_compilation-requires-clause-room c =
+    let old = c.args.core.now in
+    let w = c.args.worker in
+    let key = c.requires.0 in
+    let may = subst (λ (b : Bool). MayLeave key old b w (MayEnd key c.args.end) None) c.if-starved.false c.requires.1 in
+    let laws : FinishLaws key = record {
+      held = c.boards_keep.ensures.held;
+      begin = c.boards_keep.ensures.finish;
+      entered = c.journals_grow.ensures.finish;
+      one = c.entries_tell_steps.ensures.answers;
+      tell = c.entries_tell_steps.ensures.steps;
+      suit = c.tables_suit.ensures.finish;
+      marks = c.tables_suit.ensures.marks;
+      lawful = c.rules_are_lawful.ensures key.graphs may.keeps.is_key.in_range may.keeps.is_key.well_formed;
+    } in
+    let i = compilation key c.args.end may.runs.work may.runs.so in
+    let runs = runs_at laws.tell key old false may.keeps w (MayEnd key c.args.end) may.runs in
+    let s = state_after key may.keeps.taken in
+    let a = mine laws.held key laws.lawful false old may.keeps w may.runs.is_worker may.runs.work runs in
+    let none = unlent key s old w may.runs.work a may.lent in
+    has_room key s old false may.keeps w may.runs.work a
+
+pub close-requires : goal.close-requires
+close-requires c =
+    let old = c.args.core.now in
+    let w = c.args.worker in
+    let key = c.requires.0 in
+    let may = subst (λ (b : Bool). MayLeave key old b w (MayEnd key c.args.end) None) c.if-starved.false c.requires.1 in
+    let laws : FinishLaws key = record {
+      held = c.boards_keep.ensures.held;
+      begin = c.boards_keep.ensures.finish;
+      entered = c.journals_grow.ensures.finish;
+      one = c.entries_tell_steps.ensures.answers;
+      tell = c.entries_tell_steps.ensures.steps;
+      suit = c.tables_suit.ensures.finish;
+      marks = c.tables_suit.ensures.marks;
+      lawful = c.rules_are_lawful.ensures key.graphs may.keeps.is_key.in_range may.keeps.is_key.well_formed;
+    } in
+    let i = compilation key c.args.end may.runs.work may.runs.so in
+    let runs = runs_at laws.tell key old false may.keeps w (MayEnd key c.args.end) may.runs in
+    let s = state_after key may.keeps.taken in
+    let a = mine laws.held key laws.lawful false old may.keeps w may.runs.is_worker may.runs.work runs in
+    let none = unlent key s old w may.runs.work a may.lent in
+    let r = c.in-Ok.ensures.compiled in
+    let b = comes_back key s old w may.runs.work a c.args.end i c.take_compilation.new.core c.in-Ok.row none r in
+    subst (λ k. IsClosingFrom c.take_compilation.new.core.table k) (sym b.back.row_is)
+    (closing_from key laws old may.keeps w may.runs.is_worker may.runs.work runs b.answer b.answered c.take_compilation.new.core b.back.marks b.back.lends r.leaves.running_are r.leaves.journal_is)
+
+pub returns-in-Ok-clause-finished : goal.returns-in-Ok-clause-finished
+returns-in-Ok-clause-finished c = λ key was.
+    let old = c.args.core.now in
+    let w = c.args.worker in
+    let may = subst (λ (b : Bool). MayLeave key old b w (MayEnd key c.args.end) None) c.if-starved.false was in
+    let laws : FinishLaws key = record {
+      held = c.boards_keep.ensures.held;
+      begin = c.boards_keep.ensures.finish;
+      entered = c.journals_grow.ensures.finish;
+      one = c.entries_tell_steps.ensures.answers;
+      tell = c.entries_tell_steps.ensures.steps;
+      suit = c.tables_suit.ensures.finish;
+      marks = c.tables_suit.ensures.marks;
+      lawful = c.rules_are_lawful.ensures key.graphs may.keeps.is_key.in_range may.keeps.is_key.well_formed;
+    } in
+    let i = compilation key c.args.end may.runs.work may.runs.so in
+    let runs = runs_at laws.tell key old false may.keeps w (MayEnd key c.args.end) may.runs in
+    let s = state_after key may.keeps.taken in
+    let a = mine laws.held key laws.lawful false old may.keeps w may.runs.is_worker may.runs.work runs in
+    let none = unlent key s old w may.runs.work a may.lent in
+    let mid = c.take_compilation.new.core in
+    let new = c.close.new.core in
+    let r = c.in-Ok.ensures.compiled in
+    let b = comes_back key s old w may.runs.work a c.args.end i mid c.in-Ok.row none r in
+    let ok = if_ok c.close.result (λ done. ClosesOn mid c.in-Ok.row new) (λ done. FinishesOn key old false w new false)
+    (λ done closes. closes_finishes key laws old may.keeps w may.runs.is_worker may.runs.work runs b.answer b.answered mid b.back.marks b.back.lends r.leaves.running_are r.leaves.journal_is new c.close.ensures.kept r.leaves.numbers_are (subst (λ k. ClosesOn mid k new) b.back.row_is closes))
+    c.close.ensures.closed in
+    let err = wanted_finishes key laws old false may.keeps w may.runs.is_worker may.runs.work runs b.answer b.answered mid b.back.marks b.back.lends r.leaves.running_are r.leaves.journal_is new c.close.ensures.kept refl in
+    let either = by_result (λ after. FinishesOn key old false w new after) c.close.result ok err in
+    subst (λ (x : Bool). FinishesOn key old x w new c.is_err.result) (sym c.if-starved.false)
+    (subst (λ after. FinishesOn key old false w new after) (sym c.is_err.ensures.value) either)
+
+pub returns-in-Err-clause-finished : goal.returns-in-Err-clause-finished
+returns-in-Err-clause-finished c = λ key was.
+    let old = c.args.core.now in
+    let w = c.args.worker in
+    let may = subst (λ (b : Bool). MayLeave key old b w (MayEnd key c.args.end) None) c.if-starved.false was in
+    let laws : FinishLaws key = record {
+      held = c.boards_keep.ensures.held;
+      begin = c.boards_keep.ensures.finish;
+      entered = c.journals_grow.ensures.finish;
+      one = c.entries_tell_steps.ensures.answers;
+      tell = c.entries_tell_steps.ensures.steps;
+      suit = c.tables_suit.ensures.finish;
+      marks = c.tables_suit.ensures.marks;
+      lawful = c.rules_are_lawful.ensures key.graphs may.keeps.is_key.in_range may.keeps.is_key.well_formed;
+    } in
+    let i = compilation key c.args.end may.runs.work may.runs.so in
+    let runs = runs_at laws.tell key old false may.keeps w (MayEnd key c.args.end) may.runs in
+    let s = state_after key may.keeps.taken in
+    let a = mine laws.held key laws.lawful false old may.keeps w may.runs.is_worker may.runs.work runs in
+    let none = unlent key s old w may.runs.work a may.lent in
+    let r = c.in-Err.ensures.refused in
+    subst (λ (x : Bool). FinishesOn key old x w c.take_compilation.new.core true) (sym c.if-starved.false)
+    (abandons key laws old false may.keeps w may.runs.is_worker may.runs.work runs i.answer i.answered c.take_compilation.new.core r.table_is r.leaves.running_are r.leaves.journal_is none)

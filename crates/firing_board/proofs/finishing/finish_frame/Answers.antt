@@ -1,0 +1,107 @@
+use Rattle.std.proofs.Common.{◌≡◌, ◌∙◌, Bool, true, false, Some, refl, sym, ap, subst}
+use Rattle.std.specs.Prelude.{IsOk, is_err}
+use Rattle.nested_jobs.specs.Rules.{Work}
+use Rattle.job_preparing.specs.Handing.{answer_with}
+use Rattle.board_rules.specs.Keys.{Key}
+use Rattle.board_rules.specs.Legal.{state_after}
+use Rattle.job_table.specs.Closing.{IsClosingFrom}
+use Rattle.firing_board.specs.Closing.{ClosesOn}
+use Rattle.firing_board.specs.Finishes.{MayComeBack}
+use Rattle.firing_board.specs.OnCore.{FinishesOn, MayLeave}
+use Rattle.firing_board.proofs.Framed.{FinishLaws, by_result, closes_finishes, closing_from, has_room, is_back, may_return, runs_at, starved_finishes, wanted_finishes}
+use Rattle.firing_board.proofs.Leaving.{mine}
+use Rattle.firing_board.proofs.Openings.{if_ok}
+use Rattle.firing_board.proofs.finishing.finish_frame.Goals as goal
+
+pub take_back-row-requires-clause-item : goal.take_back-row-requires-clause-item
+take_back-row-requires-clause-item c =
+    let key = c.requires.0 in
+    let may = c.requires.1 in
+    let old = c.args.core.now in
+    let w = c.args.worker in
+    let lawful = c.rules_are_lawful.ensures key.graphs may.keeps.is_key.in_range may.keeps.is_key.well_formed in
+    let runs = runs_at c.entries_tell_steps.ensures.steps key old c.args.starved may.keeps w (MayComeBack key c.args.frame c.args.answer (IsOk c.args.answer)) may.runs in
+    may_return key (state_after key may.keeps.taken) old w may.runs.work (mine c.boards_keep.ensures.held key lawful c.args.starved old may.keeps w may.runs.is_worker may.runs.work runs) c.args.frame (IsOk c.args.answer) may.lent may.runs.so.sound_so
+
+pub take_back-row-requires-clause-room : goal.take_back-row-requires-clause-room
+take_back-row-requires-clause-room c =
+    let key = c.requires.0 in
+    let may = c.requires.1 in
+    let old = c.args.core.now in
+    let w = c.args.worker in
+    let lawful = c.rules_are_lawful.ensures key.graphs may.keeps.is_key.in_range may.keeps.is_key.well_formed in
+    let runs = runs_at c.entries_tell_steps.ensures.steps key old c.args.starved may.keeps w (MayComeBack key c.args.frame c.args.answer (IsOk c.args.answer)) may.runs in
+    has_room key (state_after key may.keeps.taken) old c.args.starved may.keeps w may.runs.work (mine c.boards_keep.ensures.held key lawful c.args.starved old may.keeps w may.runs.is_worker may.runs.work runs)
+
+pub close-requires : goal.close-requires
+close-requires c =
+    let key = c.requires.0 in
+    let old = c.args.core.now in
+    let w = c.args.worker in
+    let may = subst (λ (b : Bool). MayLeave key old b w (MayComeBack key c.args.frame c.args.answer (IsOk c.args.answer)) (Some c.args.frame.places)) c.if-starved.false c.requires.1 in
+    let laws : FinishLaws key = record {
+      held = c.boards_keep.ensures.held;
+      begin = c.boards_keep.ensures.finish;
+      entered = c.journals_grow.ensures.finish;
+      one = c.entries_tell_steps.ensures.answers;
+      tell = c.entries_tell_steps.ensures.steps;
+      suit = c.tables_suit.ensures.finish;
+      marks = c.tables_suit.ensures.marks;
+      lawful = c.rules_are_lawful.ensures key.graphs may.keeps.is_key.in_range may.keeps.is_key.well_formed;
+    } in
+    let runs = runs_at laws.tell key old false may.keeps w (MayComeBack key c.args.frame c.args.answer (IsOk c.args.answer)) may.runs in
+    let a = mine laws.held key laws.lawful false old may.keeps w may.runs.is_worker may.runs.work runs in
+    let b = is_back key (state_after key may.keeps.taken) old w may.runs.work a c.args.frame c.args.answer c.take_back-row.new.core c.take_back-row.result c.take_back-row.ensures in
+    subst (λ k. IsClosingFrom c.take_back-row.new.core.table k) (sym b.row_is)
+    (closing_from key laws old may.keeps w may.runs.is_worker may.runs.work runs (answer_with (Some (Work may.runs.work)) c.args.frame c.args.answer) may.runs.so.answered c.take_back-row.new.core b.marks b.lends c.take_back-row.ensures.leaves.running_are c.take_back-row.ensures.leaves.journal_is)
+
+pub returns-then-starved-clause-finished : goal.returns-then-starved-clause-finished
+returns-then-starved-clause-finished c = λ key may.
+    let old = c.args.core.now in
+    let w = c.args.worker in
+    let laws : FinishLaws key = record {
+      held = c.boards_keep.ensures.held;
+      begin = c.boards_keep.ensures.finish;
+      entered = c.journals_grow.ensures.finish;
+      one = c.entries_tell_steps.ensures.answers;
+      tell = c.entries_tell_steps.ensures.steps;
+      suit = c.tables_suit.ensures.finish;
+      marks = c.tables_suit.ensures.marks;
+      lawful = c.rules_are_lawful.ensures key.graphs may.keeps.is_key.in_range may.keeps.is_key.well_formed;
+    } in
+    let runs = runs_at laws.tell key old c.args.starved may.keeps w (MayComeBack key c.args.frame c.args.answer (IsOk c.args.answer)) may.runs in
+    let a = mine laws.held key laws.lawful c.args.starved old may.keeps w may.runs.is_worker may.runs.work runs in
+    let b = is_back key (state_after key may.keeps.taken) old w may.runs.work a c.args.frame c.args.answer c.take_back-row.new.core c.take_back-row.result c.take_back-row.ensures in
+    starved_finishes key laws old c.args.starved may.keeps w may.runs.is_worker may.runs.work runs (answer_with (Some (Work may.runs.work)) c.args.frame c.args.answer) may.runs.so.answered c.take_back-row.new.core b.marks b.lends
+    c.take_back-row.ensures.leaves.running_are c.take_back-row.ensures.leaves.journal_is c.if-starved.true
+
+pub returns-else-starved-clause-finished : goal.returns-else-starved-clause-finished
+returns-else-starved-clause-finished c = λ key was.
+    let old = c.args.core.now in
+    let w = c.args.worker in
+    let mid = c.take_back-row.new.core in
+    let new = c.close.new.core in
+    let P = MayComeBack key c.args.frame c.args.answer (IsOk c.args.answer) in
+    let may = subst (λ (b : Bool). MayLeave key old b w P (Some c.args.frame.places)) c.if-starved.false was in
+    let laws : FinishLaws key = record {
+      held = c.boards_keep.ensures.held;
+      begin = c.boards_keep.ensures.finish;
+      entered = c.journals_grow.ensures.finish;
+      one = c.entries_tell_steps.ensures.answers;
+      tell = c.entries_tell_steps.ensures.steps;
+      suit = c.tables_suit.ensures.finish;
+      marks = c.tables_suit.ensures.marks;
+      lawful = c.rules_are_lawful.ensures key.graphs may.keeps.is_key.in_range may.keeps.is_key.well_formed;
+    } in
+    let runs = runs_at laws.tell key old false may.keeps w P may.runs in
+    let a = mine laws.held key laws.lawful false old may.keeps w may.runs.is_worker may.runs.work runs in
+    let b = is_back key (state_after key may.keeps.taken) old w may.runs.work a c.args.frame c.args.answer mid c.take_back-row.result c.take_back-row.ensures in
+    let leaves = c.take_back-row.ensures.leaves in
+    let answer = answer_with (Some (Work may.runs.work)) c.args.frame c.args.answer in
+    let ok = if_ok c.close.result (λ done. ClosesOn mid c.take_back-row.result new) (λ done. FinishesOn key old false w new false)
+    (λ done closes. closes_finishes key laws old may.keeps w may.runs.is_worker may.runs.work runs answer may.runs.so.answered mid b.marks b.lends leaves.running_are leaves.journal_is new c.close.ensures.kept leaves.numbers_are (subst (λ k. ClosesOn mid k new) b.row_is closes))
+    c.close.ensures.closed in
+    let err = wanted_finishes key laws old false may.keeps w may.runs.is_worker may.runs.work runs answer may.runs.so.answered mid b.marks b.lends leaves.running_are leaves.journal_is new c.close.ensures.kept refl in
+    let either = by_result (λ after. FinishesOn key old false w new after) c.close.result ok err in
+    subst (λ (s : Bool). FinishesOn key old s w new c.is_err.result) (sym c.if-starved.false)
+    (subst (λ after. FinishesOn key old false w new after) (sym c.is_err.ensures.value) either)

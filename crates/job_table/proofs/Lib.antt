@@ -1,0 +1,14 @@
+pub mod AskedOrder
+pub mod AskedBest
+pub mod AskedOffers
+pub mod AskedFirst
+pub mod Paths
+pub mod Rows
+pub mod Keys
+pub mod Suiting
+pub mod Writes
+pub mod Closings
+pub mod Beginnings
+pub mod Methods
+pub mod Openings
+pub mod CloseSteps

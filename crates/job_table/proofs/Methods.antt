@@ -1,0 +1,103 @@
+-- What the methods of a table give, from what they do to one row.
+use Rattle.std.proofs.Common.{◌≡◌, ℕ, ◌<◌, List, [], ◌∷◌, ◌++◌, length, get_or, set, Option, Some, None, Result, Ok, Err, OnOk, OnErr, All, refl, sym, ap, ◌∙◌, subst, arith, length-append}
+use Rattle.std.proofs.lemmas.List.{get_or_append_left, get_or_at}
+use Rattle.std.proofs.lemmas.List.Elements.{All-from_get_or, All-get_or}
+use Rattle.std.specs.declared.alloc.AllocError.{AllocError}
+use Rattle.job_preparing.specs.Handing.{lent_at, mark_at}
+use Rattle.job_preparing.specs.declared.compiling.CompileEnd.{CompileEnd}
+use Rattle.job_rules.specs.Words.{Answer}
+use Rattle.kernel_gate.specs.Value.{Places}
+use Rattle.nested_jobs.specs.Marks.{Busy, Done, Mark}
+use Rattle.open_job.specs.Calls.{with_item, with_mark}
+use Rattle.open_job.specs.View.{OpenView, compilation_of}
+use Rattle.pisdf_meaning.specs.declared.firing.Firing.{Firing}
+use Rattle.job_table.specs.Calls.{FinishesIn, LendsAsBefore, LendsItem, MarksItem}
+use Rattle.job_table.specs.Slots.{CompilesSlot, InSlot, IsUnlent, change_row}
+use Rattle.job_table.specs.View.{HasJob, NothingIsLent, TableView, lent_by, lent_in, row_at, with_job}
+use Rattle.job_table.specs.declared.row.Row.{Row}
+use Rattle.job_table.proofs.Writes.{in_slot, lends_item, lends_same, lent_inside, mark_inside, marks_item, marks_set, slot_row}
+
+-- a table, as it is and as it is seen, and what stands at a key of it
+module _ (v now : TableView) (e : v ≡ now) (k : ℕ) (slot : Option Row) (read : slot ≡ get_or v.rows k slot) where
+  abbrev pub with_slot : Option Row → TableView
+  with_slot slot' = record { graphs = v.graphs; workers = v.workers; rows = set v.rows k slot' }
+
+  pub slot_has : (P : OpenView → Type 0) → HasJob P now k → InSlot P slot
+  slot_has P has = in_slot P v k slot (has.0, ap (λ (x : TableView). row_at x k) e ∙ has.1, has.2) read
+
+  module _ (row : Row) (here : row_at now k ≡ Some row) where
+    here_v : row_at v k ≡ Some row
+    here_v = ap (λ (x : TableView). row_at x k) e ∙ here
+
+    pub slot_is : slot ≡ Some row
+    slot_is = slot_row v k row slot here_v read
+
+    pub in_row : (P : OpenView → Type 0) → InSlot P slot → P row.job
+    in_row P is = subst (InSlot P) slot_is is
+
+    pub changed : (f : OpenView → OpenView) (slot' : Option Row) → slot' ≡ change_row f slot → slot' ≡ Some (with_job row (f row.job))
+    changed f slot' is = is ∙ ap (change_row f) slot_is
+
+    pub item_marked : (item : ℕ) (y : Mark Firing Answer) (places : Option Places) (slot' : Option Row) → slot' ≡ Some (with_job row (with_item row.job item y places)) → item < length row.job.marks → MarksItem k item y now (with_slot slot')
+    item_marked item y places slot' is inside =
+        subst (λ (x : TableView). MarksItem k item y x (with_slot slot')) e
+        (marks_set v (set v.rows k slot') k row (with_item row.job item y places) here_v (ap (set v.rows k) is) item y refl refl refl refl inside)
+
+    pub item_lent : (item : ℕ) (y : Mark Firing Answer) (places : Option Places) (slot' : Option Row) → slot' ≡ Some (with_job row (with_item row.job item y places)) → item < length row.job.lent → LendsItem k item places now (with_slot slot')
+    item_lent item y places slot' is inside =
+        subst (λ (x : TableView). LendsItem k item places x (with_slot slot')) e
+        (lends_item v (set v.rows k slot') k row (with_item row.job item y places) here_v (ap (set v.rows k) is) item places refl inside)
+
+    pub mark_marked : (item : ℕ) (y : Mark Firing Answer) (slot' : Option Row) → slot' ≡ Some (with_job row (with_mark row.job item y)) → item < length row.job.marks → MarksItem k item y now (with_slot slot')
+    mark_marked item y slot' is inside =
+        subst (λ (x : TableView). MarksItem k item y x (with_slot slot')) e
+        (marks_set v (set v.rows k slot') k row (with_mark row.job item y) here_v (ap (set v.rows k) is) item y refl refl refl refl inside)
+
+    pub lent_still : (job : OpenView) (slot' : Option Row) → slot' ≡ Some (with_job row job) → ((i : ℕ) → lent_at job.lent i ≡ lent_at row.job.lent i) → LendsAsBefore now (with_slot slot')
+    lent_still job slot' is same =
+        subst (λ (x : TableView). LendsAsBefore x (with_slot slot')) e
+        (lends_same v (set v.rows k slot') k row job here_v (ap (set v.rows k) is) same)
+
+    -- the compilation
+    pub compiled : (end : CompileEnd) (slot' : Option Row) → CompilesSlot end slot slot' → FinishesIn k end now (with_slot slot') row.job × LendsAsBefore now (with_slot slot')
+    compiled end slot' is =
+        let t : CompilesSlot end (Some row) slot' = subst (λ (s : Option Row). CompilesSlot end s slot') slot_is is in
+        let f = t.1 in (
+          record {
+            answer = f.answer;
+            answer_is = f.answer_is;
+            answered = f.answered;
+            marks = subst (λ (x : TableView). MarksItem k (compilation_of row.job) (Done f.answer) x (with_slot slot')) e
+                (marks_item v (set v.rows k slot') k row t.0 here_v (ap (set v.rows k) t.2) (compilation_of row.job) (Done f.answer) f.graphs_are f.workers_are f.firing_is f.done f.others);
+          },
+          lent_still t.0 slot' t.2 f.lent,
+        )
+
+    pub compile_lent : (end : CompileEnd) (slot' : Option Row) (r : Result (Unit {0}) AllocError) → OnOk r (CompilesSlot end slot slot') → OnErr r (slot' ≡ slot) → LendsAsBefore now (with_slot slot')
+    compile_lent end slot' (Ok done) ok err = (compiled end slot' ok).1
+    compile_lent end slot' (Err error) ok err = lent_still row.job slot' (err ∙ slot_is) (λ i. refl)
+
+    pub busy_inside : (item : ℕ) → mark_at row.job.marks item ≡ Busy → item < length row.job.marks
+    busy_inside item busy = mark_inside row.job.marks item Busy busy (λ no. cc)
+
+    pub lent_there : (item : ℕ) (places : Places) → lent_in now k item ≡ Some places → item < length row.job.lent
+    lent_there item places is = lent_inside row.job.lent item places (sym (ap (λ (r : Option Row). lent_by r item) here) ∙ is)
+
+    pub lent_is : (item : ℕ) (places : Places) → lent_in now k item ≡ Some places → lent_at row.job.lent item ≡ Some places
+    lent_is item places is = sym (ap (λ (r : Option Row). lent_by r item) here) ∙ is
+
+-- ---- giving up
+
+pub all_unlent : (v : TableView) → NothingIsLent v → All IsUnlent v.rows
+all_unlent v nothing = All-from_get_or IsUnlent v.rows None (λ k lt. go (row_at v k) k refl)
+  where
+    go : (o : Option Row) (k : ℕ) → row_at v k ≡ o → IsUnlent o
+    go None k e = tt
+    go (Some row) k e = record { each = λ i. sym (ap (λ (r : Option Row). lent_by r i) e) ∙ nothing k i }
+
+pub all_before : (rows : List (Option Row)) (last : Option Row) → All IsUnlent (rows ++ last ∷ []) → All IsUnlent rows
+all_before rows last all = All-from_get_or IsUnlent rows None (λ k lt.
+    subst IsUnlent (get_or_append_left rows (last ∷ []) None k lt) (All-get_or IsUnlent (rows ++ last ∷ []) k None (let t = length-append rows (last ∷ []) in omega arith) all))
+
+pub all_last : (rows : List (Option Row)) (last : Option Row) → All IsUnlent (rows ++ last ∷ []) → IsUnlent last
+all_last rows last all = subst IsUnlent (get_or_at rows last [] None (length rows) refl) (All-get_or IsUnlent (rows ++ last ∷ []) (length rows) None (let t = length-append rows (last ∷ []) in omega arith) all)

@@ -1,0 +1,36 @@
+use Rattle.std.proofs.Common.{◌≡◌}
+use Rattle.std.proofs.lemmas.Result.{IfOk-weaker, on_ok_weaker}
+use Rattle.std.specs.Arc.{arc_value}
+use Rattle.std.specs.Option.{option_map}
+use Rattle.nested_jobs.specs.Marks.{Busy}
+use Rattle.open_job.specs.Calls.{with_mark}
+use Rattle.open_job.specs.View.{HasItem, OpenView, compilation_of, left_by}
+use Rattle.job_preparing.specs.CompileTasks.{CompileView}
+use Rattle.job_table.proofs.Methods.{changed, in_row, mark_marked}
+use Rattle.job_table.proofs.table.JobTable.claim_compile.Goals as goal
+
+pub returns-clause-task : goal.returns-clause-task
+returns-clause-task c =
+    IfOk-weaker c.claim_compile_in.result _ _
+    (λ (task : CompileView) is. (
+      c.requires.0,
+      c.requires.1,
+      in_row _ c.args.self.now c.self.view_is c.args.row c.index_mut.result.now c.index_mut.ensures.value c.requires.0 c.requires.1
+          (λ (job : OpenView). task ≡ record { graphs = job.graphs; workers = job.workers; firing = job.firing; left = left_by job; kept = option_map arc_value c.args.kept }) is,
+    ))
+    c.claim_compile_in.ensures.task
+
+pub returns-clause-claimed : goal.returns-clause-claimed
+returns-clause-claimed c =
+    let slot = c.index_mut.result.now in
+    let read = c.index_mut.ensures.value in
+    let row = c.requires.0 in
+    on_ok_weaker c.claim_compile_in.result
+    (λ is.
+    let written = changed _ c.args.self.now c.self.view_is c.args.row slot read row c.requires.1 (λ (job : OpenView). with_mark job (compilation_of job) Busy) c.claim_compile_in.new.slot is in (
+      row,
+      c.requires.1,
+      mark_marked _ c.args.self.now c.self.view_is c.args.row slot read row c.requires.1 (compilation_of row.job) Busy c.claim_compile_in.new.slot written
+          (in_row _ c.args.self.now c.self.view_is c.args.row slot read row c.requires.1 (λ (job : OpenView). HasItem job (compilation_of job)) c.claim_compile_in.ensures.there).marked,
+    ))
+    c.claim_compile_in.ensures.claimed

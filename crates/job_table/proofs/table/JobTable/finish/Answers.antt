@@ -1,0 +1,30 @@
+use Rattle.std.proofs.Common.{None}
+use Rattle.job_preparing.specs.Handing.{answer_with}
+use Rattle.nested_jobs.specs.Marks.{Done}
+use Rattle.open_job.specs.Calls.{with_item}
+use Rattle.open_job.specs.View.{OpenView, task}
+use Rattle.job_table.proofs.Methods.{busy_inside, changed, item_lent, item_marked, lent_there}
+use Rattle.job_table.proofs.table.JobTable.finish.Goals as goal
+
+pub returns-clause-finished : goal.returns-clause-finished
+returns-clause-finished c =
+    let slot = c.index_mut.result.now in
+    let read = c.index_mut.ensures.value in
+    let row = c.requires.busy.0 in
+    let here = c.requires.busy.1 in
+    let written = changed _ c.args.self.now c.self.view_is c.args.row slot read row here (λ (job : OpenView). with_item job c.args.item (Done (answer_with (task job c.args.item) c.args.frame c.args.answer)) None) c.finish_in.new.slot c.finish_in.ensures in (
+      row,
+      here,
+      item_marked _ c.args.self.now c.self.view_is c.args.row slot read row here c.args.item (Done (answer_with (task row.job c.args.item) c.args.frame c.args.answer)) None c.finish_in.new.slot written
+          (busy_inside _ c.args.self.now c.self.view_is c.args.row slot read row here c.args.item c.requires.busy.2),
+    )
+
+pub returns-clause-lent : goal.returns-clause-lent
+returns-clause-lent c =
+    let slot = c.index_mut.result.now in
+    let read = c.index_mut.ensures.value in
+    let row = c.requires.busy.0 in
+    let here = c.requires.busy.1 in
+    let written = changed _ c.args.self.now c.self.view_is c.args.row slot read row here (λ (job : OpenView). with_item job c.args.item (Done (answer_with (task job c.args.item) c.args.frame c.args.answer)) None) c.finish_in.new.slot c.finish_in.ensures in
+    item_lent _ c.args.self.now c.self.view_is c.args.row slot read row here c.args.item (Done (answer_with (task row.job c.args.item) c.args.frame c.args.answer)) None c.finish_in.new.slot written
+    (lent_there _ c.args.self.now c.self.view_is c.args.row slot read row here c.args.item c.args.frame.places c.requires.lent)
