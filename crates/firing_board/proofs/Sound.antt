@@ -1,12 +1,15 @@
 -- What is true of every board.
-use Rattle.std.proofs.Common.{◌≡◌, ⊎_elim, ℕ, ◌<◌, ◌≤◌, Bool, Option, Some, None, length, get_or, refl, sym, ap, ◌∙◌, subst, arith}
+use Rattle.std.proofs.Common.{◌≡◌, ⊎_elim, ℕ, ◌*◌, ◌<◌, ◌≤◌, Bool, false, Option, Some, None, length, get_or, refl, sym, ap, ◌∙◌, subst, arith}
 use Rattle.std.proofs.lemmas.Bool.{cases_lt}
 use Rattle.std.proofs.lemmas.List.{get_or_past, length-map}
+use Rattle.board_rules.specs.AskingLaws.{RowsAreFew}
 use Rattle.board_rules.specs.Keys.{Key}
 use Rattle.board_rules.specs.Laws.{JournalsTellSteps}
 use Rattle.board_rules.specs.Legal.{state_after}
-use Rattle.firing_board.specs.Core.{lent_of, lent_with}
-use Rattle.firing_board.specs.Kept.{Keeps, view_with}
+use Rattle.job_table.specs.Laws.{KeysAreRows}
+use Rattle.job_table.specs.View.{keys_of, table_of}
+use Rattle.firing_board.specs.Core.{held_of, lent_of, lent_with}
+use Rattle.firing_board.specs.Kept.{Keeps, StandsOrStarves, view_with}
 use Rattle.firing_board.specs.Runs.{IsSound}
 use Rattle.firing_board.specs.View.{IsAt, lent_to}
 use Rattle.firing_board.specs.declared.core.Core.{Core}
@@ -32,3 +35,9 @@ module _ (tell : JournalsTellSteps) (key : Key) (c : Core) (starved : Bool) (kee
         (λ (le : key.workers ≤ w). get_or_past (lent_of c.table c.running.items) w None (let m = many in omega arith))
         (cases_lt w key.workers);
   }
+
+-- unless memory was wanted, few jobs are open
+pub few_open : RowsAreFew → KeysAreRows → (key : Key) (c : Core) (starved : Bool) → Keeps key c starved → starved ≡ false → length (keys_of c.table) ≤ 8 * key.workers
+few_open few keys key c starved keeps live =
+    let at = subst (λ (b : Bool). StandsOrStarves b key keeps.taken c) live keeps.at in
+    few key keeps.taken (table_of c.table) (held_of c.running.items) (keys_of c.table) keeps.is_key at.kept (keys c.table)

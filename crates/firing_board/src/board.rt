@@ -1,5 +1,5 @@
 // The board and its calls.
-ghost use Rattle.std.specs.Prelude.{◌≡◌, [], IfOk, IsOk, None, OnErr, OnOk, Some, false, replicate, true};
+ghost use Rattle.std.specs.Prelude.{◌≡◌, ◌≤◌, ◌*◌, [], IfOk, IsOk, None, OnErr, OnOk, Some, false, replicate, true};
 ghost use Rattle.std.specs.Arc.{arc_value};
 
 use crate::claim::{Claim, Ticket};
@@ -11,7 +11,7 @@ use crate::finishing::{finish_compilation, finish_frame};
 use crate::keeping::{keep_ready, take_key};
 use crate::starting::{nothing_compiles, start_core, top_firing};
 use board_journal::Journal;
-use board_rules::{boards_end, boards_keep, entries_tell_steps};
+use board_rules::{boards_end, boards_keep, entries_tell_steps, few_jobs_are_open};
 use job_compiler::{Kept, Key};
 use job_preparing::CompileEnd;
 use job_table::tables_suit;
@@ -181,6 +181,15 @@ impl Board {
         } else {
             Ok(())
         }
+    }
+
+    /// How many jobs are open: at most 8 for each worker, unless memory was wanted.
+    pub fn open_jobs(&self) -> usize
+        ensures { self.now.starved ≡ false → result ≤ 8 * self.now.key.workers }
+    {
+        few_jobs_are_open();
+        tables_suit();
+        self.core.table.open_jobs()
     }
 
     /// The steps that were taken, which are legal.

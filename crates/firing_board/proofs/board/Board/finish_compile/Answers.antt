@@ -50,3 +50,15 @@ returns-clause-finishes c =
     let same = key_same i.signatures.items i.top.value i.core new c.finish_compilation-self-inside.ensures.kept in
     subst (λ (b : BoardView). Finishes b (view_with (key_with i.signatures.items i.top.value new) new after) w) c.self.view_is
     (subst (λ (k : Key). Finishes (view_of i) (view_with k new after) w) (sym same) f.finishes)
+
+pub returns-clause-stays : goal.returns-clause-stays
+returns-clause-stays c = λ is.
+    let i = c.self.inside in
+    let key = key_of i in
+    let w = c.args.ticket.worker in
+    let f = c.finish_compilation-self-inside.ensures.finished key record {
+      keeps = c.self.invariant.0;
+      runs = subst (λ (b : BoardView). Runs b w (MayEnd b.key c.args.end)) (sym c.self.view_is) c.requires.runs;
+      lent = ap (λ (b : BoardView). lent_to b w) c.self.view_is ∙ c.requires.lent;
+    } in
+    f.stays (ap (λ (b : BoardView). b.starved) c.self.view_is ∙ is)

@@ -1,0 +1,14 @@
+use Rattle.std.proofs.Common.{◌≤◌, ◌*◌, ◌≡◌, ℕ, false, length, sym, ◌∙◌, ap, subst}
+use Rattle.job_table.specs.View.{keys_of}
+use Rattle.firing_board.specs.Kept.{key_of, view_of}
+use Rattle.firing_board.specs.View.{BoardView}
+use Rattle.firing_board.proofs.Sound.{few_open}
+use Rattle.firing_board.proofs.board.Board.open_jobs.Goals as goal
+
+pub returns : goal.returns
+returns c live =
+    let i = c.self.inside in
+    let starts = ap (λ (b : BoardView). b.starved) c.self.view_is ∙ live in
+    let few = few_open c.few_jobs_are_open.ensures.rows c.tables_suit.ensures.keys (key_of i) i.core i.starved c.self.invariant.0 starts in
+    let many : ℕ → Type 0 = λ n. n ≤ 8 * c.args.self.now.key.workers in
+    subst many (sym c.open_jobs.ensures) (subst (λ (b : BoardView). length (keys_of i.core.table) ≤ 8 * b.key.workers) c.self.view_is few)
