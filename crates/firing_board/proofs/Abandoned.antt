@@ -25,7 +25,7 @@ use Rattle.firing_board.specs.Kept.{Keeps}
 use Rattle.firing_board.specs.OnCore.{FinishesOn}
 use Rattle.firing_board.specs.Returning.{Compiles, MayCompile, RunsItem, with_finish}
 use Rattle.firing_board.specs.Runs.{RunsWork}
-use Rattle.firing_board.specs.declared.core.Core.{Core}
+use Rattle.firing_board.specs.declared.state.Core.{Core}
 use Rattle.firing_board.specs.declared.run.Run.{Run}
 use Rattle.firing_board.proofs.Compilations.{compiles_at}
 use Rattle.firing_board.proofs.Framed.{FinishLaws, IsBack, LastsAs}

@@ -42,7 +42,7 @@ use Rattle.firing_board.specs.OnCore.{MayClaim}
 use Rattle.firing_board.specs.Opening.{KeepsRuns}
 use Rattle.firing_board.specs.Runs.{RunsWork}
 use Rattle.firing_board.specs.declared.claim.Ticket.{Ticket}
-use Rattle.firing_board.specs.declared.core.Core.{Core}
+use Rattle.firing_board.specs.declared.state.Core.{Core}
 use Rattle.firing_board.specs.declared.run.Run.{Run}
 use Rattle.firing_board.proofs.Openings.{task_by}
 use Rattle.firing_board.proofs.Rows.{in_table, the_same}

@@ -22,7 +22,7 @@ use Rattle.firing_board.specs.Core.{IsEndFor}
 use Rattle.firing_board.specs.Ends.{EndsAs, HasFinished, IsOver}
 use Rattle.firing_board.specs.Kept.{Keeps, StandsOrStarves, view_with}
 use Rattle.firing_board.specs.Runs.{AreAllIdle}
-use Rattle.firing_board.specs.declared.core.Core.{Core}
+use Rattle.firing_board.specs.declared.state.Core.{Core}
 use Rattle.firing_board.specs.declared.ending.BoardEnd.{BoardEnd}
 use Rattle.firing_board.specs.declared.ending.BoardEnd.TheVariants as ends
 use Rattle.firing_board.proofs.Fields.{same_steps}

@@ -15,7 +15,7 @@ use Rattle.firing_board.specs.OnCore.{KeepsKey, MayClaim}
 use Rattle.firing_board.specs.Runs.{AreAllIdle, IsIdle}
 use Rattle.firing_board.specs.Starved.{StillRuns}
 use Rattle.firing_board.specs.View.{IsAt}
-use Rattle.firing_board.specs.declared.core.Core.{Core}
+use Rattle.firing_board.specs.declared.state.Core.{Core}
 use Rattle.firing_board.specs.declared.counts.KernelCounts.{KernelCounts}
 use Rattle.firing_board.specs.declared.run.Run.{Run}
 use Rattle.firing_board.proofs.Handed.{none_if, run_of}

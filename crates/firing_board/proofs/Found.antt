@@ -27,7 +27,7 @@ use Rattle.job_table.specs.declared.row.Row.{Row}
 use Rattle.firing_board.specs.Core.{StandsAt, held_of}
 use Rattle.firing_board.specs.Finding.{HasNoWork, IsFound}
 use Rattle.firing_board.specs.Opening.{Calls, MayOpen, OpensWay, Reaches}
-use Rattle.firing_board.specs.declared.core.Core.{Core}
+use Rattle.firing_board.specs.declared.state.Core.{Core}
 use Rattle.firing_board.specs.declared.run.Run.{Run}
 use Rattle.firing_board.proofs.Openings.{task_by}
 use Rattle.firing_board.proofs.Rows.{the_same}

@@ -43,7 +43,7 @@ use Rattle.firing_board.specs.OnCore.{FinishesOn}
 use Rattle.firing_board.specs.Returning.{MayReturn, Returns, RunsItem, with_finish}
 use Rattle.firing_board.specs.Runs.{Runs, RunsWork}
 use Rattle.firing_board.specs.Starved.{StarvesAt}
-use Rattle.firing_board.specs.declared.core.Core.{Core}
+use Rattle.firing_board.specs.declared.state.Core.{Core}
 use Rattle.firing_board.specs.declared.run.Run.{Run}
 use Rattle.firing_board.proofs.Leaving.{Mine, finishes_by, keeps_by, lent_at_worker, mine, others_apart, starves_next}
 use Rattle.firing_board.proofs.Fields.{same_steps}

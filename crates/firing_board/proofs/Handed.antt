@@ -30,7 +30,7 @@ use Rattle.firing_board.specs.View.{BoardView}
 use Rattle.firing_board.specs.declared.claim.Claim.{Claim}
 use Rattle.firing_board.specs.declared.claim.Claim.TheVariants as claim
 use Rattle.firing_board.specs.declared.claim.Ticket.{Ticket}
-use Rattle.firing_board.specs.declared.core.Core.{Core}
+use Rattle.firing_board.specs.declared.state.Core.{Core}
 use Rattle.firing_board.specs.declared.run.Run.{Run}
 use Rattle.firing_board.proofs.Claimed.{ClaimLaws, apart, entered_next, keeps_next, kept_next, lent_next, work_next}
 use Rattle.firing_board.proofs.Rows.{the_same}

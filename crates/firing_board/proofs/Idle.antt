@@ -18,7 +18,7 @@ use Rattle.firing_board.specs.Core.{StandsAt, held_of}
 use Rattle.firing_board.specs.Kept.{Keeps, view_with}
 use Rattle.firing_board.specs.OnCore.{ClaimsOn, MayClaim}
 use Rattle.firing_board.specs.declared.claim.Claim.TheVariants as claim
-use Rattle.firing_board.specs.declared.core.Core.{Core}
+use Rattle.firing_board.specs.declared.state.Core.{Core}
 use Rattle.firing_board.specs.declared.run.Run.{Run}
 use Rattle.firing_board.proofs.Runners.{held_as, inside_of}
 

@@ -38,7 +38,7 @@ use Rattle.firing_board.specs.Returning.{with_finish}
 use Rattle.firing_board.specs.Runs.{RunsWork}
 use Rattle.firing_board.specs.Starved.{IsStillRun, Lasts, LastsIn, StarvesAt, StillRuns}
 use Rattle.firing_board.specs.View.{IsAt}
-use Rattle.firing_board.specs.declared.core.Core.{Core}
+use Rattle.firing_board.specs.declared.state.Core.{Core}
 use Rattle.firing_board.specs.declared.run.Run.{Run}
 use Rattle.firing_board.proofs.Fields.{entered_by, legal_by, same_steps}
 use Rattle.firing_board.proofs.Found.{task_in}

@@ -28,7 +28,7 @@ use Rattle.job_table.specs.declared.row.Row.{Row}
 use Rattle.firing_board.specs.Core.{AreNumbered, IsNumbered}
 use Rattle.firing_board.specs.Opening.{Calls, IsOpenTo, KeepsRuns, Reaches}
 use Rattle.firing_board.specs.declared.run.Run.{Run}
-use Rattle.firing_board.specs.declared.core.Core.{Core}
+use Rattle.firing_board.specs.declared.state.Core.{Core}
 use Rattle.firing_board.proofs.Rows.{in_table, lasts_on, the_same}
 
 -- ---- paths

@@ -12,7 +12,7 @@ use Rattle.firing_board.specs.Core.{held_of, lent_of, lent_with}
 use Rattle.firing_board.specs.Kept.{Keeps, StandsOrStarves, view_with}
 use Rattle.firing_board.specs.Runs.{IsSound}
 use Rattle.firing_board.specs.View.{IsAt, lent_to}
-use Rattle.firing_board.specs.declared.core.Core.{Core}
+use Rattle.firing_board.specs.declared.state.Core.{Core}
 use Rattle.firing_board.specs.declared.run.Run.{Run}
 use Rattle.firing_board.proofs.Fields.{entered_by, legal_by, nothing_held}
 use Rattle.firing_board.proofs.Leaving.{lent_at_worker}

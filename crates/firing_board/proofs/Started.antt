@@ -21,7 +21,7 @@ use Rattle.job_table.specs.declared.row.Row.{Row}
 use Rattle.firing_board.specs.Beginning.{IsStartedOn}
 use Rattle.firing_board.specs.Core.{AreNumbered, HasEnd, IsEndFor, IsLentToRunners, IsNumbered, StandsAt, held_of, lent_of, runners}
 use Rattle.firing_board.specs.Kept.{Keeps}
-use Rattle.firing_board.specs.declared.core.Core.{Core}
+use Rattle.firing_board.specs.declared.state.Core.{Core}
 use Rattle.firing_board.specs.declared.run.Run.{Run}
 use Rattle.firing_board.proofs.Rows.{the_same}
 use Rattle.firing_board.proofs.Runners.{held_as}

@@ -27,7 +27,7 @@ use Rattle.firing_board.specs.Core.{StandsAt, held_of, lent_of, runners}
 use Rattle.firing_board.specs.Kept.{Keeps, view_with}
 use Rattle.firing_board.specs.OnCore.{StarvesOn}
 use Rattle.firing_board.specs.Starved.{Lasts, StarvesAt, StillRuns}
-use Rattle.firing_board.specs.declared.core.Core.{Core}
+use Rattle.firing_board.specs.declared.state.Core.{Core}
 use Rattle.firing_board.specs.declared.run.Run.{Run}
 use Rattle.firing_board.proofs.Claimed.{task_stands}
 use Rattle.firing_board.proofs.Found.{row_behind, task_in}

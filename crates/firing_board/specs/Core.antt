@@ -16,7 +16,7 @@ use Rattle.board_journal.specs.View.{path_at}
 use Rattle.job_table.specs.Suits.{Suits}
 use Rattle.job_table.specs.View.{TableView, lent_in, row_at, table_of}
 use Rattle.job_table.specs.declared.row.Row.{Row}
-use Rattle.firing_board.specs.declared.core.Core.{Core}
+use Rattle.firing_board.specs.declared.state.Core.{Core}
 use Rattle.firing_board.specs.declared.run.Run.{Run}
 
 -- ---- what workers run

@@ -18,7 +18,7 @@ use Rattle.job_table.specs.Suits.{Suits}
 use Rattle.job_table.specs.View.{row_at, table_of}
 use Rattle.job_table.specs.declared.row.Row.{Row}
 use Rattle.firing_board.specs.Core.{AreNumbered, StandsAt}
-use Rattle.firing_board.specs.declared.core.Core.{Core}
+use Rattle.firing_board.specs.declared.state.Core.{Core}
 use Rattle.firing_board.specs.declared.run.Run.{Run}
 
 -- the item of an open job is picked for a worker, and the jobs on its way are open

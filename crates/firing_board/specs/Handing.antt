@@ -16,7 +16,7 @@ use Rattle.job_table.specs.declared.row.Row.{Row}
 use Rattle.firing_board.specs.declared.claim.Claim.{Claim}
 use Rattle.firing_board.specs.declared.claim.Claim.TheVariants as claim
 use Rattle.firing_board.specs.declared.claim.Ticket.{Ticket}
-use Rattle.firing_board.specs.declared.core.Core.{Core}
+use Rattle.firing_board.specs.declared.state.Core.{Core}
 use Rattle.firing_board.specs.declared.run.Run.{Run}
 
 -- what a job hands out, with a ticket

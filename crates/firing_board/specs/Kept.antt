@@ -9,7 +9,7 @@ use Rattle.firing_board.specs.Counted.{counts_kept}
 use Rattle.firing_board.specs.View.{BoardView}
 use Rattle.firing_board.specs.declared.counts.KernelCounts.{KernelCounts}
 use Rattle.firing_board.specs.declared.board.Board.TheInside.{Inside}
-use Rattle.firing_board.specs.declared.core.Core.{Core}
+use Rattle.firing_board.specs.declared.state.Core.{Core}
 
 abbrev pub key_with : List KernelCounts → Firing → Core → Key
 key_with signatures top c = record { graphs = c.table.graphs; signatures = map counts_kept signatures; delays = top.state; ins = top.inputs; workers = c.table.workers }

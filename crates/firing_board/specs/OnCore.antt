@@ -9,7 +9,7 @@ use Rattle.firing_board.specs.Kept.{Keeps, view_with}
 use Rattle.firing_board.specs.Runs.{Runs}
 use Rattle.firing_board.specs.View.{lent_to}
 use Rattle.firing_board.specs.declared.claim.Claim.{Claim}
-use Rattle.firing_board.specs.declared.core.Core.{Core}
+use Rattle.firing_board.specs.declared.state.Core.{Core}
 
 -- the key stays
 pub record KeepsKey (old new : Core) : Type 0 where

@@ -17,7 +17,7 @@ use Rattle.job_table.specs.View.{TableView, row_at, table_of}
 use Rattle.job_table.specs.declared.row.Row.{Row}
 use Rattle.firing_board.specs.Core.{AreNumbered}
 use Rattle.firing_board.specs.Starved.{Lasts}
-use Rattle.firing_board.specs.declared.core.Core.{Core}
+use Rattle.firing_board.specs.declared.state.Core.{Core}
 use Rattle.firing_board.specs.declared.run.Run.{Run}
 
 -- an item of an open job, which is free and calls a job that is given what its graph takes

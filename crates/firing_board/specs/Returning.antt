@@ -13,7 +13,7 @@ use Rattle.board_journal.specs.View.{JournalView}
 use Rattle.job_table.specs.Calls.{FinishesIn, LendsAsBefore, LendsItem, MarksItem}
 use Rattle.job_table.specs.View.{lent_in, row_at}
 use Rattle.job_table.specs.declared.row.Row.{Row}
-use Rattle.firing_board.specs.declared.core.Core.{Core}
+use Rattle.firing_board.specs.declared.state.Core.{Core}
 use Rattle.firing_board.specs.declared.run.Run.{Run}
 
 -- a worker runs an item of a job, and this holds of the job, the item, and where the leases of its frame lie

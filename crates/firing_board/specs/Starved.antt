@@ -14,7 +14,7 @@ use Rattle.job_table.specs.Calls.{StaysAs}
 use Rattle.job_table.specs.View.{TableView, row_at}
 use Rattle.job_table.specs.declared.row.Row.{Row}
 use Rattle.firing_board.specs.Core.{held_of}
-use Rattle.firing_board.specs.declared.core.Core.{Core}
+use Rattle.firing_board.specs.declared.state.Core.{Core}
 
 -- a worker runs an item of an open job, which is busy there, and whose task is the work that the worker runs
 pub record IsStillRun (key : Key) (s : BoardState) (table : TableView) (runs : Option Place) (k i : ℕ) : Type 0 where

@@ -4,12 +4,12 @@ ghost use Rattle.std.specs.Arc.{arc_value};
 
 use crate::claim::{Claim, Ticket};
 use crate::claiming;
-use crate::core::Core;
 use crate::counts::{KernelCounts, all_counts};
 use crate::ending::{BoardEnd, end_core, outcome_of};
 use crate::finishing::{finish_compilation, finish_frame};
 use crate::keeping::{keep_ready, take_key};
 use crate::starting::{nothing_compiles, start_core, top_firing};
+use crate::state::Core;
 use board_journal::Journal;
 use board_rules::{boards_end, boards_keep, entries_tell_steps, few_jobs_are_open};
 use job_compiler::{Kept, Key};

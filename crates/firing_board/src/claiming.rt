@@ -9,11 +9,11 @@ ghost use Rattle.firing_board.specs.Handing.{Enters, HandsCompilation, HandsFram
 ghost use Rattle.firing_board.specs.OnCore.{ClaimsOn, KeepsKey, MayClaim, StarvesOn};
 
 use crate::claim::{Claim, Ticket};
-use crate::core::Core;
 use crate::finding::find;
 use crate::keeping::kept_for;
 use crate::numbering::number_of;
 use crate::run::Run;
+use crate::state::Core;
 use board_rules::{Item, boards_end, boards_keep, journals_grow};
 use job_compiler::{Compiled, Kept, Key};
 use job_rules::rules_are_lawful;

@@ -5,7 +5,7 @@ ghost use Rattle.pisdf_meaning.specs.declared.refusal.Refusal.{Refusal};
 ghost use Rattle.job_table.specs.View.{NothingIsLent};
 ghost use Rattle.firing_board.specs.Beginning.{EndsWith};
 
-use crate::core::Core;
+use crate::state::Core;
 use board_journal::Journal;
 use job_preparing::JobGiven;
 use pisdf_meaning::{Delays, Iteration, Refusal, TraceRow};

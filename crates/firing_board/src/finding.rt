@@ -6,9 +6,9 @@ ghost use Rattle.firing_board.specs.Finding.{Finds, HasNoWork};
 ghost use Rattle.firing_board.specs.Opening.{KeepsRuns, MayOpen, OpensAt, OpensWay};
 ghost use Rattle.firing_board.specs.Core.{StandsAt};
 
-use crate::core::Core;
 use crate::numbering::number_row;
 use crate::run::Run;
+use crate::state::Core;
 use board_rules::{boards_keep, paths_stay, rows_are_asked};
 use job_rules::rules_are_lawful;
 use job_table::{Begins, calls_are_fit, tables_suit};

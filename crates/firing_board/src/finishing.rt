@@ -7,8 +7,8 @@ ghost use Rattle.firing_board.specs.Finishes.{MayComeBack, MayEnd};
 ghost use Rattle.firing_board.specs.OnCore.{FinishesOn, KeepsKey, MayLeave};
 ghost use Rattle.firing_board.specs.Returning.{Compiles, GivesUp, Leaves, MayCompile, MayReturn, Returns, RunsItem};
 
-use crate::core::Core;
 use crate::run::Run;
+use crate::state::Core;
 use board_rules::{boards_keep, entries_tell_steps, journals_grow};
 use job_preparing::CompileEnd;
 use job_rules::rules_are_lawful;

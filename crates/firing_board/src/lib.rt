@@ -5,7 +5,6 @@
 mod board;
 mod claim;
 mod claiming;
-mod core;
 mod counts;
 mod ending;
 mod finding;
@@ -15,6 +14,7 @@ mod locked;
 mod numbering;
 mod run;
 mod starting;
+mod state;
 
 pub use board::Board;
 pub use claim::{Claim, Ticket};

@@ -8,8 +8,8 @@ ghost use Rattle.pisdf_model.specs.WellFormed.{WellFormed};
 ghost use Rattle.pisdf_meaning.specs.Run.{top_firing};
 ghost use Rattle.firing_board.specs.Beginning.{IsStartedOn};
 
-use crate::core::Core;
 use crate::run::Run;
+use crate::state::Core;
 use board_journal::Journal;
 use job_compiler::Key;
 use job_table::JobTable;

@@ -8,7 +8,7 @@ use Rattle.firing_board.specs.OnCore.{ClaimsOn, MayClaim, StarvesOn}
 use Rattle.firing_board.specs.Starved.{Lasts}
 use Rattle.firing_board.specs.declared.claim.Claim.{Claim}
 use Rattle.firing_board.specs.declared.claim.Claim.TheVariants as claim
-use Rattle.firing_board.specs.declared.core.Core.{Core}
+use Rattle.firing_board.specs.declared.state.Core.{Core}
 use Rattle.firing_board.specs.declared.run.Run.{Run}
 use Rattle.job_table.specs.Calls.{LendsAsBefore}
 use Rattle.job_table.specs.View.{TableView, lent_in}

@@ -6,7 +6,7 @@ use Rattle.job_table.specs.View.{row_at}
 use Rattle.job_table.specs.declared.row.Row.{Row}
 use Rattle.firing_board.specs.Handing.{HandsCompilation, HandsOut}
 use Rattle.firing_board.specs.declared.claim.Claim.{Claim}
-use Rattle.firing_board.specs.declared.core.Core.{Core}
+use Rattle.firing_board.specs.declared.state.Core.{Core}
 use Rattle.firing_board.proofs.Openings.{if_ok}
 use Rattle.firing_board.proofs.Rows.{the_same}
 use Rattle.firing_board.proofs.claiming.hand_out.Goals as goal
