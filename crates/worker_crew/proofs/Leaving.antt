@@ -33,6 +33,10 @@ pub places_are : (o : Option Places) (p : Places) → places_of o ≡ places_of 
 places_are None p e = absurd (cc)
 places_are (Some q) p e = let same : q ≡ p = cc in ap Some same
 
+places_none : (o : Option Places) → places_of o ≡ [] → o ≡ None
+places_none None e = refl
+places_none (Some q) e = absurd (cc)
+
 module _ (p : BoardPass) (x : BoardView) (found : Finds board_meant p x) where
   pub found_key : (key : Key) → p.key ≡ Some key → x.key ≡ key
   found_key key key_is = some_is x.key key (found.key ∙ key_is)
@@ -91,6 +95,11 @@ module _ (p : BoardPass) (x : BoardView) (found : Finds board_meant p x) where
   found_lent places P claimed =
       let count : 0 < length p.own = claimed.some in
       places_are (lent_to x w) places (ap (λ (n : ℕ). places_of (lent_to x n)) (sym number_is) ∙ (sym (found.lent 0 count) ∙ claimed.lent))
+
+  pub found_unlent : (P : Key → Work → Type 0) → HasClaimed p None P → lent_to x w ≡ None
+  found_unlent P claimed =
+      let count : 0 < length p.own = claimed.some in
+      places_none (lent_to x w) (ap (λ (n : ℕ). places_of (lent_to x n)) (sym number_is) ∙ (sym (found.lent 0 count) ∙ claimed.lent))
 
 -- ---- what is left
 

@@ -10,3 +10,6 @@ pub mod Answering
 pub mod Halving
 pub mod Beginning
 pub mod Fitting
+pub mod GraphsSending
+pub mod BoardSending
+pub mod Sending

@@ -1,5 +1,5 @@
 // A crew of workers, each in a thread.
-ghost use Rattle.std.specs.Prelude.{◌≡◌, ◌+◌, ◌≤◌, IfErr, IfOk};
+ghost use Rattle.std.specs.Prelude.{◌≡◌, IfErr, IfOk, IfSome, IsSome};
 ghost use Rattle.std.specs.Thread.{IsSync};
 ghost use Rattle.kernel_gate.specs.Signed.{unnamed};
 ghost use Rattle.firing_board.specs.Ends.{IsOver};
@@ -8,15 +8,17 @@ ghost use Rattle.worker_crew.specs.Passes.{AllMayWork, AreIdle, HasSeenOver};
 ghost use Rattle.worker_crew.specs.Worked.{HasWorked};
 
 use crate::laws::board_laws;
+use crate::slot::{full, put, take};
 use crate::working::work;
 use board_lock::{Lock, NotMade, Pass};
 use firing_board::Board;
 use kernel_gate::Gate;
 use std::alloc::Global;
 use std::sync::Wait;
-use std::thread::{Threads, join};
+use std::thread::{Threads, join_mut};
 
-/// Each number of the pass works, in a thread of its own.
+/// Each number of the pass works, in a thread of its own. A thread borrows the slot that its pass stands in: a closure that
+/// owned the pass would have to be one that may be dropped, and a board is never dropped.
 fn crew<K: Gate + Sync, R: Threads + Wait + Sync>(
     rt: &R,
     alloc: Global,
@@ -36,18 +38,26 @@ fn crew<K: Gate + Sync, R: Threads + Wait + Sync>(
     }
     let half = pass.count() / 2;
     let (first, second) = lock.split(pass, half);
-    let (first, second) = join(
+    let mut one = Some(first);
+    let mut other = Some(second);
+    join_mut(
         rt,
-        move || -> Pass<Board>
-            requires { IsSync R.row × (first.lock ≡ lock.now) × AllMayWork (unnamed (K.kernels gate.now)) first.known × AreIdle first.known }
-            ensures { (result.lock ≡ lock.entry.now) × HasWorked first.known result.known × HasSeenOver result.known }
-        { crew(rt, alloc, lock, first, gate) },
-        move || -> Pass<Board>
-            requires { IsSync R.row × (second.lock ≡ lock.now) × AllMayWork (unnamed (K.kernels gate.now)) second.known × AreIdle second.known }
-            ensures { (result.lock ≡ lock.entry.now) × HasWorked second.known result.known × HasSeenOver result.known }
-        { crew(rt, alloc, lock, second, gate) },
+        &mut ||
+            requires { IsSync R.row × IsSome one × IfSome one (λ p. (p.lock ≡ lock.now) × AllMayWork (unnamed (K.kernels gate.now)) p.known × AreIdle p.known) }
+            ensures { IsSome one.exit × IfSome one.entry (λ p. IfSome one.exit (λ q. (q.lock ≡ lock.entry.now) × HasWorked p.known q.known × HasSeenOver q.known)) }
+        {
+            let pass = take(&mut one);
+            put(&mut one, crew(rt, alloc, lock, pass, gate));
+        },
+        &mut ||
+            requires { IsSync R.row × IsSome other × IfSome other (λ p. (p.lock ≡ lock.now) × AllMayWork (unnamed (K.kernels gate.now)) p.known × AreIdle p.known) }
+            ensures { IsSome other.exit × IfSome other.entry (λ p. IfSome other.exit (λ q. (q.lock ≡ lock.entry.now) × HasWorked p.known q.known × HasSeenOver q.known)) }
+        {
+            let pass = take(&mut other);
+            put(&mut other, crew(rt, alloc, lock, pass, gate));
+        },
     );
-    lock.join(first, second)
+    lock.join(full(one), full(other))
 }
 
 /// Runs a board of which no worker runs anything with all its workers, each in a thread, until it is over: its journal has

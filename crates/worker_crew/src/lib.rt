@@ -7,6 +7,7 @@ mod crew;
 mod giving_back;
 mod laws;
 mod running;
+mod slot;
 mod working;
 
 pub use crew::run_crew;
