@@ -5,9 +5,7 @@ ghost use Rattle.std.specs.Option.{option_map};
 
 use crate::going::{end_stage, go_on, next_stage, refused_early};
 use crate::handed::Handed;
-use crate::nodes::{
-    call_node, claim_node, finish_node, finish_node_call, node_number, node_step,
-};
+use crate::nodes::{call_node, claim_node, finish_node, finish_node_call, node_number, node_step};
 use crate::offer::Offer;
 use crate::picking::{first_call, first_call_waiting, first_node, first_waiting};
 use crate::places::nth_configuration;
