@@ -1,7 +1,6 @@
 -- What a worker ran is back, and its item has an answer.
-use Rattle.std.proofs.Common.{◌≡◌, ◌≢◌, ⊎_elim, ℕ, ◌+◌, ◌-◌, ◌<◌, ◌≤◌, Bool, true, false, List, [], ◌∷◌, ◌++◌, length, set, get_or, Option, Some, None, Result, Ok, Err, refl, sym, ap, ◌∙◌, subst, arith}
+use Rattle.std.proofs.Common.{◌≡◌, ◌≢◌, ⊎_elim, ℕ, ◌+◌, ◌-◌, ◌<◌, Bool, true, false, List, [], ◌∷◌, ◌++◌, set, get_or, Option, Some, None, Result, Ok, Err, refl, sym, ap, ◌∙◌, subst, arith}
 use Rattle.std.proofs.lemmas.Bool.{cases_eq}
-use Rattle.std.specs.Option.{option_map}
 use Rattle.std.specs.Prelude.{IfOk, is_err}
 use Rattle.kernel_gate.specs.declared.fault.KernelFault.{KernelFault}
 use Rattle.open_job.specs.Calls.{HasLongTrace, IsSoundFor}
@@ -9,7 +8,6 @@ use Rattle.kernel_gate.specs.Value.{FrameView, Places}
 use Rattle.job_preparing.specs.Handing.{answer_with, answers, end_of, lent_at, mark_at}
 use Rattle.job_preparing.specs.declared.handing.JobGiven.{JobGiven}
 use Rattle.job_rules.specs.Doing.{Answers}
-use Rattle.job_rules.specs.Items.{rule}
 use Rattle.job_rules.specs.Meant.{rank}
 use Rattle.job_rules.specs.Words as words
 use Rattle.job_rules.specs.Words.{Answer, answer_of}
@@ -22,8 +20,6 @@ use Rattle.nested_jobs.specs.Tables.{put_row, with_mark}
 use Rattle.open_job.specs.View.{answered, task}
 use Rattle.pisdf_meaning.specs.declared.firing.Firing.{Firing}
 use Rattle.pisdf_meaning.specs.declared.refusal.Refusal.{Refusal}
-use Rattle.pisdf_model.specs.declared.graph.Graphs.{Graphs}
-use Rattle.board_rules.specs.Asking.{JobRow}
 use Rattle.board_rules.specs.Board.{Held, IsClosing, KeptAs, OpenJobs, hold}
 use Rattle.board_rules.specs.BoardLaws.{FinishesAreEntered, FinishesBegin, HeldAreBusy}
 use Rattle.board_rules.specs.Entries.{BoardState, Step}
@@ -31,12 +27,12 @@ use Rattle.board_rules.specs.Keys.{Key, rules}
 use Rattle.board_rules.specs.Laws.{JournalsTellSteps, WorkHasOneAnswer}
 use Rattle.board_rules.specs.Legal.{state_after}
 use Rattle.job_table.specs.Calls.{LendsItem, MarksItem, StaysAs}
-use Rattle.job_table.specs.Closing.{Closes, ClosesLong, ClosesTo, IsClosingFrom, RowsStay}
+use Rattle.job_table.specs.Closing.{Closes, ClosesLong, ClosesTo, IsClosingFrom}
 use Rattle.job_table.specs.Laws.{FinishesSuit, TablesMark}
 use Rattle.job_table.specs.View.{TableView, job_row, lent_by, lent_in, row_at, table_of}
 use Rattle.job_table.specs.declared.row.Row.{Row}
 use Rattle.firing_board.specs.Closing.{ClosesOn, KeepsJournal, latest}
-use Rattle.firing_board.specs.Core.{AreNumbered, HasEnd, IsEndFor, IsNumbered, StandsAt, held_of, lent_of, lent_with, runners}
+use Rattle.firing_board.specs.Core.{AreNumbered, HasEnd, IsEndFor, IsNumbered, held_of, lent_of, lent_with}
 use Rattle.firing_board.specs.Finishes.{Finishes}
 use Rattle.firing_board.specs.Kept.{Keeps, StandsOrStarves, view_with}
 use Rattle.firing_board.specs.OnCore.{FinishesOn}

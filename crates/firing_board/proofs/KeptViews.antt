@@ -1,5 +1,5 @@
 -- What is true of a board doesn't depend on whether compilations are kept in it.
-use Rattle.std.proofs.Common.{◌≡◌, ⊎_elim, ℕ, Bool, false, List, inl, inr, Option, is_some, refl, sym, ap, ◌∙◌, subst}
+use Rattle.std.proofs.Common.{◌≡◌, ⊎_elim, ℕ, Bool, false, List, inl, inr, Option, sym, ap, subst}
 use Rattle.kernel_gate.specs.Value.{Places}
 use Rattle.job_rules.specs.Words as words
 use Rattle.board_rules.specs.Entries.{Step}
@@ -10,7 +10,7 @@ use Rattle.firing_board.specs.Finishes.{Finishes}
 use Rattle.firing_board.specs.Kept.{IsBoard, Keeps, key_of, view_of, view_with}
 use Rattle.firing_board.specs.OnCore.{MayClaim}
 use Rattle.firing_board.specs.Runs.{AreAllIdle, IsIdle, IsSound, Runs}
-use Rattle.firing_board.specs.View.{BoardView, IsAt, lent_to}
+use Rattle.firing_board.specs.View.{BoardView, IsAt}
 use Rattle.firing_board.specs.Wanting.{MayStarve}
 use Rattle.firing_board.specs.declared.board.Board.TheInside.{Inside}
 use Rattle.firing_board.specs.declared.claim.Claim.{Claim}

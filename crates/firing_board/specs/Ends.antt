@@ -1,5 +1,5 @@
 -- How a board ends.
-use Rattle.std.specs.Prelude.{◌≡◌, ◌⊎◌, ℕ, false, true, List, Err}
+use Rattle.std.specs.Prelude.{◌≡◌, ◌⊎◌, false, true, List, Err}
 use Rattle.pisdf_meaning.specs.Run.{IterationEnds, IterationGives}
 use Rattle.board_rules.specs.Entries.{Step}
 use Rattle.board_rules.specs.Legal.{HasEnded, state_after}

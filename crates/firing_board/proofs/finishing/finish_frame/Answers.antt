@@ -1,8 +1,7 @@
-use Rattle.std.proofs.Common.{◌≡◌, ◌∙◌, ℕ, Bool, true, false, [], ◌∷◌, ◌++◌, Some, refl, sym, ap, subst}
+use Rattle.std.proofs.Common.{◌≡◌, ◌∙◌, ℕ, Bool, true, false, [], ◌∷◌, ◌++◌, Some, refl, sym, subst}
 use Rattle.std.specs.Prelude.{IsOk, is_err}
 use Rattle.nested_jobs.specs.Rules.{Work}
 use Rattle.job_preparing.specs.Handing.{answer_with}
-use Rattle.board_rules.specs.Keys.{Key}
 use Rattle.board_rules.specs.Legal.{state_after}
 use Rattle.nested_jobs.specs.Journals as steps
 use Rattle.job_table.specs.Closing.{ClosesLong, IsClosingFrom}
