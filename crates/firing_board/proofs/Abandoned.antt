@@ -1,8 +1,8 @@
 -- A compilation comes back, or is left.
-use Rattle.std.proofs.Common.{◌≡◌, ◌≢◌, ℕ, ◌<◌, Bool, true, false, List, [], ◌∷◌, ◌++◌, set, get_or, Option, Some, None, refl, sym, ap, ◌∙◌, subst}
+use Rattle.std.proofs.Common.{◌≡◌, ◌≢◌, ℕ, ◌<◌, Bool, true, List, set, get_or, Option, Some, None, refl, sym, ap, ◌∙◌, subst}
 use Rattle.kernel_gate.specs.Value.{Places}
 use Rattle.job_preparing.specs.CompileTasks.{IsEndOf}
-use Rattle.job_preparing.specs.Handing.{answers, mark_at}
+use Rattle.job_preparing.specs.Handing.{mark_at}
 use Rattle.job_preparing.specs.declared.compiling.CompileEnd.{CompileEnd}
 use Rattle.job_rules.specs.Doing.{Answers}
 use Rattle.job_rules.specs.Words as words
@@ -16,14 +16,14 @@ use Rattle.pisdf_model.specs.declared.graph.Graphs.{Graphs}
 use Rattle.board_rules.specs.Entries.{BoardState}
 use Rattle.board_rules.specs.Keys.{Key}
 use Rattle.board_rules.specs.Legal.{state_after}
-use Rattle.job_table.specs.Calls.{LendsItem, MarksItem}
+use Rattle.job_table.specs.Calls.{MarksItem}
 use Rattle.job_table.specs.View.{TableView, lent_in, row_at}
 use Rattle.job_table.specs.declared.row.Row.{Row}
 use Rattle.firing_board.specs.Core.{lent_of, lent_with}
 use Rattle.firing_board.specs.Finishes.{MayEnd}
 use Rattle.firing_board.specs.Kept.{Keeps}
 use Rattle.firing_board.specs.OnCore.{FinishesOn}
-use Rattle.firing_board.specs.Returning.{Compiles, MayCompile, RunsItem, with_finish}
+use Rattle.firing_board.specs.Returning.{Compiles, HasFinish, MayCompile, RunsItem}
 use Rattle.firing_board.specs.Runs.{RunsWork}
 use Rattle.firing_board.specs.declared.state.Core.{Core}
 use Rattle.firing_board.specs.declared.run.Run.{Run}
@@ -107,7 +107,7 @@ module _ (key : Key) (s : BoardState) (old : Core) (w : ℕ) (work : words.Work)
 
 -- a compilation is left, and its job stays as it is
 module _ (key : Key) (laws : FinishLaws key) (old : Core) (starved : Bool) (keeps : Keeps key old starved) (w : ℕ) (lt : w < key.workers) (work : words.Work) (runs : RunsWork key (state_after key keeps.taken) w work) (answer : Answer)
-    (ok : Answers key.graphs.graphs work answer) (new : Core) (table_is : new.table ≡ old.table) (running_are : new.running.items ≡ set old.running.items w None) (journal_is : new.journal ≡ with_finish old.journal w) where
+    (ok : Answers key.graphs.graphs work answer) (new : Core) (table_is : new.table ≡ old.table) (running_are : new.running.items ≡ set old.running.items w None) (journal_is : HasFinish old.journal w new.journal) where
   abbrev a : Mine key (state_after key keeps.taken) old w work
   a = mine laws.held key laws.lawful starved old keeps w lt work runs
 

@@ -1,15 +1,13 @@
 -- What a worker ran is back, and its item has an answer.
-use Rattle.std.proofs.Common.{◌≡◌, ◌≢◌, ⊎_elim, ℕ, ◌+◌, ◌-◌, ◌<◌, ◌≤◌, Bool, true, false, List, [], ◌∷◌, ◌++◌, length, set, get_or, Option, Some, None, Result, Ok, Err, refl, sym, ap, ◌∙◌, subst, arith}
+use Rattle.std.proofs.Common.{◌≡◌, ◌≢◌, ⊎_elim, ℕ, ◌+◌, ◌-◌, ◌<◌, Bool, true, false, List, [], ◌∷◌, ◌++◌, set, get_or, Option, Some, None, Result, Ok, Err, refl, sym, ap, ◌∙◌, subst, arith}
 use Rattle.std.proofs.lemmas.Bool.{cases_eq}
-use Rattle.std.specs.Option.{option_map}
 use Rattle.std.specs.Prelude.{IfOk, is_err}
 use Rattle.kernel_gate.specs.declared.fault.KernelFault.{KernelFault}
-use Rattle.open_job.specs.Calls.{IsSoundFor}
+use Rattle.open_job.specs.Calls.{HasLongTrace, IsSoundFor}
 use Rattle.kernel_gate.specs.Value.{FrameView, Places}
 use Rattle.job_preparing.specs.Handing.{answer_with, answers, end_of, lent_at, mark_at}
 use Rattle.job_preparing.specs.declared.handing.JobGiven.{JobGiven}
 use Rattle.job_rules.specs.Doing.{Answers}
-use Rattle.job_rules.specs.Items.{rule}
 use Rattle.job_rules.specs.Meant.{rank}
 use Rattle.job_rules.specs.Words as words
 use Rattle.job_rules.specs.Words.{Answer, answer_of}
@@ -22,8 +20,6 @@ use Rattle.nested_jobs.specs.Tables.{put_row, with_mark}
 use Rattle.open_job.specs.View.{answered, task}
 use Rattle.pisdf_meaning.specs.declared.firing.Firing.{Firing}
 use Rattle.pisdf_meaning.specs.declared.refusal.Refusal.{Refusal}
-use Rattle.pisdf_model.specs.declared.graph.Graphs.{Graphs}
-use Rattle.board_rules.specs.Asking.{JobRow}
 use Rattle.board_rules.specs.Board.{Held, IsClosing, KeptAs, OpenJobs, hold}
 use Rattle.board_rules.specs.BoardLaws.{FinishesAreEntered, FinishesBegin, HeldAreBusy}
 use Rattle.board_rules.specs.Entries.{BoardState, Step}
@@ -31,16 +27,16 @@ use Rattle.board_rules.specs.Keys.{Key, rules}
 use Rattle.board_rules.specs.Laws.{JournalsTellSteps, WorkHasOneAnswer}
 use Rattle.board_rules.specs.Legal.{state_after}
 use Rattle.job_table.specs.Calls.{LendsItem, MarksItem, StaysAs}
-use Rattle.job_table.specs.Closing.{Closes, ClosesTo, IsClosingFrom, RowsStay}
+use Rattle.job_table.specs.Closing.{Closes, ClosesLong, ClosesTo, IsClosingFrom}
 use Rattle.job_table.specs.Laws.{FinishesSuit, TablesMark}
 use Rattle.job_table.specs.View.{TableView, job_row, lent_by, lent_in, row_at, table_of}
 use Rattle.job_table.specs.declared.row.Row.{Row}
 use Rattle.firing_board.specs.Closing.{ClosesOn, KeepsJournal, latest}
-use Rattle.firing_board.specs.Core.{AreNumbered, HasEnd, IsEndFor, IsNumbered, StandsAt, held_of, lent_of, lent_with, runners}
+use Rattle.firing_board.specs.Core.{AreNumbered, HasEnd, IsEndFor, IsNumbered, held_of, lent_of, lent_with}
 use Rattle.firing_board.specs.Finishes.{Finishes}
 use Rattle.firing_board.specs.Kept.{Keeps, StandsOrStarves, view_with}
 use Rattle.firing_board.specs.OnCore.{FinishesOn}
-use Rattle.firing_board.specs.Returning.{MayReturn, Returns, RunsItem, with_finish}
+use Rattle.firing_board.specs.Returning.{HasFinish, MayReturn, Returns, RunsItem}
 use Rattle.firing_board.specs.Runs.{Runs, RunsWork}
 use Rattle.firing_board.specs.Starved.{StarvesAt}
 use Rattle.firing_board.specs.declared.state.Core.{Core}
@@ -67,6 +63,17 @@ not_both m job x one two = cc
 
 one_answer : (m : Mark Firing Answer) (x y : Answer) → m ≡ Done x → m ≡ Done y → x ≡ y
 one_answer m x y one two = cc
+
+-- after these steps a firing has given a trace with as many rows as no list holds
+pub record GivesLong (key : Key) (taken : List Step) : Type 0 where
+  pub place : Place
+  pub answer : Answer
+  pub done : (state_after key taken).marks place ≡ Done answer
+  pub is_long : HasLongTrace answer
+
+pub when_err : {X E : Type 0} (r : Result X E) (Q : Type 0) → is_err r ≡ true → Rattle.std.specs.Prelude.OnErr r Q → Q
+when_err (Ok x) Q is q = absurd (cc)
+when_err (Err e) Q is q = q
 
 -- a row stays, with what is busy in it and what is answered
 abbrev pub LastsAs : Row → ℕ → TableView → ℕ → Type 0
@@ -129,7 +136,7 @@ module _ (key : Key) (laws : FinishLaws key) (old : Core) (starved : Bool) (keep
   in_workers v r is = let i = inside_of old.running.items v r is in let e = keeps.one_each in omega arith
 
   module _ (mid : Core) (marks : MarksItem a.run.row a.run.item (Done answer) old.table mid.table) (lends : LendsItem a.run.row a.run.item None old.table mid.table)
-      (running_are : mid.running.items ≡ set old.running.items w None) (journal_is : mid.journal ≡ with_finish old.journal w) where
+      (running_are : mid.running.items ≡ set old.running.items w None) (journal_is : HasFinish old.journal w mid.journal) where
     is_before : marks.before ≡ a.row
     is_before = the_same (row_at old.table a.run.row) marks.before a.row marks.here a.here
 
@@ -188,8 +195,8 @@ module _ (key : Key) (laws : FinishLaws key) (old : Core) (starved : Bool) (keep
       running_new : new.running.items ≡ set old.running.items w None
       running_new = ap (λ rs. rs.items) kept.running_is ∙ running_are
 
-      journal_new : new.journal ≡ with_finish old.journal w
-      journal_new = kept.journal_is ∙ journal_is
+      journal_new : HasFinish old.journal w new.journal
+      journal_new = subst (HasFinish old.journal w) (sym kept.journal_is) journal_is
 
       lasts_new : (v : ℕ) (r : Run) → v ≢ w → v < key.workers → get_or old.running.items v None ≡ Some r → (before : Row) → row_at old.table r.row ≡ Some before → mark_at before.job.marks r.item ≡ Busy → LastsAs before r.item new.table r.row
       lasts_new v r other v_lt is before here busy =
@@ -254,7 +261,7 @@ module _ (key : Key) (laws : FinishLaws key) (old : Core) (keeps : Keeps key old
   then = keeps.taken ++ steps.Finish w answer ∷ []
 
   module _ (mid : Core) (marks : MarksItem b.run.row b.run.item (Done answer) old.table mid.table) (lends : LendsItem b.run.row b.run.item None old.table mid.table)
-      (running_are : mid.running.items ≡ set old.running.items w None) (journal_is : mid.journal ≡ with_finish old.journal w) where
+      (running_are : mid.running.items ≡ set old.running.items w None) (journal_is : HasFinish old.journal w mid.journal) where
     before_is : marks.before ≡ b.row
     before_is = the_same (row_at old.table b.run.row) marks.before b.row marks.here b.here
 
@@ -282,6 +289,11 @@ module _ (key : Key) (laws : FinishLaws key) (old : Core) (keeps : Keeps key old
           suits = subst (λ (p : Place). Rattle.job_table.specs.Suits.Suits key (put m (b.run.item ∷ p) (Done answer)) mid.table) (ap (λ (r : Row). r.place) before_is) suit;
         }
 
+    -- a job was closed that gives a trace as no list holds
+    pub long_closing : ((c : IsClosingFrom mid.table b.run.row) → ClosesLong c) → GivesLong key then
+    unfolding closing_from
+    long_closing closes = let g = closes closing_from in record { place = g.place; answer = g.answer; done = g.done; is_long = g.is_long }
+
     module _ (new : Core) (kept : KeepsJournal mid new) (numbers_are : mid.numbers ≡ old.numbers) (closes : ClosesOn mid b.run.row new) where
       held_new : held_of new.running.items ≡ hold (held_of old.running.items) w None
       held_new = ap held_of (ap (λ rs. rs.items) kept.running_is ∙ running_are) ∙ held_set old.running.items w None (inside_of old.running.items w b.run b.runs)
@@ -303,7 +315,7 @@ module _ (key : Key) (laws : FinishLaws key) (old : Core) (keeps : Keeps key old
           let was = keeps.at.numbered k h.0 h.1 in
           let firing = m.2.firing_is ∙ h.2 in
           let mine_so : IsNumbered old.numbers.items old.journal.paths k after.job.firing.path = record { known = was.known; path_is = was.path_is ∙ ap (λ (f : Firing). f.path) (sym firing) } in
-          let paths : old.journal.paths ≡ new.journal.paths = sym (ap (λ (j : Rattle.board_journal.specs.View.JournalView). j.paths) (kept.journal_is ∙ journal_is)) in
+          let paths : old.journal.paths ≡ new.journal.paths = sym (ap (λ (j : Rattle.board_journal.specs.View.JournalView). j.paths) kept.journal_is ∙ journal_is.paths_are) in
           let nums : old.numbers.items ≡ new.numbers.items = ap (λ ns. ns.items) (sym (kept.numbers_are ∙ numbers_are)) in
           subst (λ ns. IsNumbered ns new.journal.paths k after.job.firing.path) nums (subst (λ ps. IsNumbered old.numbers.items ps k after.job.firing.path) paths mine_so)
 

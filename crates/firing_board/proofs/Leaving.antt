@@ -1,5 +1,5 @@
 -- A worker gives back what it runs.
-use Rattle.std.proofs.Common.{◌≡◌, ◌≢◌, ⊎_elim, ℕ, zero, suc, ◌+◌, ◌-◌, ◌<◌, ◌≤◌, Bool, true, false, List, [], ◌∷◌, ◌++◌, length, map, set, get_or, length-set, Option, Some, None, refl, sym, ap, ap₂, ◌∙◌, subst, arith}
+use Rattle.std.proofs.Common.{◌≡◌, ◌≢◌, ⊎_elim, ℕ, zero, suc, ◌+◌, ◌-◌, ◌<◌, Bool, true, false, List, [], ◌∷◌, ◌++◌, length, set, get_or, length-set, Option, Some, None, refl, sym, ap, ◌∙◌, subst, arith}
 use Rattle.std.proofs.lemmas.Bool.{cases_eq}
 use Rattle.std.proofs.lemmas.List.{get_or-set_same, get_or-set_other}
 use Rattle.kernel_gate.specs.Value.{Places}
@@ -12,7 +12,7 @@ use Rattle.job_rules.specs.Words.{Answer}
 use Rattle.nested_jobs.specs.Journals as steps
 use Rattle.nested_jobs.specs.Journals.{after, assign, start, task_of}
 use Rattle.nested_jobs.specs.Kept as kept
-use Rattle.nested_jobs.specs.Marks.{Busy, Done, Mark, answer_of}
+use Rattle.nested_jobs.specs.Marks.{Busy}
 use Rattle.nested_jobs.specs.Meanings.{Lawful}
 use Rattle.nested_jobs.specs.Rules.{Place, Task, Work}
 use Rattle.nested_jobs.proofs.Appending.{legal-snoc, state-snoc}
@@ -27,16 +27,15 @@ use Rattle.board_rules.specs.Laws.{JournalsTellSteps, WorkHasOneAnswer}
 use Rattle.board_rules.specs.Legal.{AreLegal, ArePickedFrom, IsPicked, journal_of, state_after}
 use Rattle.board_rules.specs.declared.entry.Entry.TheVariants as entry
 use Rattle.board_rules.specs.declared.entry.Entry.{Entry}
-use Rattle.job_table.specs.Calls.{LendsItem, MarksItem, StaysAs}
+use Rattle.job_table.specs.Calls.{StaysAs}
 use Rattle.job_table.specs.View.{TableView, lent_in, row_at}
 use Rattle.job_table.specs.declared.row.Row.{Row}
 use Rattle.firing_board.specs.Core.{IsLentToRunners, held_of, lent_of, lent_with, runners}
 use Rattle.firing_board.specs.Finishes.{Finishes}
 use Rattle.firing_board.specs.Kept.{Keeps, StandsOrStarves, view_with}
-use Rattle.firing_board.specs.OnCore.{FinishesOn}
-use Rattle.firing_board.specs.Returning.{with_finish}
+use Rattle.firing_board.specs.Returning.{HasFinish}
 use Rattle.firing_board.specs.Runs.{RunsWork}
-use Rattle.firing_board.specs.Starved.{IsStillRun, Lasts, LastsIn, StarvesAt, StillRuns}
+use Rattle.firing_board.specs.Starved.{IsStillRun, Lasts, StarvesAt, StillRuns}
 use Rattle.firing_board.specs.View.{IsAt}
 use Rattle.firing_board.specs.declared.state.Core.{Core}
 use Rattle.firing_board.specs.declared.run.Run.{Run}
@@ -174,7 +173,7 @@ module _ (held_busy : HeldAreBusy) (key : Key) (lawful : Lawful (rules key) (ran
       none_runs = running_next w ∙ ⊎_elim (λ x. x.1) (λ x. absurd (x.0 refl)) (assign_at s.running w None w)
 
       -- the item is marked, or all is as before, and the worker leaves
-      module _ (new : Core) (running_are : new.running.items ≡ set old.running.items w None) (journal_is : new.journal ≡ with_finish old.journal w) (lasts : (v : ℕ) (r : Run) → v ≢ w → v < key.workers → get_or old.running.items v None ≡ Some r → (before : Row) → row_at old.table r.row ≡ Some before → mark_at before.job.marks r.item ≡ Busy
+      module _ (new : Core) (running_are : new.running.items ≡ set old.running.items w None) (journal_is : HasFinish old.journal w new.journal) (lasts : (v : ℕ) (r : Run) → v ≢ w → v < key.workers → get_or old.running.items v None ≡ Some r → (before : Row) → row_at old.table r.row ≡ Some before → mark_at before.job.marks r.item ≡ Busy
           → (row : Row) × (row_at new.table r.row ≡ Some row) × StaysAs before row × (mark_at row.job.marks r.item ≡ Busy) × Rattle.nested_jobs.specs.Meanings.Within (answers before.job.marks) (answers row.job.marks))
           (lends : (v : ℕ) (r : Run) → v ≢ w → get_or old.running.items v None ≡ Some r → lent_in new.table r.row r.item ≡ lent_in old.table r.row r.item)
           (only : (k i : ℕ) (places : Places) → lent_in new.table k i ≡ Some places → (lent_in old.table k i ≡ Some places) × ((k ≡ a.run.row) × (i ≡ a.run.item) → ⊥)) where
@@ -225,7 +224,7 @@ module _ (held_busy : HeldAreBusy) (key : Key) (lawful : Lawful (rules key) (ran
 
         entered_next : FinishesAreEntered → new.journal.entries ≡ journal_of key next
         entered_next law =
-            ap (λ (j : Rattle.board_journal.specs.View.JournalView). j.entries) journal_is ∙ (ap (λ (es : List Entry). es ++ entry.Finish w ∷ []) (entered_by starved key taken old keeps.at) ∙ sym (law key taken w answer))
+            journal_is.entries_are ∙ (ap (λ (es : List Entry). es ++ entry.Finish w ∷ []) (entered_by starved key taken old keeps.at) ∙ sym (law key taken w answer))
 
         pub starves_next : FinishesAreEntered → StarvesAt key next new
         starves_next law = record { legal = legal_next; entered = entered_next law; runs = all_still }
@@ -250,7 +249,7 @@ module _ (held_busy : HeldAreBusy) (key : Key) (lawful : Lawful (rules key) (ran
           room =
               let less = runners_less old.running.items w a.run a.runs in
               let now : runners new.running.items ≡ runners (set old.running.items w None) = ap runners running_are in
-              let left : new.journal.room ≡ old.journal.room - 1 = ap (λ (j : Rattle.board_journal.specs.View.JournalView). j.room) journal_is in
+              let left = journal_is.room in
               let was = keeps.room in
               omega arith;
           taken = next;
@@ -267,5 +266,5 @@ module _ (held_busy : HeldAreBusy) (key : Key) (lawful : Lawful (rules key) (ran
               let answer_is : answer ≡ other_answer = one key.graphs work answer other_answer ok (subst (λ (x : words.Work). Answers key.graphs.graphs x other_answer) work_is other_ok) in
               let steps_are : next ≡ others ++ steps.Finish w other_answer ∷ [] = ap (λ (x : Answer). taken ++ steps.Finish w x ∷ []) answer_is ∙ ap (λ (x : List Step). x ++ steps.Finish w other_answer ∷ []) (sym same) in
               subst (IsAt (view_with key new after)) steps_are (record { legal = legal_next; entered = entered_next law });
-          new_is = ap (λ (l : List (Option Places)). record { key = key; journal = new.journal.entries; starved = after; lent = l }) lent_next;
+          new_is = ap (λ (l : List (Option Places)). record { key = key; journal = new.journal.entries; starved = after; lent = l; kept = false }) lent_next;
         }

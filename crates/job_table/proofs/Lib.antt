@@ -7,8 +7,10 @@ pub mod Rows
 pub mod Keys
 pub mod Suiting
 pub mod Writes
+pub mod Freeing
 pub mod Closings
 pub mod Beginnings
 pub mod Methods
 pub mod Openings
 pub mod CloseSteps
+pub mod LongTraces
