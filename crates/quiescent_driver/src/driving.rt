@@ -16,7 +16,9 @@ use worker_crew::run_crew;
 
 /// Moves the compilations that are kept, if any are, into the board.
 fn lend_kept(board: &mut Board, kept: &mut Option<Kept>)
-    ensures { board.new ≡ board.old }
+    requires { AreAllIdle board.old }
+    ensures key { board.new.key ≡ board.old.key }
+    ensures idle { AreAllIdle board.new }
 {
     match mem::replace(kept, None) {
         Some(compilations) => board.put_kept(compilations),
