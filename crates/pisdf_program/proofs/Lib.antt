@@ -11,3 +11,5 @@ pub mod LoadFile
 pub mod LoadStreams
 pub mod Loads
 pub mod Making
+pub mod Written
+pub mod Boards

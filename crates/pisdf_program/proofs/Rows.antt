@@ -1,5 +1,5 @@
 -- Rows of tokens.
-use Rattle.std.proofs.Common.{◌≡◌, ℕ, ◌≤◌, ℤ, List, [], ◌∷◌, length, drop, min, refl, ap, ◌∙◌, ◌⊎◌, inl, inr, arith}
+use Rattle.std.proofs.Common.{◌≡◌, ℕ, zero, suc, ◌+◌, ◌≤◌, ℤ, List, [], ◌∷◌, length, drop, min, slice_get, Some, refl, ap, ◌∙◌, ◌⊎◌, inl, inr, arith}
 use Rattle.std.proofs.Math.ListN.{drop_of_length-le}
 use Rattle.pisdf_model.specs.declared.graph.Interface.{Interface}
 use Rattle.pisdf_program.specs.Texts.{token_rows, left_lines}
@@ -30,3 +30,10 @@ no_lines i inputs counts h =
       | inl a ↦ ap (λ o. left_lines o (drop i counts)) (drop_of_length-le inputs a)
       | inr b ↦ ap (left_lines (drop i inputs)) (drop_of_length-le counts b) ∙ no_counts (drop i inputs)
     ]
+
+-- ---- the lines of a journal
+
+pub item_next : {X : Type 0} (xs : List X) (i : ℕ) (x : X) → slice_get xs i ≡ Some x → drop i xs ≡ x ∷ drop (i + 1) xs
+item_next [] i x is = absurd cc
+item_next (y ∷ xs) zero x is = let same : y ≡ x = cc in ap (λ z. z ∷ xs) same
+item_next (y ∷ xs) (suc i) x is = let e : suc (i + 1) ≡ suc i + 1 = omega arith in item_next xs i x is ∙ ap (λ n. x ∷ drop n (y ∷ xs)) e

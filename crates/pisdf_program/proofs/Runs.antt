@@ -47,7 +47,7 @@ grows_none a = λ told e. e ∙ ap (λ t. Some t) (sym (append-nil told))
 pub grows_partly_as : (a b : Option (List ℕ)) (x y : List ℕ) → x ≡ y → GrowsPartly a b x → GrowsPartly a b y
 grows_partly_as a b x y e p = subst (GrowsPartly a b) e p
 
-partly_after : (had has new : Option (List ℕ)) (front text : List ℕ) → Grows had has front → GrowsPartly has new text → GrowsPartly had new (front ++ text)
+pub partly_after : (had has new : Option (List ℕ)) (front text : List ℕ) → Grows had has front → GrowsPartly has new text → GrowsPartly had new (front ++ text)
 partly_after had has new front text grows p =
     let taken : front ++ take p.0 text ≡ take (length front + p.0) (front ++ text) = sym (take-append-add front text p.0) in
     (length front + p.0, omega (arith, length-append front text, p.1), grows_as had new _ _ taken (grows_on had has new front (take p.0 text) grows p.2))
@@ -96,7 +96,7 @@ abbrev State : Type 0
 State = List (List ℤ)
 
 -- what an iteration finds of its streams, and how the run goes on with it
-abbrev found : Graphs → Graph → State → Result (Option run.Lack) Refusal
+abbrev pub found : Graphs → Graph → State → Result (Option run.Lack) Refusal
 found g top streams = run.after_early g top (run.first_lack 0 (run.top_needs g) streams)
 
 pub same_top : (g : Graphs) (a b : Graph) → slice_get g.graphs g.top ≡ Some a → slice_get g.graphs g.top ≡ Some b → a ≡ b
@@ -167,11 +167,11 @@ run_gives g n s next streams i rest h more =
     let on = subst (λ t. run.RunsFrom g n t (run.left_by (run.top_needs g) streams) rest) h.gives.state_is more in
     (h.checks.top, h.checks.top_is, subst (λ f. run.AfterCheck g (run.RunsFrom g n) s streams f (run.after i rest)) (sym h.checks.finds) (Ok given, h.gives.ends, (rest, on, is)))
 
-run_short : (g : Graphs) (n : ℕ) (s streams : State) (lack : run.Lack) → Checks g streams (Ok (Some lack)) → run.RunsFrom g (suc n) s streams (run.ended (run.Short lack))
+pub run_short : (g : Graphs) (n : ℕ) (s streams : State) (lack : run.Lack) → Checks g streams (Ok (Some lack)) → run.RunsFrom g (suc n) s streams (run.ended (run.Short lack))
 run_short g n s streams lack h =
     (h.top, h.top_is, subst (λ f. run.AfterCheck g (run.RunsFrom g n) s streams f (run.ended (run.Short lack))) (sym h.finds) refl)
 
-run_refused : (g : Graphs) (n : ℕ) (s streams : State) (refusal : Refusal) → IsRefused g s streams refusal → run.RunsFrom g (suc n) s streams (run.ended (run.Refused refusal))
+pub run_refused : (g : Graphs) (n : ℕ) (s streams : State) (refusal : Refusal) → IsRefused g s streams refusal → run.RunsFrom g (suc n) s streams (run.ended (run.Refused refusal))
 run_refused g n s streams refusal h =
     (h.checks.top, h.checks.top_is, subst (λ f. run.AfterCheck g (run.RunsFrom g n) s streams f (run.ended (run.Refused refusal))) (sym h.checks.finds) (Err refusal, h.ends, refl))
 
@@ -316,7 +316,7 @@ all_written g streams n k s had has new e le r none rest =
     let text : text_of g r.so_far ++ [] ≡ text_of g (r.so_far ++ []) = append-nil (text_of g r.so_far) ∙ ap (text_of g) (sym its) in
     (then_run r.so_far (run.ended e), subst (λ q. run.IsRun g streams q (then_run r.so_far (run.ended e))) m whole, refl, grows_as had new _ _ text (grows_on had has new (text_of g r.so_far) [] r.written none))
 
-one_less : (n k : ℕ) → k < n → suc (n - (k + 1)) ≡ n - k
+pub one_less : (n k : ℕ) → k < n → suc (n - (k + 1)) ≡ n - k
 one_less n k lt = omega arith
 
 pub first_written : (g : Graphs) (streams : State) (n k : ℕ) (s : State) (had has : Option (List ℕ)) → k ≤ n → Reached g streams k s had has

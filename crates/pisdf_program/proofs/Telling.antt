@@ -1,9 +1,15 @@
 -- What is told of the compiled job.
 use Rattle.std.proofs.Common.{◌≡◌, ◌⊎◌, ⊎_elim, ℕ, List, Option, Result, Ok, Err, String, Global, sym, ap, ◌∙◌, subst, true}
+use Rattle.job_compiler.specs.Compilation.{Compilation}
+use Rattle.job_report.specs.Names.{names_of}
+use Rattle.job_report.specs.Told.{Tells}
+use Rattle.job_report.specs.declared.names.JobNames.{JobNames}
 use Rattle.job_report.specs.declared.text.JobText.{JobText}
+use Rattle.pisdf_model.specs.declared.graph.Graphs.{Graphs}
 use Rattle.pisdf_program.specs.Job.{EndsJob, JobEnd}
 use Rattle.pisdf_program.specs.Loaded.{is_answer}
-use Rattle.pisdf_program.specs.Result.{AreTold, FromFiles, Outcome, TellsEnd, TellsJob}
+use Rattle.pisdf_program.specs.Result.{AreTold, FromFiles, Outcome, TellsEnd, TellsJob, told}
+use Rattle.pisdf_program.specs.Top.{top_of}
 use Rattle.pisdf_program.specs.Worked.{IsThere, Works}
 use Rattle.pisdf_program.specs.declared.load.Input.{Input}
 use Rattle.pisdf_program.specs.declared.status.Status.{Status}
@@ -19,6 +25,11 @@ starved = Err stop.Memory
 
 abbrev out_of_memory : Result (String Global) Status
 out_of_memory = Err WantOfMemory
+
+-- what is told of a job is this text
+pub same_told : (what : JobText) (g : Graphs) (names : JobNames) (job : Compilation) (text : List ℕ) → names ≡ names_of g.graphs (top_of g) → ((other : List ℕ) → Tells what names job other → other ≡ text)
+    → (o : Outcome) → TellsEnd what g (Ok job) o → o ≡ told text
+same_told what g names job text is only o (other, tells, same) = same ∙ ap told (only other (subst (λ (n : JobNames). Tells what n job other) (sym is) tells))
 
 module _ (what : JobText) (workers : ℕ) (graph tokens : File) (input : Input) (end : JobEnd) (gives : Gives graph tokens input) where
   -- each outcome is told of this end

@@ -2,7 +2,7 @@
 use Rattle.std.proofs.Common.{◌≡◌, ◌≢◌, inl, inr, ℕ, ◌+◌, ◌-◌, ◌≤◌, ℤ, List, [], ◌∷◌, ◌++◌, length, length-append, take, true, false, Option, Some, None, Result, Ok, Err, String, Global, string_bytes, refl, sym, ap, ◌∙◌, subst, arith}
 use Rattle.std.specs.Prelude.{IfErr}
 use Rattle.std.proofs.lemmas.List.{append-nil, take-append-le}
-use Rattle.std.proofs.Math.Seq.{take-length, take-append_seam}
+use Rattle.std.proofs.Math.Seq.{take-append_seam}
 use Rattle.outer_world.specs.Faults.{Rose}
 use Rattle.outer_world.specs.Sink.{Grows}
 use Rattle.pisdf_model.specs.declared.graph.Graphs.{Graphs}
@@ -10,23 +10,25 @@ use Rattle.pisdf_model.specs.declared.graph.Interface.{Interface}
 use Rattle.pisdf_meaning.specs.Run as run
 use Rattle.pisdf_meaning.specs.declared.outcome.Iteration.{Iteration}
 use Rattle.pisdf_meaning.specs.declared.refusal.Refusal.{Refusal}
-use Rattle.pisdf_program.specs.Calls.{GrowsPartly, GrowsByFirst, EndsRun, RanTo, HasBegun, text_of}
+use Rattle.pisdf_program.specs.Calls.{GrowsPartly, EndsRun, RanTo, HasBegun, text_of}
 use Rattle.pisdf_program.specs.Iterated.{HaveIterated}
 use Rattle.pisdf_program.specs.Loaded.{is_answer, FaultsOnly, NoFault, StopsReading}
-use Rattle.pisdf_program.specs.Result.{Outcome, refused, told, read_graphs, read_streams, outcome_of, short_of, status_of, line_of_end, input_in, ReadsTokens, ReadsFiles, GoesOn, FromFiles, Runs, RunsFile, TellsStop, ComesTo, Upgrades, upgrade_graphs, AreTold, IsTold, IsToldAfter, Knows}
+use Rattle.pisdf_program.specs.Result.{Outcome, refused, told, read_graphs, read_streams, outcome_of, short_of, status_of, line_of_end, input_in, ReadsTokens, ReadsFiles, GoesOn, FromFiles, Runs, RunsFile, TellsStop, ComesTo, Upgrades, file_of, latest, upgrade_graphs, AreTold, IsTold, IsToldAfter, Knows}
 use Rattle.pisdf_program.specs.Top.{top_of}
 use Rattle.pisdf_program.specs.Texts.{iteration_text, joined, texts_from, line_of, memory_line, read_line}
 use Rattle.pisdf_program.specs.Words.{Command}
-use Rattle.pisdf_program.specs.Worked.{FilesRose, ReadsNothing, StopsWith, file_among, Reports, Decided, Stopped, Works, IsThere, PutsLine, Concludes, CountRose, RoseAt, Completes, MayTell, Ended}
+use Rattle.pisdf_program.specs.Written.{Wrote, WroteFirst, WrotePartly, exactly}
+use Rattle.pisdf_program.specs.Worked.{FilesRose, ReadsNothing, StopsWith, file_among, Reports, Decided, Stopped, Works, IsThere, PutsLine, Concludes, CountRose, Completes, MayTell, Ended}
 use Rattle.pisdf_program.specs.declared.run.RunEnd.{RunEnd}
 use Rattle.pisdf_program.specs.declared.run.RunEnd.TheVariants as end
 use Rattle.pisdf_program.specs.declared.load.Input.{Input}
 use Rattle.pisdf_program.specs.declared.stop.Stop.{Stop}
 use Rattle.pisdf_program.specs.declared.stop.Stop.TheVariants as stop
 use Rattle.pisdf_program.specs.declared.status.Status.{Status}
-use Rattle.pisdf_program.specs.declared.status.Status.TheVariants.{Done, Usage, GraphRefused, TokensRefused, RunRefused, ReadFault, WriteFault, WantOfMemory, NotYet}
+use Rattle.pisdf_program.specs.declared.status.Status.TheVariants.{Done, Usage, GraphRefused, TokensRefused, RunRefused, ReadFault, WriteFault, WantOfMemory}
 use Rattle.pisdf_program.specs.declared.status.Which.{Which}
 use Rattle.pisdf_program.specs.declared.status.Which.TheVariants as which_file
+use Rattle.pisdf_program.proofs.Written.{all_first, wrote, wrote_first, wrote_nothing, wrote_partly}
 use Rattle.pisdf_program.proofs.Runs.{HasOneEnd, grows_none, grows_as, grows_partly_as, rose_since, run_begins, one_run, joined-append}
 
 abbrev Expected : Type 1
@@ -46,14 +48,14 @@ no_memory s a = λ e. let t : is_answer WantOfMemory ≡ true = ap is_answer (sy
 no_read : (s : Status) (which : Which) → is_answer s ≡ true → s ≢ ReadFault which
 no_read s which a = λ e. let t : is_answer (ReadFault which) ≡ true = ap is_answer (sym e) ∙ a in absurd cc
 
-not_answer : (s t : Status) → s ≡ t → is_answer t ≡ false → is_answer s ≡ true → ⊥
+pub not_answer : (s t : Status) → s ≡ t → is_answer t ≡ false → is_answer s ≡ true → ⊥
 not_answer s t e non holds = let k : is_answer t ≡ true = ap is_answer (sym e) ∙ holds in absurd cc
 
 -- ---- what stops a command before its iterations
 
-refused_as : (o : Outcome) (s : Status) (w : File) → o ≡ refused s → (o.status ≡ s) × (o.line ≡ line_of s) × Grows w w (joined o.texts)
+refused_as : (o : Outcome) (s : Status) (w : File) → o ≡ refused s → (o.status ≡ s) × (o.line ≡ line_of s) × Wrote w w o.texts
 refused_as o s w e =
-    (ap (λ (p : Outcome). p.status) e, ap (λ (p : Outcome). p.line) e, grows_as w w [] (joined o.texts) (ap (λ (p : Outcome). joined p.texts) (sym e)) (grows_none w))
+    (ap (λ (p : Outcome). p.status) e, ap (λ (p : Outcome). p.line) e, subst (λ (p : Outcome). Wrote w w p.texts) (sym e) ([], tt, grows_none w))
 
 pub stops : (expected : Expected) (w : File) (f : ℕ) (s : Status) → StopsReading s → ((o : Outcome) → expected o → is_answer s ≡ true → o ≡ refused s) → Stopped expected w w f f s
 stops expected w f Done ok h = absurd ok
@@ -63,15 +65,14 @@ stops expected w f (TokensRefused cause) ok h = λ o e. refused_as o (TokensRefu
 stops expected w f (RunRefused refusal) ok h = absurd ok
 stops expected w f (ReadFault x) ok h = grows_none w
 stops expected w f WriteFault ok h = absurd ok
-stops expected w f WantOfMemory ok h = λ o e. (0, grows_none w)
-stops expected w f (NotYet later) ok h = absurd ok
+stops expected w f WantOfMemory ok h = λ o e. wrote_nothing w w o.texts (grows_none w)
 
 -- there was no memory before anything was put
 pub starved_first : (expected : Expected) (w : File) (f : ℕ) → Stopped expected w w f f WantOfMemory
-starved_first expected w f = λ o e. (0, grows_none w)
+starved_first expected w f = λ o e. wrote_nothing w w o.texts (grows_none w)
 
 -- a command whose words decide its status
-pub refused_by : (s : Status) (w : File) (o : Outcome) → o ≡ refused s → (o.status ≡ s) × (o.line ≡ line_of s) × Grows w w (joined o.texts)
+pub refused_by : (s : Status) (w : File) (o : Outcome) → o ≡ refused s → (o.status ≡ s) × (o.line ≡ line_of s) × Wrote w w o.texts
 refused_by s w o e = refused_as o s w e
 
 -- ---- the two files
@@ -142,7 +143,6 @@ stops_reading which before now (RunRefused refusal) h = h
 stops_reading which before now (ReadFault w) h = tt
 stops_reading which before now WriteFault h = h
 stops_reading which before now WantOfMemory h = tt
-stops_reading which before now (NotYet later) h = h
 
 -- ---- a run that went through its iterations
 
@@ -170,11 +170,6 @@ module _ (graph tokens : File) (n : ℕ) (input : Input) (h : Gives graph tokens
   ended_there had has b now end.Memory (Ok text) ends rep = absurd rep
   ended_there had has b now end.Memory (Err s) ends rep = λ t a. absurd (not_answer s WantOfMemory rep refl a)
 
-all_first : (had has : File) (texts : List (List ℕ)) → Grows had has (joined texts) → GrowsByFirst had has texts
-all_first had has texts grows =
-    let e : take (length texts) texts ≡ texts = take-length texts in
-    (length texts, grows_as had has _ _ (ap joined (sym e)) grows)
-
 abbrev texts_of : Graphs → List Iteration → List (List ℕ)
 texts_of g its = texts_from 0 (top_of g).outputs its
 
@@ -191,10 +186,10 @@ begun_texts one g streams n k its s r le h is =
     let texts = texts-append 0 (top_of g).outputs its begins.0.iterations in
     (texts.0, ap (λ (q : run.Run). texts_of g q.iterations) begins.2 ∙ texts.1)
 
-first_of : (had has : File) (all first more : List (List ℕ)) → all ≡ first ++ more → Grows had has (joined first) → GrowsByFirst had has all
+first_of : (had has : File) (all first more : List (List ℕ)) → all ≡ first ++ more → Grows had has (joined first) → WroteFirst had has (exactly all)
 first_of had has all first more is grows =
     let front : take (length first) all ≡ first = ap (take (length first)) is ∙ take-append_seam first more in
-    (length first, grows_as had has _ _ (ap joined (sym front)) grows)
+    wrote_first had has all (length first) (grows_as had has _ _ (ap joined (sym front)) grows)
 
 part_of : (had has : File) (all first more : List (List ℕ)) → all ≡ first ++ more → GrowsPartly had has (joined first) → GrowsPartly had has (joined all)
 part_of had has all first more is partly =
@@ -205,18 +200,18 @@ part_of had has all first more is partly =
     longer text more (kept, le, grows) = (kept, omega (arith, le, length-append text more), grows_as had has _ _ (sym (take-append-le kept text more le)) grows)
 
 begun : HasOneEnd → (expected : Expected) (g : Graphs) (streams : List (List ℤ)) (n : ℕ) (had has : File) → Decides expected g streams n
-    → HasBegun g streams n (λ its. Grows had has (text_of g its)) → (o : Outcome) → expected o → GrowsByFirst had has o.texts
+    → HasBegun g streams n (λ its. Grows had has (text_of g its)) → (o : Outcome) → expected o → WroteFirst had has o.texts
 begun one expected g streams n had has h (k, le, its, s, done, grows) o e =
     let r = h o e in
     let texts = begun_texts one g streams n k its s r.0 le done r.1 in
-    first_of had has o.texts (texts_of g its) texts.0 (ap (λ (p : Outcome). p.texts) r.2 ∙ texts.1) grows
+    subst (λ (p : Outcome). WroteFirst had has p.texts) (sym r.2) (first_of had has (texts_of g r.0.iterations) (texts_of g its) texts.0 texts.1 grows)
 
 begun_partly : HasOneEnd → (expected : Expected) (g : Graphs) (streams : List (List ℤ)) (n : ℕ) (had has : File) → Decides expected g streams n
-    → HasBegun g streams n (λ its. GrowsPartly had has (text_of g its)) → (o : Outcome) → expected o → GrowsPartly had has (joined o.texts)
+    → HasBegun g streams n (λ its. GrowsPartly had has (text_of g its)) → (o : Outcome) → expected o → WrotePartly had has o.texts
 begun_partly one expected g streams n had has h (k, le, its, s, done, grows) o e =
     let r = h o e in
     let texts = begun_texts one g streams n k its s r.0 le done r.1 in
-    part_of had has o.texts (texts_of g its) texts.0 (ap (λ (p : Outcome). p.texts) r.2 ∙ texts.1) grows
+    subst (λ (p : Outcome). WrotePartly had has p.texts) (sym r.2) (wrote_partly had has (texts_of g r.0.iterations) (part_of had has (texts_of g r.0.iterations) (texts_of g its) texts.0 texts.1 grows))
 
 -- a run that ended so is the one of each outcome
 same_run : HasOneEnd → (expected : Expected) (g : Graphs) (streams : List (List ℤ)) (n : ℕ) (r : run.Run) → Decides expected g streams n → run.IsRun g streams n r
@@ -225,7 +220,7 @@ same_run one expected g streams n r h is o e =
     let other = h o e in
     other.2 ∙ ap (outcome_of g) (one_run one g streams n other.0 r other.1 is)
 
-starved_run : (expected : Expected) (had has : File) (b n : ℕ) (s : Status) → ((o : Outcome) → expected o → GrowsByFirst had has o.texts) → s ≡ WantOfMemory → Stopped expected had has b n s
+starved_run : (expected : Expected) (had has : File) (b n : ℕ) (s : Status) → ((o : Outcome) → expected o → WroteFirst had has o.texts) → s ≡ WantOfMemory → Stopped expected had has b n s
 starved_run expected had has b n s first is = subst (Stopped expected had has b n) (sym is) first
 
 decided_run : HasOneEnd → (expected : Expected) (g : Graphs) (streams : List (List ℤ)) (n : ℕ) (had has : File) (e : run.RunEnd) (line : List ℕ) (s : Status) → Decides expected g streams n
@@ -234,14 +229,14 @@ decided_run one expected g streams n had has e line s h (r, is, ends, grows) sta
     let same = same_run one expected g streams n r h is o x in (
       ap (λ (p : Outcome). p.status) same ∙ ap (status_of g) ends ∙ status,
       ap (λ (p : Outcome). p.line) same ∙ ap (line_of_end g) ends ∙ text,
-      grows_as had has _ _ (ap (λ (p : Outcome). joined p.texts) (sym same)) grows,
+      subst (λ (p : Outcome). Wrote had has p.texts) (sym same) (wrote had has (texts_of g r.iterations) grows),
     )
 
 all_put : HasOneEnd → (expected : Expected) (g : Graphs) (streams : List (List ℤ)) (n : ℕ) (had has : File) (e : run.RunEnd) → Decides expected g streams n → RanTo g streams n had has e
-    → (o : Outcome) → expected o → GrowsByFirst had has o.texts
+    → (o : Outcome) → expected o → WroteFirst had has o.texts
 all_put one expected g streams n had has e h (r, is, ends, grows) o x =
     let same = same_run one expected g streams n r h is o x in
-    all_first had has o.texts (grows_as had has _ _ (ap (λ (p : Outcome). joined p.texts) (sym same)) grows)
+    all_first had has o.texts (subst (λ (p : Outcome). Wrote had has p.texts) (sym same) (wrote had has (texts_of g r.iterations) grows))
 
 pub works_run : HasOneEnd → (expected : Expected) (g : Graphs) (streams : List (List ℤ)) (k : ℕ) (had has : File) (b n : ℕ) (e : RunEnd) (result : Result (String Global) Status) → Decides expected g streams k → EndsRun g streams k had has b n e → Reports g e result → Works expected had has b n result
 works_run one expected g streams k had has b n (end.Done left) (Ok text) h ends rep = decided_run one expected g streams k had has _ (string_bytes text) Done h ends refl (sym rep)
@@ -294,7 +289,6 @@ unread_refusal (RunRefused refusal) h = absurd h
 unread_refusal (ReadFault w) h = absurd h
 unread_refusal WriteFault h = absurd h
 unread_refusal WantOfMemory h = unread_memory
-unread_refusal (NotYet later) h = absurd h
 
 pub unread_report : (g : Graphs) (e : RunEnd) (r : Worked) → Reports g e r → IfErr r ReadsNothing
 unread_report g e (Ok text) h = tt
@@ -333,25 +327,24 @@ works_for wide narrow had has b n (Err (RunRefused refusal)) fewer h = λ o e. h
 works_for wide narrow had has b n (Err (ReadFault which)) fewer h = h
 works_for wide narrow had has b n (Err WriteFault) fewer h = (h.0, λ o e. h.1 o (fewer o e))
 works_for wide narrow had has b n (Err WantOfMemory) fewer h = λ o e. h o (fewer o e)
-works_for wide narrow had has b n (Err (NotYet later)) fewer h = λ o e. h o (fewer o e)
 
 -- one text was put, whole or in part
 pub told_whole : (expected : Expected) (had has : File) (text line : List ℕ) → ((o : Outcome) → expected o → o ≡ told text) → line ≡ [] → Grows had has text → Decided expected had has line Done
 told_whole expected had has text line same none grows = λ o e. (
   ap (λ (p : Outcome). p.status) (same o e),
   ap (λ (p : Outcome). p.line) (same o e) ∙ sym none,
-  grows_as had has _ _ (sym (append-nil text) ∙ ap (λ (p : Outcome). joined p.texts) (sym (same o e))) grows,
+  subst (λ (p : Outcome). Wrote had has p.texts) (sym (same o e)) (wrote had has (text ∷ []) (grows_as had has _ _ (sym (append-nil text)) grows)),
 )
 
-pub told_partly : (expected : Expected) (had has : File) (text : List ℕ) → ((o : Outcome) → expected o → o ≡ told text) → GrowsPartly had has text → (o : Outcome) → expected o → GrowsPartly had has (joined o.texts)
-told_partly expected had has text same partly = λ o e. grows_partly_as had has _ _ (sym (append-nil text) ∙ ap (λ (p : Outcome). joined p.texts) (sym (same o e))) partly
+pub told_partly : (expected : Expected) (had has : File) (text : List ℕ) → ((o : Outcome) → expected o → o ≡ told text) → GrowsPartly had has text → (o : Outcome) → expected o → WrotePartly had has o.texts
+told_partly expected had has text same partly = λ o e. subst (λ (p : Outcome). WrotePartly had has p.texts) (sym (same o e)) (wrote_partly had has (text ∷ []) (grows_partly_as had has _ _ (sym (append-nil text)) partly))
 
 -- nothing was put, and the status is this one
 pub stop_works : (g : Graphs) (w : File) (f : ℕ) (stop : Stop) (s : Status) → StopsWith g stop s → Stopped (TellsStop g stop) w w f f s
 stop_works g w f (stop.Short stream has needs) s (inl is) = subst (Stopped (TellsStop g (stop.Short stream has needs)) w w f f) (sym is) (λ o e. refused_as o (short_of g record { stream = stream; has = has; needs = needs }) w e)
-stop_works g w f (stop.Short stream has needs) s (inr is) = subst (Stopped (TellsStop g (stop.Short stream has needs)) w w f f) (sym is) (λ o e. (0, grows_none w))
+stop_works g w f (stop.Short stream has needs) s (inr is) = subst (Stopped (TellsStop g (stop.Short stream has needs)) w w f f) (sym is) (λ o e. wrote_nothing w w o.texts (grows_none w))
 stop_works g w f (stop.Refused refusal) s is = subst (Stopped (TellsStop g (stop.Refused refusal)) w w f f) (sym is) (λ o e. refused_as o (RunRefused refusal) w e)
-stop_works g w f stop.Memory s is = subst (Stopped (TellsStop g stop.Memory) w w f f) (sym is) (λ o e. (0, grows_none w))
+stop_works g w f stop.Memory s is = subst (Stopped (TellsStop g stop.Memory) w w f f) (sym is) (λ o e. wrote_nothing w w o.texts (grows_none w))
 
 pub stop_there : (g : Graphs) (stop : Stop) (s : Status) → is_answer s ≡ true → (o : Outcome) × TellsStop g stop o
 stop_there g (stop.Short stream has needs) s a = (refused (short_of g record { stream = stream; has = has; needs = needs }), refl)
@@ -367,7 +360,7 @@ stop_unread g stop.Memory s is = unread_as s WantOfMemory is unread_memory
 -- ---- the whole call
 
 abbrev First : Expected → Option (List ℕ) → Option (List ℕ) → Type 0
-First expected oh on = (o : Outcome) → expected o → GrowsByFirst oh on o.texts
+First expected oh on = (o : Outcome) → expected o → WroteFirst oh on o.texts
 
 cut_by : (expected : Expected) (oh on eh en : Option (List ℕ)) (ob onow eb enow : ℕ) (s : Status) (line : List ℕ) → First expected oh on
     → ((o : Outcome) → expected o → MayTell o line) → s ≡ WriteFault → Rose eb enow → GrowsPartly eh en line → Ended expected oh on eh en ob onow eb enow s
@@ -413,7 +406,7 @@ read_by expected oh on eh en ob onow eb enow s which none (inl (is, grows)) = re
   unread = λ w h. let t : ReadFault which ≡ ReadFault w = sym is ∙ h in let same : which ≡ w = cc in record { out = none; err = grows_as eh en _ _ (ap read_line same) grows };
 }
 read_by expected oh on eh en ob onow eb enow s which none (inr (is, rose, partly)) =
-    cut_by expected oh on eh en ob onow eb enow s (read_line which) (λ o e. (0, none)) (λ o e. inr (inr (which, refl))) is rose partly
+    cut_by expected oh on eh en ob onow eb enow s (read_line which) (λ o e. wrote_nothing oh on o.texts none) (λ o e. inr (inr (which, refl))) is rose partly
 
 decided_by : (expected : Expected) (oh on eh en : Option (List ℕ)) (ob onow eb enow : ℕ) (s told : Status) → is_answer told ≡ true → Decided expected oh on (line_of told) told
     → Concludes (Err told) eh en eb enow s → Ended expected oh on eh en ob onow eb enow s
@@ -430,10 +423,9 @@ ended expected oh on eh en ob onow eb enow s (Err Usage) w c = decided_by expect
 ended expected oh on eh en ob onow eb enow s (Err (GraphRefused cause)) w c = decided_by expected oh on eh en ob onow eb enow s (GraphRefused cause) refl w c
 ended expected oh on eh en ob onow eb enow s (Err (TokensRefused cause)) w c = decided_by expected oh on eh en ob onow eb enow s (TokensRefused cause) refl w c
 ended expected oh on eh en ob onow eb enow s (Err (RunRefused refusal)) w c = decided_by expected oh on eh en ob onow eb enow s (RunRefused refusal) refl w c
-ended expected oh on eh en ob onow eb enow s (Err (NotYet later)) w c = decided_by expected oh on eh en ob onow eb enow s (NotYet later) refl w c
 ended expected oh on eh en ob onow eb enow s (Err (ReadFault which)) w (inl (is, same, rest)) = absurd cc
 ended expected oh on eh en ob onow eb enow s (Err (ReadFault which)) w (inr (non, inl p)) = read_by expected oh on eh en ob onow eb enow s which w p
-ended expected oh on eh en ob onow eb enow s (Err (ReadFault which)) w (inr (non, inr p)) = memory_by expected oh on eh en ob onow eb enow s (λ o e. (0, w)) p
+ended expected oh on eh en ob onow eb enow s (Err (ReadFault which)) w (inr (non, inr p)) = memory_by expected oh on eh en ob onow eb enow s (λ o e. wrote_nothing oh on o.texts w) p
 ended expected oh on eh en ob onow eb enow s (Err WantOfMemory) w (inl (is, same, rest)) = absurd cc
 ended expected oh on eh en ob onow eb enow s (Err WantOfMemory) w (inr (non, inl p)) = memory_by expected oh on eh en ob onow eb enow s w p
 ended expected oh on eh en ob onow eb enow s (Err WantOfMemory) w (inr (non, inr p)) = memory_by expected oh on eh en ob onow eb enow s w p
@@ -508,7 +500,6 @@ completes expected cmd before now oh on eh en ob onow eb enow Usage e r = λ o h
 completes expected cmd before now oh on eh en ob onow eb enow (GraphRefused cause) e r = λ o h. inl (e.result o h refl).status
 completes expected cmd before now oh on eh en ob onow eb enow (TokensRefused cause) e r = λ o h. inl (e.result o h refl).status
 completes expected cmd before now oh on eh en ob onow eb enow (RunRefused refusal) e r = λ o h. inl (e.result o h refl).status
-completes expected cmd before now oh on eh en ob onow eb enow (NotYet later) e r = λ o h. inl (e.result o h refl).status
 completes expected cmd before now oh on eh en ob onow eb enow (ReadFault which) e r = λ o h. inr (inr (inr (which, refl, r which refl)))
 completes expected cmd before now oh on eh en ob onow eb enow WriteFault e r = λ o h. inr (inr (inl (refl, e.write refl)))
 completes expected cmd before now oh on eh en ob onow eb enow WantOfMemory e r = λ o h. inr (inl refl)
@@ -530,6 +521,10 @@ upgrade_there None (Ok text) = λ t. absurd t
 upgrade_there None (Err s) = λ t a. absurd t
 upgrade_there (Some bytes) (Ok text) = λ t. (upgrade_graphs (read_graphs bytes), refl)
 upgrade_there (Some bytes) (Err s) = λ t a. (upgrade_graphs (read_graphs bytes), refl)
+
+pub upgrade_told : (file : File) (graphs : Graphs) (text : List ℕ) → ((bytes : List ℕ) → file ≡ Some bytes → read_graphs bytes ≡ Ok graphs) → text ≡ file_of (latest graphs) → (o : Outcome) → Upgrades file o → o ≡ told text
+upgrade_told None graphs text h is o u = absurd u
+upgrade_told (Some bytes) graphs text h is o u = u ∙ ap upgrade_graphs (h bytes refl) ∙ ap told (sym is)
 
 pub usage_there : (a : Option Command) (files : Files) → a ≡ None → IsThere (Knows a files) (ComesTo a files) (Err Usage)
 usage_there a files is = there_as None a files (Err Usage) (sym is) (λ t h. (refused Usage, refl))

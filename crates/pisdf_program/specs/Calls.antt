@@ -15,10 +15,6 @@ use Rattle.pisdf_program.specs.declared.run.RunEnd.TheVariants as here
 abbrev pub GrowsPartly : Option (List ℕ) → Option (List ℕ) → List ℕ → Type 0
 GrowsPartly had has text = (kept : ℕ) × (kept ≤ length text) × Grows had has (take kept text)
 
--- where it is told what was written, the first of these texts were, each whole
-abbrev pub GrowsByFirst : Option (List ℕ) → Option (List ℕ) → List (List ℕ) → Type 0
-GrowsByFirst had has texts = (count : ℕ) × Grows had has (joined (take count texts))
-
 -- so many iterations were done, and these texts of them were written whole
 abbrev pub text_of : Graphs → List Iteration → List ℕ
 text_of graphs iterations = joined (texts_from 0 (top_of graphs).outputs iterations)

@@ -15,6 +15,9 @@ pub mod Making
 pub mod LineSeen
 pub mod Loaded
 pub mod Texts
+pub mod Boards
+pub mod Written
+pub mod Journals
 pub mod Load
 pub mod LoadEnd
 pub mod Result

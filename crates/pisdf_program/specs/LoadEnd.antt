@@ -47,4 +47,3 @@ IsLoadStatus (status.RunRefused refusal) = Unit {0}
 IsLoadStatus (status.ReadFault which) = ⊥
 IsLoadStatus status.WriteFault = Unit {0}
 IsLoadStatus status.WantOfMemory = Unit {0}
-IsLoadStatus (status.NotYet later) = ⊥

@@ -9,7 +9,7 @@ use Rattle.kernel_gate.specs.Signed.{unnamed}
 use Rattle.kernel_gate.specs.Table.{the_signatures}
 use Rattle.pisdf_meaning.specs.Sound.{KernelsFit}
 use Rattle.pisdf_program.specs.declared.status.Status.{Status}
-use Rattle.pisdf_program.specs.declared.status.Status.TheVariants.{Done, Usage, GraphRefused, TokensRefused, RunRefused, ReadFault, WriteFault, WantOfMemory, NotYet}
+use Rattle.pisdf_program.specs.declared.status.Status.TheVariants.{Done, Usage, GraphRefused, TokensRefused, RunRefused, ReadFault, WriteFault, WantOfMemory}
 use Rattle.pisdf_program.specs.declared.status.Which.{Which}
 
 -- a status that the words and files decide: no fault of a file or a sink, and no want of memory
@@ -22,7 +22,6 @@ is_answer (RunRefused refusal) = true
 is_answer (ReadFault which) = false
 is_answer WriteFault = false
 is_answer WantOfMemory = false
-is_answer (NotYet later) = true
 
 -- what was given, or refused, is what reading the told file gives; a fault and want of memory show nothing of it
 abbrev pub Settles : {A : Type 0} → Result A Status → Result A Status → Type 0
@@ -39,7 +38,6 @@ FaultsOnly which before now (RunRefused refusal) = ⊥
 FaultsOnly which before now (ReadFault w) = (w ≡ which) × Rose before now
 FaultsOnly which before now WriteFault = ⊥
 FaultsOnly which before now WantOfMemory = Unit {0}
-FaultsOnly which before now (NotYet later) = ⊥
 
 -- a status of reading bytes, which is no fault
 abbrev pub NoFault : Status → Type 0
@@ -51,7 +49,6 @@ NoFault (RunRefused refusal) = ⊥
 NoFault (ReadFault w) = ⊥
 NoFault WriteFault = ⊥
 NoFault WantOfMemory = Unit {0}
-NoFault (NotYet later) = ⊥
 
 -- a status where the files of a run can't be read
 abbrev pub StopsReading : Status → Type 0
@@ -63,7 +60,6 @@ StopsReading (RunRefused refusal) = ⊥
 StopsReading (ReadFault which) = Unit {0}
 StopsReading WriteFault = ⊥
 StopsReading WantOfMemory = Unit {0}
-StopsReading (NotYet later) = ⊥
 
 -- graphs that were read: in range, without a fault, such that they can be written, and fitting the kernels of the table
 pub record AreGood (graphs : Graphs) : Type 0 where

@@ -19,29 +19,34 @@ use Rattle.pisdf_meaning.specs.declared.outcome.Iteration.{Iteration}
 use Rattle.job_report.specs.Names.{names_of}
 use Rattle.job_report.specs.Told.{Tells}
 use Rattle.job_report.specs.declared.text.JobText.{JobText}
+use Rattle.pisdf_program.specs.Boards.{boards}
 use Rattle.pisdf_program.specs.Job.{EndsJob, JobEnd}
 use Rattle.pisdf_program.specs.Load.{all_tokens, load_file, load_iterations, load_row, load_streams}
 use Rattle.pisdf_program.specs.Top.{input_names, top_of}
 use Rattle.pisdf_program.specs.Words.{Command, command_of, Run, Plain, Job, Journal, Soak, Upgrade}
 use Rattle.pisdf_program.specs.Texts.{texts_from, left_lines, line_of}
+use Rattle.pisdf_program.specs.Written.{Text, Exactly, exactly, journals}
 use Rattle.pisdf_program.specs.declared.stop.Stop.{Stop}
 use Rattle.pisdf_program.specs.declared.stop.Stop.TheVariants as stop
 use Rattle.pisdf_program.specs.declared.load.Input.{Input}
 use Rattle.pisdf_program.specs.declared.status.Status.{Status}
-use Rattle.pisdf_program.specs.declared.status.Status.TheVariants.{Done, Usage, GraphRefused, TokensRefused, RunRefused, NotYet}
+use Rattle.pisdf_program.specs.declared.status.Status.TheVariants.{Done, Usage, GraphRefused, TokensRefused, RunRefused}
 use Rattle.pisdf_program.specs.declared.status.GraphCause.TheVariants as graph
 use Rattle.pisdf_program.specs.declared.status.TokenCause.TheVariants as tokens
-use Rattle.pisdf_program.specs.declared.status.Later.TheVariants as later
 
 -- the texts for standard output, each put whole, the text for standard error, and the status
 pub record Outcome : Type 0 where
-  pub texts : List (List ℕ)
+  pub texts : List Text
   pub line : List ℕ
   pub status : Status
 
 -- a status with its line
 abbrev pub refused : Status → Outcome
 refused status = record { texts = []; line = line_of status; status = status }
+
+-- one text
+abbrev pub told : List ℕ → Outcome
+told text = record { texts = Exactly text ∷ []; line = []; status = Done }
 
 -- ---- the graph file
 
@@ -117,7 +122,7 @@ line_of_end graphs (run.Refused refusal) = line_of (RunRefused refusal)
 -- the result of a run by one thread
 abbrev pub outcome_of : Graphs → run.Run → Outcome
 outcome_of graphs r = record {
-  texts = texts_from 0 (top_of graphs).outputs r.iterations;
+  texts = exactly (texts_from 0 (top_of graphs).outputs r.iterations);
   line = line_of_end graphs r.end;
   status = status_of graphs r.end;
 }
@@ -129,10 +134,20 @@ Runs iterations input o = (r : run.Run) × run.IsRun input.graphs input.streams 
 abbrev pub RunsFile : Option (List ℕ) → ℕ → Option (List ℕ) → Outcome → Type 0
 RunsFile graph iterations tokens o = FromFiles (Runs iterations) graph tokens o
 
--- ---- what is told of the compiled job
+-- ---- the journals of a run
 
-abbrev pub told : List ℕ → Outcome
-told text = record { texts = text ∷ []; line = []; status = Done }
+-- the journal of each board of a run by so many workers, and how one thread's run ends
+abbrev pub journals_of : ℕ → Input → run.Run → Outcome
+journals_of workers input r = record {
+  texts = journals input.graphs input.streams workers (boards input.graphs r);
+  line = line_of (status_of input.graphs r.end);
+  status = status_of input.graphs r.end;
+}
+
+abbrev pub Journals : ℕ → ℕ → Input → Outcome → Type 0
+Journals iterations workers input o = (r : run.Run) × run.IsRun input.graphs input.streams iterations r × (o ≡ journals_of workers input r)
+
+-- ---- what is told of the compiled job
 
 -- what is told where an iteration isn't done; want of memory says nothing
 abbrev pub TellsStop : Graphs → Stop → Outcome → Type 0
@@ -180,7 +195,7 @@ abbrev pub file_of : Graphs → List ℕ
 file_of graphs = compact_text (canonical (kernel_names the_signatures) graphs)
 
 abbrev pub upgrade_graphs : Result Graphs Status → Outcome
-upgrade_graphs (Ok graphs) = record { texts = file_of (latest graphs) ∷ []; line = []; status = Done }
+upgrade_graphs (Ok graphs) = told (file_of (latest graphs))
 upgrade_graphs (Err status) = refused status
 
 abbrev pub Upgrades : Option (List ℕ) → Outcome → Type 0
@@ -195,7 +210,7 @@ ComesTo None files o = o ≡ refused Usage
 ComesTo (Some (Run graph tokens iterations workers)) files o = RunsFile (files graph) iterations (files tokens) o
 ComesTo (Some (Plain graph tokens iterations)) files o = RunsFile (files graph) iterations (files tokens) o
 ComesTo (Some (Job what graph tokens workers)) files o = FromFiles (TellsJob what workers) (files graph) (files tokens) o
-ComesTo (Some (Journal graph tokens iterations workers)) files o = o ≡ refused (NotYet later.Command)
+ComesTo (Some (Journal graph tokens iterations workers)) files o = FromFiles (Journals iterations workers) (files graph) (files tokens) o
 ComesTo (Some (Soak number workers)) files o = Soaks number o
 ComesTo (Some (Upgrade graph)) files o = Upgrades (files graph) o
 
@@ -223,6 +238,6 @@ Knows None files = Unit {0}
 Knows (Some (Run graph tokens iterations workers)) files = AreTold (files graph) (files tokens)
 Knows (Some (Plain graph tokens iterations)) files = AreTold (files graph) (files tokens)
 Knows (Some (Job what graph tokens workers)) files = AreTold (files graph) (files tokens)
-Knows (Some (Journal graph tokens iterations workers)) files = Unit {0}
+Knows (Some (Journal graph tokens iterations workers)) files = AreTold (files graph) (files tokens)
 Knows (Some (Soak number workers)) files = Unit {0}
 Knows (Some (Upgrade graph)) files = IsTold (files graph)

@@ -17,15 +17,13 @@ use Rattle.param_resolver.specs.declared.fault.Why.TheVariants as why
 use Rattle.level_schedule.specs.declared.unscheduled.What.{What}
 use Rattle.level_schedule.specs.declared.unscheduled.What.TheVariants as what
 use Rattle.pisdf_program.specs.declared.status.Status.{Status}
-use Rattle.pisdf_program.specs.declared.status.Status.TheVariants.{Done, Usage, GraphRefused, TokensRefused, RunRefused, ReadFault, WriteFault, WantOfMemory, NotYet}
+use Rattle.pisdf_program.specs.declared.status.Status.TheVariants.{Done, Usage, GraphRefused, TokensRefused, RunRefused, ReadFault, WriteFault, WantOfMemory}
 use Rattle.pisdf_program.specs.declared.status.GraphCause.{GraphCause}
 use Rattle.pisdf_program.specs.declared.status.GraphCause.TheVariants as graph
 use Rattle.pisdf_program.specs.declared.status.TokenCause.{TokenCause}
 use Rattle.pisdf_program.specs.declared.status.TokenCause.TheVariants as tokens
 use Rattle.pisdf_program.specs.declared.status.Which.{Which}
 use Rattle.pisdf_program.specs.declared.status.Which.TheVariants as which
-use Rattle.pisdf_program.specs.declared.status.Later.{Later}
-use Rattle.pisdf_program.specs.declared.status.Later.TheVariants as later
 
 -- texts one after another
 abbrev pub joined : List (List ℕ) → List ℕ
@@ -147,9 +145,6 @@ cause_words (cause.Kernel name firing code) = joined (codes "kernel " ∷ name �
 abbrev pub refusal_line : List ℕ → Cause → List ℕ
 refusal_line path reason = joined (codes "run: " ∷ path ∷ codes " " ∷ cause_words reason ∷ codes "\n" ∷ [])
 
-abbrev pub later_line : Later → List ℕ
-later_line later.Command = codes "notyet command\n"
-
 -- the line of a status. After Done there are lines for the streams with tokens left, and after a failed put there is none
 abbrev pub line_of : Status → List ℕ
 line_of Done = []
@@ -160,4 +155,3 @@ line_of (RunRefused refusal) = refusal_line refusal.path refusal.cause
 line_of (ReadFault which) = read_line which
 line_of WriteFault = []
 line_of WantOfMemory = memory_line
-line_of (NotYet later) = later_line later

@@ -4,12 +4,13 @@ use Rattle.std.specs.declared.alloc.Global.{Global}
 use Rattle.outer_world.specs.Faults.{Rose}
 use Rattle.outer_world.specs.Sink.{Grows}
 use Rattle.pisdf_model.specs.declared.graph.Graphs.{Graphs}
-use Rattle.pisdf_program.specs.Calls.{GrowsPartly, GrowsByFirst}
+use Rattle.pisdf_program.specs.Calls.{GrowsPartly}
 use Rattle.pisdf_program.specs.Loaded.{is_answer}
 use Rattle.pisdf_program.specs.LoadEnd.{total_row}
 use Rattle.pisdf_program.specs.Result.{Outcome, TellsStop, short_of, told}
 use Rattle.pisdf_program.specs.Top.{top_of}
-use Rattle.pisdf_program.specs.Texts.{joined, left_lines, line_of, memory_line, read_line}
+use Rattle.pisdf_program.specs.Texts.{left_lines, line_of, memory_line, read_line}
+use Rattle.pisdf_program.specs.Written.{Wrote, WroteFirst, WrotePartly}
 use Rattle.pisdf_program.specs.Words.{Command, Run, Plain, Job, Journal, Soak, Upgrade}
 use Rattle.pisdf_program.specs.declared.load_totals.Total.{Total}
 use Rattle.pisdf_program.specs.declared.stop.Stop.{Stop}
@@ -17,7 +18,7 @@ use Rattle.pisdf_program.specs.declared.stop.Stop.TheVariants as stop
 use Rattle.pisdf_program.specs.declared.run.RunEnd.{RunEnd}
 use Rattle.pisdf_program.specs.declared.run.RunEnd.TheVariants as end
 use Rattle.pisdf_program.specs.declared.status.Status.{Status}
-use Rattle.pisdf_program.specs.declared.status.Status.TheVariants.{Done, Usage, GraphRefused, TokensRefused, RunRefused, ReadFault, WriteFault, WantOfMemory, NotYet}
+use Rattle.pisdf_program.specs.declared.status.Status.TheVariants.{Done, Usage, GraphRefused, TokensRefused, RunRefused, ReadFault, WriteFault, WantOfMemory}
 use Rattle.pisdf_program.specs.declared.status.Which.{Which}
 use Rattle.pisdf_program.specs.declared.status.Which.TheVariants.{Graph, Tokens}
 
@@ -37,11 +38,17 @@ Reports graphs end.WriteFault (Err status) = status ≡ WriteFault
 Reports graphs end.Memory (Ok text) = ⊥
 Reports graphs end.Memory (Err status) = status ≡ WantOfMemory
 
+-- no text after journals that were all put, or the refusal
+abbrev pub ReportsBoards : Graphs → Result (Unit {0}) RunEnd → Result (String Global) Status → Type 0
+ReportsBoards graphs (Ok done) (Ok text) = string_bytes text ≡ []
+ReportsBoards graphs (Ok done) (Err status) = ⊥
+ReportsBoards graphs (Err end) result = Reports graphs end result
+
 -- ---- before anything is put to standard error
 
 -- the told files decide this status and this line, and all texts were put
 abbrev pub Decided : (Outcome → Type 0) → Option (List ℕ) → Option (List ℕ) → List ℕ → Status → Type 0
-Decided expected had has line status = (o : Outcome) → expected o → (o.status ≡ status) × (o.line ≡ line) × Grows had has (joined o.texts)
+Decided expected had has line status = (o : Outcome) → expected o → (o.status ≡ status) × (o.line ≡ line) × Wrote had has o.texts
 
 abbrev pub Stopped : (Outcome → Type 0) → Option (List ℕ) → Option (List ℕ) → ℕ → ℕ → Status → Type 0
 Stopped expected had has before now Done = ⊥
@@ -50,9 +57,8 @@ Stopped expected had has before now (GraphRefused cause) = Decided expected had 
 Stopped expected had has before now (TokensRefused cause) = Decided expected had has (line_of (TokensRefused cause)) (TokensRefused cause)
 Stopped expected had has before now (RunRefused refusal) = Decided expected had has (line_of (RunRefused refusal)) (RunRefused refusal)
 Stopped expected had has before now (ReadFault which) = Grows had has []
-Stopped expected had has before now WriteFault = Rose before now × ((o : Outcome) → expected o → GrowsPartly had has (joined o.texts))
-Stopped expected had has before now WantOfMemory = (o : Outcome) → expected o → GrowsByFirst had has o.texts
-Stopped expected had has before now (NotYet later) = Decided expected had has (line_of (NotYet later)) (NotYet later)
+Stopped expected had has before now WriteFault = Rose before now × ((o : Outcome) → expected o → WrotePartly had has o.texts)
+Stopped expected had has before now WantOfMemory = (o : Outcome) → expected o → WroteFirst had has o.texts
 
 -- the lines for standard error after Done, or the status otherwise
 abbrev pub Works : (Outcome → Type 0) → Option (List ℕ) → Option (List ℕ) → ℕ → ℕ → Result (String Global) Status → Type 0
@@ -97,12 +103,12 @@ TellsLoad graphs number (Err stop) o = TellsStop graphs stop o
 -- both texts were written, and the status is the outcome's
 pub record IsResult (o : Outcome) (out_had out_has err_had err_has : Option (List ℕ)) (answer : Status) : Type 0 where
   pub status : answer ≡ o.status
-  pub out : Grows out_had out_has (joined o.texts)
+  pub out : Wrote out_had out_has o.texts
   pub err : Grows err_had err_has o.line
 
 -- the first texts were written, each whole, and the line of want of memory
 pub record IsStarved (o : Outcome) (out_had out_has err_had err_has : Option (List ℕ)) : Type 0 where
-  pub out : GrowsByFirst out_had out_has o.texts
+  pub out : WroteFirst out_had out_has o.texts
   pub err : Grows err_had err_has memory_line
 
 -- a line that a call of this outcome may put: the outcome's, or that of want of memory or of a fault of reading
@@ -112,8 +118,8 @@ MayTell o line = (line ≡ o.line) ⊎ (line ≡ memory_line) ⊎ ((which : Whic
 -- a put failed and was the last: one to out, after which nothing was put to err, or one to err
 abbrev pub IsCut : Outcome → Option (List ℕ) → Option (List ℕ) → Option (List ℕ) → Option (List ℕ) → Type 0
 IsCut o out_had out_has err_had err_has =
-    (GrowsPartly out_had out_has (joined o.texts) × Grows err_had err_has [])
-    ⊎ (GrowsByFirst out_had out_has o.texts × ((line : List ℕ) × MayTell o line × GrowsPartly err_had err_has line))
+    (WrotePartly out_had out_has o.texts × Grows err_had err_has [])
+    ⊎ (WroteFirst out_had out_has o.texts × ((line : List ℕ) × MayTell o line × GrowsPartly err_had err_has line))
 
 -- nothing but the line of the file that couldn't be read was written
 pub record IsUnread (which : Which) (out_had out_has err_had err_has : Option (List ℕ)) : Type 0 where
@@ -139,12 +145,12 @@ abbrev pub graph_alone : List ℕ → Which → Option (List ℕ)
 graph_alone graph Graph = Some graph
 graph_alone graph Tokens = None
 
--- the name of one of the files that a command of this stage may load, in its words
+-- the name of one of the files that a command may load, in its words
 abbrev pub file_in : Command → Which → Option (List ℕ)
 file_in (Run graph tokens iterations workers) which = Some (file_among graph tokens which)
 file_in (Plain graph tokens iterations) which = Some (file_among graph tokens which)
 file_in (Job what graph tokens workers) which = Some (file_among graph tokens which)
-file_in (Journal graph tokens iterations workers) which = None
+file_in (Journal graph tokens iterations workers) which = Some (file_among graph tokens which)
 file_in (Soak number workers) which = None
 file_in (Upgrade graph) which = graph_alone graph which
 

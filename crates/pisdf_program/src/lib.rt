@@ -1,10 +1,12 @@
 //! The commands of the program, over files by name and two sinks of bytes: `run GRAPH TOKENS ITERATIONS WORKERS`,
 //! `plain GRAPH TOKENS ITERATIONS`, `plan GRAPH TOKENS WORKERS`, `schedule GRAPH TOKENS WORKERS`, `memory GRAPH TOKENS
-//! WORKERS`, `soak NUMBER WORKERS` and `upgrade GRAPH`.
+//! WORKERS`, `journal GRAPH TOKENS ITERATIONS WORKERS`, `soak NUMBER WORKERS` and `upgrade GRAPH`.
 #![tactic(auto)]
 
 mod job;
 mod job_command;
+mod journal;
+mod journal_text;
 mod limits;
 mod line;
 mod load;
@@ -24,4 +26,4 @@ mod upgrade;
 mod words;
 
 pub use program::run_program;
-pub use status::{GraphCause, Later, Status, TokenCause, Which};
+pub use status::{GraphCause, Status, TokenCause, Which};

@@ -1,9 +1,9 @@
 // The lines that a status puts to standard error.
 ghost use Rattle.std.specs.Prelude.{◌≡◌, ◌==◌, ◌++◌, [], codes, if◌then◌else◌, IfOk, OnOk, IsOk, string_bytes};
 ghost use Rattle.pisdf_program.specs.LineSeen.{line_text};
-ghost use Rattle.pisdf_program.specs.Texts.{cause_words, graph_fault_line, graph_line, later_line, left_line, left_lines, left_words, line_of, named_line, range_words, read_line, refusal_line, tokens_line, what_word, why_words};
+ghost use Rattle.pisdf_program.specs.Texts.{cause_words, graph_fault_line, graph_line, left_line, left_lines, left_words, line_of, named_line, range_words, read_line, refusal_line, tokens_line, what_word, why_words};
 
-use crate::status::{GraphCause, Later, Status, TokenCause, Which};
+use crate::status::{GraphCause, Status, TokenCause, Which};
 use graph_format::GraphFault;
 use level_schedule::What;
 use param_expr::Name;
@@ -97,14 +97,6 @@ fn read_line(which: Which) -> &'static str
     match which {
         Which::Graph => "read: graph\n",
         Which::Tokens => "read: tokens\n",
-    }
-}
-
-fn later_line(later: Later) -> &'static str
-    ensures { result.now ≡ later_line later }
-{
-    match later {
-        Later::Command => "notyet command\n",
     }
 }
 
@@ -275,7 +267,6 @@ pub(crate) fn line_of(alloc: Global, status: &Status) -> Result<Line, AllocError
         Status::RunRefused(refusal) => Ok(Line::Written(refusal_line(alloc, refusal)?)),
         Status::ReadFault(which) => Ok(Line::Fixed(read_line(*which))),
         Status::WantOfMemory => Ok(Line::Fixed(MEMORY)),
-        Status::NotYet(later) => Ok(Line::Fixed(later_line(*later))),
     }
 }
 

@@ -10,13 +10,14 @@ ghost use Rattle.pisdf_program.specs.Worked.{Completes, Concludes, CountRose, En
 ghost use Rattle.pisdf_program.specs.Words.{most_iterations};
 
 use crate::job_command::tell_job;
+use crate::journal::tell_journals;
 use crate::line::{MEMORY, left_lines, line_of};
 use crate::load::load_input;
 use crate::maker::Maker;
 use crate::put::put_text;
 use crate::run::{RunEnd, run_all, top_of};
 use crate::soak::soak;
-use crate::status::{Later, Status};
+use crate::status::Status;
 use crate::stop::short_status;
 use crate::upgrade::upgrade;
 use crate::words::{Command, read_words};
@@ -30,7 +31,7 @@ use std::sync::{Arc, Wait};
 use std::thread::Threads;
 
 /// The lines for the streams with tokens left after a run that is done, or the status that it ended with.
-fn report(alloc: Global, graphs: &Graphs, end: RunEnd) -> Result<String, Status>
+pub(crate) fn report(alloc: Global, graphs: &Graphs, end: RunEnd) -> Result<String, Status>
     requires { graphs.now.top < length graphs.now.graphs }
     ensures { Reports graphs.now end result }
 {
@@ -166,7 +167,14 @@ fn work<S: Shelf, O: Sink, K: Gate + Sync, R: Threads + Wait + Sync>(
             tokens,
             workers,
         } => tell_job(alloc, what, graph, tokens, workers, shelf, out, gate),
-        Command::Journal { .. } => Err(Status::NotYet(Later::Command)),
+        Command::Journal {
+            graph,
+            tokens,
+            iterations,
+            workers,
+        } => tell_journals(
+            rt, alloc, graph, tokens, iterations, workers, shelf, out, gate,
+        ),
         Command::Soak { number, .. } => soak(alloc, number, out, gate),
         Command::Upgrade { graph } => upgrade(alloc, graph, shelf, out, gate),
     }

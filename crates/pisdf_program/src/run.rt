@@ -42,7 +42,7 @@ pub(crate) enum RunEnd {
 }
 
 /// The end of a run whose iteration isn't done.
-fn stopped(stop: Stop) -> RunEnd
+pub(crate) fn stopped(stop: Stop) -> RunEnd
     ensures { result ≡ run_end stop }
 {
     match stop {

@@ -23,8 +23,6 @@ pub enum Status {
     /// A text couldn't be put. A sink's count of faults rose.
     WriteFault,
     WantOfMemory,
-    /// The words or files ask for what the program doesn't do yet.
-    NotYet(Later),
 }
 
 /// Why a graph file was refused.
@@ -52,13 +50,6 @@ pub enum Which {
     Tokens,
 }
 
-/// What the program doesn't do yet.
-#[derive(Clone, Copy, Debug, PartialEq, Eq)]
-pub enum Later {
-    /// The command `journal`.
-    Command,
-}
-
 impl Status {
     /// The exit code.
     pub fn code(&self) -> u8
@@ -73,7 +64,6 @@ impl Status {
             Status::ReadFault(_) => 5,
             Status::WriteFault => 6,
             Status::WantOfMemory => 7,
-            Status::NotYet(_) => 8,
         }
     }
     /// The exit code, as a process ends with it.

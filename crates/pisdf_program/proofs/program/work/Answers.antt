@@ -3,10 +3,8 @@ use Rattle.pisdf_program.specs.Words.{command_of}
 use Rattle.pisdf_program.specs.Words as words
 use Rattle.pisdf_program.specs.WordsSeen.{seen}
 use Rattle.pisdf_program.specs.declared.words.Command.{Command as Here}
-use Rattle.pisdf_program.specs.declared.status.Status.TheVariants.{NotYet}
-use Rattle.pisdf_program.specs.declared.status.Later.TheVariants.{Command as AnyCommand}
 use Rattle.pisdf_program.proofs.NoLoads.{no_load}
-use Rattle.pisdf_program.proofs.Working.{decided_as, refused_there, usage_there, works_as}
+use Rattle.pisdf_program.proofs.Working.{usage_there, works_as}
 use Rattle.pisdf_program.proofs.program.work.Goals as goal
 
 pub returns-in-Plain-clause-works : goal.returns-in-Plain-clause-works
@@ -29,13 +27,12 @@ returns-in-Run-clause-works g c =
 
 pub returns-in-Journal-clause-works : goal.returns-in-Journal-clause-works
 returns-in-Journal-clause-works g c =
-    decided_as _ (command_of (map string_bytes c.args.words.now)) (g.S.Shelf.holds c.args.shelf.now) (g.O.Sink.written c.args.out.now) (NotYet AnyCommand)
-    (ap (λ (x : Here). Some (seen x)) (sym c.in-Journal.is) ∙ c.in-Some.ensures.command) (λ o h. h, refl)
+    works_as (Some (words.Journal c.in-Journal.graph.now c.in-Journal.tokens.now c.in-Journal.iterations c.in-Journal.workers)) (command_of (map string_bytes c.args.words.now)) (g.S.Shelf.holds c.args.shelf.now)
+    (g.O.Sink.written c.args.out.now) (g.O.Sink.written c.tell_journals.new.out) (g.O.Sink.faults c.args.out.now) (g.O.Sink.faults c.tell_journals.new.out) c.tell_journals.result
+    (ap (λ (x : Here). Some (seen x)) (sym c.in-Journal.is) ∙ c.in-Some.ensures.command) c.tell_journals.ensures.works
 
-pub returns-in-Journal-clause-there : goal.returns-in-Journal-clause-there
-returns-in-Journal-clause-there g c =
-    refused_there _ (command_of (map string_bytes c.args.words.now)) (g.S.Shelf.holds c.args.shelf.now) (NotYet AnyCommand)
-    (ap (λ (x : Here). Some (seen x)) (sym c.in-Journal.is) ∙ c.in-Some.ensures.command) (λ o h. h, refl)
+pub returns-in-Journal-clause-load : goal.returns-in-Journal-clause-load
+returns-in-Journal-clause-load g c = no_load (words.Journal c.in-Journal.graph.now c.in-Journal.tokens.now c.in-Journal.iterations c.in-Journal.workers) (command_of (map string_bytes c.args.words.now)) c.tell_journals.result (ap (λ (x : Here). Some (seen x)) (sym c.in-Journal.is) ∙ c.in-Some.ensures.command) refl
 
 pub returns-in-Soak-clause-works : goal.returns-in-Soak-clause-works
 returns-in-Soak-clause-works g c =

@@ -1,0 +1,14 @@
+use Rattle.std.proofs.Common.{◌≤◌}
+use Rattle.std.specs.Arc.{arc_value}
+use Rattle.quiescent_driver.specs.Given.{IsTopState}
+use Rattle.pisdf_program.proofs.Boards.{BoardsReached}
+use Rattle.pisdf_program.proofs.journal.run_boards.Given as goal
+
+abbrev pub invariant-loop-number : goal.invariant-loop-number
+invariant-loop-number g l =
+    let sink = g.O.Sink in
+    record {
+      reached : BoardsReached (arc_value l.graphs) l.streams.tokens.now l.workers l.number l.delays.lists (sink.written l.fn.out) (sink.written l.out);
+      never_falls : sink.faults l.fn.out ≤ sink.faults l.out;
+      state : IsTopState (arc_value l.graphs) l.delays.lists;
+    }
