@@ -1,5 +1,5 @@
 -- The fields of a journal.
-use Rattle.std.specs.Prelude.{ℕ, ◌-◌, ◌<◌, List, map, length, vec_len, vec_capacity}
+use Rattle.std.specs.Prelude.{ℕ, ◌-◌, ◌<◌, ◌≤◌, List, map, length, vec_len, vec_capacity}
 use Rattle.std.specs.List.{All}
 use Rattle.board_rules.specs.declared.entry.Entry.{Entry}
 use Rattle.board_rules.specs.declared.entry.Entry.TheVariants as entry
@@ -16,7 +16,7 @@ abbrev pub entries_of : List (List ℕ) → List Line → List Entry
 entries_of paths lines = map (entry_of paths) lines
 
 abbrev pub view_of : Inside → JournalView
-view_of j = record { paths = j.paths.items; entries = entries_of j.paths.items j.lines.items; room = vec_capacity j.lines - vec_len j.lines }
+view_of j = record { paths = j.paths.items; entries = entries_of j.paths.items j.lines.items; room = j.room }
 
 -- the path of a claim is there
 abbrev pub NamesPath : List (List ℕ) → Line → Type 0
@@ -25,3 +25,8 @@ NamesPath paths (Finish worker) = Unit {0}
 
 abbrev pub NamePaths : List (List ℕ) → List Line → Type 0
 NamePaths paths lines = All (NamesPath paths) lines
+
+-- the paths of claims are there, and the room that was taken
+pub record IsJournal (j : Inside) : Type 0 where
+  pub named : NamePaths j.paths.items j.lines.items
+  pub has_room : j.room ≤ vec_capacity j.lines - vec_len j.lines

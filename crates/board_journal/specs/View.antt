@@ -5,7 +5,7 @@ use Rattle.board_rules.specs.declared.entry.Entry.TheVariants.{Claim, Finish}
 use Rattle.board_journal.specs.declared.entry_at.EntryAt.{EntryAt}
 use Rattle.board_journal.specs.declared.entry_at.EntryAt.TheVariants as at
 
--- the paths that were put in, the entries, and how many more there is room for
+-- the paths that were put in, the entries, and for how many more room was taken
 pub record JournalView : Type 0 where
   pub paths : List (List ℕ)
   pub entries : List Entry

@@ -1,4 +1,4 @@
-ghost use Rattle.std.specs.Prelude.{◌≡◌, ◌+◌, ◌-◌, ◌<◌, ◌≤◌, [], ◌∷◌, ◌++◌, length, slice_get, Some, OnErr, OnOk, IfOk};
+ghost use Rattle.std.specs.Prelude.{◌≡◌, ◌+◌, ◌-◌, ◌*◌, ◌<◌, ◌≤◌, [], ◌∷◌, ◌++◌, length, slice_get, Some, OnErr, OnOk, IfOk, IfSome};
 
 use crate::entry_at::EntryAt;
 use crate::line::Line;
@@ -7,12 +7,14 @@ use pisdf_meaning::Path;
 use std::alloc::{AllocError, Global};
 use std::marker::Model;
 
-/// The steps of the workers of a board. Contracts see it as its entries, with the paths that were put in and how many more
-/// entries there is room for.
+/// The steps of the workers of a board. Contracts see it as its entries, with the paths that were put in and for how many more
+/// entries room was taken.
 #[derive(Drop)]
 pub struct Journal {
     paths: Vec<Path>,
     lines: Vec<Line>,
+    /// For how many entries more room was taken.
+    room: usize,
 }
 
 impl Model for Journal {
@@ -20,11 +22,19 @@ impl Model for Journal {
 
     ghost Value = { JournalView };
 
-    ghost use Rattle.board_journal.specs.Kept.{view_of, NamePaths};
+    ghost use Rattle.board_journal.specs.Kept.{view_of, IsJournal};
 
     ghost view = { λ j. view_of j };
 
-    ghost invariant = { λ j. NamePaths j.paths.items j.lines.items };
+    ghost invariant = { IsJournal };
+}
+
+/// The room for what room there is and for two entries of each of so many items, if there are that many numbers.
+fn entries_for(room: usize, items: usize) -> Option<usize>
+    ensures { IfSome result (λ entries. entries ≡ room + 2 * items) }
+{
+    let claims = room.checked_add(items)?;
+    claims.checked_add(items)
 }
 
 impl Journal {
@@ -33,11 +43,12 @@ impl Journal {
 
     /// No entries, and room for none.
     pub fn new(alloc: Global) -> Journal
-        ensures { (result.paths ≡ []) × (result.entries ≡ []) }
+        ensures { result ≡ record { paths = []; entries = []; room = 0 } }
     {
         Journal {
             paths: Vec::new(alloc),
             lines: Vec::new(alloc),
+            room: 0,
         }
     }
 
@@ -58,17 +69,25 @@ impl Journal {
         Ok(number)
     }
 
-    /// Takes room for so many entries more.
+    /// Takes room for the claims and the finishes of so many items more.
     ///
     /// # Errors
     ///
     /// Want of memory. The journal is as before.
-    pub fn reserve(&mut self, entries: usize) -> Result<(), AllocError>
-        ensures room { OnOk result (entries ≤ self.new.room) }
+    pub fn reserve(&mut self, items: usize) -> Result<(), AllocError>
+        ensures room { OnOk result (self.new.room ≡ self.old.room + 2 * items) }
         ensures kept { (self.new.paths ≡ self.old.paths) × (self.new.entries ≡ self.old.entries) }
         ensures more { self.old.room ≤ self.new.room }
+        ensures refused { OnErr result (self.new ≡ self.old) }
     {
-        self.lines.reserve(entries)
+        match entries_for(self.room, items) {
+            Some(room) => {
+                self.lines.reserve(room)?;
+                self.room = room;
+                Ok(())
+            }
+            None => Err(AllocError),
+        }
     }
 
     /// Enters that a worker claims an item of the job with the path of this number.
@@ -78,6 +97,7 @@ impl Journal {
         ensures { self.new ≡ record self.old { entries = self.old.entries ++ entry.Claim worker (path_at self.old.paths path) item ∷ []; room = self.old.room - 1 } }
     {
         self.lines.push_reserved(Line::Claim { worker, path, item });
+        self.room -= 1;
     }
 
     /// Enters that a worker finishes what it runs.
@@ -86,6 +106,7 @@ impl Journal {
         ensures { self.new ≡ record self.old { entries = self.old.entries ++ entry.Finish worker ∷ []; room = self.old.room - 1 } }
     {
         self.lines.push_reserved(Line::Finish { worker });
+        self.room -= 1;
     }
 
     /// How many entries there are.

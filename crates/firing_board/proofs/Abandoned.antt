@@ -23,7 +23,7 @@ use Rattle.firing_board.specs.Core.{lent_of, lent_with}
 use Rattle.firing_board.specs.Finishes.{MayEnd}
 use Rattle.firing_board.specs.Kept.{Keeps}
 use Rattle.firing_board.specs.OnCore.{FinishesOn}
-use Rattle.firing_board.specs.Returning.{Compiles, MayCompile, RunsItem, with_finish}
+use Rattle.firing_board.specs.Returning.{Compiles, HasFinish, MayCompile, RunsItem}
 use Rattle.firing_board.specs.Runs.{RunsWork}
 use Rattle.firing_board.specs.declared.state.Core.{Core}
 use Rattle.firing_board.specs.declared.run.Run.{Run}
@@ -107,7 +107,7 @@ module _ (key : Key) (s : BoardState) (old : Core) (w : ℕ) (work : words.Work)
 
 -- a compilation is left, and its job stays as it is
 module _ (key : Key) (laws : FinishLaws key) (old : Core) (starved : Bool) (keeps : Keeps key old starved) (w : ℕ) (lt : w < key.workers) (work : words.Work) (runs : RunsWork key (state_after key keeps.taken) w work) (answer : Answer)
-    (ok : Answers key.graphs.graphs work answer) (new : Core) (table_is : new.table ≡ old.table) (running_are : new.running.items ≡ set old.running.items w None) (journal_is : new.journal ≡ with_finish old.journal w) where
+    (ok : Answers key.graphs.graphs work answer) (new : Core) (table_is : new.table ≡ old.table) (running_are : new.running.items ≡ set old.running.items w None) (journal_is : HasFinish old.journal w new.journal) where
   abbrev a : Mine key (state_after key keeps.taken) old w work
   a = mine laws.held key laws.lawful starved old keeps w lt work runs
 

@@ -46,7 +46,7 @@ use Rattle.firing_board.specs.declared.state.Core.{Core}
 use Rattle.firing_board.specs.declared.run.Run.{Run}
 use Rattle.firing_board.proofs.Openings.{task_by}
 use Rattle.firing_board.proofs.Rows.{in_table, the_same}
-use Rattle.firing_board.proofs.Runners.{held_as, held_set, lent_set, runners_most}
+use Rattle.firing_board.proofs.Runners.{held_as, held_set, lent_set}
 use Rattle.firing_board.proofs.Took.{Took}
 
 -- the laws that are used here
@@ -241,11 +241,7 @@ module _ (laws : ClaimLaws) (key : Key) (old : Core) (w : ℕ) (may : MayClaim k
         is_key = may.keeps.is_key;
         one_each = ap (λ (rs : List (Option Run)). length rs) running_are ∙ (length-set old.running.items w (Some run) ∙ may.keeps.one_each);
         lent = to_runners;
-        room =
-            let most = runners_most new.running.items in
-            let long : length new.running.items ≡ length mid.running.items = ap (λ (rs : List (Option Run)). length rs) t.running_are ∙ length-set mid.running.items w (Some run) in
-            let room = t.room in
-            omega arith;
+        room = let room = t.room in omega (arith, room);
         taken = next;
         at = stands_next;
       }

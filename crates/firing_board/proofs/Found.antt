@@ -1,9 +1,10 @@
 -- The item that is picked for a worker, and how its job is opened.
-use Rattle.std.proofs.Common.{◌≡◌, ⊎_elim, ℕ, true, false, List, [], ◌∷◌, ◌++◌, Option, Some, None, refl, sym, ap, ◌∙◌, subst}
+use Rattle.std.proofs.Common.{◌≡◌, inl, inr, ℕ, true, false, List, [], ◌∷◌, ◌++◌, Option, Some, None, refl, sym, ap, ◌∙◌, subst}
 use Rattle.std.specs.Option.{option_map}
 use Rattle.job_rules.specs.Items.{rule}
-use Rattle.job_rules.specs.Meant.{IsFit}
+use Rattle.job_rules.specs.Meant.{IsFit, rank}
 use Rattle.job_rules.specs.Words as words
+use Rattle.nested_jobs.specs.Meanings.{Lawful}
 use Rattle.nested_jobs.specs.Rules.{Call, Place, Task, Work}
 use Rattle.nested_jobs.specs.Tables.{answers_in}
 use Rattle.open_job.specs.View.{IsOfferedCall, IsOfferedWork, answered, task}
@@ -15,9 +16,10 @@ use Rattle.board_rules.specs.Board.{HasOpened}
 use Rattle.board_rules.specs.BoardLaws.{NothingOpened}
 use Rattle.board_rules.specs.Entries.{Step}
 use Rattle.board_rules.specs.Keys.{Key, rules}
+use Rattle.board_rules.specs.Laws.{PicksExist}
 use Rattle.board_rules.specs.Legal.{state_after}
 use Rattle.board_rules.specs.Offers.{calls}
-use Rattle.board_rules.specs.Picks.{IsPick}
+use Rattle.board_rules.specs.Picks.{IsPick, is_open}
 use Rattle.job_table.specs.Asked.{IsAsked, PathsDiffer, offer_of}
 use Rattle.job_table.specs.Laws.{CallsAreFit}
 use Rattle.job_table.specs.Suits.{Suits}
@@ -27,8 +29,10 @@ use Rattle.job_table.specs.declared.row.Row.{Row}
 use Rattle.firing_board.specs.Core.{StandsAt, held_of}
 use Rattle.firing_board.specs.Finding.{HasNoWork, IsFound}
 use Rattle.firing_board.specs.Opening.{Calls, MayOpen, OpensWay, Reaches}
+use Rattle.firing_board.specs.Wanting.{PicksInNew}
 use Rattle.firing_board.specs.declared.state.Core.{Core}
 use Rattle.firing_board.specs.declared.run.Run.{Run}
+use Rattle.firing_board.proofs.Below.{enabled_in, free_below, not_open, ready_by, tail_of}
 use Rattle.firing_board.proofs.Openings.{task_by}
 use Rattle.firing_board.proofs.Rows.{the_same}
 
@@ -104,6 +108,7 @@ module _ (paths_apart : PathsAreApart) (key : Key) (taken : List Step) (old : Co
         opened = nothing key taken (table_of old.table) (held_of old.running.items) (asked.offer.item ∷ b.0.place) s.suits.is_key s.kept;
         picked = subst (λ (p : Place). IsPick key m w asked.offer.item p) place (picked key taken (table_of old.table) (held_of old.running.items) w asked.row f.0 (offer_of asked.offer) s.suits.is_key s.kept f.1);
         numbered = s.numbered;
+        opens = inl refl;
       }
 
   -- the work that the first call leads to is picked
@@ -131,7 +136,23 @@ module _ (paths_apart : PathsAreApart) (key : Key) (taken : List Step) (old : Co
             opened (ap (option_map job_row) r.here) r.free
             (task_by key r.marks new.table run.row run.item r.row (Some (Work r.work)) r.suits r.here r.task_is);
         numbered = way.numbered s.numbered;
+        opens = inr (
+            let at : r.row.place ≡ r.way ++ asked.offer.item ∷ c.row.place = ap tail_of r.place_is in
+            let free = (s.suits.stands.rows asked.row (job_row c.row) (ap (option_map job_row) c.here)).items asked.offer.item ∙ c.offered.free in
+            ap is_open (ap m at ∙ free_below key m s.suits.nested r.way (asked.offer.item ∷ c.row.place) free));
       }
+
+  -- its claim opens a job
+  pub call_wants : PicksExist → Lawful (rules key) (rank key.graphs.graphs) → NoRowOffers key false (table_of old.table) → (w : ℕ) (asked : Asked) → IsAsked w true old.table (Some asked) → PicksInNew key (state_after key taken) w
+  call_wants exist lawful none w asked is =
+      let m = (state_after key taken).marks in
+      let table = table_of old.table in
+      let f = is key m s.suits differ in
+      let o = f.1.first.offered in
+      let ready = ready_by key lawful m s.suits.nested table s.suits.stands asked.row f.0 asked.offer.item o.task f.1.here o.free o.has_task in
+      let e = enabled_in key lawful m s.suits.nested table s.suits.stands asked.offer.item f.0.place ready in
+      let p = exist key taken w (e.0 ++ asked.offer.item ∷ f.0.place) s.suits.is_key s.kept.legal e.1 in
+      record { item = p.0; place = p.1; picked = p.2; opens = not_open key lawful m s.suits.nested table s.suits.stands none p.0 p.1 p.2.enabled }
 
   pub none_found : NothingIsEnabled → NoRowOffers key false (table_of old.table) → (w : ℕ) → IsAsked w true old.table None → (a : Place) → ¬ (Rattle.nested_jobs.specs.Steps.IsEnabled (rules key) (state_after key taken).marks a)
   none_found nothing none w is a = nothing key taken (table_of old.table) (held_of old.running.items) a s.suits.is_key s.kept none (is key (state_after key taken).marks s.suits differ)

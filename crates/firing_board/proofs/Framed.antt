@@ -40,7 +40,7 @@ use Rattle.firing_board.specs.Core.{AreNumbered, HasEnd, IsEndFor, IsNumbered, S
 use Rattle.firing_board.specs.Finishes.{Finishes}
 use Rattle.firing_board.specs.Kept.{Keeps, StandsOrStarves, view_with}
 use Rattle.firing_board.specs.OnCore.{FinishesOn}
-use Rattle.firing_board.specs.Returning.{MayReturn, Returns, RunsItem, with_finish}
+use Rattle.firing_board.specs.Returning.{HasFinish, MayReturn, Returns, RunsItem}
 use Rattle.firing_board.specs.Runs.{Runs, RunsWork}
 use Rattle.firing_board.specs.Starved.{StarvesAt}
 use Rattle.firing_board.specs.declared.state.Core.{Core}
@@ -129,7 +129,7 @@ module _ (key : Key) (laws : FinishLaws key) (old : Core) (starved : Bool) (keep
   in_workers v r is = let i = inside_of old.running.items v r is in let e = keeps.one_each in omega arith
 
   module _ (mid : Core) (marks : MarksItem a.run.row a.run.item (Done answer) old.table mid.table) (lends : LendsItem a.run.row a.run.item None old.table mid.table)
-      (running_are : mid.running.items ≡ set old.running.items w None) (journal_is : mid.journal ≡ with_finish old.journal w) where
+      (running_are : mid.running.items ≡ set old.running.items w None) (journal_is : HasFinish old.journal w mid.journal) where
     is_before : marks.before ≡ a.row
     is_before = the_same (row_at old.table a.run.row) marks.before a.row marks.here a.here
 
@@ -188,8 +188,8 @@ module _ (key : Key) (laws : FinishLaws key) (old : Core) (starved : Bool) (keep
       running_new : new.running.items ≡ set old.running.items w None
       running_new = ap (λ rs. rs.items) kept.running_is ∙ running_are
 
-      journal_new : new.journal ≡ with_finish old.journal w
-      journal_new = kept.journal_is ∙ journal_is
+      journal_new : HasFinish old.journal w new.journal
+      journal_new = subst (HasFinish old.journal w) (sym kept.journal_is) journal_is
 
       lasts_new : (v : ℕ) (r : Run) → v ≢ w → v < key.workers → get_or old.running.items v None ≡ Some r → (before : Row) → row_at old.table r.row ≡ Some before → mark_at before.job.marks r.item ≡ Busy → LastsAs before r.item new.table r.row
       lasts_new v r other v_lt is before here busy =
@@ -254,7 +254,7 @@ module _ (key : Key) (laws : FinishLaws key) (old : Core) (keeps : Keeps key old
   then = keeps.taken ++ steps.Finish w answer ∷ []
 
   module _ (mid : Core) (marks : MarksItem b.run.row b.run.item (Done answer) old.table mid.table) (lends : LendsItem b.run.row b.run.item None old.table mid.table)
-      (running_are : mid.running.items ≡ set old.running.items w None) (journal_is : mid.journal ≡ with_finish old.journal w) where
+      (running_are : mid.running.items ≡ set old.running.items w None) (journal_is : HasFinish old.journal w mid.journal) where
     before_is : marks.before ≡ b.row
     before_is = the_same (row_at old.table b.run.row) marks.before b.row marks.here b.here
 
@@ -303,7 +303,7 @@ module _ (key : Key) (laws : FinishLaws key) (old : Core) (keeps : Keeps key old
           let was = keeps.at.numbered k h.0 h.1 in
           let firing = m.2.firing_is ∙ h.2 in
           let mine_so : IsNumbered old.numbers.items old.journal.paths k after.job.firing.path = record { known = was.known; path_is = was.path_is ∙ ap (λ (f : Firing). f.path) (sym firing) } in
-          let paths : old.journal.paths ≡ new.journal.paths = sym (ap (λ (j : Rattle.board_journal.specs.View.JournalView). j.paths) (kept.journal_is ∙ journal_is)) in
+          let paths : old.journal.paths ≡ new.journal.paths = sym (ap (λ (j : Rattle.board_journal.specs.View.JournalView). j.paths) kept.journal_is ∙ journal_is.paths_are) in
           let nums : old.numbers.items ≡ new.numbers.items = ap (λ ns. ns.items) (sym (kept.numbers_are ∙ numbers_are)) in
           subst (λ ns. IsNumbered ns new.journal.paths k after.job.firing.path) nums (subst (λ ps. IsNumbered old.numbers.items ps k after.job.firing.path) paths mine_so)
 

@@ -1,7 +1,9 @@
 -- What a worker is handed is what a claim says.
-use Rattle.std.proofs.Common.{◌≡◌, ◌⊎◌, ⊎_elim, ℕ, true, false, Bool, nat_lt, List, [], ◌∷◌, ◌++◌, length, get_or, Option, Some, None, refl, sym, ap, ◌∙◌, subst}
+use Rattle.std.proofs.Common.{◌≡◌, ⊎_elim, inl, inr, ℕ, ◌-◌, true, false, Bool, eqb, nat_lt, List, [], ◌∷◌, ◌++◌, length, map, slice_index, get_or, Option, Some, None, refl, sym, ap, ◌∙◌, subst, arith}
+use Rattle.std.proofs.lemmas.Bool.{eq-eqb, eqb-true, le-ltb}
 use Rattle.std.specs.Option.{option_map}
 use Rattle.kernel_gate.specs.Value.{Places}
+use Rattle.job_rules.specs.Items.{compile_number, node_base}
 use Rattle.job_rules.specs.Words as words
 use Rattle.nested_jobs.specs.Marks.{Busy}
 use Rattle.nested_jobs.specs.Rules.{Task, Work}
@@ -10,30 +12,36 @@ use Rattle.open_job.specs.Calls.{IsHanded, IsHandedFor, frame_of}
 use Rattle.open_job.specs.View.{IsOfferedWork, compilation_of, graph_in, left_by, task}
 use Rattle.open_job.specs.declared.handed.Handed.{Handed}
 use Rattle.open_job.specs.declared.handed.Handed.TheVariants as handed
+use Rattle.pisdf_meaning.specs.Configuring.{Configuration, configurations}
 use Rattle.pisdf_meaning.specs.declared.firing.Firing.{Firing}
-use Rattle.pisdf_model.specs.declared.graph.Graphs.{Graphs}
+use Rattle.pisdf_model.specs.declared.graph.Graph.{Graph}
 use Rattle.board_rules.specs.Entries.{item_of}
 use Rattle.board_rules.specs.Keys.{Key}
+use Rattle.board_rules.specs.Legal.{state_after}
 use Rattle.board_rules.specs.declared.entry.Entry.{Entry}
+use Rattle.board_rules.specs.declared.entry.Entry.TheVariants as entry
 use Rattle.board_rules.specs.declared.entry.Item.{Item}
+use Rattle.board_rules.specs.declared.entry.Item.TheVariants as items
 use Rattle.job_table.specs.Calls.{LendsItem, MarksItem}
-use Rattle.job_table.specs.View.{TableView, lent_in, row_at}
+use Rattle.job_table.specs.View.{lent_in, job_row, row_at, table_of}
 use Rattle.job_table.specs.declared.row.Row.{Row}
-use Rattle.firing_board.specs.Claims.{Claims, IsTicket, Picks}
-use Rattle.firing_board.specs.Core.{held_of, lent_of}
+use Rattle.firing_board.specs.Claims.{Claims, EntersAs, EntersItem, IsTicket, Picks}
+use Rattle.firing_board.specs.Core.{HasRoom, held_of, lent_of}
 use Rattle.firing_board.specs.Finding.{IsFound}
-use Rattle.firing_board.specs.Handing.{HandsCompilation, HandsFrame, HandsOut, claim_of}
+use Rattle.firing_board.specs.Handing.{HandsCompilation, HandsFrame, HandsOut, claim_of, path_in}
 use Rattle.firing_board.specs.Kept.{view_with}
 use Rattle.firing_board.specs.OnCore.{ClaimsOn, MayClaim}
 use Rattle.firing_board.specs.Opening.{KeepsRuns}
 use Rattle.firing_board.specs.View.{BoardView}
+use Rattle.firing_board.specs.Wanting.{MayStarve}
 use Rattle.firing_board.specs.declared.claim.Claim.{Claim}
 use Rattle.firing_board.specs.declared.claim.Claim.TheVariants as claim
 use Rattle.firing_board.specs.declared.claim.Ticket.{Ticket}
 use Rattle.firing_board.specs.declared.state.Core.{Core}
 use Rattle.firing_board.specs.declared.run.Run.{Run}
-use Rattle.firing_board.proofs.Claimed.{ClaimLaws, apart, entered_next, keeps_next, kept_next, lent_next, work_next}
-use Rattle.firing_board.proofs.Rows.{the_same}
+use Rattle.firing_board.proofs.Claimed.{ClaimLaws, apart, entered_next, keeps_next, kept_next, lent_next, task_stands, work_next}
+use Rattle.firing_board.proofs.Openings.{task_by}
+use Rattle.firing_board.proofs.Rows.{in_table, the_same}
 use Rattle.firing_board.proofs.Runners.{held_as}
 use Rattle.firing_board.proofs.Took.{Took, as_before_through, lends_through, marks_through, took}
 
@@ -48,12 +56,58 @@ handed_claims false (words.Fires spot asked) (handed.Fire frame) ticket old new 
 handed_claims false (words.Fires spot asked) (handed.Copy node frame) ticket old new w is t p = absurd is
 handed_claims true (words.Copies node read lens) (handed.Configure frame) ticket old new w is t p = absurd is
 handed_claims true (words.Copies node read lens) (handed.Fire frame) ticket old new w is t p = absurd is
-handed_claims true (words.Copies node read lens) (handed.Copy other frame) ticket old new w is t p = (t, read, lens, is.1, subst (λ n. Picks old new w (words.Copies n read lens) (Some frame.places)) (sym is.0) p)
+handed_claims true (words.Copies node read lens) (handed.Copy other frame) ticket old new w is t p = absurd is
 handed_claims false (words.Copies node read lens) (handed.Configure frame) ticket old new w is t p = absurd is
 handed_claims false (words.Copies node read lens) (handed.Fire frame) ticket old new w is t p = absurd is
 handed_claims false (words.Copies node read lens) (handed.Copy other frame) ticket old new w is t p = (t, read, lens, is.1, subst (λ n. Picks old new w (words.Copies n read lens) (Some frame.places)) (sym is.0) p)
 handed_claims true (words.Compiles firing left) h ticket old new w is t p = absurd is
 handed_claims false (words.Compiles firing left) h ticket old new w is t p = absurd is
+
+-- ---- what is entered
+
+compile_named : (g : Graph) (i : ℕ) → i ≡ compile_number g → item_of g i ≡ items.Compile
+compile_named g i at =
+    let late : nat_lt i (compile_number g) ≡ false = le-ltb i (compile_number g) (omega (arith, at)) in
+    let same : eqb i (compile_number g) ≡ true = eq-eqb i (compile_number g) at in
+    rw late (rw same refl)
+
+config_named : (g : Graph) (i : ℕ) → nat_lt i (compile_number g) ≡ true → (place : ℕ) × (item_of g i ≡ items.Configure place)
+config_named g i early = (slice_index (map (λ (c : Configuration). c.place) (configurations g)) i, rw early refl)
+
+node_named : (g : Graph) (i : ℕ) → nat_lt i (compile_number g) ≡ false → (i ≡ compile_number g → ⊥) → (number : ℕ) × (item_of g i ≡ items.Node number)
+node_named g i late apart = (i - node_base g, rw late (rw (other (eqb i (compile_number g)) refl) refl))
+  where
+    other : (b : Bool) → eqb i (compile_number g) ≡ b → eqb i (compile_number g) ≡ false
+    other true e = absurd (apart (eqb-true i (compile_number g) e))
+    other false e = e
+
+enters_config : (g : Graph) (i : ℕ) (old new : List Entry) (w : ℕ) → nat_lt i (compile_number g) ≡ true → EntersItem old new w (item_of g i) → (place : ℕ) × EntersItem old new w (items.Configure place)
+enters_config g i old new w early e = let n = config_named g i early in (n.0, subst (EntersItem old new w) n.1 e)
+
+enters_node : (g : Graph) (i : ℕ) (old new : List Entry) (w : ℕ) → nat_lt i (compile_number g) ≡ false → (i ≡ compile_number g → ⊥) → EntersItem old new w (item_of g i) → (number : ℕ) × EntersItem old new w (items.Node number)
+enters_node g i old new w late apart e = let n = node_named g i late apart in (n.0, subst (EntersItem old new w) n.1 e)
+
+-- a configuration actor to be configured, a node to be fired or copied
+enters_by : (g : Graph) (i : ℕ) (before : Bool) (work : words.Work) (h : Handed) (ticket : Ticket) (old new : BoardView) (w : ℕ) → nat_lt i (compile_number g) ≡ before → IsHandedFor before (Some (Work work)) h → (i ≡ compile_number g → ⊥)
+    → EntersItem old.journal new.journal w (item_of g i) → EntersAs old new w (claim_of ticket h)
+enters_by g i true (words.Fires spot asked) (handed.Configure frame) ticket old new w early is apart e = enters_config g i old.journal new.journal w early e
+enters_by g i true (words.Fires spot asked) (handed.Fire frame) ticket old new w early is apart e = absurd is
+enters_by g i true (words.Fires spot asked) (handed.Copy node frame) ticket old new w early is apart e = absurd is
+enters_by g i false (words.Fires spot asked) (handed.Configure frame) ticket old new w late is apart e = absurd is
+enters_by g i false (words.Fires spot asked) (handed.Fire frame) ticket old new w late is apart e = enters_node g i old.journal new.journal w late apart e
+enters_by g i false (words.Fires spot asked) (handed.Copy node frame) ticket old new w late is apart e = absurd is
+enters_by g i true (words.Copies node read lens) (handed.Configure frame) ticket old new w early is apart e = absurd is
+enters_by g i true (words.Copies node read lens) (handed.Fire frame) ticket old new w early is apart e = absurd is
+enters_by g i true (words.Copies node read lens) (handed.Copy other frame) ticket old new w early is apart e = absurd is
+enters_by g i false (words.Copies node read lens) (handed.Configure frame) ticket old new w late is apart e = absurd is
+enters_by g i false (words.Copies node read lens) (handed.Fire frame) ticket old new w late is apart e = absurd is
+enters_by g i false (words.Copies node read lens) (handed.Copy other frame) ticket old new w late is apart e = enters_node g i old.journal new.journal w late apart e
+enters_by g i true (words.Compiles firing left) h ticket old new w early is apart e = absurd is
+enters_by g i false (words.Compiles firing left) h ticket old new w late is apart e = absurd is
+
+handed_enters : (g : Graph) (i : ℕ) (work : words.Work) (h : Handed) (ticket : Ticket) (old new : BoardView) (w : ℕ) → IsHandedFor (nat_lt i (compile_number g)) (Some (Work work)) h → (i ≡ compile_number g → ⊥)
+    → EntersItem old.journal new.journal w (item_of g i) → EntersAs old new w (claim_of ticket h)
+handed_enters g i work h ticket old new w is apart e = enters_by g i (nat_lt i (compile_number g)) work h ticket old new w refl is apart e
 
 -- which run it is that a worker holds
 pub run_of : (r : Option Run) (k i : ℕ) → held_as r ≡ Some (k, i) → (run : Run) × (r ≡ Some run) × (run.row ≡ k) × (run.item ≡ i)
@@ -86,41 +140,87 @@ module _ (laws : ClaimLaws) (key : Key) (old : Core) (w : ℕ) (may : MayClaim k
         after = record { legal = next.legal; entered = entered_next laws key old w may mid run found kept new item ticket item_is marks frame lends t };
         runs = work_next laws key old w may mid run found kept new item ticket item_is marks frame lends t;
         live = refl;
-        new_is = ap (λ (l : List (Option Places)). record { key = key; journal = new.journal.entries; starved = false; lent = l }) (lent_next laws key old w may mid run found kept new item ticket item_is marks frame lends t);
+        new_is = ap (λ (l : List (Option Places)). record { key = key; journal = new.journal.entries; starved = false; lent = l; kept = false }) (lent_next laws key old w may mid run found kept new item ticket item_is marks frame lends t);
       }
 
-  module _ (result : Claim) (h : HandsOut mid w run new result) where
+  entered_in : (item : Item) (ticket : Ticket) → Took mid w run item ticket new → EntersItem old.journal.entries new.journal.entries w item
+  entered_in item ticket t = record { path = path_in mid run.row; entered = t.entries_are ∙ ap (λ (es : List Entry). es ++ entry.Claim w (path_in mid run.row) item ∷ []) kept.entries_are }
+
+  -- where it is the compilation, its work is to compile
+  compiles_so : run.item ≡ compilation_of found.row.job → words.Compiles found.row.job.firing (left_by found.row.job) ≡ found.offered.work
+  compiles_so at =
+      let offered = subst (IsOfferedWork found.row.job) at found.offered in
+      let one = compiles found.row.job (may_compile found.row.job offered) in
+      let two : task found.row.job (compilation_of found.row.job) ≡ Some (Work found.offered.work) = ap (task found.row.job) (sym at) ∙ found.offered.task_is in
+      cc
+
+  -- memory may be wanted for it
+  pub compile_wants : run.item ≡ compilation_of found.row.job → MayStarve (view_with key old false) w
+  compile_wants at =
+      let m = (state_after key may.keeps.taken).marks in
+      let s = may.keeps.at in
+      record {
+        taken = may.keeps.taken;
+        at = record { legal = s.kept.legal; entered = s.entered };
+        wants = ⊎_elim
+            (λ (same : mid ≡ old).
+            let here : row_at old.table run.row ≡ Some found.row = ap (λ (x : Core). row_at x.table run.row) (sym same) ∙ found.here in
+            let has = task_by key m old.table run.row run.item found.row (Some (Work found.offered.work)) s.suits here found.offered.task_is in
+            let there = task_stands key m (table_of old.table) run.row run.item (job_row found.row) (Some (Work found.offered.work)) s.kept.stands (in_table old.table run.row found.row here) has in
+            inr record {
+              item = run.item;
+              place = found.row.place;
+              picked = found.picked;
+              firing = found.row.job.firing;
+              left = left_by found.row.job;
+              compiles = there ∙ ap (λ (x : words.Work). Some (Work x)) (sym (compiles_so at));
+            })
+            (λ closed. inl record { item = run.item; place = found.row.place; picked = found.picked; opens = closed })
+            found.opens;
+      }
+
+  module _ (room : HasRoom new) (result : Claim) (h : HandsOut mid w run new result) where
     is_row : h.row ≡ found.row
     is_row = the_same (row_at mid.table run.row) h.row found.row h.here found.here
 
-    item_is : h.item ≡ item_of (graph_in found.row.job) run.item
-    item_is = h.item_is ∙ ap (λ (r : Row). item_of (graph_in r.job) run.item) is_row
+    abbrev item : Item
+    item = item_of (graph_in h.row.job) run.item
 
-    frame_claims : HandsFrame h.reserved w run h.item new result → ClaimsOn key old w new result
+    item_is : item ≡ item_of (graph_in found.row.job) run.item
+    item_is = ap (λ (r : Row). item_of (graph_in r.job) run.item) is_row
+
+    frame_claims : HandsFrame mid w run item new result → ClaimsOn key old w new result
     frame_claims f =
-        let t = took mid h.reserved f.claimed new w run h.item f.ticket h.keeps f.running_is f.numbers_are f.journal_is f.end_is h.room f.enters in
-        let marks = marks_through mid.table h.reserved.table f.claimed.table new.table run.row run.item h.keeps.table_is f.enters.table_is f.marks in
+        let t = took mid f.claimed new w run item f.ticket f.running_is f.numbers_are f.journal_is f.end_is room f.enters in
+        let marks = marks_through mid.table f.claimed.table new.table run.row run.item f.enters.table_is f.marks in
         let places : Option Places = Some (frame_of f.handed).places in
-        let lends = lends_through mid.table h.reserved.table f.claimed.table new.table run.row run.item places h.keeps.table_is f.enters.table_is f.lends in
-        let p = picks h.item f.ticket item_is marks places lends t in
-        let row : f.row ≡ found.row = the_same (row_at mid.table run.row) f.row found.row (subst (λ (v : TableView). row_at v run.row ≡ Some f.row) h.keeps.table_is f.here) found.here in
+        let lends = lends_through mid.table f.claimed.table new.table run.row run.item places f.enters.table_is f.lends in
+        let p = picks item f.ticket item_is marks places lends t in
+        let row : f.row ≡ found.row = the_same (row_at mid.table run.row) f.row found.row f.here found.here in
         let so : IsHanded found.row.job run.item f.handed = subst (λ (r : Row). IsHanded r.job run.item f.handed) row f.handed_so in
-        let work = subst (λ (x : Option (Task Firing words.Work)). IsHandedFor (nat_lt run.item (compilation_of found.row.job)) x f.handed) found.offered.task_is so in
+        let before = nat_lt run.item (compilation_of found.row.job) in
+        let work = subst (λ (x : Option (Task Firing words.Work)). IsHandedFor before x f.handed) found.offered.task_is so in
         let ticket : IsTicket (view_with key old false) w f.ticket = t.ticket_is ∙ ap (λ (es : List Entry). record { worker = w; entry = length es }) kept.entries_are in
-        let c = handed_claims (nat_lt run.item (compilation_of found.row.job)) found.offered.work f.handed f.ticket (view_with key old false) (view_with key new false) w work ticket p in
+        let c = handed_claims before found.offered.work f.handed f.ticket (view_with key old false) (view_with key new false) w work ticket p in
+        let entered = entered_in item f.ticket t in
+        let e = handed_enters (graph_in found.row.job) run.item found.offered.work f.handed f.ticket (view_with key old false) (view_with key new false) w work
+        (λ (at : run.item ≡ compilation_of found.row.job). f.framed (at ∙ ap (λ (r : Row). compilation_of r.job) (sym row)))
+        (subst (EntersItem old.journal.entries new.journal.entries w) item_is entered) in
         record {
           claims = subst (Claims (view_with key old false) (view_with key new false) w) (sym f.result_is) c;
-          keeps = keeps_next laws key old w may mid run found kept new h.item f.ticket item_is marks places lends t;
+          enters = subst (EntersAs (view_with key old false) (view_with key new false) w) (sym f.result_is) e;
+          keeps = keeps_next laws key old w may mid run found kept new item f.ticket item_is marks places lends t;
         }
 
-    compilation_claims : run.item ≡ compilation_of h.row.job → HandsCompilation h.reserved w run h.item new result → ClaimsOn key old w new result
+    compilation_claims : run.item ≡ compilation_of h.row.job → HandsCompilation mid w run new result → ClaimsOn key old w new result
     compilation_claims at f =
-        let t = took mid h.reserved f.claimed new w run h.item f.ticket h.keeps f.running_is f.numbers_are f.journal_is f.end_is h.room f.enters in
-        let row : f.row ≡ found.row = the_same (row_at mid.table run.row) f.row found.row (subst (λ (v : TableView). row_at v run.row ≡ Some f.row) h.keeps.table_is f.here) found.here in
-        let item : run.item ≡ compilation_of found.row.job = at ∙ ap (λ (r : Row). compilation_of r.job) is_row in
-        let place : compilation_of f.row.job ≡ run.item = ap (λ (r : Row). compilation_of r.job) row ∙ sym item in
-        let marks = marks_through mid.table h.reserved.table f.claimed.table new.table run.row run.item h.keeps.table_is f.enters.table_is (subst (λ (i : ℕ). MarksItem run.row i Busy h.reserved.table f.claimed.table) place f.marks) in
-        let as_before = as_before_through mid.table h.reserved.table f.claimed.table new.table h.keeps.table_is f.enters.table_is f.lends in
+        let row : f.row ≡ found.row = the_same (row_at mid.table run.row) f.row found.row f.here found.here in
+        let at_found : run.item ≡ compilation_of found.row.job = at ∙ ap (λ (r : Row). compilation_of r.job) is_row in
+        let named : items.Compile ≡ item_of (graph_in found.row.job) run.item = sym (compile_named (graph_in found.row.job) run.item at_found) in
+        let t = took mid f.claimed new w run items.Compile f.ticket f.running_is f.numbers_are f.journal_is f.end_is room f.enters in
+        let place : compilation_of f.row.job ≡ run.item = ap (λ (r : Row). compilation_of r.job) row ∙ sym at_found in
+        let marks = marks_through mid.table f.claimed.table new.table run.row run.item f.enters.table_is (subst (λ (i : ℕ). MarksItem run.row i Busy mid.table f.claimed.table) place f.marks) in
+        let as_before = as_before_through mid.table f.claimed.table new.table f.enters.table_is f.lends in
         let unlent : lent_in mid.table run.row run.item ≡ None = none_if (lent_in mid.table run.row run.item) (λ places e.
         let v = may.keeps.lent run.row run.item places (sym (kept.lent run.row run.item) ∙ e) in
         let r = run_of (get_or old.running.items v.0 None) run.row run.item v.1 in
@@ -130,19 +230,16 @@ module _ (laws : ClaimLaws) (key : Key) (old : Core) (w : ℕ) (may : MayClaim k
           in_job = λ i other. as_before run.row i;
           others = λ j i other. as_before j i;
         } in
-        let offered = subst (IsOfferedWork found.row.job) item found.offered in
-        let work : words.Compiles found.row.job.firing (left_by found.row.job) ≡ found.offered.work =
-        (let one = compiles found.row.job (may_compile found.row.job offered) in
-        let two : task found.row.job (compilation_of found.row.job) ≡ Some (Work found.offered.work) = ap (task found.row.job) (sym item) ∙ found.offered.task_is in
-        cc) in
-        let p = subst (λ x. Picks (view_with key old false) (view_with key new false) w x None) (sym work) (picks h.item f.ticket item_is marks None lends t) in
+        let work = compiles_so at_found in
+        let p = subst (λ x. Picks (view_with key old false) (view_with key new false) w x None) (sym work) (picks items.Compile f.ticket named marks None lends t) in
         let suits = found.suits.rows run.row found.row found.here in
         let ticket : IsTicket (view_with key old false) w f.ticket = t.ticket_is ∙ ap (λ (es : List Entry). record { worker = w; entry = length es }) kept.entries_are in
         let c : (r : Row) → r ≡ found.row → Claims (view_with key old false) (view_with key new false) w (claim.Compile f.ticket record { graphs = r.job.graphs; workers = r.job.workers; firing = r.job.firing; left = left_by r.job; kept = f.kept }) =
         λ r e. subst (λ (x : Row). Claims (view_with key old false) (view_with key new false) w (claim.Compile f.ticket record { graphs = x.job.graphs; workers = x.job.workers; firing = x.job.firing; left = left_by x.job; kept = f.kept })) (sym e) (ticket, suits.graphs_are, suits.workers_are, p) in
         record {
           claims = subst (Claims (view_with key old false) (view_with key new false) w) (sym f.result_is) (c f.row row);
-          keeps = keeps_next laws key old w may mid run found kept new h.item f.ticket item_is marks None lends t;
+          enters = subst (EntersAs (view_with key old false) (view_with key new false) w) (sym f.result_is) (entered_in items.Compile f.ticket t);
+          keeps = keeps_next laws key old w may mid run found kept new items.Compile f.ticket named marks None lends t;
         }
 
     pub hands_claims : ClaimsOn key old w new result

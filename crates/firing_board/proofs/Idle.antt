@@ -50,6 +50,7 @@ module _ (key : Key) (old : Core) (w : ℕ) (may : MayClaim key old w) (none : (
       live = refl;
       new_is = refl;
     };
+    enters = refl;
     keeps = may.keeps;
   }
 
@@ -66,5 +67,6 @@ module _ (key : Key) (old : Core) (w : ℕ) (may : MayClaim key old w) (none : (
           live = refl;
           new_is = refl;
         };
+        enters = refl;
         keeps = may.keeps;
       }

@@ -34,7 +34,7 @@ use Rattle.firing_board.specs.Core.{IsLentToRunners, held_of, lent_of, lent_with
 use Rattle.firing_board.specs.Finishes.{Finishes}
 use Rattle.firing_board.specs.Kept.{Keeps, StandsOrStarves, view_with}
 use Rattle.firing_board.specs.OnCore.{FinishesOn}
-use Rattle.firing_board.specs.Returning.{with_finish}
+use Rattle.firing_board.specs.Returning.{HasFinish}
 use Rattle.firing_board.specs.Runs.{RunsWork}
 use Rattle.firing_board.specs.Starved.{IsStillRun, Lasts, LastsIn, StarvesAt, StillRuns}
 use Rattle.firing_board.specs.View.{IsAt}
@@ -174,7 +174,7 @@ module _ (held_busy : HeldAreBusy) (key : Key) (lawful : Lawful (rules key) (ran
       none_runs = running_next w ∙ ⊎_elim (λ x. x.1) (λ x. absurd (x.0 refl)) (assign_at s.running w None w)
 
       -- the item is marked, or all is as before, and the worker leaves
-      module _ (new : Core) (running_are : new.running.items ≡ set old.running.items w None) (journal_is : new.journal ≡ with_finish old.journal w) (lasts : (v : ℕ) (r : Run) → v ≢ w → v < key.workers → get_or old.running.items v None ≡ Some r → (before : Row) → row_at old.table r.row ≡ Some before → mark_at before.job.marks r.item ≡ Busy
+      module _ (new : Core) (running_are : new.running.items ≡ set old.running.items w None) (journal_is : HasFinish old.journal w new.journal) (lasts : (v : ℕ) (r : Run) → v ≢ w → v < key.workers → get_or old.running.items v None ≡ Some r → (before : Row) → row_at old.table r.row ≡ Some before → mark_at before.job.marks r.item ≡ Busy
           → (row : Row) × (row_at new.table r.row ≡ Some row) × StaysAs before row × (mark_at row.job.marks r.item ≡ Busy) × Rattle.nested_jobs.specs.Meanings.Within (answers before.job.marks) (answers row.job.marks))
           (lends : (v : ℕ) (r : Run) → v ≢ w → get_or old.running.items v None ≡ Some r → lent_in new.table r.row r.item ≡ lent_in old.table r.row r.item)
           (only : (k i : ℕ) (places : Places) → lent_in new.table k i ≡ Some places → (lent_in old.table k i ≡ Some places) × ((k ≡ a.run.row) × (i ≡ a.run.item) → ⊥)) where
@@ -225,7 +225,7 @@ module _ (held_busy : HeldAreBusy) (key : Key) (lawful : Lawful (rules key) (ran
 
         entered_next : FinishesAreEntered → new.journal.entries ≡ journal_of key next
         entered_next law =
-            ap (λ (j : Rattle.board_journal.specs.View.JournalView). j.entries) journal_is ∙ (ap (λ (es : List Entry). es ++ entry.Finish w ∷ []) (entered_by starved key taken old keeps.at) ∙ sym (law key taken w answer))
+            journal_is.entries_are ∙ (ap (λ (es : List Entry). es ++ entry.Finish w ∷ []) (entered_by starved key taken old keeps.at) ∙ sym (law key taken w answer))
 
         pub starves_next : FinishesAreEntered → StarvesAt key next new
         starves_next law = record { legal = legal_next; entered = entered_next law; runs = all_still }
@@ -250,7 +250,7 @@ module _ (held_busy : HeldAreBusy) (key : Key) (lawful : Lawful (rules key) (ran
           room =
               let less = runners_less old.running.items w a.run a.runs in
               let now : runners new.running.items ≡ runners (set old.running.items w None) = ap runners running_are in
-              let left : new.journal.room ≡ old.journal.room - 1 = ap (λ (j : Rattle.board_journal.specs.View.JournalView). j.room) journal_is in
+              let left = journal_is.room in
               let was = keeps.room in
               omega arith;
           taken = next;
@@ -267,5 +267,5 @@ module _ (held_busy : HeldAreBusy) (key : Key) (lawful : Lawful (rules key) (ran
               let answer_is : answer ≡ other_answer = one key.graphs work answer other_answer ok (subst (λ (x : words.Work). Answers key.graphs.graphs x other_answer) work_is other_ok) in
               let steps_are : next ≡ others ++ steps.Finish w other_answer ∷ [] = ap (λ (x : Answer). taken ++ steps.Finish w x ∷ []) answer_is ∙ ap (λ (x : List Step). x ++ steps.Finish w other_answer ∷ []) (sym same) in
               subst (IsAt (view_with key new after)) steps_are (record { legal = legal_next; entered = entered_next law });
-          new_is = ap (λ (l : List (Option Places)). record { key = key; journal = new.journal.entries; starved = after; lent = l }) lent_next;
+          new_is = ap (λ (l : List (Option Places)). record { key = key; journal = new.journal.entries; starved = after; lent = l; kept = false }) lent_next;
         }

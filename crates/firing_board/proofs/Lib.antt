@@ -1,13 +1,16 @@
 pub mod Rows
 pub mod Openings
+pub mod Below
 pub mod Found
 pub mod Runners
+pub mod RoomSteps
 pub mod Took
 pub mod Claimed
 pub mod Starving
 pub mod Handed
 pub mod Idle
 pub mod Fields
+pub mod KeptViews
 pub mod Ended
 pub mod Leaving
 pub mod Framed

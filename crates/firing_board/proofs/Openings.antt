@@ -1,6 +1,6 @@
 -- Jobs that are opened one in the other, on the way to work.
 use Rattle.std.proofs.Common.{◌≡◌, ◌≢◌, ⊎_elim, ℕ, zero, suc, ◌+◌, ◌<◌, List, [], ◌∷◌, ◌++◌, length, get_or, length-append, append_assoc, Option, Some, None, refl, sym, ap, ◌∙◌, subst, arith}
-use Rattle.std.specs.Prelude.{IfOk, Result, Ok, Err, slice_index_or}
+use Rattle.std.specs.Prelude.{IfOk, OnErr, OnOk, Result, Ok, Err, slice_index_or}
 use Rattle.std.proofs.lemmas.Bool.{cases_eq}
 use Rattle.std.proofs.lemmas.List.{get_or_append_left, get_or_at}
 use Rattle.job_preparing.specs.Handing.{answers, mark_at}
@@ -71,7 +71,7 @@ keeps_on a b c one two = record {
   running_is = two.running_is ∙ one.running_is;
   entries_are = two.entries_are ∙ one.entries_are;
   end_is = two.end_is ∙ one.end_is;
-  room_is = two.room_is ∙ one.room_is;
+  more = let a = one.more in let b = two.more in omega arith;
   lasts = lasts_on a.table b.table c.table one.lasts two.lasts;
   lent = λ k i. two.lent k i ∙ one.lent k i;
 }
@@ -79,6 +79,18 @@ keeps_on a b c one two = record {
 pub if_ok : {X E : Type 0} (r : Result X E) (P Q : X → Type 0) → ((x : X) → P x → Q x) → IfOk r P → IfOk r Q
 if_ok (Ok x) P Q f is = f x is
 if_ok (Err e) P Q f is = is
+
+pub if_ok_with : {X E : Type 0} (r : Result X E) (P R : X → Type 0) (Q : Type 0) → ((x : X) → Q → P x → R x) → OnOk r Q → IfOk r P → IfOk r R
+if_ok_with (Ok x) P R Q f q is = f x q is
+if_ok_with (Err e) P R Q f q is = is
+
+pub on_err : {X E : Type 0} (r : Result X E) (P Q : Type 0) → (P → Q) → OnErr r P → OnErr r Q
+on_err (Ok x) P Q f is = is
+on_err (Err e) P Q f is = f is
+
+pub on_err_by : {X E : Type 0} (r : Result X E) (Q : Type 0) → Q → OnErr r Q
+on_err_by (Ok x) Q q = tt
+on_err_by (Err e) Q q = q
 
 -- ---- the way
 

@@ -22,10 +22,13 @@ held_set running w r lt =
     refl in
     λ x v. at v x
 
-pub runners_most : (running : List (Option Run)) → runners running ≤ length running
-runners_most [] = omega arith
-runners_most (None ∷ running) = let t = runners_most running in omega arith
-runners_most (Some run ∷ running) = let t = runners_most running in omega arith
+-- one more at most
+pub runners_more : (running : List (Option Run)) (w : ℕ) (run : Run) → runners (set running w (Some run)) ≤ runners running + 1
+runners_more [] w run = omega arith
+runners_more (None ∷ running) zero run = omega arith
+runners_more (Some r ∷ running) zero run = omega arith
+runners_more (None ∷ running) (suc w) run = runners_more running w run
+runners_more (Some r ∷ running) (suc w) run = let t = runners_more running w run in omega arith
 
 pub runners_less : (running : List (Option Run)) (w : ℕ) (run : Run) → get_or running w None ≡ Some run → suc (runners (set running w None)) ≡ runners running
 runners_less [] w run is = absurd (cc)

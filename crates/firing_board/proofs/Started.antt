@@ -9,6 +9,7 @@ use Rattle.nested_jobs.specs.Journals.{start}
 use Rattle.nested_jobs.specs.Marks.{Done, Mark, Open}
 use Rattle.nested_jobs.specs.Tables.{fresh_row, put_row}
 use Rattle.pisdf_meaning.specs.declared.firing.Firing.{Firing}
+use Rattle.pisdf_model.specs.declared.graph.Graphs.{Graphs}
 use Rattle.board_rules.specs.Board.{Held, KeptAs, OpenJobs}
 use Rattle.board_rules.specs.BoardLaws.{BoardsStart}
 use Rattle.board_rules.specs.Keys.{IsKey, Key, top_job}
@@ -16,7 +17,7 @@ use Rattle.board_rules.specs.Legal.{state_after}
 use Rattle.board_journal.specs.View.{path_at}
 use Rattle.job_table.specs.Calls.{IsStarted}
 use Rattle.job_table.specs.Laws.{StartsSuit, TablesStart}
-use Rattle.job_table.specs.View.{TableView, lent_by, lent_in, row_at, table_of}
+use Rattle.job_table.specs.View.{NothingIsLent, TableView, lent_by, lent_in, row_at, table_of}
 use Rattle.job_table.specs.declared.row.Row.{Row}
 use Rattle.firing_board.specs.Beginning.{IsStartedOn}
 use Rattle.firing_board.specs.Core.{AreNumbered, HasEnd, IsEndFor, IsLentToRunners, IsNumbered, StandsAt, held_of, lent_of, runners}
@@ -26,7 +27,7 @@ use Rattle.firing_board.specs.declared.run.Run.{Run}
 use Rattle.firing_board.proofs.Rows.{the_same}
 use Rattle.firing_board.proofs.Runners.{held_as}
 
-abbrev nothing : ℕ → List (Option Run)
+abbrev pub nothing : ℕ → List (Option Run)
 nothing n = replicate n None
 
 none_at : (n w : ℕ) → get_or (nothing n) w None ≡ None
@@ -34,7 +35,7 @@ none_at zero w = refl
 none_at (suc n) zero = refl
 none_at (suc n) (suc w) = none_at n w
 
-none_run : (n : ℕ) → runners (nothing n) ≡ 0
+pub none_run : (n : ℕ) → runners (nothing n) ≡ 0
 none_run zero = refl
 none_run (suc n) = none_run n
 
@@ -53,6 +54,19 @@ none_held n =
 open_not_done : (job : Firing) (x : Answer) → ◌≡◌ {A = Mark Firing Answer} (Open job) (Done x) → ⊥
 open_not_done job x is = cc
 
+-- nothing is lent then
+pub started_unlent : (graphs : Graphs) (workers : ℕ) (top : Firing) (v : TableView) → IsStarted graphs workers top v → NothingIsLent v
+started_unlent graphs workers top v s k i = go (row_at v k) refl
+  where
+    go : (o : Option Row) → row_at v k ≡ o → lent_in v k i ≡ None
+    go None here = ap (λ (o : Option Row). lent_by o i) here
+    go (Some row) here = ⊎_elim
+        (λ (e : k ≡ s.key).
+        let same : s.top ≡ row = the_same (row_at v s.key) s.top row s.here (ap (row_at v) (sym e) ∙ here) in
+        ap (λ (o : Option Row). lent_by o i) here ∙ (ap (λ (r : Row). lent_by (Some r) i) (sym same) ∙ s.fresh.unlent.each i))
+        (λ other. absurd (let none = s.others k other in cc))
+        (cases_eq k s.key)
+
 module _ (boards_start : BoardsStart) (tables_start : TablesStart) (suit : StartsSuit) (key : Key) (is_key : IsKey key) (c : Core) (s : IsStartedOn key.graphs key.workers (top_job key) c) where
   abbrev st : IsStarted key.graphs key.workers (top_job key) c.table
   st = s.started
@@ -64,14 +78,8 @@ module _ (boards_start : BoardsStart) (tables_start : TablesStart) (suit : Start
       (λ other. absurd (let none = st.others k other in cc))
       (cases_eq k st.key)
 
-  lent_none : (k i : ℕ) (o : Option Row) → row_at c.table k ≡ o → lent_in c.table k i ≡ None
-  lent_none k i None here = ap (λ o. lent_by o i) here
-  lent_none k i (Some row) here =
-      let t = only_top k row here in
-      ap (λ o. lent_by o i) here ∙ (ap (λ (r : Row). lent_by (Some r) i) (sym t.1) ∙ st.fresh.unlent.each i)
-
   to_runners : IsLentToRunners c.table c.running.items
-  to_runners = λ k i places is. absurd (let none = lent_none k i (row_at c.table k) refl in cc)
+  to_runners = λ k i places is. absurd (let none = started_unlent key.graphs key.workers (top_job key) c.table st k i in cc)
 
   numbered : AreNumbered c.table c.numbers.items c.journal.paths
   numbered = λ k row here.

@@ -69,7 +69,7 @@ module _ (held_busy : HeldAreBusy) (key : Key) (lawful : Lawful (rules key) (ran
       let lent : lent_of new.table new.running.items ≡ lent_of old.table old.running.items =
       ap (lent_of new.table) running ∙ lent_stays old.table new.table old.running.items (λ v run is. lends run.row run.item) in
       record {
-        starves = ap₂ (λ (es : List Entry) (l : List (Option Places)). record { key = key; journal = es; starved = true; lent = l }) entries lent;
+        starves = ap₂ (λ (es : List Entry) (l : List (Option Places)). record { key = key; journal = es; starved = true; lent = l; kept = false }) entries lent;
         keeps = record {
           is_key = keeps.is_key;
           one_each = ap (λ (rs : List (Option Run)). length rs) running ∙ keeps.one_each;

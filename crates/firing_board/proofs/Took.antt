@@ -1,20 +1,15 @@
 -- The item that is handed out is claimed.
-use Rattle.std.proofs.Common.{◌≡◌, ◌⊎◌, ⊎_elim, ℕ, ◌+◌, ◌-◌, ◌<◌, ◌≤◌, List, [], ◌∷◌, ◌++◌, length, Option, Some, None, refl, sym, ap, ◌∙◌, subst, arith}
+use Rattle.std.proofs.Common.{◌≡◌, ℕ, [], ◌∷◌, ◌++◌, length, Option, Some, sym, ap, ◌∙◌, subst}
 use Rattle.std.specs.Prelude.{slice_index_or, slice_set}
 use Rattle.kernel_gate.specs.Value.{Places}
 use Rattle.nested_jobs.specs.Marks.{Busy}
-use Rattle.open_job.specs.Calls.{IsHanded, frame_of}
-use Rattle.open_job.specs.View.{compilation_of, graph_in, left_by}
-use Rattle.open_job.specs.declared.handed.Handed.{Handed}
-use Rattle.board_rules.specs.Entries.{item_of}
 use Rattle.board_rules.specs.declared.entry.Entry.TheVariants as entry
 use Rattle.board_rules.specs.declared.entry.Item.{Item}
 use Rattle.board_journal.specs.View.{JournalView}
 use Rattle.job_table.specs.Calls.{LendsAsBefore, LendsItem, MarksItem}
-use Rattle.job_table.specs.View.{TableView, lent_in, row_at}
-use Rattle.job_table.specs.declared.row.Row.{Row}
-use Rattle.firing_board.specs.Handing.{Enters, HandsCompilation, HandsFrame, HandsOut, KeepsAll, path_in, with_claim}
-use Rattle.firing_board.specs.declared.claim.Claim.{Claim}
+use Rattle.job_table.specs.View.{TableView}
+use Rattle.firing_board.specs.Core.{HasRoom}
+use Rattle.firing_board.specs.Handing.{Enters, path_in}
 use Rattle.firing_board.specs.declared.claim.Ticket.{Ticket}
 use Rattle.firing_board.specs.declared.state.Core.{Core}
 use Rattle.firing_board.specs.declared.run.Run.{Run}
@@ -25,34 +20,32 @@ pub record Took (mid : Core) (w : ℕ) (run : Run) (item : Item) (ticket : Ticke
   pub numbers_are : new.numbers.items ≡ mid.numbers.items
   pub paths_are : new.journal.paths ≡ mid.journal.paths
   pub entries_are : new.journal.entries ≡ mid.journal.entries ++ entry.Claim w (path_in mid run.row) item ∷ []
-  pub room : length mid.running.items ≤ new.journal.room
+  pub room : HasRoom new
   pub end_is : new.end ≡ mid.end
   pub ticket_is : ticket ≡ record { worker = w; entry = length mid.journal.entries }
 
-pub took : (mid reserved claimed new : Core) (w : ℕ) (run : Run) (item : Item) (ticket : Ticket) → KeepsAll mid reserved → claimed.running ≡ reserved.running → claimed.numbers ≡ reserved.numbers
-    → claimed.journal ≡ reserved.journal → claimed.end ≡ reserved.end → length mid.running.items < reserved.journal.room → Enters claimed w run item ticket new → Took mid w run item ticket new
-took mid reserved claimed new w run item ticket keeps running numbers journal end room e =
-    let paths : claimed.journal.paths ≡ mid.journal.paths = ap (λ (j : JournalView). j.paths) journal ∙ keeps.paths_are in
-    let entries : claimed.journal.entries ≡ mid.journal.entries = ap (λ (j : JournalView). j.entries) journal ∙ keeps.entries_are in
-    let nums = numbers ∙ keeps.numbers_are in
-    let path : path_in claimed run.row ≡ path_in mid run.row = ap (λ ps. slice_index_or ps (slice_index_or claimed.numbers.items run.row 0) []) paths ∙ ap (λ ns. slice_index_or mid.journal.paths (slice_index_or ns.items run.row 0) []) nums in
-    let left : new.journal.room ≡ reserved.journal.room - 1 = ap (λ (j : JournalView). j.room) e.journal_is ∙ ap (λ (j : JournalView). j.room - 1) journal in
+pub took : (mid claimed new : Core) (w : ℕ) (run : Run) (item : Item) (ticket : Ticket) → claimed.running ≡ mid.running → claimed.numbers ≡ mid.numbers
+    → claimed.journal ≡ mid.journal → claimed.end ≡ mid.end → HasRoom new → Enters claimed w run item ticket new → Took mid w run item ticket new
+took mid claimed new w run item ticket running numbers journal end room e =
+    let paths : claimed.journal.paths ≡ mid.journal.paths = ap (λ (j : JournalView). j.paths) journal in
+    let entries : claimed.journal.entries ≡ mid.journal.entries = ap (λ (j : JournalView). j.entries) journal in
+    let path : path_in claimed run.row ≡ path_in mid run.row = ap (λ ps. slice_index_or ps (slice_index_or claimed.numbers.items run.row 0) []) paths ∙ ap (λ ns. slice_index_or mid.journal.paths (slice_index_or ns.items run.row 0) []) numbers in
     record {
-      running_are = e.running_are ∙ ap (λ rs. slice_set rs.items w (Some run)) (running ∙ keeps.running_is);
-      numbers_are = ap (λ ns. ns.items) (e.numbers_are ∙ nums);
+      running_are = e.running_are ∙ ap (λ rs. slice_set rs.items w (Some run)) running;
+      numbers_are = ap (λ ns. ns.items) (e.numbers_are ∙ numbers);
       paths_are = ap (λ (j : JournalView). j.paths) e.journal_is ∙ paths;
       entries_are = ap (λ (j : JournalView). j.entries) e.journal_is ∙ (ap (λ es. es ++ entry.Claim w (path_in claimed run.row) item ∷ []) entries ∙ ap (λ p. mid.journal.entries ++ entry.Claim w p item ∷ []) path);
-      room = omega (arith, room, left);
-      end_is = e.end_is ∙ (end ∙ keeps.end_is);
+      room = room;
+      end_is = e.end_is ∙ end;
       ticket_is = e.ticket_is ∙ ap (λ es. record { worker = w; entry = length es }) entries;
     }
 
--- by the table before and after
-pub marks_through : (a b c d : TableView) (k item : ℕ) → b ≡ a → d ≡ c → MarksItem k item Busy b c → MarksItem k item Busy a d
-marks_through a b c d k item one two marks = subst (λ v. MarksItem k item Busy v d) one (subst (λ v. MarksItem k item Busy b v) (sym two) marks)
+-- by the table after the claim
+pub marks_through : (a c d : TableView) (k item : ℕ) → d ≡ c → MarksItem k item Busy a c → MarksItem k item Busy a d
+marks_through a c d k item is marks = subst (λ v. MarksItem k item Busy a v) (sym is) marks
 
-pub lends_through : (a b c d : TableView) (k item : ℕ) (places : Option Places) → b ≡ a → d ≡ c → LendsItem k item places b c → LendsItem k item places a d
-lends_through a b c d k item places one two lends = subst (λ v. LendsItem k item places v d) one (subst (λ v. LendsItem k item places b v) (sym two) lends)
+pub lends_through : (a c d : TableView) (k item : ℕ) (places : Option Places) → d ≡ c → LendsItem k item places a c → LendsItem k item places a d
+lends_through a c d k item places is lends = subst (λ v. LendsItem k item places a v) (sym is) lends
 
-pub as_before_through : (a b c d : TableView) → b ≡ a → d ≡ c → LendsAsBefore b c → LendsAsBefore a d
-as_before_through a b c d one two lends = subst (λ v. LendsAsBefore v d) one (subst (λ v. LendsAsBefore b v) (sym two) lends)
+pub as_before_through : (a c d : TableView) → d ≡ c → LendsAsBefore a c → LendsAsBefore a d
+as_before_through a c d is lends = subst (λ v. LendsAsBefore a v) (sym is) lends

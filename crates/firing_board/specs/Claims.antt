@@ -13,6 +13,10 @@ use Rattle.board_rules.specs.Entries.{Step}
 use Rattle.board_rules.specs.Laws.{HasToWait}
 use Rattle.board_rules.specs.Legal.{HasEnded, state_after}
 use Rattle.board_rules.specs.Picks.{IsPick}
+use Rattle.board_rules.specs.declared.entry.Entry.{Entry}
+use Rattle.board_rules.specs.declared.entry.Entry.TheVariants as entry
+use Rattle.board_rules.specs.declared.entry.Item.{Item}
+use Rattle.board_rules.specs.declared.entry.Item.TheVariants as items
 use Rattle.firing_board.specs.Runs.{RunsWork}
 use Rattle.firing_board.specs.View.{BoardView, IsAt}
 use Rattle.firing_board.specs.declared.claim.Claim.{Claim}
@@ -56,3 +60,21 @@ Claims old new w (claim.Compile ticket task) =
 Claims old new w claim.Wait = Stays old new (λ taken. HasToWait old.key (state_after old.key taken))
 Claims old new w claim.Finished = Stays old new (HasEnded old.key)
 Claims old new w claim.Starved = new ≡ record old { starved = true }
+
+-- ---- what is entered
+
+-- the claim of this item is entered, in the job of some path
+pub record EntersItem (old new : List Entry) (w : ℕ) (item : Item) : Type 0 where
+  pub path : List ℕ
+  pub entered : new ≡ old ++ entry.Claim w path item ∷ []
+
+-- what is to be configured is a configuration actor, what is to be fired or copied is a node, and what is to be compiled the
+-- compilation
+abbrev pub EntersAs : BoardView → BoardView → ℕ → Claim → Type 0
+EntersAs old new w (claim.Fire ticket frame) = (number : ℕ) × EntersItem old.journal new.journal w (items.Node number)
+EntersAs old new w (claim.Configure ticket frame) = (place : ℕ) × EntersItem old.journal new.journal w (items.Configure place)
+EntersAs old new w (claim.Copy ticket node frame) = (number : ℕ) × EntersItem old.journal new.journal w (items.Node number)
+EntersAs old new w (claim.Compile ticket task) = EntersItem old.journal new.journal w items.Compile
+EntersAs old new w claim.Wait = new.journal ≡ old.journal
+EntersAs old new w claim.Finished = new.journal ≡ old.journal
+EntersAs old new w claim.Starved = new.journal ≡ old.journal

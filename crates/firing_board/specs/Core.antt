@@ -1,5 +1,5 @@
 -- The open jobs of a board, what each worker runs of them, and how both stand where steps were taken.
-use Rattle.std.specs.Prelude.{◌≡◌, ℕ, suc, ◌+◌, ◌<◌, List, [], ◌∷◌, Option, Some, None, Result, length, map, slice_index_or}
+use Rattle.std.specs.Prelude.{◌≡◌, ℕ, suc, ◌+◌, ◌*◌, ◌<◌, ◌≤◌, List, [], ◌∷◌, Option, Some, None, Result, length, map, slice_index_or}
 use Rattle.std.specs.Option.{option_map}
 use Rattle.kernel_gate.specs.Value.{Places}
 use Rattle.nested_jobs.specs.Marks.{Done, Mark}
@@ -14,7 +14,7 @@ use Rattle.board_rules.specs.Keys.{Key}
 use Rattle.board_rules.specs.Legal.{journal_of, state_after}
 use Rattle.board_journal.specs.View.{path_at}
 use Rattle.job_table.specs.Suits.{Suits}
-use Rattle.job_table.specs.View.{TableView, lent_in, row_at, table_of}
+use Rattle.job_table.specs.View.{TableView, free_items, lent_in, row_at, table_of}
 use Rattle.job_table.specs.declared.row.Row.{Row}
 use Rattle.firing_board.specs.declared.state.Core.{Core}
 use Rattle.firing_board.specs.declared.run.Run.{Run}
@@ -56,6 +56,16 @@ pub record IsNumbered (numbers : List ℕ) (paths : List (List ℕ)) (k : ℕ) (
 -- so it has that of each open job
 abbrev pub AreNumbered : TableView → List ℕ → List (List ℕ) → Type 0
 AreNumbered table numbers paths = (k : ℕ) (row : Row) → row_at table k ≡ Some row → IsNumbered numbers paths k row.job.firing.path
+
+-- ---- room in the journal
+
+-- how many entries may come: the finish of what each worker runs, and the claim and the finish of each item that is free
+abbrev pub entries_to_come : Core → ℕ
+entries_to_come c = runners c.running.items + 2 * free_items c.table
+
+-- there is room for them
+abbrev pub HasRoom : Core → Type 0
+HasRoom c = entries_to_come c ≤ c.journal.room
 
 -- ---- the end
 

@@ -1,5 +1,5 @@
 -- The item that is picked for a worker.
-use Rattle.std.specs.Prelude.{◌≡◌, ℕ, false, List, [], ◌∷◌, Option, Some, None}
+use Rattle.std.specs.Prelude.{◌≡◌, ◌⊎◌, ℕ, false, List, [], ◌∷◌, Option, Some, None}
 use Rattle.nested_jobs.specs.Marks.{Free, Marks}
 use Rattle.nested_jobs.specs.Rules.{Place, Work}
 use Rattle.nested_jobs.specs.Steps.{IsEnabled}
@@ -13,7 +13,7 @@ use Rattle.board_rules.specs.Board.{HasOpened}
 use Rattle.board_rules.specs.Entries.{Step}
 use Rattle.board_rules.specs.Keys.{Key, rules}
 use Rattle.board_rules.specs.Legal.{state_after}
-use Rattle.board_rules.specs.Picks.{IsPick}
+use Rattle.board_rules.specs.Picks.{IsPick, is_open}
 use Rattle.job_table.specs.Suits.{Suits}
 use Rattle.job_table.specs.View.{row_at, table_of}
 use Rattle.job_table.specs.declared.row.Row.{Row}
@@ -31,6 +31,8 @@ pub record IsFound (key : Key) (taken : List Step) (old : Core) (w : ℕ) (new :
   pub opened : HasOpened key (table_of old.table) (state_after key taken).marks (run.item ∷ row.place) (table_of new.table) marks
   pub picked : IsPick key (state_after key taken).marks w run.item row.place
   pub numbered : AreNumbered new.table new.numbers.items new.journal.paths
+  -- nothing was opened, or the item's job was
+  pub opens : (new ≡ old) ⊎ (is_open ((state_after key taken).marks row.place) ≡ false)
 
 -- these steps were taken, and no job offers work
 pub record HasNoWork (key : Key) (taken : List Step) (c : Core) : Type 0 where

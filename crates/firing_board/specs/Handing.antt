@@ -1,5 +1,5 @@
 -- What a worker is handed that claims an item.
-use Rattle.std.specs.Prelude.{◌≡◌, ◌⊎◌, ℕ, ◌-◌, ◌<◌, ◌≤◌, List, [], ◌∷◌, ◌++◌, Option, Some, None, length, slice_index_or, slice_set}
+use Rattle.std.specs.Prelude.{◌≡◌, ◌≢◌, ◌⊎◌, ℕ, ◌-◌, ◌<◌, List, [], ◌∷◌, ◌++◌, Option, Some, None, length, slice_index_or, slice_set}
 use Rattle.nested_jobs.specs.Marks.{Busy}
 use Rattle.job_compiler.specs.Compilation.{Compilation}
 use Rattle.open_job.specs.Calls.{IsHanded, frame_of}
@@ -9,6 +9,7 @@ use Rattle.open_job.specs.declared.handed.Handed.TheVariants as handed
 use Rattle.board_rules.specs.Entries.{item_of}
 use Rattle.board_rules.specs.declared.entry.Entry.TheVariants as entry
 use Rattle.board_rules.specs.declared.entry.Item.{Item}
+use Rattle.board_rules.specs.declared.entry.Item.TheVariants as items
 use Rattle.board_journal.specs.View.{JournalView, path_at}
 use Rattle.job_table.specs.Calls.{LendsAsBefore, LendsItem, MarksItem}
 use Rattle.job_table.specs.View.{row_at}
@@ -42,21 +43,10 @@ pub record Enters (old : Core) (w : ℕ) (run : Run) (item : Item) (ticket : Tic
   pub journal_is : new.journal ≡ with_claim old.journal w (path_in old run.row) item
   pub end_is : new.end ≡ old.end
 
--- all is as before, but for more room in the journal
-pub record KeepsAll (old new : Core) : Type 0 where
-  pub table_is : new.table ≡ old.table
-  pub running_is : new.running ≡ old.running
-  pub numbers_are : new.numbers ≡ old.numbers
-  pub paths_are : new.journal.paths ≡ old.journal.paths
-  pub entries_are : new.journal.entries ≡ old.journal.entries
-  pub more : old.journal.room ≤ new.journal.room
-  pub end_is : new.end ≡ old.end
-
 -- the claim of a worker can be entered
 pub record MayEnter (c : Core) (w : ℕ) (run : Run) : Type 0 where
   pub is_worker : w < length c.running.items
   pub known : slice_index_or c.numbers.items run.row 0 < length c.journal.paths
-  pub room : 0 < c.journal.room
 
 -- a frame is handed out with an item, whose claim is entered
 pub record HandsFrame (old : Core) (w : ℕ) (run : Run) (item : Item) (new : Core) (result : Claim) : Type 0 where
@@ -64,6 +54,7 @@ pub record HandsFrame (old : Core) (w : ℕ) (run : Run) (item : Item) (new : Co
   pub here : row_at old.table run.row ≡ Some row
   pub handed : Handed
   pub handed_so : IsHanded row.job run.item handed
+  pub framed : run.item ≢ compilation_of row.job
   pub claimed : Core
   pub marks : MarksItem run.row run.item Busy old.table claimed.table
   pub lends : LendsItem run.row run.item (Some (frame_of handed).places) old.table claimed.table
@@ -76,7 +67,7 @@ pub record HandsFrame (old : Core) (w : ℕ) (run : Run) (item : Item) (new : Co
   pub result_is : result ≡ claim_of ticket handed
 
 -- a compilation is handed out, whose claim is entered
-pub record HandsCompilation (old : Core) (w : ℕ) (run : Run) (item : Item) (new : Core) (result : Claim) : Type 0 where
+pub record HandsCompilation (old : Core) (w : ℕ) (run : Run) (new : Core) (result : Claim) : Type 0 where
   pub row : Row
   pub here : row_at old.table run.row ≡ Some row
   pub kept : Option Compilation
@@ -88,16 +79,11 @@ pub record HandsCompilation (old : Core) (w : ℕ) (run : Run) (item : Item) (ne
   pub journal_is : claimed.journal ≡ old.journal
   pub end_is : claimed.end ≡ old.end
   pub ticket : Ticket
-  pub enters : Enters claimed w run item ticket new
+  pub enters : Enters claimed w run items.Compile ticket new
   pub result_is : result ≡ claim.Compile ticket record { graphs = row.job.graphs; workers = row.job.workers; firing = row.job.firing; left = left_by row.job; kept = kept }
 
--- a frame or a compilation is handed out, once there is room in the journal for that and for the finish of each worker
+-- a frame or a compilation is handed out
 pub record HandsOut (old : Core) (w : ℕ) (run : Run) (new : Core) (result : Claim) : Type 0 where
-  pub reserved : Core
-  pub keeps : KeepsAll old reserved
-  pub room : length old.running.items < reserved.journal.room
   pub row : Row
   pub here : row_at old.table run.row ≡ Some row
-  pub item : Item
-  pub item_is : item ≡ item_of (graph_in row.job) run.item
-  pub handed : HandsFrame reserved w run item new result ⊎ ((run.item ≡ compilation_of row.job) × HandsCompilation reserved w run item new result)
+  pub handed : HandsFrame old w run (item_of (graph_in row.job) run.item) new result ⊎ ((run.item ≡ compilation_of row.job) × HandsCompilation old w run new result)

@@ -1,9 +1,9 @@
 -- The fields of a board.
-use Rattle.std.specs.Prelude.{◌≡◌, ℕ, ◌≤◌, Bool, true, false, List, Option, length, map}
+use Rattle.std.specs.Prelude.{◌≡◌, ℕ, ◌≤◌, Bool, true, false, List, Option, is_some, length, map}
 use Rattle.pisdf_meaning.specs.declared.firing.Firing.{Firing}
 use Rattle.board_rules.specs.Entries.{Step}
 use Rattle.board_rules.specs.Keys.{IsKey, Key}
-use Rattle.firing_board.specs.Core.{IsLentToRunners, StandsAt, lent_of, runners}
+use Rattle.firing_board.specs.Core.{HasRoom, IsLentToRunners, StandsAt, lent_of, runners}
 use Rattle.firing_board.specs.Starved.{StarvesAt}
 use Rattle.firing_board.specs.Counted.{counts_kept}
 use Rattle.firing_board.specs.View.{BoardView}
@@ -15,13 +15,13 @@ abbrev pub key_with : List KernelCounts → Firing → Core → Key
 key_with signatures top c = record { graphs = c.table.graphs; signatures = map counts_kept signatures; delays = top.state; ins = top.inputs; workers = c.table.workers }
 
 abbrev pub view_with : Key → Core → Bool → BoardView
-view_with key c starved = record { key = key; journal = c.journal.entries; starved = starved; lent = lent_of c.table c.running.items }
+view_with key c starved = record { key = key; journal = c.journal.entries; starved = starved; lent = lent_of c.table c.running.items; kept = false }
 
 abbrev pub key_of : Inside → Key
 key_of i = key_with i.signatures.items i.top.value i.core
 
 abbrev pub view_of : Inside → BoardView
-view_of i = view_with (key_of i) i.core i.starved
+view_of i = record (view_with (key_of i) i.core i.starved) { kept = is_some i.kept }
 
 -- the open jobs, and what workers run of them, stand where steps were taken; where memory was wanted, what workers run does
 abbrev pub StandsOrStarves : Bool → Key → List Step → Core → Type 0
@@ -37,5 +37,10 @@ pub record Keeps (key : Key) (c : Core) (starved : Bool) : Type 0 where
   pub taken : List Step
   pub at : StandsOrStarves starved key taken c
 
+-- unless memory was wanted, so has each entry that may come
+abbrev pub HasRoomUnless : Bool → Core → Type 0
+HasRoomUnless false c = HasRoom c
+HasRoomUnless true c = Unit {0}
+
 abbrev pub IsBoard : Inside → Type 0
-IsBoard i = Keeps (key_of i) i.core i.starved × (length i.compiling.items ≡ length i.core.running.items)
+IsBoard i = Keeps (key_of i) i.core i.starved × (length i.compiling.items ≡ length i.core.running.items) × HasRoomUnless i.starved i.core

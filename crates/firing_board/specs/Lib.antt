@@ -2,6 +2,7 @@ pub mod View
 pub mod Starts
 pub mod Runs
 pub mod Claims
+pub mod Wanting
 pub mod Finishes
 pub mod Ends
 pub mod Core

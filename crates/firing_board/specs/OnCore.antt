@@ -3,7 +3,7 @@ use Rattle.std.specs.Prelude.{◌≡◌, ℕ, ◌<◌, Bool, true, false, Option
 use Rattle.kernel_gate.specs.Value.{Places}
 use Rattle.job_rules.specs.Words.{Work}
 use Rattle.board_rules.specs.Keys.{Key}
-use Rattle.firing_board.specs.Claims.{Claims}
+use Rattle.firing_board.specs.Claims.{Claims, EntersAs}
 use Rattle.firing_board.specs.Finishes.{Finishes}
 use Rattle.firing_board.specs.Kept.{Keeps, view_with}
 use Rattle.firing_board.specs.Runs.{Runs}
@@ -27,6 +27,7 @@ pub record MayClaim (key : Key) (c : Core) (w : ℕ) : Type 0 where
 
 pub record ClaimsOn (key : Key) (old : Core) (w : ℕ) (new : Core) (claim : Claim) : Type 0 where
   pub claims : Claims (view_with key old false) (view_with key new false) w claim
+  pub enters : EntersAs (view_with key old false) (view_with key new false) w claim
   pub keeps : Keeps key new false
 
 -- memory was wanted

@@ -1,5 +1,5 @@
 -- How jobs are opened for a claim.
-use Rattle.std.specs.Prelude.{◌≡◌, ℕ, List, [], ◌∷◌, ◌++◌, Some}
+use Rattle.std.specs.Prelude.{◌≡◌, ℕ, ◌≤◌, List, [], ◌∷◌, ◌++◌, Some}
 use Rattle.nested_jobs.specs.Marks.{Free, Marks}
 use Rattle.nested_jobs.specs.Rules.{Call, Place, Work}
 use Rattle.job_preparing.specs.Handing.{mark_at}
@@ -34,12 +34,12 @@ pub record MayOpen (c : Core) (at : Run) : Type 0 where
   pub marks : Marks Firing Answer
   pub calls : Calls key marks c.table at
 
--- nothing but the open jobs and the paths changes
+-- nothing but the open jobs, the paths and the room in the journal changes
 pub record KeepsRuns (old new : Core) : Type 0 where
   pub running_is : new.running ≡ old.running
   pub entries_are : new.journal.entries ≡ old.journal.entries
   pub end_is : new.end ≡ old.end
-  pub room_is : new.journal.room ≡ old.journal.room
+  pub more : old.journal.room ≤ new.journal.room
   pub lasts : Lasts old.table new.table
   pub lent : LendsAsBefore old.table new.table
 

@@ -1,5 +1,5 @@
 -- How a worker gives back what it runs.
-use Rattle.std.specs.Prelude.{◌≡◌, ℕ, ◌-◌, List, [], ◌∷◌, ◌++◌, Option, Some, None, Result, slice_index_or, slice_set}
+use Rattle.std.specs.Prelude.{◌≡◌, ℕ, ◌+◌, ◌≤◌, List, [], ◌∷◌, ◌++◌, Option, Some, None, Result, slice_index_or, slice_set}
 use Rattle.kernel_gate.specs.Value.{FrameView, Places}
 use Rattle.kernel_gate.specs.declared.fault.KernelFault.{KernelFault}
 use Rattle.nested_jobs.specs.Marks.{Busy, Done}
@@ -36,15 +36,18 @@ pub record MayCompile (end : CompileEnd) (job : OpenView) (i : ℕ) (places : Op
   pub busy : mark_at job.marks i ≡ Busy
   pub ends : IsEndOf job.graphs.graphs job.workers job.firing (left_by job) end
 
-abbrev pub with_finish : JournalView → ℕ → JournalView
-with_finish j w = record j { entries = j.entries ++ entry.Finish w ∷ []; room = j.room - 1 }
+-- the finish is entered, in room that was taken
+pub record HasFinish (old : JournalView) (w : ℕ) (new : JournalView) : Type 0 where
+  pub paths_are : new.paths ≡ old.paths
+  pub entries_are : new.entries ≡ old.entries ++ entry.Finish w ∷ []
+  pub room : old.room ≤ new.room + 1
 
 -- the finish is entered, and the worker runs nothing
 pub record Leaves (old : Core) (w : ℕ) (run : Run) (new : Core) : Type 0 where
   pub ran : slice_index_or old.running.items w None ≡ Some run
   pub running_are : new.running.items ≡ slice_set old.running.items w None
   pub numbers_are : new.numbers ≡ old.numbers
-  pub journal_is : new.journal ≡ with_finish old.journal w
+  pub journal_is : HasFinish old.journal w new.journal
   pub end_is : new.end ≡ old.end
 
 -- the frame is back, and what its kernel or its node wrote is the item's answer

@@ -6,13 +6,14 @@ use Rattle.board_rules.specs.Keys.{Key}
 use Rattle.board_rules.specs.Legal.{AreLegal, journal_of}
 use Rattle.board_rules.specs.declared.entry.Entry.{Entry}
 
--- what a board was started with, its journal, whether memory was wanted, and for each worker where the leases of the frame
--- lie that it has
+-- what a board was started with, its journal, whether memory was wanted, for each worker where the leases of the frame lie
+-- that it has, and whether compilations are in it that are kept from one board to the next
 pub record BoardView : Type 0 where
   pub key : Key
   pub journal : List Entry
   pub starved : Bool
   pub lent : List (Option Places)
+  pub kept : Bool
 
 -- these steps were taken: they are legal, and the journal is theirs
 pub record IsAt (b : BoardView) (taken : List Step) : Type 0 where

@@ -1,12 +1,12 @@
 // The board and its calls.
-ghost use Rattle.std.specs.Prelude.{◌≡◌, ◌≤◌, ◌*◌, [], IfOk, IsOk, None, OnErr, OnOk, Some, false, replicate, true};
+ghost use Rattle.std.specs.Prelude.{◌≡◌, ◌≤◌, ◌*◌, [], IfOk, IsErr, IsOk, None, OnErr, OnOk, Some, false, is_some, replicate, true};
 ghost use Rattle.std.specs.Arc.{arc_value};
 
 use crate::claim::{Claim, Ticket};
 use crate::claiming;
 use crate::counts::{KernelCounts, all_counts};
 use crate::ending::{BoardEnd, end_core, outcome_of};
-use crate::finishing::{finish_compilation, finish_frame};
+use crate::finishing::{finish_compilation, finish_frame, unless_wanted};
 use crate::keeping::{keep_ready, take_key};
 use crate::starting::{nothing_compiles, start_core, top_firing};
 use crate::state::Core;
@@ -58,12 +58,13 @@ impl Model for Board {
 
 impl Board {
     ghost use Rattle.board_rules.specs.Keys.{IsKey};
-    ghost use Rattle.firing_board.specs.Claims.{Claims};
+    ghost use Rattle.firing_board.specs.Claims.{Claims, EntersAs};
     ghost use Rattle.firing_board.specs.Ends.{EndsAs, IsOver};
     ghost use Rattle.firing_board.specs.Finishes.{Finishes, MayComeBack, MayEnd};
     ghost use Rattle.firing_board.specs.Runs.{AreAllIdle, IsIdle, IsSound, Runs};
     ghost use Rattle.firing_board.specs.Starts.{key_from};
     ghost use Rattle.firing_board.specs.View.{lent_to};
+    ghost use Rattle.firing_board.specs.Wanting.{MayStarve};
 
     /// A board of one firing of the top graph, in which nothing is claimed. `ins` has the tokens of each of its inputs, as many
     /// as the input's rate, and `delays` the state that the iteration before left. There are 1 to 16 workers.
@@ -80,7 +81,7 @@ impl Board {
         workers: u32,
     ) -> Result<Board, AllocError>
         requires { IsKey (key_from (arc_value graphs) signatures.now delays.now ins.now workers) }
-        ensures { IfOk result (λ b. b ≡ record { key = key_from (arc_value graphs) signatures.now delays.now ins.now workers; journal = []; starved = false; lent = replicate workers None }) }
+        ensures { IfOk result (λ b. b ≡ record { key = key_from (arc_value graphs) signatures.now delays.now ins.now workers; journal = []; starved = false; lent = replicate workers None; kept = false }) }
     {
         runnable();
         boards_keep();
@@ -103,10 +104,13 @@ impl Board {
 
     /// Claims the item that is picked for a worker that runs nothing. `Wait` comes exactly where nothing may be claimed and
     /// another worker runs something, and `Finished` exactly where the journal has ended. Once a claim or a finish wanted
-    /// memory, each later claim is `Starved`.
+    /// memory, each later claim is `Starved`. Before that a claim is so only where the item that is picked for the worker is in
+    /// a job that isn't open yet, or is a compilation: each other claim takes no memory.
     pub fn claim(&mut self, alloc: Global, worker: u32) -> Claim
         requires { IsIdle self.old worker }
         ensures claims { Claims self.old self.new worker result }
+        ensures enters { EntersAs self.old self.new worker result }
+        ensures licensed { result ≡ Claim.Starved → self.old.starved ≡ false → MayStarve self.old worker }
         ensures starved { self.old.starved ≡ true → result ≡ Claim.Starved }
     {
         entries_tell_steps();
@@ -171,16 +175,13 @@ impl Board {
         ensures finishes { Finishes self.old self.new ticket.worker }
         ensures live { OnOk result (self.new.starved ≡ false) }
         ensures starved { OnErr result (self.new.starved ≡ true) }
+        ensures memory { end ≡ CompileEnd.Memory → IsErr result }
         ensures stays { self.old.starved ≡ true → self.new.starved ≡ true }
     {
         let key = take_key(&mut self.compiling, ticket.worker);
         keep_ready(&mut self.kept, key, &end);
         self.starved = finish_compilation(alloc, &mut self.core, self.starved, ticket.worker, end);
-        if self.starved {
-            Err(AllocError)
-        } else {
-            Ok(())
-        }
+        unless_wanted(self.starved)
     }
 
     /// How many jobs are open: at most 8 for each worker, unless memory was wanted.
@@ -201,16 +202,17 @@ impl Board {
         &self.core.journal
     }
 
-    /// Puts in compilations that are kept from one board to the next. There are none in the board.
+    /// Puts in compilations that are kept from one board to the next, in place of those that were in the board, if any were.
     pub fn put_kept(&mut self, kept: Kept)
-        ensures { self.new ≡ self.old }
+        ensures { self.new ≡ record self.old { kept = true } }
     {
         self.kept = Some(kept);
     }
 
-    /// Takes out the compilations that were put in, and those made since, if any were put in.
+    /// Takes out the compilations that were put in, and those made since; none exactly where none are in the board.
     pub fn take_kept(&mut self) -> Option<Kept>
-        ensures { self.new ≡ self.old }
+        ensures taken { is_some result ≡ self.old.kept }
+        ensures left { self.new ≡ record self.old { kept = false } }
     {
         mem::replace(&mut self.kept, None)
     }

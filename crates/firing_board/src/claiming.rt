@@ -1,12 +1,14 @@
 // Hands out the item that is picked for a worker.
-ghost use Rattle.std.specs.Prelude.{ℕ, List as Seq, ◌≡◌, ◌≢◌, ◌+◌, ◌<◌, ◌≤◌, ◌⊎◌, ◌↔◌, All, IfOk, IsTrue, None, OnErr, OnOk, length};
+ghost use Rattle.std.specs.Prelude.{ℕ, List as Seq, ◌≡◌, ◌≢◌, ◌+◌, ◌<◌, ◌≤◌, ◌⊎◌, ◌↔◌, All, IfOk, IsTrue, None, OnErr, OnOk, false, is_some, length};
 ghost use Rattle.board_rules.specs.Entries.{item_of};
 ghost use Rattle.board_rules.specs.Keys.{Key as BoardKey};
 ghost use Rattle.job_table.specs.View.{HasJob};
 ghost use Rattle.open_job.specs.View.{IsOfferedCompilation, IsOfferedWork, compilation_of, graph_in};
-ghost use Rattle.firing_board.specs.Core.{IsNumbered};
-ghost use Rattle.firing_board.specs.Handing.{Enters, HandsCompilation, HandsFrame, HandsOut, KeepsAll, MayEnter};
+ghost use Rattle.firing_board.specs.Core.{HasRoom, IsNumbered};
+ghost use Rattle.firing_board.specs.Handing.{Enters, HandsCompilation, HandsFrame, HandsOut, MayEnter};
+ghost use Rattle.firing_board.specs.Kept.{view_with};
 ghost use Rattle.firing_board.specs.OnCore.{ClaimsOn, KeepsKey, MayClaim, StarvesOn};
+ghost use Rattle.firing_board.specs.Wanting.{MayStarve};
 
 use crate::claim::{Claim, Ticket};
 use crate::finding::find;
@@ -22,42 +24,24 @@ use open_job::{Handed, OpenJob};
 use std::alloc::{AllocError, Global};
 use std::sync::Arc;
 
-/// A number of 32 bits.
-///
-/// # Errors
-///
-/// There are more numbers than that.
-fn narrow(number: usize) -> Result<u32, AllocError>
-    ensures { IfOk result (λ narrow. narrow ≡ number) }
+/// An item other than the compilation, as the journal names it.
+fn item_at(job: &OpenJob, item: usize) -> Item
+    requires offered { IsOfferedWork job.now item }
+    requires framed { item ≢ compilation_of job.now }
+    ensures { result ≡ item_of (graph_in job.now) item }
 {
-    if number < 4294967296 {
-        Ok(number as u32)
+    let number = job.number(item);
+    if item < job.compilation() {
+        Item::Configure(number)
     } else {
-        Err(AllocError)
-    }
-}
-
-/// An item as the journal names it.
-///
-/// # Errors
-///
-/// Its number has more than 32 bits.
-fn item_at(job: &OpenJob, item: usize) -> Result<Item, AllocError>
-    ensures { IfOk result (λ named. named ≡ item_of (graph_in job.now) item) }
-{
-    let compilation = job.compilation();
-    if item < compilation {
-        Ok(Item::Configure(narrow(job.config_place(item))?))
-    } else if item == compilation {
-        Ok(Item::Compile)
-    } else {
-        Ok(Item::Node(narrow(item - compilation - 1)?))
+        Item::Node(number)
     }
 }
 
 /// Enters that a worker claims an item, which it then runs.
 fn enter(core: &mut Core, worker: u32, run: Run, item: Item) -> Ticket
-    requires { MayEnter core.old worker run }
+    requires enter { MayEnter core.old worker run }
+    requires room { 0 < core.old.journal.room }
     ensures { Enters core.old worker run item result core.new }
 {
     let entry = core.journal.len();
@@ -70,8 +54,10 @@ fn enter(core: &mut Core, worker: u32, run: Run, item: Item) -> Ticket
 /// Hands out the frame of an item other than a compilation.
 fn hand_frame(core: &mut Core, worker: u32, run: Run, item: Item) -> Claim
     requires enter { MayEnter core.old worker run }
+    requires room { HasRoom core.old }
     requires offered { HasJob (λ job. IsOfferedWork job run.item × (run.item ≢ compilation_of job)) core.old.table run.row }
-    ensures { HandsFrame core.old worker run item core.new result }
+    ensures handed { HandsFrame core.old worker run item core.new result }
+    ensures room { HasRoom core.new }
 {
     let handed = core.table.claim(run.row, run.item);
     let ticket = enter(core, worker, run, item);
@@ -92,16 +78,17 @@ fn hand_compilation(
     core: &mut Core,
     worker: u32,
     run: Run,
-    item: Item,
     compiled: Option<Arc<Compiled>>,
 ) -> Result<Claim, AllocError>
     requires enter { MayEnter core.old worker run }
+    requires room { HasRoom core.old }
     requires offered { HasJob IsOfferedCompilation core.old.table run.row }
-    ensures handed { IfOk result (HandsCompilation core.old worker run item core.new) }
+    ensures handed { IfOk result (HandsCompilation core.old worker run core.new) }
+    ensures room { OnOk result (HasRoom core.new) }
     ensures refused { OnErr result (core.new ≡ core.old) }
 {
     let task = core.table.claim_compile(alloc, run.row, compiled)?;
-    let ticket = enter(core, worker, run, item);
+    let ticket = enter(core, worker, run, Item::Compile);
     Ok(Claim::Compile(ticket, task))
 }
 
@@ -109,7 +96,7 @@ fn hand_compilation(
 ///
 /// # Errors
 ///
-/// Want of memory.
+/// Want of memory, only where the item is a compilation. Nothing is claimed.
 fn hand_out(
     alloc: Global,
     core: &mut Core,
@@ -120,15 +107,17 @@ fn hand_out(
     requires worker { worker < length core.old.running.items }
     requires numbered { (path : Seq ℕ) × IsNumbered core.old.numbers.items core.old.journal.paths run.row path }
     requires offered { HasJob (λ job. IsOfferedWork job run.item) core.old.table run.row }
+    requires room { HasRoom core.old }
     ensures handed { IfOk result (HandsOut core.old worker run core.new) }
-    ensures refused { OnErr result (KeepsAll core.old core.new) }
+    ensures room { OnOk result (HasRoom core.new) }
+    ensures compiles { OnErr result (HasJob (λ job. run.item ≡ compilation_of job) core.old.table run.row) }
+    ensures refused { OnErr result (core.new ≡ core.old) }
 {
-    core.journal.reserve(core.running.len() + 1)?;
     let job = core.table.job(run.row);
-    let item = item_at(job, run.item)?;
     if run.item == job.compilation() {
-        hand_compilation(alloc, core, worker, run, item, compiled)
+        hand_compilation(alloc, core, worker, run, compiled)
     } else {
+        let item = item_at(job, run.item);
         Ok(hand_frame(core, worker, run, item))
     }
 }
@@ -153,10 +142,13 @@ pub(crate) fn claim(
     compiling: &mut Vec<Option<Key>>,
 ) -> Result<Claim, AllocError>
     requires may { (key : BoardKey) × MayClaim key core.old worker }
-    requires room { length compiling.old.items ≡ length core.old.running.items }
+    requires room { HasRoom core.old }
+    requires compiling { length compiling.old.items ≡ length core.old.running.items }
     ensures claimed { IfOk result (λ claim. (key : BoardKey) → MayClaim key core.old worker → ClaimsOn key core.old worker core.new claim) }
+    ensures room { OnOk result (HasRoom core.new) }
     ensures refused { OnErr result ((key : BoardKey) → MayClaim key core.old worker → StarvesOn key core.old core.new) }
-    ensures kept { KeepsKey core.old core.new × (length compiling.new.items ≡ length compiling.old.items) }
+    ensures licensed { OnErr result ((key : BoardKey) → MayClaim key core.old worker → MayStarve (view_with key core.old false) worker) }
+    ensures kept { KeepsKey core.old core.new × (length compiling.new.items ≡ length compiling.old.items) × (is_some kept.new ≡ is_some kept.old) }
 {
     boards_keep();
     boards_end();
@@ -189,7 +181,7 @@ fn look_up(
 ) -> Option<Arc<Compiled>>
     requires worker { worker < length compiling.old.items }
     requires offered { HasJob (λ job. IsOfferedWork job run.item) core.now.table run.row }
-    ensures { length compiling.new.items ≡ length compiling.old.items }
+    ensures { (length compiling.new.items ≡ length compiling.old.items) × (is_some kept.new ≡ is_some kept.old) }
 {
     let job = core.table.job(run.row);
     if run.item == job.compilation() {

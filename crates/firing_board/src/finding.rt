@@ -1,15 +1,18 @@
 // Finds the item that is picked for a worker, and opens the jobs on its way.
-ghost use Rattle.std.specs.Prelude.{◌≡◌, ◌<◌, List as Seq, IfOk};
+ghost use Rattle.std.specs.Prelude.{◌≡◌, ◌<◌, List as Seq, IfOk, OnErr, OnOk};
 ghost use Rattle.board_rules.specs.Entries.{Step};
 ghost use Rattle.board_rules.specs.Keys.{Key};
+ghost use Rattle.board_rules.specs.Legal.{state_after};
 ghost use Rattle.firing_board.specs.Finding.{Finds, HasNoWork};
 ghost use Rattle.firing_board.specs.Opening.{KeepsRuns, MayOpen, OpensAt, OpensWay};
-ghost use Rattle.firing_board.specs.Core.{StandsAt};
+ghost use Rattle.firing_board.specs.Core.{HasRoom, StandsAt};
+ghost use Rattle.firing_board.specs.Wanting.{PicksInNew};
 
 use crate::numbering::number_row;
+use crate::rooms::room_for;
 use crate::run::Run;
 use crate::state::Core;
-use board_rules::{boards_keep, paths_stay, rows_are_asked};
+use board_rules::{boards_keep, paths_stay, rows_are_asked, workers_are_answered};
 use job_rules::rules_are_lawful;
 use job_table::{Begins, calls_are_fit, tables_suit};
 use std::alloc::{AllocError, Global};
@@ -22,9 +25,11 @@ use std::alloc::{AllocError, Global};
 fn open(alloc: Global, core: &mut Core, at: Run) -> Result<usize, AllocError>
     requires { MayOpen core.old at }
     ensures opened { IfOk result (λ child. OpensAt core.old at child core.new) }
+    ensures room { OnOk result (HasRoom core.old → HasRoom core.new) }
     ensures kept { KeepsRuns core.old core.new }
 {
     let child = core.table.open_child(alloc, at.row, at.item)?;
+    room_for(&mut core.journal, core.table.job(child))?;
     let path = core.table.job(child).firing().path.copy()?;
     let number = core.journal.add_path(path)?;
     number_row(&mut core.numbers, child, number)?;
@@ -40,6 +45,7 @@ fn open(alloc: Global, core: &mut Core, at: Run) -> Result<usize, AllocError>
 pub(crate) fn open_way(alloc: Global, core: &mut Core, at: Run) -> Result<Run, AllocError>
     requires { MayOpen core.old at }
     ensures opened { IfOk result (λ run. OpensWay core.old at core.new run) }
+    ensures room { OnOk result (HasRoom core.old → HasRoom core.new) }
     ensures kept { KeepsRuns core.old core.new }
 {
     boards_keep();
@@ -61,10 +67,12 @@ pub(crate) fn open_way(alloc: Global, core: &mut Core, at: Run) -> Result<Run, A
 ///
 /// # Errors
 ///
-/// Want of memory.
+/// Want of memory, only where the item's job isn't open yet.
 pub(crate) fn find(alloc: Global, core: &mut Core, worker: u32) -> Result<Option<Run>, AllocError>
     requires { (key : Key) × (taken : Seq Step) × StandsAt key taken core.old }
     ensures found { IfOk result (λ run. (key : Key) (taken : Seq Step) → StandsAt key taken core.old → Finds key taken core.old worker core.new run) }
+    ensures room { OnOk result (HasRoom core.old → HasRoom core.new) }
+    ensures wants { OnErr result ((key : Key) (taken : Seq Step) → StandsAt key taken core.old → PicksInNew key (state_after key taken) worker) }
     ensures kept { KeepsRuns core.old core.new }
 {
     boards_keep();
@@ -88,12 +96,16 @@ pub(crate) fn find(alloc: Global, core: &mut Core, worker: u32) -> Result<Option
 fn find_call(alloc: Global, core: &mut Core, worker: u32) -> Result<Option<Run>, AllocError>
     requires { (key : Key) × (taken : Seq Step) × HasNoWork key taken core.old }
     ensures found { IfOk result (λ run. (key : Key) (taken : Seq Step) → HasNoWork key taken core.old → Finds key taken core.old worker core.new run) }
+    ensures room { OnOk result (HasRoom core.old → HasRoom core.new) }
+    ensures wants { OnErr result ((key : Key) (taken : Seq Step) → HasNoWork key taken core.old → PicksInNew key (state_after key taken) worker) }
     ensures kept { KeepsRuns core.old core.new }
 {
     boards_keep();
     rows_are_asked();
     paths_stay();
     calls_are_fit();
+    rules_are_lawful();
+    workers_are_answered();
     match core.table.first_call(worker) {
         Some(asked) => {
             let at = Run {

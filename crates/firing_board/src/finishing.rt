@@ -1,12 +1,15 @@
 // Takes back what a worker ran.
-ghost use Rattle.std.specs.Prelude.{◌≡◌, ◌<◌, IfOk, IsOk, None, OnErr, Some, length, slice_index_or, slice_set};
+ghost use Rattle.std.specs.Prelude.{◌≡◌, ◌<◌, ◌≤◌, IfOk, IsErr, IsOk, None, OnErr, OnOk, Some, false, true, length, slice_index_or, slice_set};
 ghost use Rattle.board_rules.specs.Keys.{Key};
 ghost use Rattle.job_table.specs.Closing.{IsClosingFrom};
+ghost use Rattle.job_table.specs.View.{free_items};
 ghost use Rattle.firing_board.specs.Closing.{ClosesOn, KeepsJournal};
+ghost use Rattle.firing_board.specs.Core.{HasRoom};
 ghost use Rattle.firing_board.specs.Finishes.{MayComeBack, MayEnd};
 ghost use Rattle.firing_board.specs.OnCore.{FinishesOn, KeepsKey, MayLeave};
 ghost use Rattle.firing_board.specs.Returning.{Compiles, GivesUp, Leaves, MayCompile, MayReturn, Returns, RunsItem};
 
+use crate::rooms::room_for_nodes;
 use crate::run::Run;
 use crate::state::Core;
 use board_rules::{boards_keep, entries_tell_steps, journals_grow};
@@ -43,7 +46,8 @@ fn leave(core: &mut Core, worker: u32) -> Run
 fn take_back(core: &mut Core, worker: u32, frame: Frame, answer: Result<(), KernelFault>) -> usize
     requires item { RunsItem (MayReturn frame (IsOk answer)) core.old worker }
     requires room { 0 < core.old.journal.room }
-    ensures { Returns frame answer core.old worker core.new result }
+    ensures returns { Returns frame answer core.old worker core.new result }
+    ensures room { HasRoom core.old → HasRoom core.new }
 {
     let run = leave(core, worker);
     core.table.finish(run.row, run.item, frame, answer);
@@ -64,9 +68,11 @@ fn take_compilation(
     requires item { RunsItem (MayCompile end) core.old worker }
     requires room { 0 < core.old.journal.room }
     ensures compiled { IfOk result (Compiles end core.old worker core.new) }
+    ensures room { OnOk result (HasRoom core.old → HasRoom core.new) }
     ensures refused { OnErr result (GivesUp core.old worker core.new) }
 {
     let run = leave(core, worker);
+    room_for_nodes(&mut core.journal, &end)?;
     core.table.finish_compile(alloc, run.row, end)?;
     Ok(run.row)
 }
@@ -80,6 +86,7 @@ fn close(core: &mut Core, row: usize) -> Result<(), AllocError>
     requires { IsClosingFrom core.old.table row }
     ensures closed { IfOk result (λ done. ClosesOn core.old row core.new) }
     ensures kept { KeepsJournal core.old core.new }
+    ensures fewer { free_items core.new.table ≤ free_items core.old.table }
 {
     if let Some(end) = core.table.close_from(row)? {
         core.end = Some(end);
@@ -98,6 +105,7 @@ pub(crate) fn finish_frame(
     requires { (key : Key) × MayLeave key core.old starved worker (MayComeBack key frame answer (IsOk answer)) (Some frame.places) }
     ensures finished { (key : Key) → MayLeave key core.old starved worker (MayComeBack key frame answer (IsOk answer)) (Some frame.places) → FinishesOn key core.old starved worker core.new result }
     ensures kept { KeepsKey core.old core.new }
+    ensures room { HasRoom core.old → HasRoom core.new }
 {
     boards_keep();
     journals_grow();
@@ -119,6 +127,8 @@ pub(crate) fn finish_compilation(
     requires { (key : Key) × MayLeave key core.old starved worker (MayEnd key end) None }
     ensures finished { (key : Key) → MayLeave key core.old starved worker (MayEnd key end) None → FinishesOn key core.old starved worker core.new result }
     ensures kept { KeepsKey core.old core.new }
+    ensures room { result ≡ false → HasRoom core.old → HasRoom core.new }
+    ensures memory { end ≡ CompileEnd.Memory → result ≡ true }
 {
     boards_keep();
     journals_grow();
@@ -133,4 +143,13 @@ pub(crate) fn finish_compilation(
         Ok(row) => close(core, row).is_err(),
         Err(AllocError) => true,
     }
+}
+
+/// Nothing, unless memory was wanted.
+pub(crate) fn unless_wanted(starved: bool) -> Result<(), AllocError>
+    ensures live { OnOk result (starved ≡ false) }
+    ensures wanted { OnErr result (starved ≡ true) }
+    ensures told { starved ≡ true → IsErr result }
+{
+    if starved { Err(AllocError) } else { Ok(()) }
 }

@@ -12,6 +12,7 @@ mod finishing;
 mod keeping;
 mod locked;
 mod numbering;
+mod rooms;
 mod run;
 mod starting;
 mod state;

@@ -7,7 +7,9 @@ ghost use Rattle.pisdf_model.specs.Range.{InRange};
 ghost use Rattle.pisdf_model.specs.WellFormed.{WellFormed};
 ghost use Rattle.pisdf_meaning.specs.Run.{top_firing};
 ghost use Rattle.firing_board.specs.Beginning.{IsStartedOn};
+ghost use Rattle.firing_board.specs.Core.{HasRoom};
 
+use crate::rooms::room_for;
 use crate::run::Run;
 use crate::state::Core;
 use board_journal::Journal;
@@ -69,7 +71,8 @@ pub(crate) fn start_core(
     requires fit { IsFit (arc_value graphs).graphs firing }
     requires inherited { HasInherited (arc_value graphs).graphs firing }
     requires some { 1 ≤ workers }
-    ensures { IfOk result (IsStartedOn (arc_value graphs) workers firing) }
+    ensures started { IfOk result (IsStartedOn (arc_value graphs) workers firing) }
+    ensures room { IfOk result HasRoom }
 {
     let running = nothing_runs(alloc, workers)?;
     let mut journal = Journal::new(alloc);
@@ -77,11 +80,17 @@ pub(crate) fn start_core(
     let _number = journal.add_path(path)?;
     let numbers = Vec::new(alloc);
     let table = JobTable::start(alloc, graphs, workers, firing)?;
-    Ok(Core {
-        table,
-        running,
-        numbers,
-        journal,
-        end: None,
-    })
+    match room_for(&mut journal, table.job(0)) {
+        Ok(()) => Ok(Core {
+            table,
+            running,
+            numbers,
+            journal,
+            end: None,
+        }),
+        Err(error) => {
+            table.end();
+            Err(error)
+        }
+    }
 }

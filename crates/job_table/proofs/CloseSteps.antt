@@ -1,12 +1,12 @@
 -- One step of the closings: a job is closed, and the item that called it is finished.
-use Rattle.std.proofs.Common.{◌≡◌, ◌≢◌, ◌↔◌, ℕ, ◌<◌, Bool, IsTrue, length, get_or, set, slice_index, Option, Some, None, Result, sym, ap, ◌∙◌, subst, arith}
+use Rattle.std.proofs.Common.{◌≡◌, ◌≢◌, ◌↔◌, ℕ, ◌<◌, ◌≤◌, Bool, IsTrue, length, get_or, set, slice_index, Option, Some, None, Result, sym, ap, ◌∙◌, subst, arith}
 use Rattle.job_preparing.specs.Handing.{EndSuits, end_of, mark_at}
 use Rattle.job_preparing.specs.declared.handing.JobGiven.{JobGiven}
 use Rattle.job_rules.specs.Words.{answer_of}
 use Rattle.nested_jobs.specs.Marks.{Done, Open}
 use Rattle.nested_jobs.specs.Rules.{Place}
 use Rattle.open_job.specs.Calls as job
-use Rattle.open_job.specs.View.{IsQuiet, OpenView, outcome_in}
+use Rattle.open_job.specs.View.{IsQuiet, OpenView, free_in, free_one, outcome_in, total}
 use Rattle.pisdf_meaning.specs.declared.firing.Firing.{Firing}
 use Rattle.pisdf_meaning.specs.declared.refusal.Refusal.{Refusal}
 use Rattle.pisdf_model.specs.declared.graph.Graphs.{Graphs}
@@ -15,11 +15,12 @@ use Rattle.board_rules.specs.Legal.{state_after}
 use Rattle.job_table.specs.Closing.{Closes, ClosesTo, IsClosingFrom, RowsStay, steps_with}
 use Rattle.job_table.specs.Slots.{InSlot, change_row}
 use Rattle.job_table.specs.Suits.{IsUpper, Suits}
-use Rattle.job_table.specs.View.{TableView, row_at, with_job}
+use Rattle.job_table.specs.View.{TableView, free_by, free_items, row_at, with_job}
 use Rattle.job_table.specs.declared.row.Row.{Row}
 use Rattle.job_table.proofs.Closings.{AllLawful, HasUpper, called, depth_of, end_so, keys_apart, left, next_so, next_stays, none_busy_at, rows_less, stop_so, top_in, top_so, upper_in}
+use Rattle.job_table.proofs.Freeing.{less_free, marks_freed, row_freed}
 use Rattle.job_table.proofs.Rows.{inside_of, the_same}
-use Rattle.job_table.proofs.Writes.{slot_row}
+use Rattle.job_table.proofs.Writes.{mark_inside, slot_row}
 
 -- ---- whether the job is quiet
 
@@ -122,6 +123,16 @@ module _ (lawful : AllLawful) (now : TableView) (k : ℕ) (row : Row) (end : Res
 
         pub stays_on : RowsStay now mid
         stays_on = next_stays lawful now k c (quiet_own c) go_on l above.item above.upper above.here above.place_is rest mid (answer_of (end_of end)) (outcome_own c) s.graphs_are s.workers_are s.rows_are (ap (set rest.rows l) slot_written)
+
+        pub mid_free : free_items mid ≤ free_items now
+        mid_free =
+            let less = less_free now rest k row s.here (inside_of now.rows k row s.here) s.rows_are in
+            let open_is = called lawful now k c (quiet_own c) go_on l above.item above.upper above.here above.place_is in
+            let none : free_one (mark_at above.upper.job.marks above.item) ≡ 0 = ap free_one open_is in
+            let own = marks_freed above.upper.job.marks above.item (Done (answer_of (end_of end))) (mark_inside above.upper.job.marks above.item (Open c.row.job.firing) open_is (λ no. cc)) in
+            let all = row_freed rest.rows l (Some above.upper) slot' (inside_of rest.rows l above.upper rest_here) rest_here in
+            let after : free_by slot' ≡ free_in (set above.upper.job.marks above.item (Done (answer_of (end_of end)))) = ap free_by slot_written in
+            omega (arith, less, none, own, all, after)
 
         pub falls : depth_of (row_at mid l) < depth_of (row_at now k)
         falls =

@@ -7,6 +7,7 @@ pub mod Rows
 pub mod Keys
 pub mod Suiting
 pub mod Writes
+pub mod Freeing
 pub mod Closings
 pub mod Beginnings
 pub mod Methods

@@ -1,5 +1,5 @@
 -- What the methods of a table give, from what they do to one row.
-use Rattle.std.proofs.Common.{◌≡◌, ℕ, ◌<◌, List, [], ◌∷◌, ◌++◌, length, get_or, set, Option, Some, None, Result, Ok, Err, OnOk, OnErr, All, refl, sym, ap, ◌∙◌, subst, arith, length-append}
+use Rattle.std.proofs.Common.{◌≡◌, ℕ, ◌<◌, ◌+◌, List, [], ◌∷◌, ◌++◌, length, get_or, set, Option, Some, None, Result, Ok, Err, OnOk, OnErr, All, refl, sym, ap, ◌∙◌, subst, arith, length-append}
 use Rattle.std.proofs.lemmas.List.{get_or_append_left, get_or_at}
 use Rattle.std.proofs.lemmas.List.Elements.{All-from_get_or, All-get_or}
 use Rattle.std.specs.declared.alloc.AllocError.{AllocError}
@@ -9,12 +9,14 @@ use Rattle.job_rules.specs.Words.{Answer}
 use Rattle.kernel_gate.specs.Value.{Places}
 use Rattle.nested_jobs.specs.Marks.{Busy, Done, Mark}
 use Rattle.open_job.specs.Calls.{with_item, with_mark}
-use Rattle.open_job.specs.View.{OpenView, compilation_of}
+use Rattle.open_job.specs.View.{OpenView, compilation_of, free_in, free_one}
 use Rattle.pisdf_meaning.specs.declared.firing.Firing.{Firing}
 use Rattle.job_table.specs.Calls.{FinishesIn, LendsAsBefore, LendsItem, MarksItem}
 use Rattle.job_table.specs.Slots.{CompilesSlot, InSlot, IsUnlent, change_row}
-use Rattle.job_table.specs.View.{HasJob, NothingIsLent, TableView, lent_by, lent_in, row_at, with_job}
+use Rattle.job_table.specs.View.{HasJob, NothingIsLent, TableView, free_by, free_items, lent_by, lent_in, row_at, with_job}
 use Rattle.job_table.specs.declared.row.Row.{Row}
+use Rattle.job_table.proofs.Freeing.{marks_freed, row_freed}
+use Rattle.job_table.proofs.Rows.{inside_of}
 use Rattle.job_table.proofs.Writes.{in_slot, lends_item, lends_same, lent_inside, mark_inside, marks_item, marks_set, slot_row}
 
 -- a table, as it is and as it is seen, and what stands at a key of it
@@ -58,6 +60,22 @@ module _ (v now : TableView) (e : v ≡ now) (k : ℕ) (slot : Option Row) (read
         subst (λ (x : TableView). LendsAsBefore x (with_slot slot')) e
         (lends_same v (set v.rows k slot') k row job here_v (ap (set v.rows k) is) same)
 
+    -- how many items are free then
+    pub job_freed : (job : OpenView) (slot' : Option Row) → slot' ≡ Some (with_job row job) → free_items (with_slot slot') + free_in row.job.marks ≡ free_items now + free_in job.marks
+    job_freed job slot' is =
+        let all = row_freed v.rows k (Some row) slot' (inside_of v.rows k row here_v) here_v in
+        let after : free_by slot' ≡ free_in job.marks = ap free_by is in
+        let same : free_items v ≡ free_items now = ap free_items e in
+        omega (arith, all, after, same)
+
+    pub item_freed : (item : ℕ) (y : Mark Firing Answer) (job : OpenView) (slot' : Option Row) → slot' ≡ Some (with_job row job) → job.marks ≡ set row.job.marks item y → item < length row.job.marks
+        → free_items (with_slot slot') + free_one (mark_at row.job.marks item) ≡ free_items now + free_one y
+    item_freed item y job slot' is marks inside =
+        let all = job_freed job slot' is in
+        let own = marks_freed row.job.marks item y inside in
+        let written : free_in job.marks ≡ free_in (set row.job.marks item y) = ap free_in marks in
+        omega (arith, all, own, written)
+
     -- the compilation
     pub compiled : (end : CompileEnd) (slot' : Option Row) → CompilesSlot end slot slot' → FinishesIn k end now (with_slot slot') row.job × LendsAsBefore now (with_slot slot')
     compiled end slot' is =
@@ -69,6 +87,7 @@ module _ (v now : TableView) (e : v ≡ now) (k : ℕ) (slot : Option Row) (read
             answered = f.answered;
             marks = subst (λ (x : TableView). MarksItem k (compilation_of row.job) (Done f.answer) x (with_slot slot')) e
                 (marks_item v (set v.rows k slot') k row t.0 here_v (ap (set v.rows k) t.2) (compilation_of row.job) (Done f.answer) f.graphs_are f.workers_are f.firing_is f.done f.others);
+            free = let all = job_freed t.0 slot' t.2 in let few = f.free in omega (arith, all, few);
           },
           lent_still t.0 slot' t.2 f.lent,
         )

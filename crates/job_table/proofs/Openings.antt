@@ -1,5 +1,5 @@
 -- A table after a job is opened, or after memory was wanted for it.
-use Rattle.std.proofs.Common.{◌≡◌, ◌≢◌, ◌⊎◌, ⊎_elim, ℕ, zero, suc, ◌<◌, List, [], ◌∷◌, ◌++◌, length, get_or, set, replicate, Option, Some, None, Result, Ok, Err, OnErr, refl, sym, ap, ◌∙◌, subst, arith}
+use Rattle.std.proofs.Common.{◌≡◌, ◌≢◌, ◌⊎◌, ⊎_elim, ℕ, zero, suc, ◌+◌, ◌<◌, List, [], ◌∷◌, ◌++◌, length, get_or, set, replicate, Option, Some, None, Result, Ok, Err, OnErr, refl, sym, ap, ◌∙◌, subst, arith}
 use Rattle.std.proofs.lemmas.Bool.{cases_eq}
 use Rattle.std.proofs.lemmas.List.{get_or-set_other, get_or-set_same, get_or_read, length-set}
 use Rattle.std.specs.declared.alloc.AllocError.{AllocError}
@@ -9,13 +9,14 @@ use Rattle.nested_jobs.specs.Marks.{Busy, Free, Mark, Open, answer_of}
 use Rattle.nested_jobs.specs.Rules.{Call}
 use Rattle.open_job.specs.Calls.{with_mark}
 use Rattle.open_job.specs.Paths.{step_of}
-use Rattle.open_job.specs.View.{HasItem, OpenView, task}
+use Rattle.open_job.specs.View.{HasItem, OpenView, compilation_of, free_in, free_one, task, total}
 use Rattle.pisdf_meaning.specs.declared.firing.Firing.{Firing}
 use Rattle.pisdf_model.specs.declared.graph.Graphs.{Graphs}
 use Rattle.job_table.specs.Calls.{IsFresh, IsStarted, LendsAsBefore, OpensChild, SpoilsItem, StaysAs}
 use Rattle.job_table.specs.Slots.{CallsIn, CallsItem, InSlot, IsVacant, SameRows}
-use Rattle.job_table.specs.View.{TableView, lent_by, lent_in, row_at, with_job}
+use Rattle.job_table.specs.View.{TableView, free_by, free_items, lent_by, lent_in, row_at, with_job}
 use Rattle.job_table.specs.declared.row.Row.{Row}
+use Rattle.job_table.proofs.Freeing.{marks_freed, row_freed, same_free}
 use Rattle.job_table.proofs.Rows.{inside_of, stays_same, the_same}
 use Rattle.job_table.proofs.Writes.{slot_row}
 
@@ -26,12 +27,14 @@ repeated zero i d = refl
 repeated (suc n) zero d = refl
 repeated (suc n) (suc i) d = repeated n i d
 
-pub is_fresh : (graphs : Graphs) (workers : ℕ) (firing : Firing) (job : OpenView) (n : ℕ) → job.graphs ≡ graphs → job.workers ≡ workers → job.firing ≡ firing → job.marks ≡ replicate n Free → job.lent ≡ replicate n None → IsFresh graphs workers firing job
-is_fresh graphs workers firing job n graphs_are workers_are firing_is marks lent = record {
+pub is_fresh : (graphs : Graphs) (workers : ℕ) (firing : Firing) (job : OpenView) (n : ℕ) → job.graphs ≡ graphs → job.workers ≡ workers → job.firing ≡ firing → job.marks ≡ replicate n Free → job.lent ≡ replicate n None
+    → free_in job.marks ≡ compilation_of job + 1 → IsFresh graphs workers firing job
+is_fresh graphs workers firing job n graphs_are workers_are firing_is marks lent many = record {
   graphs_are = graphs_are;
   workers_are = workers_are;
   firing_is = firing_is;
   free = λ i. ap (λ (l : ItemMarks). mark_at l i) marks ∙ repeated n i Free;
+  many = many;
   unlent = record { each = λ i. ap (λ (l : Lent). lent_at l i) lent ∙ repeated n i None };
 }
 
@@ -41,6 +44,7 @@ started graphs workers firing top rows fresh place upper steps are = record {
   graphs_are = refl;
   workers_are = refl;
   key = 0;
+  key_is = refl;
   top = top;
   here = ap (λ (l : List (Option Row)). get_or l 0 None) are;
   fresh = fresh;
@@ -48,6 +52,7 @@ started graphs workers firing top rows fresh place upper steps are = record {
   upper_is = upper;
   steps_are = steps;
   others = λ k apart. ap (λ (l : List (Option Row)). get_or l k None) are ∙ past k apart;
+  many = let all = ap (total free_by) are in let own = fresh.many in omega (arith, all, own);
 }
   where
     past : (k : ℕ) → k ≢ 0 → get_or (Some top ∷ []) k None ≡ None
@@ -128,10 +133,10 @@ module _ (v now : TableView) (e : v ≡ now) (rows : List (Option Row)) (same : 
           new_other : (j : ℕ) → j ≢ l → row_at (new child') j ≡ row_at mid j
           new_other j apart = get_or-set_other (set rows k slot') l j child' None apart
 
-          pub opens : (firing : Firing) → task row.job item ≡ Some (Call firing) → mark_at row.job.marks item ≡ Free → mark_at after.job.marks item ≡ Open firing
+          pub opens : (firing : Firing) → task row.job item ≡ Some (Call firing) → mark_at row.job.marks item ≡ Free → free_in after.job.marks + 1 ≡ free_in row.job.marks → mark_at after.job.marks item ≡ Open firing
               → ((i : ℕ) → i ≢ item → mark_at after.job.marks i ≡ mark_at row.job.marks i) → IsFresh v.graphs v.workers firing child.job → child.place ≡ item ∷ row.place → child.upper ≡ Some k → child.steps ≡ row.steps ++ step_of row.job item ∷ []
               → OpensChild k item now l (new child')
-          opens firing task_is free marked unmarked fresh place upper steps = record {
+          opens firing task_is free fewer marked unmarked fresh place upper steps = record {
             graphs_are = ap (λ (x : TableView). x.graphs) e;
             workers_are = ap (λ (x : TableView). x.workers) e;
             upper = row;
@@ -152,6 +157,14 @@ module _ (v now : TableView) (e : v ≡ now) (rows : List (Option Row)) (same : 
             upper_is = upper;
             steps_are = steps;
             others = λ j away apart. new_other j apart ∙ mid_other j away;
+            many =
+                let one = row_freed rows k (Some row) slot' (inside_of rows k row here_rows) here_rows in
+                let two = row_freed (set rows k slot') l None child' mid_inside mid_vacant in
+                let was : free_by slot' ≡ free_in after.job.marks = ap free_by is in
+                let own : free_by child' ≡ free_in child.job.marks = ap free_by child_is in
+                let all = same_free v.rows rows same in
+                let seen : free_items v ≡ free_items now = ap free_items e in
+                omega (arith, one, two, was, own, all, seen, fewer, fresh.many);
           }
 
           pub opens_lent : IsNothingLent child.job.lent → LendsAsBefore now (new child')
@@ -175,6 +188,9 @@ module _ (v now : TableView) (e : v ≡ now) (rows : List (Option Row)) (same : 
 
   pub opened_others : (y : Mark Firing Answer) (i : ℕ) → i ≢ item → mark_at (set row.job.marks item y) i ≡ mark_at row.job.marks i
   opened_others y i apart = get_or-set_other row.job.marks item i y Free apart
+
+  pub opened_free : (firing : Firing) → item < length row.job.marks → mark_at row.job.marks item ≡ Free → free_in (set row.job.marks item (Open firing)) + 1 ≡ free_in row.job.marks
+  opened_free firing inside free = let all = marks_freed row.job.marks item (Open firing) inside in let one = ap free_one free in omega (arith, all, one)
 
   -- and no more, where memory is wanted then
   pub call_spoils : (result : Result Firing AllocError) (slot' : Option Row) → CallsIn item result slot slot' → item < length row.job.marks → mark_at row.job.marks item ≡ Free

@@ -1,5 +1,5 @@
 -- What the calls of a table change.
-use Rattle.std.specs.Prelude.{◌≡◌, ◌≢◌, ℕ, [], ◌∷◌, ◌++◌, Option, Some, None}
+use Rattle.std.specs.Prelude.{◌≡◌, ◌≢◌, ℕ, ◌+◌, ◌≤◌, [], ◌∷◌, ◌++◌, Option, Some, None}
 use Rattle.job_preparing.specs.Handing.{IsNothingLent, mark_at}
 use Rattle.job_preparing.specs.declared.compiling.CompileEnd.{CompileEnd}
 use Rattle.job_rules.specs.Doing.{Answers}
@@ -8,12 +8,12 @@ use Rattle.job_rules.specs.Words.{Answer}
 use Rattle.kernel_gate.specs.Value.{Places}
 use Rattle.nested_jobs.specs.Marks.{Done, Free, Mark, Open, answer_of}
 use Rattle.nested_jobs.specs.Rules.{Call, Work}
-use Rattle.open_job.specs.Calls.{compile_answer}
-use Rattle.open_job.specs.View.{OpenView, compilation_of, left_by, task}
+use Rattle.open_job.specs.Calls.{compile_answer, nodes_by}
+use Rattle.open_job.specs.View.{OpenView, compilation_of, free_in, left_by, task}
 use Rattle.pisdf_model.specs.declared.graph.Graphs.{Graphs}
 use Rattle.pisdf_meaning.specs.declared.firing.Firing.{Firing}
 use Rattle.open_job.specs.Paths.{step_of}
-use Rattle.job_table.specs.View.{TableView, lent_in, row_at}
+use Rattle.job_table.specs.View.{TableView, free_items, lent_in, row_at}
 use Rattle.job_table.specs.declared.begins.Begins.{Begins}
 use Rattle.job_table.specs.declared.begins.Begins.TheVariants as begins
 use Rattle.job_table.specs.declared.row.Row.{Row}
@@ -26,13 +26,15 @@ pub record IsFresh (graphs : Graphs) (workers : ℕ) (firing : Firing) (job : Op
   pub workers_are : job.workers ≡ workers
   pub firing_is : job.firing ≡ firing
   pub free : (i : ℕ) → mark_at job.marks i ≡ Free
+  pub many : free_in job.marks ≡ compilation_of job + 1
   pub unlent : IsNothingLent job.lent
 
--- one row, which is that of the top job
+-- one row, the first, which is that of the top job
 pub record IsStarted (graphs : Graphs) (workers : ℕ) (firing : Firing) (v : TableView) : Type 0 where
   pub graphs_are : v.graphs ≡ graphs
   pub workers_are : v.workers ≡ workers
   pub key : ℕ
+  pub key_is : key ≡ 0
   pub top : Row
   pub here : row_at v key ≡ Some top
   pub fresh : IsFresh graphs workers firing top.job
@@ -40,6 +42,7 @@ pub record IsStarted (graphs : Graphs) (workers : ℕ) (firing : Firing) (v : Ta
   pub upper_is : top.upper ≡ None
   pub steps_are : top.steps ≡ []
   pub others : (k : ℕ) → k ≢ key → row_at v k ≡ None
+  pub many : free_items v ≡ compilation_of top.job + 1
 
 -- the same row, but for its marks and for what is lent
 pub record StaysAs (before after : Row) : Type 0 where
@@ -103,6 +106,7 @@ pub record OpensChild (k item : ℕ) (old : TableView) (l : ℕ) (new : TableVie
   pub upper_is : child.upper ≡ Some k
   pub steps_are : child.steps ≡ upper.steps ++ step_of upper.job item ∷ []
   pub others : OthersStay k l old new
+  pub many : free_items new ≡ free_items old + compilation_of child.job
 
 -- the rows are as before, but for the mark of an item, which has no answer
 pub record SpoilsItem (k item : ℕ) (old new : TableView) : Type 0 where
@@ -132,3 +136,4 @@ pub record FinishesIn (k : ℕ) (end : CompileEnd) (old new : TableView) (job : 
   pub answer_is : compile_answer job.firing end ≡ Some answer
   pub answered : Answers job.graphs.graphs (words.Compiles job.firing (left_by job)) answer
   pub marks : MarksItem k (compilation_of job) (Done answer) old new
+  pub free : free_items new ≤ free_items old + nodes_by end

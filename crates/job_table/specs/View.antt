@@ -6,7 +6,7 @@ use Rattle.board_rules.specs.Board.{OpenJobs}
 use Rattle.job_preparing.specs.Handing.{lent_at, mark_at}
 use Rattle.kernel_gate.specs.Value.{Places}
 use Rattle.pisdf_model.specs.declared.graph.Graphs.{Graphs}
-use Rattle.open_job.specs.View.{OpenView}
+use Rattle.open_job.specs.View.{OpenView, free_in, total}
 use Rattle.job_table.specs.declared.row.Row.{Row}
 
 -- the graphs, how many workers the jobs are mapped on, and the rows by their keys
@@ -47,6 +47,14 @@ keys_from k (Some row ∷ rows) = k ∷ keys_from (k + 1) rows
 
 abbrev pub keys_of : TableView → List ℕ
 keys_of v = keys_from 0 v.rows
+
+-- how many items of all jobs are free
+abbrev pub free_by : Option Row → ℕ
+free_by None = 0
+free_by (Some row) = free_in row.job.marks
+
+abbrev pub free_items : TableView → ℕ
+free_items v = total free_by v.rows
 
 -- ---- the words of boards
 

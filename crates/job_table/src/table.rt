@@ -1,5 +1,5 @@
 // The table of open jobs and its calls.
-ghost use Rattle.std.specs.Prelude.{◌≡◌, ◌≢◌, ◌≤◌, ◌<◌, ◌⊎◌, ℕ, false, true, IfOk, IsOk, None, OnErr, OnOk, Some, length};
+ghost use Rattle.std.specs.Prelude.{◌≡◌, ◌≢◌, ◌+◌, ◌≤◌, ◌<◌, ◌⊎◌, ℕ, false, true, IfOk, IsOk, None, OnErr, OnOk, Some, length};
 ghost use Rattle.std.specs.Arc.{arc_value};
 ghost use Rattle.std.specs.Option.{option_map};
 
@@ -60,7 +60,7 @@ impl JobTable {
     ghost use Rattle.job_table.specs.Asked.{IsAsked};
     ghost use Rattle.job_table.specs.Calls.{BeginsWith, FinishesIn, IsStarted, LendsAsBefore, LendsItem, MarksItem, OpensChild, SpoilsItem};
     ghost use Rattle.job_table.specs.Closing.{Closes, IsClosingFrom, RowsStay};
-    ghost use Rattle.job_table.specs.View.{HasJob, NothingIsLent, keys_of, lent_in};
+    ghost use Rattle.job_table.specs.View.{HasJob, NothingIsLent, free_items, keys_of, lent_in};
 
     /// A table of one job, the top one, of which nothing is claimed. The jobs will be mapped on so many workers.
     ///
@@ -180,6 +180,7 @@ impl JobTable {
         ensures handed { HasJob (λ job. IsHanded job item result) self.old row }
         ensures claimed { MarksItem row item Busy self.old self.new }
         ensures lent { LendsItem row item (Some (frame_of result).places) self.old self.new }
+        ensures fewer { free_items self.old ≡ free_items self.new + 1 }
     {
         claim_in(&mut self.rows[row], item)
     }
@@ -198,6 +199,7 @@ impl JobTable {
         requires { HasJob IsOfferedCompilation self.old row }
         ensures task { IfOk result (λ task. HasJob (λ job. task ≡ record { graphs = job.graphs; workers = job.workers; firing = job.firing; left = left_by job; kept = option_map arc_value kept }) self.old row) }
         ensures claimed { OnOk result (HasJob (λ job. MarksItem row (compilation_of job) Busy self.old self.new) self.old row) }
+        ensures fewer { OnOk result (free_items self.old ≡ free_items self.new + 1) }
         ensures refused { OnErr result (self.new ≡ self.old) }
         ensures lent { LendsAsBefore self.old self.new }
     {
@@ -212,6 +214,7 @@ impl JobTable {
         requires sound { HasJob (λ job. IsSoundFor (task job item) (IsOk answer)) self.old row }
         ensures finished { HasJob (λ job. MarksItem row item (Done (answer_with (task job item) frame answer)) self.old self.new) self.old row }
         ensures lent { LendsItem row item None self.old self.new }
+        ensures free { free_items self.new ≡ free_items self.old }
     {
         finish_in(&mut self.rows[row], item, frame, answer)
     }
@@ -249,6 +252,7 @@ impl JobTable {
         requires { IsClosingFrom self.old row }
         ensures closed { IfOk result (Closes self.old row self.new) }
         ensures stay { RowsStay self.old self.new }
+        ensures fewer { free_items self.new ≤ free_items self.old }
     {
         boards_keep();
         rules_are_lawful();

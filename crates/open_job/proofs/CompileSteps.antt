@@ -1,5 +1,5 @@
 -- The claim and the finish of a job's compilation.
-use Rattle.std.proofs.Common.{◌≡◌, ◌≢◌, ◌⊎◌, ⊎_elim, ℕ, zero, suc, ◌+◌, ◌<◌, List, [], ◌∷◌, ◌++◌, length, replicate, get_or, set, Option, Some, None, is_some, true, unwrap_or, Result, Ok, Err, IfOk, refl, sym, ap, ◌∙◌, subst, arith}
+use Rattle.std.proofs.Common.{◌≡◌, ◌≢◌, ◌⊎◌, ⊎_elim, ℕ, zero, suc, ◌+◌, ◌<◌, ◌≤◌, List, [], ◌∷◌, ◌++◌, length, replicate, get_or, set, Option, Some, None, is_some, true, unwrap_or, Result, Ok, Err, IfOk, refl, sym, ap, ◌∙◌, subst, arith}
 use Rattle.std.specs.Arc.{arc_value}
 use Rattle.std.specs.Global.{Global}
 use Rattle.std.specs.Option.{option_map}
@@ -23,8 +23,8 @@ use Rattle.job_preparing.specs.View.{ConfiguringView}
 use Rattle.job_preparing.specs.declared.compiling.CompileEnd.{CompileEnd}
 use Rattle.job_preparing.specs.declared.compiling.CompileEnd.TheVariants as compiling
 use Rattle.job_running.specs.View as running
-use Rattle.open_job.specs.View.{OpenView, compilation_of, key_in, left_by, left_if_ready}
-use Rattle.open_job.specs.Calls.{FinishesCompilation, compile_answer, with_mark}
+use Rattle.open_job.specs.View.{OpenView, compilation_of, free_in, free_one, key_in, left_by, left_if_ready}
+use Rattle.open_job.specs.Calls.{FinishesCompilation, compile_answer, nodes_by, with_mark}
 use Rattle.open_job.specs.Kept.{KeepsWith, StageFits, compile_mark, node_lent, node_marks, view_with}
 use Rattle.open_job.specs.Stages.{GoesOnWith, HasNoNodes}
 use Rattle.open_job.specs.declared.stage.Stage.{Stage}
@@ -33,6 +33,7 @@ use Rattle.open_job.proofs.Compiling.{schedules_so}
 use Rattle.open_job.proofs.Cut.{put_seam, read_after, read_before, read_seam}
 use Rattle.open_job.proofs.Early as early
 use Rattle.open_job.proofs.Offered.{IsAfter, where_is}
+use Rattle.open_job.proofs.Totals.{free_copies, total_append}
 
 -- ---- what the compilation answers
 
@@ -124,7 +125,7 @@ module _ (c : ConfiguringView) (workers : ℕ) (stage : Stage) (keeps : KeepsWit
     finish_keeps (Nodes r) went = record { range = keeps.range; well = keeps.well; fit = keeps.fit; some = keeps.some; marks_many = keeps.marks_many; lent_many = keeps.lent_many; gave = keeps.gave; stage_fits = went.runs }
 
     -- all but the compilation is as before
-    module _ (next : Stage) (free : (n : ℕ) → mark_at (node_marks next) n ≡ Free) (unlent : (n : ℕ) → lent_at (node_lent next) n ≡ None) where
+    module _ (next : Stage) (free : (n : ℕ) → mark_at (node_marks next) n ≡ Free) (unlent : (n : ℕ) → lent_at (node_lent next) n ≡ None) (few : free_in (node_marks next) ≤ nodes_by end) where
       abbrev w : OpenView
       w = view_with c workers next
 
@@ -169,16 +170,22 @@ module _ (c : ConfiguringView) (workers : ℕ) (stage : Stage) (keeps : KeepsWit
             done = early.mark_here c workers next keeps.marks_many ∙ done;
             others = others;
             lent = lent_as;
+            free =
+                let was = total_append free_one c.marks (Busy ∷ []) in
+                let now = total_append free_one c.marks (compile_mark next ∷ node_marks next) in
+                let none = ap free_one done in
+                omega (arith, few);
           }
 
     pub finish_view : (next : Stage) → GoesOnWith c workers end next → FinishesCompilation end v (view_with c workers next)
     finish_view Waiting went = absurd went
     finish_view Compiling went = absurd went
-    finish_view (Refused refusal) went = finishes (Refused refusal) (λ n. refl) (λ n. refl) (Refuses refusal) refl went
+    finish_view (Refused refusal) went = finishes (Refused refusal) (λ n. refl) (λ n. refl) (omega arith) (Refuses refusal) refl went
     finish_view (Nodes r) went =
         finishes (Nodes r)
         (λ n. ap (λ (l : List (Mark Firing Answer)). mark_at l n) went.marks_are ∙ read_copies (length (running.nodes_of r)) n Free)
         (λ n. ap (λ (l : List (Option Places)). lent_at l n) went.lent_are ∙ read_copies (length (running.nodes_of r)) n None)
+        (let all = ap free_in went.marks_are ∙ free_copies (length (running.nodes_of r)) in let many = went.many in omega arith)
         (Schedules r.prepared.schedule) refl went.schedule_is
 
   -- ---- what its calls say of the job's own view

@@ -93,6 +93,12 @@ module _ (c : ConfiguringView) (workers : ℕ) (compilation : Compilation) (set 
   same_nodes : running.nodes_of r ≡ nodes_in c.graphs.graphs (preparing.graph_in c) c.firing r.prepared
   same_nodes = λ i. nodes_in (graphs_are i).graphs (graph_of (graphs_are i).graphs (firing_is i)) (firing_is i) r.prepared
 
+  pub many : length (running.nodes_of r) ≡ length compilation.graph.nodes
+  many =
+      let G = c.graphs.graphs in
+      let g = preparing.graph_in c in
+      ap length (same_nodes ∙ (ap (nodes_in G g c.firing) prepared_is ∙ sym (nodes_are G workers c.firing (preparing.left_by c) compilation set values so)))
+
   pub runs_for : RunsFor c workers r
   runs_for =
       let G = c.graphs.graphs in

@@ -19,3 +19,4 @@ pub mod Paths
 pub mod There
 pub mod Opened
 pub mod OfferedCompilation
+pub mod Totals

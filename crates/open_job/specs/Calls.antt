@@ -1,5 +1,5 @@
 -- What the calls of an open job give.
-use Rattle.std.specs.Prelude.{◌≡◌, ◌≢◌, ℕ, ℤ, nat_lt, Bool, true, false, List, Option, Some, None, slice_set}
+use Rattle.std.specs.Prelude.{◌≡◌, ◌≢◌, ℕ, ℤ, ◌+◌, ◌≤◌, nat_lt, Bool, true, false, List, length, Option, Some, None, slice_set}
 use Rattle.kernel_gate.specs.Value.{FrameView, Places}
 use Rattle.std.specs.Arc.{arc_value}
 use Rattle.job_preparing.specs.CompileTasks.{schedule_of}
@@ -13,7 +13,7 @@ use Rattle.nested_jobs.specs.Marks.{Mark, Done}
 use Rattle.nested_jobs.specs.Rules.{Task, Work, Call}
 use Rattle.pisdf_meaning.specs.declared.firing.Firing.{Firing}
 use Rattle.sdf_level.specs.declared.node.Node.{Node}
-use Rattle.open_job.specs.View.{OpenView, compilation_of, left_by, task}
+use Rattle.open_job.specs.View.{OpenView, compilation_of, free_in, left_by, task}
 use Rattle.open_job.specs.declared.handed.Handed.{Handed}
 use Rattle.open_job.specs.declared.handed.Handed.TheVariants.{Configure, Fire, Copy}
 
@@ -45,12 +45,16 @@ abbrev pub FiresFor : Bool → words.Asked → Handed → Type 0
 FiresFor true asked handed = Configures asked handed
 FiresFor false asked handed = FiresNode asked handed
 
+abbrev pub CopiesFor : Bool → Node → List (List ℤ) → List ℕ → Handed → Type 0
+CopiesFor true node read lens handed = ⊥
+CopiesFor false node read lens handed = CopiesNode node read lens handed
+
 -- with an item that has this task, before the compilation or after it
 abbrev pub IsHandedFor : Bool → Option (Task Firing words.Work) → Handed → Type 0
 IsHandedFor before None handed = ⊥
 IsHandedFor before (Some (Call job)) handed = ⊥
 IsHandedFor before (Some (Work (words.Fires spot asked))) handed = FiresFor before asked handed
-IsHandedFor before (Some (Work (words.Copies node read lens))) handed = CopiesNode node read lens handed
+IsHandedFor before (Some (Work (words.Copies node read lens))) handed = CopiesFor before node read lens handed
 IsHandedFor before (Some (Work (words.Compiles firing left))) handed = ⊥
 
 -- what is handed out with an item
@@ -81,7 +85,13 @@ compile_answer firing (Ready compiled set values) = Some (words.Schedules (sched
 compile_answer firing (Refused cause) = Some (words.Refuses record { path = firing.path; cause = cause })
 compile_answer firing Memory = None
 
--- the compilation, which ended so, is done, and all else as before
+-- how many nodes are there then
+abbrev pub nodes_by : CompileEnd → ℕ
+nodes_by (Ready compiled set values) = length (arc_value compiled).graph.nodes
+nodes_by (Refused cause) = 0
+nodes_by Memory = 0
+
+-- the compilation, which ended so, is done, and all else as before; no more items are free than those before and the nodes
 pub record FinishesCompilation (end : CompileEnd) (old new : OpenView) : Type 0 where
   pub graphs_are : new.graphs ≡ old.graphs
   pub workers_are : new.workers ≡ old.workers
@@ -92,3 +102,4 @@ pub record FinishesCompilation (end : CompileEnd) (old new : OpenView) : Type 0 
   pub done : mark_at new.marks (compilation_of old) ≡ Done answer
   pub others : (i : ℕ) → i ≢ compilation_of old → mark_at new.marks i ≡ mark_at old.marks i
   pub lent : (i : ℕ) → lent_at new.lent i ≡ lent_at old.lent i
+  pub free : free_in new.marks ≤ free_in old.marks + nodes_by end

@@ -1,13 +1,13 @@
 -- One open job as plain data, and what its items are to do, by the numbers of the job's rules: configuration actors in file
 -- order, the compilation, and once that is there the nodes of the single-rate graph.
-use Rattle.std.specs.Prelude.{◌≡◌, ℕ, ◌<◌, true, List, [], length, Option, Some, IsSome, unwrap_or}
+use Rattle.std.specs.Prelude.{◌≡◌, ℕ, ◌+◌, ◌<◌, true, List, [], ◌∷◌, length, Option, Some, IsSome, unwrap_or}
 use Rattle.job_compiler.specs.declared.key.Key.{Key}
 use Rattle.job_preparing.specs.Handing.{ItemMarks, Lent, answers, mark_at}
 use Rattle.job_preparing.specs.View.{key_of}
 use Rattle.job_rules.specs.Items.{compile_number, count, graph_of, left_in, outcome, rule}
 use Rattle.job_rules.specs.Words as words
 use Rattle.job_rules.specs.Words.{Answer}
-use Rattle.nested_jobs.specs.Marks.{Free}
+use Rattle.nested_jobs.specs.Marks.{Mark, Free, Busy, Open, Done}
 use Rattle.nested_jobs.specs.Rules.{Task, Work, Call, Values}
 use Rattle.nested_jobs.specs.Steps.{all_below, is_settled}
 use Rattle.pisdf_model.specs.declared.graph.Graph.{Graph}
@@ -48,6 +48,22 @@ compilation_of v = compile_number (graph_in v)
 pub record HasItem (v : OpenView) (i : ℕ) : Type 0 where
   pub marked : i < length v.marks
   pub lendable : i < length v.lent
+
+-- ---- how many items are free
+
+-- what a function gives of each element, in all
+abbrev pub total : {A : Type 0} → (A → ℕ) → List A → ℕ
+total f [] = 0
+total f (x ∷ xs) = f x + total f xs
+
+abbrev pub free_one : Mark Firing Answer → ℕ
+free_one Free = 1
+free_one Busy = 0
+free_one (Open job) = 0
+free_one (Done answer) = 0
+
+abbrev pub free_in : ItemMarks → ℕ
+free_in marks = total free_one marks
 
 -- ---- what may be claimed
 

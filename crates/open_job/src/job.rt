@@ -1,11 +1,11 @@
 // One open job and its events.
-ghost use Rattle.std.specs.Prelude.{◌≡◌, ◌≢◌, ◌⊎◌, ◌↔◌, ◌<◌, ℕ, None, Some, IfOk, IsOk, IsTrue, OnErr, OnOk, slice_index};
+ghost use Rattle.std.specs.Prelude.{◌≡◌, ◌≢◌, ◌⊎◌, ◌↔◌, ◌<◌, ◌-◌, ℕ, None, Some, IfOk, IsOk, IsTrue, OnErr, OnOk, slice_index};
 ghost use Rattle.std.specs.Arc.{arc_value};
 ghost use Rattle.std.specs.Option.{option_map};
 
 use crate::going::{end_stage, go_on, next_stage, refused_early};
 use crate::handed::Handed;
-use crate::nodes::{call_node, claim_node, finish_node, finish_node_call, node_step};
+use crate::nodes::{call_node, claim_node, finish_node, finish_node_call, node_number, node_step};
 use crate::offer::Offer;
 use crate::picking::{first_call, first_call_waiting, first_node, first_waiting};
 use crate::places::nth_configuration;
@@ -92,6 +92,22 @@ impl OpenJob {
             (self.config_place(item) as u32, 0)
         } else {
             node_step(&self.stage, item - compilation - 1)
+        }
+    }
+
+    /// How a journal names an item that has work of its own, other than the compilation: a configuration actor by its place
+    /// among all actors of its graph, a node by its number.
+    pub fn number(&self, item: usize) -> u32
+        requires offered { IsOfferedWork self.now item }
+        requires framed { item ≢ compilation_of self.now }
+        ensures actor { item < compilation_of self.now → result ≡ slice_index (config_places (graph_in self.now)) item }
+        ensures node { compilation_of self.now < item → result ≡ item - compilation_of self.now - 1 }
+    {
+        let compilation = self.configuring.count() as usize;
+        if item < compilation {
+            self.config_place(item) as u32
+        } else {
+            node_number(&self.stage, item - compilation - 1)
         }
     }
 

@@ -44,6 +44,19 @@ pub(crate) fn node_step(stage: &Stage, node: usize) -> (u32, u32)
     }
 }
 
+/// The number of a node that may be claimed.
+pub(crate) fn node_number(stage: &Stage, node: usize) -> u32
+    requires { HasNodes (MayClaim node) stage.now }
+    ensures { result ≡ node }
+{
+    match stage {
+        Stage::Nodes(running) => number_of(running, node),
+        Stage::Waiting => unreachable!(),
+        Stage::Compiling => unreachable!(),
+        Stage::Refused(_) => unreachable!(),
+    }
+}
+
 /// Claims a node.
 pub(crate) fn claim_node(stage: &mut Stage, node: usize) -> Handed
     requires { HasNodes (MayClaim node) stage.old }

@@ -1,31 +1,28 @@
-use Rattle.std.proofs.Common.{◌≡◌, ◌∙◌, ℕ, List, Option, Some, None, refl, sym, ap, subst, arith}
+use Rattle.std.proofs.Common.{◌≡◌, ◌∙◌, inl, false, Option, None, sym, ap, subst, arith}
 use Rattle.std.specs.List.{All}
-use Rattle.std.specs.Prelude.{OnErr, Result, Ok, Err}
 use Rattle.board_rules.specs.Keys.{Key}
-use Rattle.firing_board.specs.Finding.{Finds, IsFound}
-use Rattle.firing_board.specs.Handing.{HandsOut, KeepsAll}
+use Rattle.open_job.specs.View.{OpenView, compilation_of}
+use Rattle.firing_board.specs.Core.{HasRoom}
+use Rattle.firing_board.specs.Finding.{Finds}
+use Rattle.firing_board.specs.Handing.{HandsOut}
+use Rattle.firing_board.specs.Kept.{view_with}
 use Rattle.firing_board.specs.OnCore.{ClaimsOn, MayClaim, StarvesOn}
 use Rattle.firing_board.specs.Starved.{Lasts}
+use Rattle.firing_board.specs.Wanting.{MayStarve}
 use Rattle.firing_board.specs.declared.claim.Claim.{Claim}
 use Rattle.firing_board.specs.declared.claim.Claim.TheVariants as claim
 use Rattle.firing_board.specs.declared.state.Core.{Core}
 use Rattle.firing_board.specs.declared.run.Run.{Run}
 use Rattle.job_table.specs.Calls.{LendsAsBefore}
-use Rattle.job_table.specs.View.{TableView, lent_in}
+use Rattle.job_table.specs.View.{HasJob, row_at}
+use Rattle.job_table.specs.declared.row.Row.{Row}
 use Rattle.firing_board.proofs.Claimed.{ClaimLaws}
-use Rattle.firing_board.proofs.Handed.{hands_claims}
+use Rattle.firing_board.proofs.Handed.{compile_wants, hands_claims}
 use Rattle.firing_board.proofs.Idle.{finished, waits}
-use Rattle.firing_board.proofs.Openings.{if_ok}
+use Rattle.firing_board.proofs.Openings.{if_ok_with, on_err, on_err_by}
+use Rattle.firing_board.proofs.Rows.{the_same}
 use Rattle.firing_board.proofs.Starving.{starves}
 use Rattle.firing_board.proofs.claiming.claim.Goals as goal
-
-on_err : {X E : Type 0} (r : Result X E) (P Q : Type 0) → (P → Q) → OnErr r P → OnErr r Q
-on_err (Ok x) P Q f is = is
-on_err (Err e) P Q f is = f is
-
-on_err_by : {X E : Type 0} (r : Result X E) (Q : Type 0) → Q → OnErr r Q
-on_err_by (Ok x) Q q = tt
-on_err_by (Err e) Q q = q
 
 pub returns-in_err-run-clause-refused : goal.returns-in_err-run-clause-refused
 returns-in_err-run-clause-refused c =
@@ -34,12 +31,26 @@ returns-in_err-run-clause-refused c =
     let kept = c.in_err-run.ensures.kept in
     on_err_by c.from_residual.result ((key : Key) → MayClaim key old c.args.worker → StarvesOn key old mid)
     (λ key may. starves c.boards_keep.ensures.held key (c.rules_are_lawful.ensures key.graphs may.keeps.is_key.in_range may.keeps.is_key.well_formed) old mid may.keeps kept.lasts kept.lent (ap (λ rs. rs.items) kept.running_is) kept.entries_are
-    (let same = kept.room_is in omega arith))
+    kept.more)
+
+pub returns-in_err-run-clause-licensed : goal.returns-in_err-run-clause-licensed
+returns-in_err-run-clause-licensed c =
+    let old = c.args.core.now in
+    on_err_by c.from_residual.result ((key : Key) → MayClaim key old c.args.worker → MayStarve (view_with key old false) c.args.worker)
+    (λ key may. record {
+      taken = may.keeps.taken;
+      at = record { legal = may.keeps.at.kept.legal; entered = may.keeps.at.entered };
+      wants = inl (c.in_err-run.ensures.wants key may.keeps.taken may.keeps.at);
+    })
+
+pub hand_out-requires-clause-room : goal.hand_out-requires-clause-room
+hand_out-requires-clause-room c = c.in_ok-run.ensures.room c.requires.room
 
 pub returns-in-Some-clause-claimed : goal.returns-in-Some-clause-claimed
 returns-in-Some-clause-claimed c =
     let old = c.args.core.now in
     let mid = c.find.new.core in
+    let new = c.hand_out.new.core in
     let w = c.args.worker in
     let run = c.in-Some.run' in
     let laws : ClaimLaws = record {
@@ -50,13 +61,11 @@ returns-in-Some-clause-claimed c =
       suit = c.tables_suit.ensures.claim;
       mark = c.tables_suit.ensures.marks;
     } in
-    if_ok c.hand_out.result
-    (HandsOut mid w run c.hand_out.new.core)
-    (λ (result : Claim). (key : Key) → MayClaim key old w → ClaimsOn key old w c.hand_out.new.core result)
-    (λ (result : Claim) (h : HandsOut mid w run c.hand_out.new.core result). λ key may.
+    if_ok_with c.hand_out.result (HandsOut mid w run new) (λ (result : Claim). (key : Key) → MayClaim key old w → ClaimsOn key old w new result) (HasRoom new)
+    (λ (result : Claim) (room : HasRoom new) (h : HandsOut mid w run new result). λ key may.
     let found = subst (λ (o : Option Run). Finds key may.keeps.taken old w mid o) c.in-Some.is (c.in_ok-run.ensures.found key may.keeps.taken may.keeps.at) in
-    hands_claims laws key old w may mid run found c.in_ok-run.ensures.kept c.hand_out.new.core result h)
-    c.hand_out.ensures.handed
+    hands_claims laws key old w may mid run found c.in_ok-run.ensures.kept new room result h)
+    c.hand_out.ensures.room c.hand_out.ensures.handed
 
 pub returns-in-Some-clause-refused : goal.returns-in-Some-clause-refused
 returns-in-Some-clause-refused c =
@@ -64,14 +73,43 @@ returns-in-Some-clause-refused c =
     let mid = c.find.new.core in
     let new = c.hand_out.new.core in
     let kept = c.in_ok-run.ensures.kept in
-    on_err c.hand_out.result (KeepsAll mid new) ((key : Key) → MayClaim key old c.args.worker → StarvesOn key old new)
-    (λ (k : KeepsAll mid new). λ key may.
+    on_err c.hand_out.result (new ≡ mid) ((key : Key) → MayClaim key old c.args.worker → StarvesOn key old new)
+    (λ (e : new ≡ mid). λ key may.
     starves c.boards_keep.ensures.held key (c.rules_are_lawful.ensures key.graphs may.keeps.is_key.in_range may.keeps.is_key.well_formed) old new may.keeps
-    (subst (λ (v : TableView). Lasts old.table v) (sym k.table_is) kept.lasts)
-    (subst (λ (v : TableView). LendsAsBefore old.table v) (sym k.table_is) kept.lent)
-    (ap (λ rs. rs.items) (k.running_is ∙ kept.running_is)) (k.entries_are ∙ kept.entries_are)
-    (let same = kept.room_is in let more = k.more in omega arith))
+    (subst (λ (x : Core). Lasts old.table x.table) (sym e) kept.lasts)
+    (subst (λ (x : Core). LendsAsBefore old.table x.table) (sym e) kept.lent)
+    (ap (λ (x : Core). x.running.items) e ∙ ap (λ rs. rs.items) kept.running_is) (ap (λ (x : Core). x.journal.entries) e ∙ kept.entries_are)
+    (let same = ap (λ (x : Core). x.journal.room) e in let more = kept.more in omega (arith, same, more)))
     c.hand_out.ensures.refused
+
+pub returns-in-Some-clause-licensed : goal.returns-in-Some-clause-licensed
+returns-in-Some-clause-licensed c =
+    let old = c.args.core.now in
+    let mid = c.find.new.core in
+    let new = c.hand_out.new.core in
+    let w = c.args.worker in
+    let run = c.in-Some.run' in
+    let laws : ClaimLaws = record {
+      claims = c.boards_keep.ensures.claim;
+      held = c.boards_keep.ensures.held;
+      entered = c.journals_grow.ensures.claim;
+      ended = c.boards_end.ensures.ended;
+      suit = c.tables_suit.ensures.claim;
+      mark = c.tables_suit.ensures.marks;
+    } in
+    let P : OpenView → Type 0 = λ job. run.item ≡ compilation_of job in
+    on_err c.hand_out.result (HasJob P mid.table run.row) ((key : Key) → MayClaim key old w → MayStarve (view_with key old false) w)
+    (λ (h : HasJob P mid.table run.row). λ key may.
+    let found = subst (λ (o : Option Run). Finds key may.keeps.taken old w mid o) c.in-Some.is (c.in_ok-run.ensures.found key may.keeps.taken may.keeps.at) in
+    let same : h.0 ≡ found.row = the_same (row_at mid.table run.row) h.0 found.row h.1 found.here in
+    compile_wants laws key old w may mid run found c.in_ok-run.ensures.kept new (h.2 ∙ ap (λ (r : Row). compilation_of r.job) same))
+    c.hand_out.ensures.compiles
+
+pub returns-then-is_idle-clause-room : goal.returns-then-is_idle-clause-room
+returns-then-is_idle-clause-room c = c.in_ok-run.ensures.room c.requires.room
+
+pub returns-else-is_idle-clause-room : goal.returns-else-is_idle-clause-room
+returns-else-is_idle-clause-room c = c.in_ok-run.ensures.room c.requires.room
 
 pub returns-then-is_idle-clause-claimed : goal.returns-then-is_idle-clause-claimed
 returns-then-is_idle-clause-claimed c = λ key may.

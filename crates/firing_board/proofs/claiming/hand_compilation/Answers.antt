@@ -1,4 +1,4 @@
-use Rattle.std.proofs.Common.{◌≡◌, refl, ap, subst}
+use Rattle.std.proofs.Common.{◌≡◌, ◌<◌, refl, ap, subst, arith}
 use Rattle.std.specs.Arc.{arc_value}
 use Rattle.std.specs.Option.{option_map}
 use Rattle.nested_jobs.specs.Marks.{Busy}
@@ -7,7 +7,10 @@ use Rattle.open_job.specs.View.{compilation_of}
 use Rattle.job_table.specs.Calls.{MarksItem}
 use Rattle.job_table.specs.View.{row_at}
 use Rattle.job_table.specs.declared.row.Row.{Row}
+use Rattle.board_rules.specs.declared.entry.Item.TheVariants as items
 use Rattle.firing_board.specs.declared.claim.Claim.TheVariants as claim
+use Rattle.firing_board.specs.declared.state.Core.{Core}
+use Rattle.firing_board.proofs.RoomSteps.{entered_room}
 use Rattle.firing_board.proofs.Rows.{the_same}
 use Rattle.firing_board.proofs.claiming.hand_compilation.Goals as goal
 
@@ -32,3 +35,12 @@ returns-clause-handed c =
       enters = c.enter-ticket.ensures;
       result_is = ap (λ (t : CompileView). claim.Compile c.enter-ticket.result t) task.2;
     }
+
+pub enter-ticket-requires-clause-room : goal.enter-ticket-requires-clause-room
+enter-ticket-requires-clause-room c = let has = c.requires.room in let fewer = c.in_ok-task.ensures.fewer in omega (arith, has, fewer)
+
+pub returns-clause-room : goal.returns-clause-room
+returns-clause-room c =
+    let old = c.args.core.now in
+    let mid : Core = record { table = c.claim_compile.new.self; running = old.running; numbers = old.numbers; journal = old.journal; end = old.end } in
+    entered_room old mid c.enter-ticket.new.core c.args.worker c.args.run items.Compile c.enter-ticket.result c.requires.room refl refl c.in_ok-task.ensures.fewer c.enter-ticket.ensures

@@ -1,4 +1,5 @@
 use Rattle.std.proofs.Common.{◌≡◌, ◌∙◌, ℕ, ◌<◌, ◌∷◌, Some, ap, subst, arith}
+use Rattle.std.proofs.lemmas.Result.{on_ok_weaker}
 use Rattle.nested_jobs.specs.Marks.{Open, put}
 use Rattle.nested_jobs.specs.Rules.{Call, Place, Work}
 use Rattle.open_job.specs.View.{task}
@@ -79,3 +80,6 @@ returns-in-Call-clause-opened t c =
 
 pub returns-in-Call-clause-kept : goal.returns-in-Call-clause-kept
 returns-in-Call-clause-kept t c = keeps_on c.args.core.now c.open.new.core c.open_way.new.core c.in_ok-child.ensures.kept c.open_way.ensures.kept
+
+pub returns-in-Call-clause-room : goal.returns-in-Call-clause-room
+returns-in-Call-clause-room t c = on_ok_weaker c.open_way.result (λ room has. room (c.in_ok-child.ensures.room has)) c.open_way.ensures.room

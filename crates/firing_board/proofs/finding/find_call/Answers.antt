@@ -1,6 +1,11 @@
-use Rattle.std.proofs.Common.{refl}
+use Rattle.std.proofs.Common.{List, refl}
+use Rattle.board_rules.specs.Entries.{Step}
+use Rattle.board_rules.specs.Keys.{Key}
 use Rattle.board_rules.specs.Legal.{state_after}
-use Rattle.firing_board.proofs.Found.{call_found, first_calls, none_found}
+use Rattle.firing_board.specs.Finding.{HasNoWork}
+use Rattle.firing_board.specs.Wanting.{PicksInNew}
+use Rattle.firing_board.proofs.Found.{call_found, call_wants, first_calls, none_found}
+use Rattle.firing_board.proofs.Openings.{on_err_by}
 use Rattle.firing_board.proofs.finding.find_call.Goals as goal
 
 pub open_way-requires : goal.open_way-requires
@@ -15,3 +20,12 @@ returns-in_ok-run-in-Some-clause-found c = λ key taken h.
 
 pub returns-in-None-clause-found : goal.returns-in-None-clause-found
 returns-in-None-clause-found c = λ key taken h. (refl, none_found c.paths_stay.ensures.apart key taken c.args.core.now h.stands c.rows_are_asked.ensures.none h.none c.args.worker c.in-None.ensures)
+
+pub returns-in_err-run-in-Some-clause-wants : goal.returns-in_err-run-in-Some-clause-wants
+returns-in_err-run-in-Some-clause-wants c =
+    let old = c.args.core.now in
+    let w = c.args.worker in
+    on_err_by c.from_residual.result ((key : Key) (taken : List Step) → HasNoWork key taken old → PicksInNew key (state_after key taken) w)
+    (λ key taken h.
+    let is_key = h.stands.suits.is_key in
+    call_wants c.paths_stay.ensures.apart key taken old h.stands c.workers_are_answered.ensures.picked (c.rules_are_lawful.ensures key.graphs is_key.in_range is_key.well_formed) h.none w c.in-Some.asked c.in-Some.ensures)

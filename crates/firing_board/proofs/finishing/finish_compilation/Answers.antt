@@ -2,6 +2,7 @@ use Rattle.std.proofs.Common.{◌≡◌, ◌∙◌, Bool, true, false, None, ref
 use Rattle.std.specs.Prelude.{is_err}
 use Rattle.board_rules.specs.Keys.{Key}
 use Rattle.board_rules.specs.Legal.{state_after}
+use Rattle.open_job.specs.Calls.{compile_answer}
 use Rattle.job_table.specs.Closing.{IsClosingFrom}
 use Rattle.firing_board.specs.Closing.{ClosesOn}
 use Rattle.firing_board.specs.Finishes.{MayEnd}
@@ -10,6 +11,7 @@ use Rattle.firing_board.proofs.Abandoned.{abandons, comes_back, compilation, may
 use Rattle.firing_board.proofs.Framed.{FinishLaws, by_result, closes_finishes, closing_from, has_room, runs_at, wanted_finishes}
 use Rattle.firing_board.proofs.Leaving.{mine}
 use Rattle.firing_board.proofs.Openings.{if_ok}
+use Rattle.firing_board.proofs.RoomSteps.{closed_room}
 use Rattle.firing_board.proofs.finishing.finish_compilation.Goals as goal
 
 pub leave-run-requires-clause-runs : goal.leave-run-requires-clause-runs
@@ -207,3 +209,19 @@ returns-in-Err-clause-finished c = λ key was.
     let r = c.in-Err.ensures.refused in
     subst (λ (x : Bool). FinishesOn key old x w c.take_compilation.new.core true) (sym c.if-starved.false)
     (abandons key laws old false may.keeps w may.runs.is_worker may.runs.work runs i.answer i.answered c.take_compilation.new.core r.table_is r.leaves.running_are r.leaves.journal_is none)
+
+pub returns-then-starved-clause-room : goal.returns-then-starved-clause-room
+returns-then-starved-clause-room c = λ live has. absurd (cc)
+
+pub returns-in-Ok-clause-room : goal.returns-in-Ok-clause-room
+returns-in-Ok-clause-room c = λ live has. closed_room c.take_compilation.new.core c.close.new.core c.close.ensures.kept c.close.ensures.fewer (c.in-Ok.ensures.room has)
+
+pub returns-in-Err-clause-room : goal.returns-in-Err-clause-room
+returns-in-Err-clause-room c = λ live has. absurd (cc)
+
+pub returns-in-Ok-clause-memory : goal.returns-in-Ok-clause-memory
+returns-in-Ok-clause-memory c = λ is.
+    let f = c.in-Ok.ensures.compiled.finishes in
+    let none = ap (compile_answer c.in-Ok.ensures.compiled.row.job.firing) is in
+    let some = f.answer_is in
+    absurd (cc)

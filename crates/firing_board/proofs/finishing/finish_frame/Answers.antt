@@ -11,6 +11,7 @@ use Rattle.firing_board.specs.OnCore.{FinishesOn, MayLeave}
 use Rattle.firing_board.proofs.Framed.{FinishLaws, by_result, closes_finishes, closing_from, has_room, is_back, may_return, runs_at, starved_finishes, wanted_finishes}
 use Rattle.firing_board.proofs.Leaving.{mine}
 use Rattle.firing_board.proofs.Openings.{if_ok}
+use Rattle.firing_board.proofs.RoomSteps.{closed_room}
 use Rattle.firing_board.proofs.finishing.finish_frame.Goals as goal
 
 pub take_back-row-requires-clause-item : goal.take_back-row-requires-clause-item
@@ -51,9 +52,9 @@ close-requires c =
     } in
     let runs = runs_at laws.tell key old false may.keeps w (MayComeBack key c.args.frame c.args.answer (IsOk c.args.answer)) may.runs in
     let a = mine laws.held key laws.lawful false old may.keeps w may.runs.is_worker may.runs.work runs in
-    let b = is_back key (state_after key may.keeps.taken) old w may.runs.work a c.args.frame c.args.answer c.take_back-row.new.core c.take_back-row.result c.take_back-row.ensures in
+    let b = is_back key (state_after key may.keeps.taken) old w may.runs.work a c.args.frame c.args.answer c.take_back-row.new.core c.take_back-row.result c.take_back-row.ensures.returns in
     subst (λ k. IsClosingFrom c.take_back-row.new.core.table k) (sym b.row_is)
-    (closing_from key laws old may.keeps w may.runs.is_worker may.runs.work runs (answer_with (Some (Work may.runs.work)) c.args.frame c.args.answer) may.runs.so.answered c.take_back-row.new.core b.marks b.lends c.take_back-row.ensures.leaves.running_are c.take_back-row.ensures.leaves.journal_is)
+    (closing_from key laws old may.keeps w may.runs.is_worker may.runs.work runs (answer_with (Some (Work may.runs.work)) c.args.frame c.args.answer) may.runs.so.answered c.take_back-row.new.core b.marks b.lends c.take_back-row.ensures.returns.leaves.running_are c.take_back-row.ensures.returns.leaves.journal_is)
 
 pub returns-then-starved-clause-finished : goal.returns-then-starved-clause-finished
 returns-then-starved-clause-finished c = λ key may.
@@ -71,9 +72,9 @@ returns-then-starved-clause-finished c = λ key may.
     } in
     let runs = runs_at laws.tell key old c.args.starved may.keeps w (MayComeBack key c.args.frame c.args.answer (IsOk c.args.answer)) may.runs in
     let a = mine laws.held key laws.lawful c.args.starved old may.keeps w may.runs.is_worker may.runs.work runs in
-    let b = is_back key (state_after key may.keeps.taken) old w may.runs.work a c.args.frame c.args.answer c.take_back-row.new.core c.take_back-row.result c.take_back-row.ensures in
+    let b = is_back key (state_after key may.keeps.taken) old w may.runs.work a c.args.frame c.args.answer c.take_back-row.new.core c.take_back-row.result c.take_back-row.ensures.returns in
     starved_finishes key laws old c.args.starved may.keeps w may.runs.is_worker may.runs.work runs (answer_with (Some (Work may.runs.work)) c.args.frame c.args.answer) may.runs.so.answered c.take_back-row.new.core b.marks b.lends
-    c.take_back-row.ensures.leaves.running_are c.take_back-row.ensures.leaves.journal_is c.if-starved.true
+    c.take_back-row.ensures.returns.leaves.running_are c.take_back-row.ensures.returns.leaves.journal_is c.if-starved.true
 
 pub returns-else-starved-clause-finished : goal.returns-else-starved-clause-finished
 returns-else-starved-clause-finished c = λ key was.
@@ -95,8 +96,8 @@ returns-else-starved-clause-finished c = λ key was.
     } in
     let runs = runs_at laws.tell key old false may.keeps w P may.runs in
     let a = mine laws.held key laws.lawful false old may.keeps w may.runs.is_worker may.runs.work runs in
-    let b = is_back key (state_after key may.keeps.taken) old w may.runs.work a c.args.frame c.args.answer mid c.take_back-row.result c.take_back-row.ensures in
-    let leaves = c.take_back-row.ensures.leaves in
+    let b = is_back key (state_after key may.keeps.taken) old w may.runs.work a c.args.frame c.args.answer mid c.take_back-row.result c.take_back-row.ensures.returns in
+    let leaves = c.take_back-row.ensures.returns.leaves in
     let answer = answer_with (Some (Work may.runs.work)) c.args.frame c.args.answer in
     let ok = if_ok c.close.result (λ done. ClosesOn mid c.take_back-row.result new) (λ done. FinishesOn key old false w new false)
     (λ done closes. closes_finishes key laws old may.keeps w may.runs.is_worker may.runs.work runs answer may.runs.so.answered mid b.marks b.lends leaves.running_are leaves.journal_is new c.close.ensures.kept leaves.numbers_are (subst (λ k. ClosesOn mid k new) b.row_is closes))
@@ -105,3 +106,9 @@ returns-else-starved-clause-finished c = λ key was.
     let either = by_result (λ after. FinishesOn key old false w new after) c.close.result ok err in
     subst (λ (s : Bool). FinishesOn key old s w new c.is_err.result) (sym c.if-starved.false)
     (subst (λ after. FinishesOn key old false w new after) (sym c.is_err.ensures.value) either)
+
+pub returns-then-starved-clause-room : goal.returns-then-starved-clause-room
+returns-then-starved-clause-room c = λ has. c.take_back-row.ensures.room has
+
+pub returns-else-starved-clause-room : goal.returns-else-starved-clause-room
+returns-else-starved-clause-room c = λ has. closed_room c.take_back-row.new.core c.close.new.core c.close.ensures.kept c.close.ensures.fewer (c.take_back-row.ensures.room has)

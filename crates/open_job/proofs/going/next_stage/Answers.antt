@@ -9,8 +9,8 @@ use Rattle.job_rules.specs.Words.{Schedules}
 use Rattle.pisdf_model.specs.Range.{InRange}
 use Rattle.pisdf_model.specs.WellFormed.{WellFormed}
 use Rattle.pisdf_model.specs.declared.graph.Graphs.{Graphs}
-use Rattle.open_job.specs.Calls.{compile_answer}
-use Rattle.open_job.proofs.Compiling.{runs_for}
+use Rattle.open_job.specs.Calls.{compile_answer, nodes_by}
+use Rattle.open_job.proofs.Compiling.{many, runs_for}
 use Rattle.open_job.proofs.going.next_stage.Goals as goal
 
 pub run-requires-clause-in_range : goal.run-requires-clause-in_range
@@ -46,5 +46,8 @@ returns-in_ok-running-in-Ready c =
           (made.given.0 ∙ same) made.given.1 made.compilation.0 made.compilation.1 made.compilation.2 made.free made.nothing;
       marks_are = made.free;
       lent_are = made.nothing;
+      many = many own c.args.workers (arc_value c.in-Ready.compiled) c.in-Ready.set c.in-Ready.values c.requires.ready (subst P c.in-Ready.is c.requires.end) r
+          (made.given.0 ∙ same) made.given.1 made.compilation.0 made.compilation.1 made.compilation.2 made.free made.nothing
+          ∙ sym (ap nodes_by c.in-Ready.is);
       schedule_is = ap (compile_answer own.firing) c.in-Ready.is ∙ ap (λ (p : Prepared). Some (Schedules p.schedule)) (sym made.compilation.0);
     }

@@ -1,10 +1,12 @@
-use Rattle.std.proofs.Common.{◌≡◌, ◌∙◌, None, sym, ap, subst}
+use Rattle.std.proofs.Common.{◌≡◌, ◌∙◌, Bool, false, None, is_some, sym, ap, subst}
 use Rattle.board_rules.specs.Keys.{Key}
 use Rattle.firing_board.specs.Finishes.{Finishes, MayEnd}
 use Rattle.firing_board.specs.Kept.{Keeps, key_of, key_with, view_of, view_with}
 use Rattle.firing_board.specs.Runs.{Runs}
 use Rattle.firing_board.specs.View.{BoardView, lent_to}
 use Rattle.firing_board.proofs.Fields.{key_same}
+use Rattle.firing_board.proofs.KeptViews.{finishes_as, keeping, runs_as}
+use Rattle.firing_board.proofs.RoomSteps.{room_unless}
 use Rattle.firing_board.proofs.board.Board.finish_compile.Goals as goal
 
 pub finish_compilation-self-inside-requires : goal.finish_compilation-self-inside-requires
@@ -15,7 +17,7 @@ finish_compilation-self-inside-requires c =
       key,
       record {
         keeps = c.self.invariant.0;
-        runs = subst (λ (b : BoardView). Runs b w (MayEnd b.key c.args.end)) (sym c.self.view_is) c.requires.runs;
+        runs = runs_as false (view_of i) w (MayEnd key c.args.end) (subst (λ (b : BoardView). Runs b w (MayEnd b.key c.args.end)) (sym c.self.view_is) c.requires.runs);
         lent = ap (λ (b : BoardView). lent_to b w) c.self.view_is ∙ c.requires.lent;
       },
     )
@@ -29,11 +31,14 @@ invariant_of-self c =
     let kept = c.finish_compilation-self-inside.ensures.kept in
     let f = c.finish_compilation-self-inside.ensures.finished key record {
       keeps = c.self.invariant.0;
-      runs = subst (λ (b : BoardView). Runs b w (MayEnd b.key c.args.end)) (sym c.self.view_is) c.requires.runs;
+      runs = runs_as false (view_of i) w (MayEnd key c.args.end) (subst (λ (b : BoardView). Runs b w (MayEnd b.key c.args.end)) (sym c.self.view_is) c.requires.runs);
       lent = ap (λ (b : BoardView). lent_to b w) c.self.view_is ∙ c.requires.lent;
     } in
-    let same = key_same i.signatures.items i.top.value i.core new kept in
-    (subst (λ (k : Key). Keeps k new c.finish_compilation-self-inside.result) (sym same) f.keeps, c.take_key-key.ensures ∙ (c.self.invariant.1 ∙ sym kept.one_each))
+    let same = key_same i.signatures.items i.top.value i.core new kept in (
+      subst (λ (k : Key). Keeps k new c.finish_compilation-self-inside.result) (sym same) f.keeps,
+      c.take_key-key.ensures ∙ (c.self.invariant.1 ∙ sym kept.one_each),
+      room_unless i.starved c.finish_compilation-self-inside.result i.core new f.stays c.self.invariant.2 c.finish_compilation-self-inside.ensures.room,
+    )
 
 pub returns-clause-finishes : goal.returns-clause-finishes
 returns-clause-finishes c =
@@ -44,12 +49,16 @@ returns-clause-finishes c =
     let after = c.finish_compilation-self-inside.result in
     let f = c.finish_compilation-self-inside.ensures.finished key record {
       keeps = c.self.invariant.0;
-      runs = subst (λ (b : BoardView). Runs b w (MayEnd b.key c.args.end)) (sym c.self.view_is) c.requires.runs;
+      runs = runs_as false (view_of i) w (MayEnd key c.args.end) (subst (λ (b : BoardView). Runs b w (MayEnd b.key c.args.end)) (sym c.self.view_is) c.requires.runs);
       lent = ap (λ (b : BoardView). lent_to b w) c.self.view_is ∙ c.requires.lent;
     } in
     let same = key_same i.signatures.items i.top.value i.core new c.finish_compilation-self-inside.ensures.kept in
-    subst (λ (b : BoardView). Finishes b (view_with (key_with i.signatures.items i.top.value new) new after) w) c.self.view_is
-    (subst (λ (k : Key). Finishes (view_of i) (view_with k new after) w) (sym same) f.finishes)
+    let has = is_some i.kept in
+    let whole = finishes_as has (view_with key i.core i.starved) (view_with key new after) w f.finishes in
+    let kept : has ≡ is_some c.keep_ready.new.kept = sym c.keep_ready.ensures in
+    subst (λ (b : BoardView). Finishes b (keeping (is_some c.keep_ready.new.kept) (view_with (key_with i.signatures.items i.top.value new) new after)) w) c.self.view_is
+    (subst (λ (h : Bool). Finishes (view_of i) (keeping h (view_with (key_with i.signatures.items i.top.value new) new after)) w) kept
+    (subst (λ (k : Key). Finishes (view_of i) (keeping has (view_with k new after)) w) (sym same) whole))
 
 pub returns-clause-stays : goal.returns-clause-stays
 returns-clause-stays c = λ is.
@@ -58,7 +67,10 @@ returns-clause-stays c = λ is.
     let w = c.args.ticket.worker in
     let f = c.finish_compilation-self-inside.ensures.finished key record {
       keeps = c.self.invariant.0;
-      runs = subst (λ (b : BoardView). Runs b w (MayEnd b.key c.args.end)) (sym c.self.view_is) c.requires.runs;
+      runs = runs_as false (view_of i) w (MayEnd key c.args.end) (subst (λ (b : BoardView). Runs b w (MayEnd b.key c.args.end)) (sym c.self.view_is) c.requires.runs);
       lent = ap (λ (b : BoardView). lent_to b w) c.self.view_is ∙ c.requires.lent;
     } in
     f.stays (ap (λ (b : BoardView). b.starved) c.self.view_is ∙ is)
+
+pub returns-clause-memory : goal.returns-clause-memory
+returns-clause-memory c = λ is. c.unless_wanted.ensures.told (c.finish_compilation-self-inside.ensures.memory is)

@@ -46,7 +46,7 @@ invariant_of-result c =
     let here : Rattle.std.specs.Prelude.slice_index_or key.graphs.graphs key.graphs.top no_graph ≡ g =
     sym (get_or_read key.graphs.graphs key.graphs.top g (slice_get_within key.graphs.graphs key.graphs.top c.requires.fit.g c.requires.fit.here) at no_graph) in
     let firing : c.in_ok-firing.firing ≡ top_job key = firing_so (arc_value c.args.graphs) key g c.deref-3.result.now c.in_ok-firing.firing c.deref-3.ensures refl here c.in_ok-firing.ensures in
-    let s : IsStartedOn key.graphs key.workers (top_job key) i = subst (λ (f : Firing). IsStartedOn key.graphs key.workers f i) firing c.in_ok-core.ensures in
+    let s : IsStartedOn key.graphs key.workers (top_job key) i = subst (λ (f : Firing). IsStartedOn key.graphs key.workers f i) firing c.in_ok-core.ensures.started in
     let held : c.of-top.result.value ≡ top_job key = c.of-top.ensures ∙ firing in
     let graphs = s.started.graphs_are in
     let workers = s.started.workers_are in
@@ -54,7 +54,7 @@ invariant_of-result c =
     let key_is : key_with c.in_ok-signatures.signatures.items c.of-top.result.value i ≡ key =
     (λ x. record { graphs = graphs x; signatures = signatures x; delays = (held x).state; ins = (held x).inputs; workers = workers x }) in
     let keeps = begins c.boards_keep.ensures.start c.tables_suit.ensures.starts_with c.tables_suit.ensures.start key c.requires i s in
-    (subst (λ (k : Key). Keeps k i false) (sym key_is) keeps, c.in_ok-compiling.ensures ∙ sym keeps.one_each)
+    (subst (λ (k : Key). Keeps k i false) (sym key_is) keeps, c.in_ok-compiling.ensures ∙ sym keeps.one_each, c.in_ok-core.ensures.room)
 
 pub returns : goal.returns
 returns c =
@@ -68,7 +68,7 @@ returns c =
     let here : Rattle.std.specs.Prelude.slice_index_or key.graphs.graphs key.graphs.top no_graph ≡ g =
     sym (get_or_read key.graphs.graphs key.graphs.top g (slice_get_within key.graphs.graphs key.graphs.top c.requires.fit.g c.requires.fit.here) at no_graph) in
     let firing : c.in_ok-firing.firing ≡ top_job key = firing_so (arc_value c.args.graphs) key g c.deref-3.result.now c.in_ok-firing.firing c.deref-3.ensures refl here c.in_ok-firing.ensures in
-    let s : IsStartedOn key.graphs key.workers (top_job key) i = subst (λ (f : Firing). IsStartedOn key.graphs key.workers f i) firing c.in_ok-core.ensures in
+    let s : IsStartedOn key.graphs key.workers (top_job key) i = subst (λ (f : Firing). IsStartedOn key.graphs key.workers f i) firing c.in_ok-core.ensures.started in
     let held : c.of-top.result.value ≡ top_job key = c.of-top.ensures ∙ firing in
     let graphs = s.started.graphs_are in
     let workers = s.started.workers_are in
@@ -77,4 +77,4 @@ returns c =
     (λ x. record { graphs = graphs x; signatures = signatures x; delays = (held x).state; ins = (held x).inputs; workers = workers x }) in
     let lent : lent_of i.table i.running.items ≡ replicate c.args.workers None = ap (lent_of i.table) s.running_are ∙ none_lent i.table c.args.workers in
     let entries = s.entries_are in
-    λ x. record { key = key_is x; journal = entries x; starved = false; lent = lent x }
+    λ x. record { key = key_is x; journal = entries x; starved = false; lent = lent x; kept = false }

@@ -8,10 +8,11 @@ use Rattle.open_job.specs.Calls as job
 use Rattle.open_job.specs.View.{IsQuiet, OpenView}
 use Rattle.pisdf_meaning.specs.declared.firing.Firing.{Firing}
 use Rattle.job_table.specs.Slots.{InSlot, change_row}
-use Rattle.job_table.specs.View.{TableView, row_at}
+use Rattle.job_table.specs.View.{TableView, free_items, row_at}
 use Rattle.job_table.specs.declared.row.Row.{Row}
 use Rattle.job_table.proofs.Closings.{AllLawful, none_busy_at, rows_less, rows_through}
-use Rattle.job_table.proofs.CloseSteps.{HasClosed, closes_on, ends, falls, may_finish, mid, next, place_some, quiet_by, rest_stays, stays_on, stops, unquiet_by, upper_inside}
+use Rattle.job_table.proofs.CloseSteps.{HasClosed, closes_on, ends, falls, may_finish, mid, mid_free, next, place_some, quiet_by, rest_stays, stays_on, stops, unquiet_by, upper_inside}
+use Rattle.job_table.proofs.Freeing.{less_free}
 use Rattle.job_table.proofs.Rows.{inside_of, the_same}
 use Rattle.job_table.proofs.Writes.{slot_row}
 use Rattle.job_table.proofs.table.JobTable.+close_from.Goals as goal
@@ -263,3 +264,74 @@ returns-clause-stay t c =
     let written : c.finish_call_in.new.slot ≡ change_row (λ (j : OpenView). job.with_mark j (slice_index row.place 0) (Done (answer_of (end_of end)))) other =
     c.finish_call_in.ensures ∙ ap (λ i. change_row (λ (j : OpenView). job.with_mark j i (Done (answer_of (end_of end)))) other) c.calling_item.ensures in
     rows_through now (mid lawful now k row end rest closed go_on l below c.requires other c.finish_call_in.new.slot other_read written) c.close_from.new.self (stays_on lawful now k row end rest closed go_on l below c.requires other c.finish_call_in.new.slot other_read written) c.close_from.ensures.stay
+
+pub returns-then-not-is_quiet-clause-fewer : goal.returns-then-not-is_quiet-clause-fewer
+returns-then-not-is_quiet-clause-fewer t c = let same = ap free_items c.self.view_is in omega (arith, same)
+
+pub returns-in_err-end-clause-fewer : goal.returns-in_err-end-clause-fewer
+returns-in_err-end-clause-fewer t c =
+    let now = c.args.self.now in
+    let k = c.args.row in
+    let e = c.self.view_is in
+    let s = c.self.inside in
+    let slot = c.index_mut.result.now in
+    let read : slot ≡ get_or now.rows k slot = c.index_mut.ensures.value ∙ ap (λ (x : TableView). get_or x.rows k slot) e in
+    let row = c.take_row-job.result in
+    let here : row_at now k ≡ Some row = c.requires.here ∙ (sym (slot_row now k c.requires.row slot c.requires.here read) ∙ c.take_row-job.ensures.taken) in
+    let first = c.index.result.now in
+    let quiet = quiet_by row first c.is_quiet.result (slot_row now k row first here (c.index.ensures ∙ ap (λ (x : TableView). get_or x.rows k first) e)) c.is_quiet.ensures c.if-not-is_quiet.false in
+    let lawful : AllLawful = λ key is. c.rules_are_lawful.ensures key.graphs is.in_range is.well_formed in
+    let rest : TableView = record { graphs = arc_value s.graphs; workers = s.workers; rows = set s.rows.items k c.take_row-job.new.slot } in
+    let graphs : rest.graphs ≡ now.graphs = ap (λ (x : TableView). x.graphs) e in
+    let workers : rest.workers ≡ now.workers = ap (λ (x : TableView). x.workers) e in
+    let less : rest.rows ≡ set now.rows k None = ap (λ (x : TableView). set x.rows k c.take_row-job.new.slot) e ∙ ap (set now.rows k) c.take_row-job.ensures.rest in
+    less_free now rest k row here (inside_of now.rows k row here) less
+
+pub returns-in-None-clause-fewer : goal.returns-in-None-clause-fewer
+returns-in-None-clause-fewer t c =
+    let now = c.args.self.now in
+    let k = c.args.row in
+    let e = c.self.view_is in
+    let s = c.self.inside in
+    let slot = c.index_mut.result.now in
+    let read : slot ≡ get_or now.rows k slot = c.index_mut.ensures.value ∙ ap (λ (x : TableView). get_or x.rows k slot) e in
+    let row = c.take_row-job.result in
+    let here : row_at now k ≡ Some row = c.requires.here ∙ (sym (slot_row now k c.requires.row slot c.requires.here read) ∙ c.take_row-job.ensures.taken) in
+    let first = c.index.result.now in
+    let quiet = quiet_by row first c.is_quiet.result (slot_row now k row first here (c.index.ensures ∙ ap (λ (x : TableView). get_or x.rows k first) e)) c.is_quiet.ensures c.if-not-is_quiet.false in
+    let lawful : AllLawful = λ key is. c.rules_are_lawful.ensures key.graphs is.in_range is.well_formed in
+    let rest : TableView = record { graphs = arc_value s.graphs; workers = s.workers; rows = set s.rows.items k c.take_row-job.new.slot } in
+    let graphs : rest.graphs ≡ now.graphs = ap (λ (x : TableView). x.graphs) e in
+    let workers : rest.workers ≡ now.workers = ap (λ (x : TableView). x.workers) e in
+    let less : rest.rows ≡ set now.rows k None = ap (λ (x : TableView). set x.rows k c.take_row-job.new.slot) e ∙ ap (set now.rows k) c.take_row-job.ensures.rest in
+    less_free now rest k row here (inside_of now.rows k row here) less
+
+pub returns-clause-fewer : goal.returns-clause-fewer
+returns-clause-fewer t c =
+    let now = c.args.self.now in
+    let k = c.args.row in
+    let e = c.self.view_is in
+    let s = c.self.inside in
+    let slot = c.index_mut.result.now in
+    let read : slot ≡ get_or now.rows k slot = c.index_mut.ensures.value ∙ ap (λ (x : TableView). get_or x.rows k slot) e in
+    let row = c.take_row-job.result in
+    let here : row_at now k ≡ Some row = c.requires.here ∙ (sym (slot_row now k c.requires.row slot c.requires.here read) ∙ c.take_row-job.ensures.taken) in
+    let first = c.index.result.now in
+    let quiet = quiet_by row first c.is_quiet.result (slot_row now k row first here (c.index.ensures ∙ ap (λ (x : TableView). get_or x.rows k first) e)) c.is_quiet.ensures c.if-not-is_quiet.false in
+    let lawful : AllLawful = λ key is. c.rules_are_lawful.ensures key.graphs is.in_range is.well_formed in
+    let rest : TableView = record { graphs = arc_value s.graphs; workers = s.workers; rows = set s.rows.items k c.take_row-job.new.slot } in
+    let graphs : rest.graphs ≡ now.graphs = ap (λ (x : TableView). x.graphs) e in
+    let workers : rest.workers ≡ now.workers = ap (λ (x : TableView). x.workers) e in
+    let less : rest.rows ≡ set now.rows k None = ap (λ (x : TableView). set x.rows k c.take_row-job.new.slot) e ∙ ap (set now.rows k) c.take_row-job.ensures.rest in
+    let end = c.in_ok-end.end in
+    let closed : HasClosed now k row end rest = record { here = here; quiet = quiet; outcome = c.in_ok-end.ensures.outcome; suits = c.in_ok-end.ensures.suits; graphs_are = graphs; workers_are = workers; rows_are = less } in
+    let go_on = c.boards_keep.ensures.go_on in
+    let l = c.in-Some.upper in
+    let below = c.in-Some.is in
+    let other = c.index_mut-in-Some.result.now in
+    let other_read = c.index_mut-in-Some.ensures.value in
+    let written : c.finish_call_in.new.slot ≡ change_row (λ (j : OpenView). job.with_mark j (slice_index row.place 0) (Done (answer_of (end_of end)))) other =
+    c.finish_call_in.ensures ∙ ap (λ i. change_row (λ (j : OpenView). job.with_mark j i (Done (answer_of (end_of end)))) other) c.calling_item.ensures in
+    let less = mid_free lawful now k row end rest closed go_on l below c.requires other c.finish_call_in.new.slot other_read written in
+    let after = c.close_from.ensures.fewer in
+    omega (arith, less, after)
