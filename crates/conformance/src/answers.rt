@@ -7,6 +7,8 @@ use crate::drivers::{
 use crate::trouble::Trouble;
 use serde_json::Value;
 use std::alloc::Global;
+use std::sync::Wait;
+use std::thread::Threads;
 
 /// A call that a table is about.
 #[derive(Clone, Copy)]
@@ -54,7 +56,12 @@ pub enum Call {
 }
 
 /// The answer of a call on the inputs of a row.
-pub fn answer(call: Call, alloc: Global, row: &Value) -> Result<Value, Trouble> {
+pub fn answer<R: Threads + Wait + Sync>(
+    call: Call,
+    rt: &R,
+    alloc: Global,
+    row: &Value,
+) -> Result<Value, Trouble> {
     match call {
         Call::IsName => expressions::is_name_of(alloc, row),
         Call::Print => expressions::printed(alloc, row),
@@ -78,7 +85,7 @@ pub fn answer(call: Call, alloc: Global, row: &Value) -> Result<Value, Trouble> 
         Call::Rewrite => reading::rewritten(alloc, row),
         Call::Load => world::loads(alloc, row),
         Call::Put => world::puts(alloc, row),
-        Call::Run => program::ran(alloc, row),
+        Call::Run => program::ran(rt, alloc, row),
         Call::Start => frames::started(alloc, row),
         Call::Copy => frames::copied(alloc, row),
         Call::Cut => leases::cut(alloc, row),

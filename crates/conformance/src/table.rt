@@ -8,6 +8,8 @@ use crate::trouble::Trouble;
 use serde_json::Value;
 use std::alloc::Global;
 use std::rt::Files;
+use std::sync::Wait;
+use std::thread::Threads;
 use std::{fs, io};
 
 /// A file of cases, and the call that they are about.
@@ -59,7 +61,8 @@ fn is_wanted(alloc: Global, wanted: &Value, answer: &Value) -> Result<bool, Trou
 }
 
 /// The case of a line.
-fn outcome_of(
+fn outcome_of<R: Threads + Wait + Sync>(
+    rt: &R,
     alloc: Global,
     call: Call,
     line: &str,
@@ -74,7 +77,7 @@ fn outcome_of(
     }
     with_base(alloc, bases, &mut row)?;
     let wanted = member(&row, "want")?;
-    let answer = answer(call, alloc, &row)?;
+    let answer = answer(call, rt, alloc, &row)?;
     if is_wanted(alloc, wanted, &answer)? {
         return Ok(Outcome::Same);
     }
@@ -89,7 +92,7 @@ struct Counts {
 }
 
 /// Runs the case of a line, and prints its answer where it isn't the wanted one.
-fn run_case<R: Print + AllocGlobal>(
+fn run_case<R: Print + AllocGlobal + Threads + Wait + Sync>(
     rt: &R,
     table: Table,
     number: u32,
@@ -99,7 +102,7 @@ fn run_case<R: Print + AllocGlobal>(
 ) -> io::Result<()> {
     let file = table.file;
     counts.cases = counts.cases.saturating_add(1);
-    match outcome_of(rt.alloc(), table.call, line, bases) {
+    match outcome_of(rt, rt.alloc(), table.call, line, bases) {
         Ok(Outcome::NoCase) => {
             counts.cases = counts.cases.saturating_sub(1);
             return Ok(());
@@ -116,7 +119,10 @@ fn run_case<R: Print + AllocGlobal>(
 }
 
 /// Runs the cases of a table, and prints how many there are.
-pub fn run_table<R: Files + Print + AllocGlobal>(rt: &R, table: Table) -> io::Result<()> {
+pub fn run_table<R: Files + Print + AllocGlobal + Threads + Wait + Sync>(
+    rt: &R,
+    table: Table,
+) -> io::Result<()> {
     let file = table.file;
     let text = fs::read_to_string(rt, file)?;
     let mut bases = Bases::new(rt.alloc());

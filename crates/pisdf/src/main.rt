@@ -23,6 +23,7 @@ fn main(rt: HostRuntime) -> ExitCode {
         Err(_) => Vec::new(rt.alloc()),
     };
     let status = run_program(
+        &rt,
         rt.alloc(),
         words.as_slice(),
         &mut FileShelf::new(rt.alloc(), &rt),

@@ -10,3 +10,4 @@ pub mod Telling
 pub mod LoadFile
 pub mod LoadStreams
 pub mod Loads
+pub mod Making

@@ -1,7 +1,6 @@
 -- What a call of the program has done, from what its parts did.
 use Rattle.std.proofs.Common.{◌≡◌, ◌≢◌, inl, inr, ℕ, ◌+◌, ◌-◌, ◌≤◌, ℤ, List, [], ◌∷◌, ◌++◌, length, length-append, take, true, false, Option, Some, None, Result, Ok, Err, String, Global, string_bytes, refl, sym, ap, ◌∙◌, subst, arith}
-use Rattle.std.specs.Prelude.{◌==◌, IfErr, if◌then◌else◌}
-use Rattle.std.proofs.lemmas.Bool.Decides.{nat_tests}
+use Rattle.std.specs.Prelude.{IfErr}
 use Rattle.std.proofs.lemmas.List.{append-nil, take-append-le}
 use Rattle.std.proofs.Math.Seq.{take-length, take-append_seam}
 use Rattle.outer_world.specs.Faults.{Rose}
@@ -14,10 +13,10 @@ use Rattle.pisdf_meaning.specs.declared.refusal.Refusal.{Refusal}
 use Rattle.pisdf_program.specs.Calls.{GrowsPartly, GrowsByFirst, EndsRun, RanTo, HasBegun, text_of}
 use Rattle.pisdf_program.specs.Iterated.{HaveIterated}
 use Rattle.pisdf_program.specs.Loaded.{is_answer, FaultsOnly, NoFault, StopsReading}
-use Rattle.pisdf_program.specs.Result.{Outcome, refused, told, read_graphs, read_streams, outcome_of, short_of, status_of, line_of_end, input_in, ReadsTokens, ReadsFiles, GoesOn, FromFiles, Runs, RunsFile, RunsAlone, TellsStop, ComesTo, Upgrades, upgrade_graphs, AreTold, AreToldAlone, IsTold, IsToldAfter, Knows}
+use Rattle.pisdf_program.specs.Result.{Outcome, refused, told, read_graphs, read_streams, outcome_of, short_of, status_of, line_of_end, input_in, ReadsTokens, ReadsFiles, GoesOn, FromFiles, Runs, RunsFile, TellsStop, ComesTo, Upgrades, upgrade_graphs, AreTold, IsTold, IsToldAfter, Knows}
 use Rattle.pisdf_program.specs.Top.{top_of}
 use Rattle.pisdf_program.specs.Texts.{iteration_text, joined, texts_from, line_of, memory_line, read_line}
-use Rattle.pisdf_program.specs.Words.{Command, Run}
+use Rattle.pisdf_program.specs.Words.{Command}
 use Rattle.pisdf_program.specs.Worked.{FilesRose, ReadsNothing, StopsWith, file_among, Reports, Decided, Stopped, Works, IsThere, PutsLine, Concludes, CountRose, RoseAt, Completes, MayTell, Ended}
 use Rattle.pisdf_program.specs.declared.run.RunEnd.{RunEnd}
 use Rattle.pisdf_program.specs.declared.run.RunEnd.TheVariants as end
@@ -28,7 +27,6 @@ use Rattle.pisdf_program.specs.declared.status.Status.{Status}
 use Rattle.pisdf_program.specs.declared.status.Status.TheVariants.{Done, Usage, GraphRefused, TokensRefused, RunRefused, ReadFault, WriteFault, WantOfMemory, NotYet}
 use Rattle.pisdf_program.specs.declared.status.Which.{Which}
 use Rattle.pisdf_program.specs.declared.status.Which.TheVariants as which_file
-use Rattle.pisdf_program.specs.declared.status.Later.TheVariants as later
 use Rattle.pisdf_program.proofs.Runs.{HasOneEnd, grows_none, grows_as, grows_partly_as, rose_since, run_begins, one_run, joined-append}
 
 abbrev Expected : Type 1
@@ -67,6 +65,10 @@ stops expected w f (ReadFault x) ok h = grows_none w
 stops expected w f WriteFault ok h = absurd ok
 stops expected w f WantOfMemory ok h = λ o e. (0, grows_none w)
 stops expected w f (NotYet later) ok h = absurd ok
+
+-- there was no memory before anything was put
+pub starved_first : (expected : Expected) (w : File) (f : ℕ) → Stopped expected w w f f WantOfMemory
+starved_first expected w f = λ o e. (0, grows_none w)
 
 -- a command whose words decide its status
 pub refused_by : (s : Status) (w : File) (o : Outcome) → o ≡ refused s → (o.status ≡ s) × (o.line ≡ line_of s) × Grows w w (joined o.texts)
@@ -479,39 +481,6 @@ decided_as a b files w s e h = λ o x. refused_by s w o (h.0 o (subst (λ (c : O
 
 pub refused_there : (a b : Option Command) (files : Files) (s : Status) → a ≡ b → IsRefusedAs a files s → IsThere (Knows b files) (ComesTo b files) (Err s)
 refused_there a b files s e h = λ t x. (refused s, subst (λ (c : Option Command). ComesTo c files (refused s)) e h.1)
-
-pub few_workers : (graph tokens : List ℕ) (n k : ℕ) (files : Files) → k ≢ 1 → IsRefusedAs (Some (Run graph tokens n k)) files (NotYet later.Workers)
-few_workers graph tokens n k files non =
-    let t : (k == 1) ≡ false = grind (arith, nat_tests) in
-    (λ o h. subst (λ b. RunsAlone b (files graph) n (files tokens) o) t h, subst (λ b. RunsAlone b (files graph) n (files tokens) (refused (NotYet later.Workers))) (sym t) refl)
-
--- one worker runs it as `plain` does
-pub alone : (graph tokens : List ℕ) (n k : ℕ) (files : Files) (P : Expected → Type 0) → k ≡ 1 → P (RunsFile (files graph) n (files tokens)) → P (ComesTo (Some (Run graph tokens n k)) files)
-alone graph tokens n k files P one h =
-    let t : (k == 1) ≡ true = grind (arith, nat_tests) in
-    subst (λ b. P (RunsAlone b (files graph) n (files tokens))) (sym t) h
-
-pub alone_there : (graph tokens : List ℕ) (n k : ℕ) (files : Files) (r : Result (String Global) Status) → k ≡ 1 → IsThere (AreTold (files graph) (files tokens)) (RunsFile (files graph) n (files tokens)) r
-    → IsThere (AreToldAlone (k == 1) (files graph) (files tokens)) (RunsAlone (k == 1) (files graph) n (files tokens)) r
-alone_there graph tokens n k files r one h =
-    let t : (k == 1) ≡ true = grind (arith, nat_tests) in
-    subst (λ b. IsThere (AreToldAlone b (files graph) (files tokens)) (RunsAlone b (files graph) n (files tokens)) r) (sym t) h
-
-pub told_alone : (graph tokens : List ℕ) (n k : ℕ) (files : Files) → k ≡ 1 → Knows (Some (Run graph tokens n k)) files → AreTold (files graph) (files tokens)
-told_alone graph tokens n k files one h =
-    let t : (k == 1) ≡ true = grind (arith, nat_tests) in
-    subst (λ b. AreToldAlone b (files graph) (files tokens)) t h
-
-pub rose_alone : (graph tokens : List ℕ) (n k : ℕ) (before now : List ℕ → ℕ) (s : Status) → k ≡ 1 → FilesRose graph tokens before now s → CountRose (Some (Run graph tokens n k)) before now s
-rose_alone graph tokens n k before now s one h = λ w e. subst (λ b. RoseAt before now (if b then Some (file_among graph tokens w) else None)) (sym same) (h w e)
-  where
-    same : (k == 1) ≡ true
-    same = grind (arith, nat_tests, one)
-
-pub rose_alone_as : (b : Option Command) (graph tokens : List ℕ) (n k : ℕ) (before now : List ℕ → ℕ) (r : Result (String Global) Status) → k ≡ 1 → Some (Run graph tokens n k) ≡ b
-    → IfErr r (FilesRose graph tokens before now) → IfErr r (CountRose b before now)
-rose_alone_as b graph tokens n k before now (Ok text) one e h = tt
-rose_alone_as b graph tokens n k before now (Err s) one e h = subst (λ (c : Option Command). CountRose c before now s) e (rose_alone graph tokens n k before now s one h)
 
 pub rose_as : (a b : Option Command) (before now : List ℕ → ℕ) (r : Result (String Global) Status) → a ≡ b → IfErr r (CountRose a before now) → IfErr r (CountRose b before now)
 rose_as a b before now r e h = subst (λ (c : Option Command). IfErr r (CountRose c before now)) e h

@@ -11,6 +11,7 @@ pub mod Uncompiled
 pub mod Calls
 pub mod Iterated
 pub mod Stepped
+pub mod Making
 pub mod LineSeen
 pub mod Loaded
 pub mod Texts

@@ -1,5 +1,5 @@
 -- The result of a command: what it writes and how it ends, from the words and the files that they name.
-use Rattle.std.specs.Prelude.{◌≡◌, ℕ, ◌==◌, nat_lt, ℤ, Bool, true, false, List, [], ◌∷◌, length, slice_index_or, Option, Some, None, Result, Ok, Err, if◌then◌else◌}
+use Rattle.std.specs.Prelude.{◌≡◌, ℕ, ◌==◌, nat_lt, ℤ, List, [], ◌∷◌, length, slice_index_or, Option, Some, None, Result, Ok, Err, if◌then◌else◌}
 use Rattle.std.specs.Str.{is_utf8}
 use Rattle.serde_json.specs.Data.{Data}
 use Rattle.serde_json.specs.Read.{read}
@@ -189,15 +189,10 @@ Upgrades (Some bytes) o = o ≡ upgrade_graphs (read_graphs bytes)
 
 -- ---- the commands
 
--- with one worker, as this stage runs
-abbrev pub RunsAlone : Bool → Option (List ℕ) → ℕ → Option (List ℕ) → Outcome → Type 0
-RunsAlone true graph iterations tokens o = RunsFile graph iterations tokens o
-RunsAlone false graph iterations tokens o = o ≡ refused (NotYet later.Workers)
-
 -- a command comes to this outcome, where a file by its name is told
 abbrev pub ComesTo : Option Command → (List ℕ → Option (List ℕ)) → Outcome → Type 0
 ComesTo None files o = o ≡ refused Usage
-ComesTo (Some (Run graph tokens iterations workers)) files o = RunsAlone (workers == 1) (files graph) iterations (files tokens) o
+ComesTo (Some (Run graph tokens iterations workers)) files o = RunsFile (files graph) iterations (files tokens) o
 ComesTo (Some (Plain graph tokens iterations)) files o = RunsFile (files graph) iterations (files tokens) o
 ComesTo (Some (Job what graph tokens workers)) files o = FromFiles (TellsJob what workers) (files graph) (files tokens) o
 ComesTo (Some (Journal graph tokens iterations workers)) files o = o ≡ refused (NotYet later.Command)
@@ -222,14 +217,10 @@ abbrev pub AreTold : Option (List ℕ) → Option (List ℕ) → Type 0
 AreTold None tokens = ⊥
 AreTold (Some bytes) tokens = IsToldAfter (read_graphs bytes) tokens
 
-abbrev pub AreToldAlone : Bool → Option (List ℕ) → Option (List ℕ) → Type 0
-AreToldAlone true graph tokens = AreTold graph tokens
-AreToldAlone false graph tokens = Unit {0}
-
 -- the files that a command loads are told
 abbrev pub Knows : Option Command → (List ℕ → Option (List ℕ)) → Type 0
 Knows None files = Unit {0}
-Knows (Some (Run graph tokens iterations workers)) files = AreToldAlone (workers == 1) (files graph) (files tokens)
+Knows (Some (Run graph tokens iterations workers)) files = AreTold (files graph) (files tokens)
 Knows (Some (Plain graph tokens iterations)) files = AreTold (files graph) (files tokens)
 Knows (Some (Job what graph tokens workers)) files = AreTold (files graph) (files tokens)
 Knows (Some (Journal graph tokens iterations workers)) files = Unit {0}

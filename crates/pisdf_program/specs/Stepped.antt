@@ -6,6 +6,8 @@ use Rattle.pisdf_model.specs.declared.graph.Graphs.{Graphs}
 use Rattle.pisdf_meaning.specs.declared.outcome.Iteration.{Iteration}
 use Rattle.pisdf_meaning.specs.declared.refusal.PlainFault.{PlainFault}
 use Rattle.pisdf_meaning.specs.declared.refusal.PlainFault.TheVariants as plain
+use Rattle.quiescent_driver.specs.declared.fault.IterationFault.{IterationFault}
+use Rattle.quiescent_driver.specs.declared.fault.IterationFault.TheVariants as workers
 use Rattle.pisdf_program.specs.Calls.{GrowsPartly}
 use Rattle.pisdf_program.specs.Iterated.{Checks, Gives, IsRefused}
 use Rattle.pisdf_program.specs.Top.{top_of}
@@ -19,6 +21,11 @@ use Rattle.pisdf_program.specs.declared.stop.Stop.TheVariants as stop
 abbrev pub refused_stop : PlainFault → Stop
 refused_stop (plain.Refused refusal) = stop.Refused refusal
 refused_stop plain.Memory = stop.Memory
+
+-- why an iteration isn't done from which workers get nothing
+abbrev pub workers_stop : IterationFault → Stop
+workers_stop (workers.Refused refusal journal) = stop.Refused refusal
+workers_stop workers.Memory = stop.Memory
 
 -- the end of a run whose iteration isn't done
 abbrev pub run_end : Stop → RunEnd

@@ -149,7 +149,6 @@ refusal_line path reason = joined (codes "run: " ∷ path ∷ codes " " ∷ caus
 
 abbrev pub later_line : Later → List ℕ
 later_line later.Command = codes "notyet command\n"
-later_line later.Workers = codes "notyet workers\n"
 
 -- the line of a status. After Done there are lines for the streams with tokens left, and after a failed put there is none
 abbrev pub line_of : Status → List ℕ

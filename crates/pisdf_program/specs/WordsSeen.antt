@@ -1,9 +1,9 @@
 -- A command as it stands in the program, as plain data.
-use Rattle.std.specs.Prelude.{◌≤◌}
+use Rattle.std.specs.Prelude.{ℕ, ◌≤◌}
 use Rattle.pisdf_program.specs.declared.words.Command.{Command}
 use Rattle.pisdf_program.specs.declared.words.Command.TheVariants as here
 use Rattle.pisdf_program.specs.Words as words
-use Rattle.pisdf_program.specs.Words.{greatest_load, most_iterations}
+use Rattle.pisdf_program.specs.Words.{greatest_load, most_iterations, most_workers}
 
 abbrev pub seen : Command → words.Command
 seen (here.Run graph tokens iterations workers) = words.Run graph.now tokens.now iterations workers
@@ -13,11 +13,14 @@ seen (here.Journal graph tokens iterations workers) = words.Journal graph.now to
 seen (here.Soak number workers) = words.Soak number workers
 seen (here.Upgrade graph) = words.Upgrade graph.now
 
--- a run has no more iterations than the most, a job at least one worker, and a generated load no greater number than the greatest
+abbrev pub AreSome : ℕ → Type 0
+AreSome workers = (1 ≤ workers) × (workers ≤ most_workers)
+
+-- a run has no more iterations than the most and 1 to the most workers, and a generated load no greater number than the greatest
 abbrev pub IsWithin : Command → Type 0
-IsWithin (here.Run graph tokens iterations workers) = iterations ≤ most_iterations
+IsWithin (here.Run graph tokens iterations workers) = (iterations ≤ most_iterations) × AreSome workers
 IsWithin (here.Plain graph tokens iterations) = iterations ≤ most_iterations
-IsWithin (here.Job what graph tokens workers) = 1 ≤ workers
-IsWithin (here.Journal graph tokens iterations workers) = Unit {0}
-IsWithin (here.Soak number workers) = number ≤ greatest_load
+IsWithin (here.Job what graph tokens workers) = AreSome workers
+IsWithin (here.Journal graph tokens iterations workers) = (iterations ≤ most_iterations) × AreSome workers
+IsWithin (here.Soak number workers) = (number ≤ greatest_load) × AreSome workers
 IsWithin (here.Upgrade graph) = Unit {0}

@@ -1,5 +1,5 @@
 -- What a call of the program has done.
-use Rattle.std.specs.Prelude.{◌≡◌, ◌≢◌, ◌⊎◌, ◌==◌, if◌then◌else◌, ℕ, true, None, List, [], Option, Some, Result, Ok, Err, String, string_bytes}
+use Rattle.std.specs.Prelude.{◌≡◌, ◌≢◌, ◌⊎◌, ℕ, true, None, List, [], Option, Some, Result, Ok, Err, String, string_bytes}
 use Rattle.std.specs.declared.alloc.Global.{Global}
 use Rattle.outer_world.specs.Faults.{Rose}
 use Rattle.outer_world.specs.Sink.{Grows}
@@ -141,7 +141,7 @@ graph_alone graph Tokens = None
 
 -- the name of one of the files that a command of this stage may load, in its words
 abbrev pub file_in : Command → Which → Option (List ℕ)
-file_in (Run graph tokens iterations workers) which = if workers == 1 then Some (file_among graph tokens which) else None
+file_in (Run graph tokens iterations workers) which = Some (file_among graph tokens which)
 file_in (Plain graph tokens iterations) which = Some (file_among graph tokens which)
 file_in (Job what graph tokens workers) which = Some (file_among graph tokens which)
 file_in (Journal graph tokens iterations workers) which = None

@@ -10,6 +10,7 @@ mod line;
 mod load;
 mod load_tokens;
 mod load_totals;
+mod maker;
 mod number;
 mod program;
 mod put;

@@ -105,7 +105,6 @@ fn later_line(later: Later) -> &'static str
 {
     match later {
         Later::Command => "notyet command\n",
-        Later::Workers => "notyet workers\n",
     }
 }
 

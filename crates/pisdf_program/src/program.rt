@@ -3,7 +3,8 @@ ghost use Rattle.std.specs.Prelude.{ℕ, ◌≡◌, ◌≢◌, ◌⊎◌, ◌↔
 ghost use Rattle.kernel_gate.specs.Table.{the_signatures};
 ghost use Rattle.pisdf_program.specs.LoadEnd.{IsLoadStatus};
 ghost use Rattle.pisdf_program.specs.Loaded.{is_answer};
-ghost use Rattle.pisdf_program.specs.Result.{AreTold, AreToldAlone, Knows, Outcome, ResultOf, RunsAlone, RunsFile};
+ghost use Rattle.pisdf_program.specs.Making.{IsReady};
+ghost use Rattle.pisdf_program.specs.Result.{AreTold, Knows, Outcome, ResultOf, RunsFile};
 ghost use Rattle.pisdf_program.specs.Words as table;
 ghost use Rattle.pisdf_program.specs.Worked.{Completes, Concludes, CountRose, Ended, FilesRose, IsThere, PutsLine, Reports, TellsUnlessCut, Works};
 ghost use Rattle.pisdf_program.specs.Words.{most_iterations};
@@ -11,6 +12,7 @@ ghost use Rattle.pisdf_program.specs.Words.{most_iterations};
 use crate::job_command::tell_job;
 use crate::line::{MEMORY, left_lines, line_of};
 use crate::load::load_input;
+use crate::maker::Maker;
 use crate::put::put_text;
 use crate::run::{RunEnd, run_all, top_of};
 use crate::soak::soak;
@@ -18,11 +20,14 @@ use crate::status::{Later, Status};
 use crate::stop::short_status;
 use crate::upgrade::upgrade;
 use crate::words::{Command, read_words};
+use job_compiler::kept;
 use kernel_gate::Gate;
 use outer_world::{Shelf, Sink};
 use pisdf_meaning::one_meaning;
 use pisdf_model::Graphs;
 use std::alloc::Global;
+use std::sync::{Arc, Wait};
+use std::thread::Threads;
 
 /// The lines for the streams with tokens left after a run that is done, or the status that it ended with.
 fn report(alloc: Global, graphs: &Graphs, end: RunEnd) -> Result<String, Status>
@@ -44,19 +49,22 @@ fn report(alloc: Global, graphs: &Graphs, end: RunEnd) -> Result<String, Status>
     }
 }
 
-/// Runs a graph file on a token file by one thread. The answer is the lines for standard error after a run that is done,
-/// or another status; nothing was put to standard error yet.
-fn run<S: Shelf, O: Sink, K: Gate>(
+/// Runs a graph file on a token file. The answer is the lines for standard error after a run that is done, or another
+/// status; nothing was put to standard error yet.
+fn run<S: Shelf, O: Sink, K: Gate + Sync, R: Threads + Wait + Sync>(
+    rt: &R,
     alloc: Global,
     graph: &str,
     tokens: &str,
     iterations: u32,
+    maker: &mut Maker,
     shelf: &mut S,
     out: &mut O,
     gate: &K,
 ) -> Result<String, Status>
     requires kernels { K.kernels gate.now ≡ the_signatures }
     requires few { iterations ≤ most_iterations }
+    requires ready { IsReady maker.old }
     ensures works { Works (RunsFile (S.holds shelf.old graph.now) iterations (S.holds shelf.old tokens.now)) (O.written out.old) (O.written out.new) (O.faults out.old) (O.faults out.new) result }
     ensures there { IsThere (AreTold (S.holds shelf.old graph.now) (S.holds shelf.old tokens.now)) (RunsFile (S.holds shelf.old graph.now) iterations (S.holds shelf.old tokens.now)) result }
     ensures read { IfErr result (FilesRose graph.now tokens.now (S.faults shelf.old) (S.faults shelf.new)) }
@@ -67,13 +75,17 @@ fn run<S: Shelf, O: Sink, K: Gate>(
         Ok(input) => input,
         Err(status) => return Err(status),
     };
-    let graphs = &input.graphs;
-    let end = run_all(alloc, graphs, input.streams.items(), iterations, gate, out);
-    report(alloc, graphs, end)
+    let Ok(graphs) = Arc::new(alloc, input.graphs) else {
+        return Err(Status::WantOfMemory);
+    };
+    let streams = input.streams.items();
+    let end = run_all(rt, alloc, &graphs, streams, iterations, maker, gate, out);
+    report(alloc, &graphs, end)
 }
 
-/// Runs a graph file on a token file, where one worker is asked for: more aren't supported yet.
-fn run_alone<S: Shelf, O: Sink, K: Gate>(
+/// Runs a graph file on a token file by so many workers.
+fn run_by_workers<S: Shelf, O: Sink, K: Gate + Sync, R: Threads + Wait + Sync>(
+    rt: &R,
     alloc: Global,
     graph: &str,
     tokens: &str,
@@ -85,19 +97,28 @@ fn run_alone<S: Shelf, O: Sink, K: Gate>(
 ) -> Result<String, Status>
     requires kernels { K.kernels gate.now ≡ the_signatures }
     requires few { iterations ≤ most_iterations }
-    ensures works { Works (RunsAlone (workers == 1) (S.holds shelf.old graph.now) iterations (S.holds shelf.old tokens.now)) (O.written out.old) (O.written out.new) (O.faults out.old) (O.faults out.new) result }
-    ensures there { IsThere (AreToldAlone (workers == 1) (S.holds shelf.old graph.now) (S.holds shelf.old tokens.now)) (RunsAlone (workers == 1) (S.holds shelf.old graph.now) iterations (S.holds shelf.old tokens.now)) result }
-    ensures read { IfErr result (CountRose (Some (table.Run graph.now tokens.now iterations workers)) (S.faults shelf.old) (S.faults shelf.new)) }
+    requires some { 0 < workers }
+    requires most { workers ≤ 16 }
+    ensures works { Works (RunsFile (S.holds shelf.old graph.now) iterations (S.holds shelf.old tokens.now)) (O.written out.old) (O.written out.new) (O.faults out.old) (O.faults out.new) result }
+    ensures there { IsThere (AreTold (S.holds shelf.old graph.now) (S.holds shelf.old tokens.now)) (RunsFile (S.holds shelf.old graph.now) iterations (S.holds shelf.old tokens.now)) result }
+    ensures read { IfErr result (FilesRose graph.now tokens.now (S.faults shelf.old) (S.faults shelf.new)) }
     ensures usage { result ≢ Err Status.Usage }
 {
-    if workers != 1 {
-        return Err(Status::NotYet(Later::Workers));
-    }
-    run(alloc, graph, tokens, iterations, shelf, out, gate)
+    let Ok(kept) = kept(alloc) else {
+        return Err(Status::WantOfMemory);
+    };
+    let mut maker = Maker::Workers {
+        count: workers,
+        kept: Some(kept),
+    };
+    run(
+        rt, alloc, graph, tokens, iterations, &mut maker, shelf, out, gate,
+    )
 }
 
 /// Does what the words ask for, up to what is put to standard error.
-fn work<S: Shelf, O: Sink, K: Gate>(
+fn work<S: Shelf, O: Sink, K: Gate + Sync, R: Threads + Wait + Sync>(
+    rt: &R,
     alloc: Global,
     words: &[String],
     shelf: &mut S,
@@ -121,12 +142,24 @@ fn work<S: Shelf, O: Sink, K: Gate>(
             tokens,
             iterations,
             workers,
-        } => run_alone(alloc, graph, tokens, iterations, workers, shelf, out, gate),
+        } => run_by_workers(
+            rt, alloc, graph, tokens, iterations, workers, shelf, out, gate,
+        ),
         Command::Plain {
             graph,
             tokens,
             iterations,
-        } => run(alloc, graph, tokens, iterations, shelf, out, gate),
+        } => run(
+            rt,
+            alloc,
+            graph,
+            tokens,
+            iterations,
+            &mut Maker::Queues,
+            shelf,
+            out,
+            gate,
+        ),
         Command::Job {
             what,
             graph,
@@ -182,7 +215,8 @@ fn conclude<E: Sink>(alloc: Global, err: &mut E, worked: Result<String, Status>)
 
 /// Does what the words ask for: loads the files that they name from the shelf, puts the texts to `out` and the line of
 /// the status, or the lines of the streams with tokens left, to `err`.
-pub fn run_program<S: Shelf, O: Sink, E: Sink, K: Gate + Sync>(
+pub fn run_program<S: Shelf, O: Sink, E: Sink, K: Gate + Sync, R: Threads + Wait + Sync>(
+    rt: &R,
     alloc: Global,
     words: &[String],
     shelf: &mut S,
@@ -201,6 +235,6 @@ pub fn run_program<S: Shelf, O: Sink, E: Sink, K: Gate + Sync>(
     ensures there { Knows (table.command_of (map string_bytes words.now)) (S.holds shelf.old) → is_answer result ≡ true → (o : Outcome) × ResultOf (map string_bytes words.now) (S.holds shelf.old) o }
     ensures ended { Ended (ResultOf (map string_bytes words.now) (S.holds shelf.old)) (O.written out.old) (O.written out.new) (E.written err.old) (E.written err.new) (O.faults out.old) (O.faults out.new) (E.faults err.old) (E.faults err.new) result }
 {
-    let worked = work(alloc, words, shelf, out, gate);
+    let worked = work(rt, alloc, words, shelf, out, gate);
     conclude(alloc, err, worked)
 }

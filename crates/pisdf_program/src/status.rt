@@ -57,8 +57,6 @@ pub enum Which {
 pub enum Later {
     /// The command `journal`.
     Command,
-    /// More than one worker.
-    Workers,
 }
 
 impl Status {

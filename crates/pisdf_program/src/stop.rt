@@ -1,7 +1,7 @@
 // Why an iteration ends a run before it is done.
 ghost use Rattle.std.specs.Prelude.{◌≡◌, ◌⊎◌, ◌<◌, length, map, IfOk};
 ghost use Rattle.pisdf_program.specs.Result.{name_at, short_of};
-ghost use Rattle.pisdf_program.specs.Stepped.{refused_stop};
+ghost use Rattle.pisdf_program.specs.Stepped.{refused_stop, workers_stop};
 ghost use Rattle.pisdf_program.specs.Worked.{StopsWith};
 
 use crate::run::top_of;
@@ -10,6 +10,7 @@ use crate::streams::Lack;
 use param_expr::Name;
 use pisdf_meaning::{PlainFault, Refusal};
 use pisdf_model::{Graphs, Interface};
+use quiescent_driver::IterationFault;
 use std::alloc::{AllocError, Global};
 
 /// Why an iteration isn't done.
@@ -39,6 +40,16 @@ pub(crate) fn refused(fault: PlainFault) -> Stop
     match fault {
         PlainFault::Refused(refusal) => Stop::Refused(refusal),
         PlainFault::Memory => Stop::Memory,
+    }
+}
+
+/// The end where workers get nothing from an iteration.
+pub(crate) fn refused_by_workers(fault: IterationFault) -> Stop
+    ensures { result ≡ workers_stop fault }
+{
+    match fault {
+        IterationFault::Refused(refusal, _journal) => Stop::Refused(refusal),
+        IterationFault::Memory => Stop::Memory,
     }
 }
 

@@ -1,5 +1,5 @@
 ghost use Rattle.std.specs.Prelude.{◌≡◌, ◌≤◌, IfSome, map, option_map, string_bytes};
-ghost use Rattle.pisdf_program.specs.Words.{command_of, run_row, plain_row, job_row, journal_row, soak_row, upgrade_row, iterations_of, workers_of, generated_of, greatest_load, most_iterations};
+ghost use Rattle.pisdf_program.specs.Words.{command_of, run_row, plain_row, job_row, journal_row, soak_row, upgrade_row, iterations_of, workers_of, generated_of, greatest_load, most_iterations, most_workers};
 ghost use Rattle.pisdf_program.specs.WordsSeen.{IsWithin, seen};
 
 use crate::limits;
@@ -52,6 +52,7 @@ fn iterations_of(word: &str) -> Option<u32>
 fn workers_of(word: &str) -> Option<u32>
     ensures number { result ≡ workers_of word.now }
     ensures some { IfSome result (λ n. 1 ≤ n) }
+    ensures few { IfSome result (λ n. n ≤ most_workers) }
 {
     number_within(limits::WORKER_DIGITS, 1, limits::WORKERS, word)
 }

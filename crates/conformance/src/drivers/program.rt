@@ -8,11 +8,13 @@ use outer_world::{MemoryShelf, MemorySink};
 use pisdf_program::run_program;
 use serde_json::Value;
 use std::alloc::Global;
+use std::sync::Wait;
+use std::thread::Threads;
 
 /// What the program puts to its two outputs for the row's words, which blanks separate, and its exit status. The row has
 /// the `files`; where loads or puts are to fail, `failing_loads`, `failing_out` and `failing_err`; and the `room` of each
 /// output, a million bytes where none is given.
-pub fn ran(alloc: Global, row: &Value) -> Result<Value, Trouble> {
+pub fn ran<R: Threads + Wait + Sync>(rt: &R, alloc: Global, row: &Value) -> Result<Value, Trouble> {
     let mut words = Vec::new(alloc);
     for word in text(alloc, row, "words")?.as_str().split_whitespace() {
         words.push(String::from_str(alloc, word)?)?;
@@ -23,6 +25,7 @@ pub fn ran(alloc: Global, row: &Value) -> Result<Value, Trouble> {
     let mut out = MemorySink::new(alloc, room, failing_puts(alloc, row, "failing_out")?)?;
     let mut err = MemorySink::new(alloc, room, failing_puts(alloc, row, "failing_err")?)?;
     let status = run_program(
+        rt,
         alloc,
         words.as_slice(),
         &mut shelf,

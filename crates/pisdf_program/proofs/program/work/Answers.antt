@@ -24,8 +24,8 @@ returns-in-Job-clause-works g c =
 pub returns-in-Run-clause-works : goal.returns-in-Run-clause-works
 returns-in-Run-clause-works g c =
     works_as (Some (words.Run c.in-Run.graph.now c.in-Run.tokens.now c.in-Run.iterations c.in-Run.workers)) (command_of (map string_bytes c.args.words.now)) (g.S.Shelf.holds c.args.shelf.now)
-    (g.O.Sink.written c.args.out.now) (g.O.Sink.written c.run_alone.new.out) (g.O.Sink.faults c.args.out.now) (g.O.Sink.faults c.run_alone.new.out) c.run_alone.result
-    (ap (λ (x : Here). Some (seen x)) (sym c.in-Run.is) ∙ c.in-Some.ensures.command) c.run_alone.ensures.works
+    (g.O.Sink.written c.args.out.now) (g.O.Sink.written c.run_by_workers.new.out) (g.O.Sink.faults c.args.out.now) (g.O.Sink.faults c.run_by_workers.new.out) c.run_by_workers.result
+    (ap (λ (x : Here). Some (seen x)) (sym c.in-Run.is) ∙ c.in-Some.ensures.command) c.run_by_workers.ensures.works
 
 pub returns-in-Journal-clause-works : goal.returns-in-Journal-clause-works
 returns-in-Journal-clause-works g c =
@@ -48,7 +48,7 @@ returns-in_default-clause-there g c =
     usage_there (command_of (map string_bytes c.args.words.now)) (g.S.Shelf.holds c.args.shelf.now) (sym c.in_default.ensures.command)
 
 pub returns-in-Run-clause-load : goal.returns-in-Run-clause-load
-returns-in-Run-clause-load g c = no_load (words.Run c.in-Run.graph.now c.in-Run.tokens.now c.in-Run.iterations c.in-Run.workers) (command_of (map string_bytes c.args.words.now)) c.run_alone.result (ap (λ (x : Here). Some (seen x)) (sym c.in-Run.is) ∙ c.in-Some.ensures.command) refl
+returns-in-Run-clause-load g c = no_load (words.Run c.in-Run.graph.now c.in-Run.tokens.now c.in-Run.iterations c.in-Run.workers) (command_of (map string_bytes c.args.words.now)) c.run_by_workers.result (ap (λ (x : Here). Some (seen x)) (sym c.in-Run.is) ∙ c.in-Some.ensures.command) refl
 
 pub returns-in-Plain-clause-load : goal.returns-in-Plain-clause-load
 returns-in-Plain-clause-load g c = no_load (words.Plain c.in-Plain.graph.now c.in-Plain.tokens.now c.in-Plain.iterations) (command_of (map string_bytes c.args.words.now)) c.run.result (ap (λ (x : Here). Some (seen x)) (sym c.in-Plain.is) ∙ c.in-Some.ensures.command) refl

@@ -1,4 +1,5 @@
 use Rattle.std.proofs.Common.{ap, sym, subst, ◌∙◌, length, arith}
+use Rattle.std.specs.Arc.{arc_value}
 use Rattle.pisdf_model.specs.declared.graph.Graph.{Graph}
 use Rattle.pisdf_model.specs.declared.graph.Interface.{Interface}
 use Rattle.pisdf_meaning.specs.Run.{Done}
@@ -10,18 +11,18 @@ use Rattle.pisdf_program.proofs.run.run_all.Goals as goal
 pub returns-in-Ok-clause-ends : goal.returns-in-Ok-clause-ends
 returns-in-Ok-clause-ends g c =
     let had = g.O.Sink.written c.args.out.now in
-    subst (λ n. RanTo c.args.graphs.now c.args.streams.now n had had (Done c.in-Ok.left)) (sym c.if-iterations-eq0.true)
-    (nothing_run c.args.graphs.now c.args.streams.now had c.in-Ok.left c.in-Ok.ensures)
+    subst (λ n. RanTo (arc_value c.args.graphs.now) c.args.streams.now n had had (Done c.in-Ok.left)) (sym c.if-iterations-eq0.true)
+    (nothing_run (arc_value c.args.graphs.now) c.args.streams.now had c.in-Ok.left c.in-Ok.ensures)
 
 pub returns-in-Err-top_needs-clause-ends : goal.returns-in-Err-top_needs-clause-ends
 returns-in-Err-top_needs-clause-ends g c =
     let had = g.O.Sink.written c.args.out.now in
     let faults = g.O.Sink.faults c.args.out.now in
-    subst (λ e. EndsRun c.args.graphs.now c.args.streams.now c.args.iterations had had faults faults e) (sym (c.stopped.ensures ∙ ap run_end c.refused.ensures))
-    (unchecked c.args.graphs.now c.args.streams.now c.args.iterations had faults faults c.in-Err-top_needs.fault (omega (arith, c.if-iterations-eq0.false)) c.requires.good.in_range.top c.in-Err-top_needs.ensures.refused)
+    subst (λ e. EndsRun (arc_value c.args.graphs.now) c.args.streams.now c.args.iterations had had faults faults e) (sym (c.stopped.ensures ∙ ap run_end c.refused.ensures))
+    (unchecked (arc_value c.args.graphs.now) c.args.streams.now c.args.iterations had faults faults c.in-Err-top_needs.fault (omega (arith, c.if-iterations-eq0.false)) c.requires.good.in_range.top (rw c.deref.ensures at c.in-Err-top_needs.ensures.refused))
 
 pub run_some-requires-clause-fit : goal.run_some-requires-clause-fit
-run_some-requires-clause-fit g c =
-    let top = top_there c.args.graphs.now c.requires.good.in_range.top in
-    ap length c.items.ensures ∙ c.in-Ok-top_needs.ensures.fit top.0 top.1
-    ∙ sym (c.requires.fit ∙ ap (λ (t : Graph). length {A = Interface} t.inputs) (top_is c.args.graphs.now top.0 top.1))
+run_some-requires-clause-fit g c = λ lives within.
+    let top = top_there (arc_value c.args.graphs.now) c.requires.good.in_range.top in
+    ap length c.items.ensures ∙ (rw c.deref.ensures at c.in-Ok-top_needs.ensures.fit) top.0 top.1
+    ∙ sym (c.requires.fit ∙ ap (λ (t : Graph). length {A = Interface} t.inputs) (top_is (arc_value c.args.graphs.now) top.0 top.1))
