@@ -1,0 +1,15 @@
+pub mod Lists
+pub mod Steps
+pub mod Leaving
+pub mod Framing
+pub mod Claiming
+pub mod Advancing
+pub mod Finishing
+pub mod Compiling
+pub mod Answering
+pub mod Halving
+pub mod Beginning
+pub mod Fitting
+pub mod GraphsSending
+pub mod BoardSending
+pub mod Sending

@@ -1,0 +1,48 @@
+use Rattle.std.proofs.Common.{◌≡◌, ℕ, IsOk, None, Some, Option, List, [], ◌∷◌, true, sym, subst, ◌∙◌}
+use Rattle.kernel_gate.specs.Value.{Places}
+use Rattle.nested_jobs.specs.Rules as nested
+use Rattle.job_preparing.specs.Handing.{answer_with}
+use Rattle.job_rules.specs.Doing.{Answers}
+use Rattle.job_rules.specs.Words.{Answer, Work}
+use Rattle.board_rules.specs.Keys.{Key}
+use Rattle.board_rules.specs.declared.entry.Entry.{Entry}
+use Rattle.board_rules.specs.declared.entry.Entry.TheVariants.{Finish}
+use Rattle.firing_board.specs.Finishes.{Finishes, MayComeBack}
+use Rattle.firing_board.specs.Runs.{IsSound, Runs}
+use Rattle.firing_board.specs.View.{BoardView}
+use Rattle.worker_crew.specs.Passes.{BoardPass}
+use Rattle.worker_crew.specs.Worked.{HasAdded}
+use Rattle.worker_crew.proofs.Finishing.{gives_back}
+use Rattle.worker_crew.proofs.Leaving.{Changes, added_left, found_running, left_as, may_leave_as}
+use Rattle.worker_crew.proofs.giving_back.give_back.Goals as goal
+
+pub finish_fire-requires-clause-runs : goal.finish_fire-requires-clause-runs
+finish_fire-requires-clause-runs g c =
+    let p = c.args.pass.known in
+    let x = c.enter-held.result.state.value in
+    let sound : IsSound x = subst IsSound c.deref.ensures c.journal-journal.ensures.sound in
+    let runs = found_running p x c.enter-held.ensures.finds c.board_laws.ensures sound (Some c.args.frame.places) (λ key. MayComeBack key c.args.frame c.args.answer (IsOk c.args.answer)) c.requires.claimed in
+    let here : Runs x c.args.ticket.worker (MayComeBack x.key c.args.frame c.args.answer (IsOk c.args.answer)) = subst (λ (n : ℕ). Runs x n (MayComeBack x.key c.args.frame c.args.answer (IsOk c.args.answer))) (sym c.requires.ticket) runs in
+    subst (λ (b : BoardView). Runs b c.args.ticket.worker (MayComeBack b.key c.args.frame c.args.answer (IsOk c.args.answer))) (sym c.deref_mut.ensures.value) here
+
+pub leave-requires : goal.leave-requires
+leave-requires g c =
+    let p = c.args.pass.known in
+    let x = c.enter-held.result.state.value in
+    let y = c.finish_fire.new.self in
+    let sound : IsSound x = subst IsSound c.deref.ensures c.journal-journal.ensures.sound in
+    let finishes : Finishes x y p.number = subst (λ (n : ℕ). Finishes x y n) c.requires.ticket (subst (λ (b : BoardView). Finishes b y c.args.ticket.worker) c.deref_mut.ensures.value c.finish_fire.ensures.finishes) in
+    let starved : x.starved ≡ true → y.starved ≡ true = subst (λ (b : BoardView). b.starved ≡ true → y.starved ≡ true) c.deref_mut.ensures.value c.finish_fire.ensures.starved in
+    let changes = gives_back p x y (Some c.args.frame.places) (λ key. MayComeBack key c.args.frame c.args.answer (IsOk c.args.answer)) c.board_laws.ensures c.enter-held.ensures.finds sound c.requires.claimed (λ work may. (answer_with (Some (nested.Work work)) c.args.frame c.args.answer, may.answered)) finishes starved in
+    may_leave_as p x y (Finish p.number ∷ []) c.enter-held.ensures.finds changes c.enter-held.result.turn.known c.enter-held.result.turn.found c.enter-held.ensures.known c.enter-held.ensures.found
+
+pub returns-clause-added : goal.returns-clause-added
+returns-clause-added g c =
+    let p = c.args.pass.known in
+    let x = c.enter-held.result.state.value in
+    let y = c.finish_fire.new.self in
+    let sound : IsSound x = subst IsSound c.deref.ensures c.journal-journal.ensures.sound in
+    let finishes : Finishes x y p.number = subst (λ (n : ℕ). Finishes x y n) c.requires.ticket (subst (λ (b : BoardView). Finishes b y c.args.ticket.worker) c.deref_mut.ensures.value c.finish_fire.ensures.finishes) in
+    let starved : x.starved ≡ true → y.starved ≡ true = subst (λ (b : BoardView). b.starved ≡ true → y.starved ≡ true) c.deref_mut.ensures.value c.finish_fire.ensures.starved in
+    let changes = gives_back p x y (Some c.args.frame.places) (λ key. MayComeBack key c.args.frame c.args.answer (IsOk c.args.answer)) c.board_laws.ensures c.enter-held.ensures.finds sound c.requires.claimed (λ work may. (answer_with (Some (nested.Work work)) c.args.frame c.args.answer, may.answered)) finishes starved in
+    subst (λ (q : BoardPass). HasAdded p q (Finish p.number ∷ [])) (sym (left_as p x y c.enter-held.result.turn.known c.leave.result.known c.enter-held.ensures.known c.leave.ensures.known)) (added_left p x y (Finish p.number ∷ []) c.enter-held.ensures.finds changes)

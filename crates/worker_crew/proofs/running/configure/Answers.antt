@@ -1,0 +1,2 @@
+use Rattle.worker_crew.proofs.Answering.{fires_back, fits_gate}
+use Rattle.worker_crew.proofs.running.configure.Goals as goal

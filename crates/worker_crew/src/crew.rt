@@ -1,0 +1,92 @@
+// A crew of workers, each in a thread.
+ghost use Rattle.std.specs.Prelude.{◌≡◌, IfErr, IfOk, IfSome, IsSome};
+ghost use Rattle.std.specs.Thread.{IsSync};
+ghost use Rattle.kernel_gate.specs.Signed.{unnamed};
+ghost use Rattle.firing_board.specs.Ends.{IsOver};
+ghost use Rattle.firing_board.specs.Runs.{AreAllIdle};
+ghost use Rattle.worker_crew.specs.Passes.{AllMayWork, AreIdle, HasSeenOver};
+ghost use Rattle.worker_crew.specs.Worked.{HasWorked};
+
+use crate::laws::board_laws;
+use crate::slot::{full, put, take};
+use crate::working::work;
+use board_lock::{Lock, NotMade, Pass};
+use firing_board::Board;
+use kernel_gate::Gate;
+use std::alloc::Global;
+use std::sync::Wait;
+use std::thread::{Threads, join_mut};
+
+/// Each number of the pass works, in a thread of its own. A thread borrows the slot that its pass stands in: a closure that
+/// owned the pass would have to be one that may be dropped, and a board is never dropped.
+fn crew<K: Gate + Sync, R: Threads + Wait + Sync>(
+    rt: &R,
+    alloc: Global,
+    lock: &Lock<Board>,
+    pass: Pass<Board>,
+    gate: &K,
+) -> Pass<Board>
+    requires lock { pass.lock ≡ lock.now }
+    requires may { AllMayWork (unnamed (K.kernels gate.now)) pass.known }
+    requires idle { AreIdle pass.known }
+    ensures lock { result.lock ≡ lock.now }
+    ensures worked { HasWorked pass.known result.known }
+    ensures over { HasSeenOver result.known }
+{
+    if pass.count() < 2 {
+        return work(rt, alloc, lock, pass, gate);
+    }
+    let half = pass.count() / 2;
+    let (first, second) = lock.split(pass, half);
+    let mut one = Some(first);
+    let mut other = Some(second);
+    join_mut(
+        rt,
+        &mut ||
+            requires { IsSync R.row × IsSome one × IfSome one (λ p. (p.lock ≡ lock.now) × AllMayWork (unnamed (K.kernels gate.now)) p.known × AreIdle p.known) }
+            ensures { IsSome one.exit × IfSome one.entry (λ p. IfSome one.exit (λ q. (q.lock ≡ lock.entry.now) × HasWorked p.known q.known × HasSeenOver q.known)) }
+        {
+            let pass = take(&mut one);
+            put(&mut one, crew(rt, alloc, lock, pass, gate));
+        },
+        &mut ||
+            requires { IsSync R.row × IsSome other × IfSome other (λ p. (p.lock ≡ lock.now) × AllMayWork (unnamed (K.kernels gate.now)) p.known × AreIdle p.known) }
+            ensures { IsSome other.exit × IfSome other.entry (λ p. IfSome other.exit (λ q. (q.lock ≡ lock.entry.now) × HasWorked p.known q.known × HasSeenOver q.known)) }
+        {
+            let pass = take(&mut other);
+            put(&mut other, crew(rt, alloc, lock, pass, gate));
+        },
+    );
+    lock.join(full(one), full(other))
+}
+
+/// Runs a board of which no worker runs anything with all its workers, each in a thread, until it is over: its journal has
+/// ended, or memory was wanted. No worker runs anything then. Where a thread can't be started, its worker takes turns in
+/// another one. It may wait.
+///
+/// # Errors
+///
+/// Want of memory. The board is as it was given.
+pub fn run_crew<K: Gate + Sync, R: Threads + Wait + Sync>(
+    rt: &R,
+    alloc: Global,
+    board: Board,
+    workers: u32,
+    gate: &K,
+) -> Result<Board, NotMade<Board>>
+    requires workers { workers ≡ board.key.workers }
+    requires kernels { board.key.signatures ≡ unnamed (K.kernels gate.now) }
+    requires idle { AreAllIdle board }
+    ensures key { IfOk result (λ b. b.key ≡ board.key) }
+    ensures over { IfOk result IsOver }
+    ensures idle { IfOk result AreAllIdle }
+    ensures refused { IfErr result (λ r. r.state ≡ board) }
+{
+    board_laws();
+    let _journal = board.journal();
+    let (lock, pass) = Lock::start(alloc, board, workers)?;
+    let pass = crew(rt, alloc, &lock, pass, gate);
+    let board = lock.close(pass);
+    let _journal = board.journal();
+    Ok(board)
+}
