@@ -1,8 +1,8 @@
 -- A compilation comes back, or is left.
-use Rattle.std.proofs.Common.{◌≡◌, ◌≢◌, ℕ, ◌<◌, Bool, true, false, List, [], ◌∷◌, ◌++◌, set, get_or, Option, Some, None, refl, sym, ap, ◌∙◌, subst}
+use Rattle.std.proofs.Common.{◌≡◌, ◌≢◌, ℕ, ◌<◌, Bool, true, List, set, get_or, Option, Some, None, refl, sym, ap, ◌∙◌, subst}
 use Rattle.kernel_gate.specs.Value.{Places}
 use Rattle.job_preparing.specs.CompileTasks.{IsEndOf}
-use Rattle.job_preparing.specs.Handing.{answers, mark_at}
+use Rattle.job_preparing.specs.Handing.{mark_at}
 use Rattle.job_preparing.specs.declared.compiling.CompileEnd.{CompileEnd}
 use Rattle.job_rules.specs.Doing.{Answers}
 use Rattle.job_rules.specs.Words as words
@@ -16,7 +16,7 @@ use Rattle.pisdf_model.specs.declared.graph.Graphs.{Graphs}
 use Rattle.board_rules.specs.Entries.{BoardState}
 use Rattle.board_rules.specs.Keys.{Key}
 use Rattle.board_rules.specs.Legal.{state_after}
-use Rattle.job_table.specs.Calls.{LendsItem, MarksItem}
+use Rattle.job_table.specs.Calls.{MarksItem}
 use Rattle.job_table.specs.View.{TableView, lent_in, row_at}
 use Rattle.job_table.specs.declared.row.Row.{Row}
 use Rattle.firing_board.specs.Core.{lent_of, lent_with}

@@ -1,7 +1,7 @@
 -- Which items are enabled where no open job offers work.
 use Rattle.std.proofs.Common.{◌≡◌, ℕ, false, List, [], ◌∷◌, ◌++◌, Option, Some, refl, sym, ap, ap₂, ◌∙◌, subst}
 use Rattle.nested_jobs.specs.Kept.{InJob, Nested}
-use Rattle.nested_jobs.specs.Marks.{Busy, Free, Mark, Marks, Open, answer_of, values}
+use Rattle.nested_jobs.specs.Marks.{Busy, Free, Mark, Marks, answer_of, values}
 use Rattle.nested_jobs.specs.Meanings.{Lawful}
 use Rattle.nested_jobs.specs.Rules.{Call, Place, Task, Values, Work}
 use Rattle.nested_jobs.specs.Steps.{IsEnabled, begins, opened, task_at}
@@ -14,7 +14,7 @@ use Rattle.job_rules.specs.Meant.{rank}
 use Rattle.job_rules.specs.Words as words
 use Rattle.job_rules.specs.Words.{Answer}
 use Rattle.pisdf_meaning.specs.declared.firing.Firing.{Firing}
-use Rattle.board_rules.specs.Asking.{IsOffered, JobRow, NoRowOffers}
+use Rattle.board_rules.specs.Asking.{JobRow, NoRowOffers}
 use Rattle.board_rules.specs.Board.{OpenJobs}
 use Rattle.board_rules.specs.Keys.{Key, rules, top_job}
 use Rattle.board_rules.specs.Picks.{is_open}

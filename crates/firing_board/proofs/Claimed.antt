@@ -1,27 +1,26 @@
 -- A claim keeps what is kept of a board.
 use Rattle.std.proofs.Common.{◌≡◌, ◌≢◌, ◌⊎◌, ⊎_elim, ℕ, ◌+◌, ◌-◌, ◌<◌, ◌≤◌, true, false, List, [], ◌∷◌, ◌++◌, length, set, get_or, length-set, Option, Some, None, refl, sym, ap, ◌∙◌, subst, arith}
-use Rattle.std.specs.Option.{option_map}
 use Rattle.std.proofs.lemmas.Bool.{cases_eq}
 use Rattle.std.proofs.lemmas.List.{get_or-set_same, get_or-set_other}
 use Rattle.kernel_gate.specs.Value.{Places}
-use Rattle.job_preparing.specs.Handing.{lent_at, mark_at}
+use Rattle.job_preparing.specs.Handing.{mark_at}
 use Rattle.job_rules.specs.Items.{graph_of, rule}
 use Rattle.job_rules.specs.Words as words
 use Rattle.job_rules.specs.Words.{Answer}
 use Rattle.nested_jobs.specs.Journals as steps
 use Rattle.nested_jobs.specs.Journals.{after, start, task_of}
-use Rattle.nested_jobs.specs.Marks.{Busy, Done, Free, Mark, Marks, Open, answer_of, values}
+use Rattle.nested_jobs.specs.Marks.{Busy, Free, Mark, Marks, answer_of, values}
 use Rattle.nested_jobs.specs.Rules.{Place, Task, Values, Work}
 use Rattle.nested_jobs.specs.Steps.{claimed, task_in}
-use Rattle.nested_jobs.specs.Tables.{Row as RowOf, answers_in, put_row, with_mark}
+use Rattle.nested_jobs.specs.Tables.{answers_in, put_row, with_mark}
 use Rattle.nested_jobs.proofs.Appending.{state-snoc}
 use Rattle.nested_jobs.proofs.Tabling.{put_row_at}
-use Rattle.open_job.specs.View.{IsOfferedWork, answered, graph_in, task}
+use Rattle.open_job.specs.View.{IsOfferedWork, graph_in, task}
 use Rattle.pisdf_meaning.specs.declared.firing.Firing.{Firing}
 use Rattle.pisdf_model.specs.declared.graph.Graphs.{Graphs}
 use Rattle.board_rules.specs.Asking.{JobRow}
 use Rattle.board_rules.specs.AskingLaws.{BoardsEnd}
-use Rattle.board_rules.specs.Board.{HasOpened, Held, KeptAs, OpenJobs, RunsAs, hold}
+use Rattle.board_rules.specs.Board.{Held, KeptAs, OpenJobs, RunsAs, hold}
 use Rattle.board_rules.specs.BoardLaws.{ClaimsAreEntered, ClaimsKeep, HeldAreBusy}
 use Rattle.board_rules.specs.Entries.{BoardState, Step, item_of}
 use Rattle.board_rules.specs.Keys.{Key, rules, top_job}
@@ -32,9 +31,9 @@ use Rattle.board_rules.specs.declared.entry.Item.{Item}
 use Rattle.job_table.specs.Calls.{LendsItem, MarksItem}
 use Rattle.job_table.specs.Laws.{ClaimsSuit, TablesMark}
 use Rattle.job_table.specs.Suits.{Suits}
-use Rattle.job_table.specs.View.{TableView, job_row, lent_in, row_at, table_of}
+use Rattle.job_table.specs.View.{job_row, lent_in, row_at, table_of}
 use Rattle.job_table.specs.declared.row.Row.{Row}
-use Rattle.firing_board.specs.Core.{AreNumbered, HasEnd, IsEndFor, IsLentToRunners, IsNumbered, StandsAt, held_of, lent_of, lent_with, runners}
+use Rattle.firing_board.specs.Core.{AreNumbered, HasEnd, IsLentToRunners, IsNumbered, StandsAt, held_of, lent_of}
 use Rattle.firing_board.specs.Finding.{IsFound}
 use Rattle.firing_board.specs.Handing.{path_in}
 use Rattle.firing_board.specs.Kept.{Keeps}

@@ -1,5 +1,5 @@
 -- Only a compilation compiles.
-use Rattle.std.proofs.Common.{◌≡◌, ℕ, zero, suc, ◌+◌, Bool, true, false, cond, nat_lt, List, [], ◌∷◌, length, Option, Some, None, slice_get, refl, sym, ap, ap₂, ◌∙◌, subst, arith}
+use Rattle.std.proofs.Common.{◌≡◌, ℕ, zero, suc, Bool, true, false, cond, nat_lt, List, [], ◌∷◌, length, Option, Some, None, slice_get, refl, ap, subst}
 use Rattle.std.specs.Prelude.{ℤ, ◌&&◌, unwrap_or}
 use Rattle.pisdf_model.specs.declared.actor.Actor.{Actor}
 use Rattle.pisdf_model.specs.declared.actor.Body.{Body}
@@ -13,12 +13,11 @@ use Rattle.sdf_level.specs.declared.node.Node.{Node}
 use Rattle.sdf_level.specs.declared.node.Node.TheVariants as node
 use Rattle.job_flow.specs.Frames.{inputs, lens}
 use Rattle.job_flow.specs.Graphs.{node_at}
-use Rattle.job_rules.specs.Items.{Prepared, actor_task, compile_rule, config_task, edges_in, firing_task, is_ready_by, job_graph, left_in, node_values, nodes_in, values_in, node_rule, node_task, prepared_in, ready_task, rule, rule_from}
+use Rattle.job_rules.specs.Items.{Prepared, actor_task, compile_rule, config_task, edges_in, firing_task, is_ready_by, job_graph, left_in, node_values, nodes_in, values_in, node_rule, node_task, prepared_in, rule_from}
 use Rattle.job_rules.specs.Words as words
 use Rattle.job_rules.specs.Words.{Answer}
 use Rattle.nested_jobs.specs.Rules.{Call, Task, Values, Work}
-use Rattle.open_job.specs.View.{OpenView, answered, compilation_of, graph_in, left_by, left_if_ready, task}
-use Rattle.pisdf_meaning.specs.declared.refusal.Refusal.{Refusal}
+use Rattle.open_job.specs.View.{OpenView, answered, compilation_of, graph_in, left_by, task}
 
 -- the task isn't a compilation
 abbrev NoCompile : Option (Task Firing words.Work) → Type 0

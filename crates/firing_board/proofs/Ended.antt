@@ -1,5 +1,5 @@
 -- How a board ends.
-use Rattle.std.proofs.Common.{◌≡◌, ◌⊎◌, ⊎_elim, ℕ, ◌<◌, Bool, true, false, List, [], Option, Some, None, Result, Ok, Err, slice_get, refl, sym, ap, ◌∙◌, subst}
+use Rattle.std.proofs.Common.{◌≡◌, ◌⊎◌, ⊎_elim, Bool, true, false, [], Option, Some, None, Result, Ok, Err, slice_get, refl, ap, ◌∙◌, subst}
 use Rattle.std.specs.Prelude.{slice_index_or}
 use Rattle.std.proofs.lemmas.Option.{slice_get-get_or, slice_get_within}
 use Rattle.job_preparing.specs.Handing.{end_of, given_of}
@@ -8,19 +8,17 @@ use Rattle.job_rules.specs.Items.{no_graph}
 use Rattle.job_rules.specs.Words.{Answer, answer_of}
 use Rattle.nested_jobs.specs.Marks.{Done}
 use Rattle.pisdf_model.specs.declared.graph.Graph.{Graph}
-use Rattle.pisdf_meaning.specs.Endings.{End}
 use Rattle.pisdf_meaning.specs.Meaning.{Means}
 use Rattle.pisdf_meaning.specs.Run.{IterationEnds, top_firing}
 use Rattle.pisdf_meaning.specs.declared.refusal.Refusal.{Refusal}
 use Rattle.board_rules.specs.AskingLaws.{BoardsEnd, EndsAreMeant}
-use Rattle.board_rules.specs.Entries.{Step}
-use Rattle.board_rules.specs.Keys.{Key, top_job}
+use Rattle.board_rules.specs.Keys.{Key}
 use Rattle.board_rules.specs.Laws.{JournalsTellSteps}
 use Rattle.board_rules.specs.Legal.{HasEnded, state_after}
 use Rattle.firing_board.specs.Beginning.{EndsWith}
 use Rattle.firing_board.specs.Core.{IsEndFor}
 use Rattle.firing_board.specs.Ends.{EndsAs, HasFinished, IsOver}
-use Rattle.firing_board.specs.Kept.{Keeps, StandsOrStarves, view_with}
+use Rattle.firing_board.specs.Kept.{Keeps, view_with}
 use Rattle.firing_board.specs.Runs.{AreAllIdle}
 use Rattle.firing_board.specs.declared.state.Core.{Core}
 use Rattle.firing_board.specs.declared.ending.BoardEnd.{BoardEnd}

@@ -1,5 +1,5 @@
 -- What the fields of a board tell of the steps that were taken on it.
-use Rattle.std.proofs.Common.{◌≡◌, ◌⊎◌, ⊎_elim, ℕ, ◌<◌, Bool, true, false, List, [], ◌∷◌, length, map, get_or, Option, Some, None, refl, sym, ap, ap₂, ◌∙◌, subst, arith}
+use Rattle.std.proofs.Common.{◌≡◌, ℕ, ◌<◌, Bool, true, false, List, map, get_or, Option, Some, None, refl, sym, ap, ap₂, ◌∙◌, subst, arith}
 use Rattle.pisdf_model.specs.declared.graph.Graphs.{Graphs}
 use Rattle.pisdf_meaning.specs.declared.firing.Firing.{Firing}
 use Rattle.board_rules.specs.Board.{RunsAs}
@@ -8,7 +8,6 @@ use Rattle.board_rules.specs.Keys.{Key}
 use Rattle.board_rules.specs.Laws.{JournalsTellSteps}
 use Rattle.board_rules.specs.Legal.{AreLegal, journal_of, state_after}
 use Rattle.job_table.specs.View.{NothingIsLent, lent_in, table_of}
-use Rattle.firing_board.specs.Core.{held_of}
 use Rattle.firing_board.specs.Counted.{counts_kept}
 use Rattle.firing_board.specs.Kept.{Keeps, StandsOrStarves, key_with, view_with}
 use Rattle.firing_board.specs.OnCore.{KeepsKey, MayClaim}

@@ -1,18 +1,16 @@
 -- The item that is picked for a worker, and how its job is opened.
-use Rattle.std.proofs.Common.{◌≡◌, inl, inr, ℕ, true, false, List, [], ◌∷◌, ◌++◌, Option, Some, None, refl, sym, ap, ◌∙◌, subst}
+use Rattle.std.proofs.Common.{◌≡◌, inl, inr, ℕ, true, false, List, ◌∷◌, ◌++◌, Option, Some, None, refl, sym, ap, ◌∙◌, subst}
 use Rattle.std.specs.Option.{option_map}
 use Rattle.job_rules.specs.Items.{rule}
-use Rattle.job_rules.specs.Meant.{IsFit, rank}
+use Rattle.job_rules.specs.Meant.{rank}
 use Rattle.job_rules.specs.Words as words
 use Rattle.nested_jobs.specs.Meanings.{Lawful}
 use Rattle.nested_jobs.specs.Rules.{Call, Place, Task, Work}
-use Rattle.nested_jobs.specs.Tables.{answers_in}
 use Rattle.open_job.specs.View.{IsOfferedCall, IsOfferedWork, answered, task}
 use Rattle.pisdf_meaning.specs.declared.firing.Firing.{Firing}
 use Rattle.pisdf_model.specs.declared.graph.Graphs.{Graphs}
-use Rattle.board_rules.specs.Asking.{IsFirstOfAll, IsOffered, JobRow, NoRowOffers}
+use Rattle.board_rules.specs.Asking.{IsOffered, JobRow, NoRowOffers}
 use Rattle.board_rules.specs.AskingLaws.{FirstWorkIsPicked, NothingIsEnabled, OpenedWorkIsPicked, PathsAreApart}
-use Rattle.board_rules.specs.Board.{HasOpened}
 use Rattle.board_rules.specs.BoardLaws.{NothingOpened}
 use Rattle.board_rules.specs.Entries.{Step}
 use Rattle.board_rules.specs.Keys.{Key, rules}
@@ -22,13 +20,12 @@ use Rattle.board_rules.specs.Offers.{calls}
 use Rattle.board_rules.specs.Picks.{IsPick, is_open}
 use Rattle.job_table.specs.Asked.{IsAsked, PathsDiffer, offer_of}
 use Rattle.job_table.specs.Laws.{CallsAreFit}
-use Rattle.job_table.specs.Suits.{Suits}
 use Rattle.job_table.specs.View.{TableView, job_row, row_at, table_of}
 use Rattle.job_table.specs.declared.asking.Asked.{Asked}
 use Rattle.job_table.specs.declared.row.Row.{Row}
 use Rattle.firing_board.specs.Core.{StandsAt, held_of}
 use Rattle.firing_board.specs.Finding.{HasNoWork, IsFound}
-use Rattle.firing_board.specs.Opening.{Calls, MayOpen, OpensWay, Reaches}
+use Rattle.firing_board.specs.Opening.{Calls, OpensWay}
 use Rattle.firing_board.specs.Wanting.{PicksInNew}
 use Rattle.firing_board.specs.declared.state.Core.{Core}
 use Rattle.firing_board.specs.declared.run.Run.{Run}

@@ -1,15 +1,13 @@
 -- What a worker ran is back, and its item has an answer.
-use Rattle.std.proofs.Common.{◌≡◌, ◌≢◌, ⊎_elim, ℕ, ◌+◌, ◌-◌, ◌<◌, ◌≤◌, Bool, true, false, List, [], ◌∷◌, ◌++◌, length, set, get_or, Option, Some, None, Result, Ok, Err, refl, sym, ap, ◌∙◌, subst, arith}
+use Rattle.std.proofs.Common.{◌≡◌, ◌≢◌, ⊎_elim, ℕ, ◌+◌, ◌-◌, ◌<◌, Bool, true, false, List, [], ◌∷◌, ◌++◌, set, get_or, Option, Some, None, Result, Ok, Err, refl, sym, ap, ◌∙◌, subst, arith}
 use Rattle.std.proofs.lemmas.Bool.{cases_eq}
-use Rattle.std.specs.Option.{option_map}
 use Rattle.std.specs.Prelude.{IfOk, is_err}
 use Rattle.kernel_gate.specs.declared.fault.KernelFault.{KernelFault}
-use Rattle.open_job.specs.Calls.{IsSoundFor}
+use Rattle.open_job.specs.Calls.{HasLongTrace, IsSoundFor}
 use Rattle.kernel_gate.specs.Value.{FrameView, Places}
 use Rattle.job_preparing.specs.Handing.{answer_with, answers, end_of, lent_at, mark_at}
 use Rattle.job_preparing.specs.declared.handing.JobGiven.{JobGiven}
 use Rattle.job_rules.specs.Doing.{Answers}
-use Rattle.job_rules.specs.Items.{rule}
 use Rattle.job_rules.specs.Meant.{rank}
 use Rattle.job_rules.specs.Words as words
 use Rattle.job_rules.specs.Words.{Answer, answer_of}
@@ -22,8 +20,6 @@ use Rattle.nested_jobs.specs.Tables.{put_row, with_mark}
 use Rattle.open_job.specs.View.{answered, task}
 use Rattle.pisdf_meaning.specs.declared.firing.Firing.{Firing}
 use Rattle.pisdf_meaning.specs.declared.refusal.Refusal.{Refusal}
-use Rattle.pisdf_model.specs.declared.graph.Graphs.{Graphs}
-use Rattle.board_rules.specs.Asking.{JobRow}
 use Rattle.board_rules.specs.Board.{Held, IsClosing, KeptAs, OpenJobs, hold}
 use Rattle.board_rules.specs.BoardLaws.{FinishesAreEntered, FinishesBegin, HeldAreBusy}
 use Rattle.board_rules.specs.Entries.{BoardState, Step}
@@ -31,12 +27,12 @@ use Rattle.board_rules.specs.Keys.{Key, rules}
 use Rattle.board_rules.specs.Laws.{JournalsTellSteps, WorkHasOneAnswer}
 use Rattle.board_rules.specs.Legal.{state_after}
 use Rattle.job_table.specs.Calls.{LendsItem, MarksItem, StaysAs}
-use Rattle.job_table.specs.Closing.{Closes, ClosesTo, IsClosingFrom, RowsStay}
+use Rattle.job_table.specs.Closing.{Closes, ClosesLong, ClosesTo, IsClosingFrom}
 use Rattle.job_table.specs.Laws.{FinishesSuit, TablesMark}
 use Rattle.job_table.specs.View.{TableView, job_row, lent_by, lent_in, row_at, table_of}
 use Rattle.job_table.specs.declared.row.Row.{Row}
 use Rattle.firing_board.specs.Closing.{ClosesOn, KeepsJournal, latest}
-use Rattle.firing_board.specs.Core.{AreNumbered, HasEnd, IsEndFor, IsNumbered, StandsAt, held_of, lent_of, lent_with, runners}
+use Rattle.firing_board.specs.Core.{AreNumbered, HasEnd, IsEndFor, IsNumbered, held_of, lent_of, lent_with}
 use Rattle.firing_board.specs.Finishes.{Finishes}
 use Rattle.firing_board.specs.Kept.{Keeps, StandsOrStarves, view_with}
 use Rattle.firing_board.specs.OnCore.{FinishesOn}
@@ -67,6 +63,17 @@ not_both m job x one two = cc
 
 one_answer : (m : Mark Firing Answer) (x y : Answer) → m ≡ Done x → m ≡ Done y → x ≡ y
 one_answer m x y one two = cc
+
+-- after these steps a firing has given a trace with as many rows as no list holds
+pub record GivesLong (key : Key) (taken : List Step) : Type 0 where
+  pub place : Place
+  pub answer : Answer
+  pub done : (state_after key taken).marks place ≡ Done answer
+  pub is_long : HasLongTrace answer
+
+pub when_err : {X E : Type 0} (r : Result X E) (Q : Type 0) → is_err r ≡ true → Rattle.std.specs.Prelude.OnErr r Q → Q
+when_err (Ok x) Q is q = absurd (cc)
+when_err (Err e) Q is q = q
 
 -- a row stays, with what is busy in it and what is answered
 abbrev pub LastsAs : Row → ℕ → TableView → ℕ → Type 0
@@ -281,6 +288,11 @@ module _ (key : Key) (laws : FinishLaws key) (old : Core) (keeps : Keeps key old
           closing = subst (λ (p : Place). IsClosing key keeps.taken (held_of old.running.items) w answer (table_of mid.table) (put m (b.run.item ∷ b.row.place) (Done answer)) p) place moved;
           suits = subst (λ (p : Place). Rattle.job_table.specs.Suits.Suits key (put m (b.run.item ∷ p) (Done answer)) mid.table) (ap (λ (r : Row). r.place) before_is) suit;
         }
+
+    -- a job was closed that gives a trace as no list holds
+    pub long_closing : ((c : IsClosingFrom mid.table b.run.row) → ClosesLong c) → GivesLong key then
+    unfolding closing_from
+    long_closing closes = let g = closes closing_from in record { place = g.place; answer = g.answer; done = g.done; is_long = g.is_long }
 
     module _ (new : Core) (kept : KeepsJournal mid new) (numbers_are : mid.numbers ≡ old.numbers) (closes : ClosesOn mid b.run.row new) where
       held_new : held_of new.running.items ≡ hold (held_of old.running.items) w None

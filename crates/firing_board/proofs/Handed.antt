@@ -1,7 +1,6 @@
 -- What a worker is handed is what a claim says.
 use Rattle.std.proofs.Common.{◌≡◌, ⊎_elim, inl, inr, ℕ, ◌-◌, true, false, Bool, eqb, nat_lt, List, [], ◌∷◌, ◌++◌, length, map, slice_index, get_or, Option, Some, None, refl, sym, ap, ◌∙◌, subst, arith}
 use Rattle.std.proofs.lemmas.Bool.{eq-eqb, eqb-true, le-ltb}
-use Rattle.std.specs.Option.{option_map}
 use Rattle.kernel_gate.specs.Value.{Places}
 use Rattle.job_rules.specs.Items.{compile_number, node_base}
 use Rattle.job_rules.specs.Words as words
@@ -26,7 +25,7 @@ use Rattle.job_table.specs.Calls.{LendsItem, MarksItem}
 use Rattle.job_table.specs.View.{lent_in, job_row, row_at, table_of}
 use Rattle.job_table.specs.declared.row.Row.{Row}
 use Rattle.firing_board.specs.Claims.{Claims, EntersAs, EntersItem, IsTicket, Picks}
-use Rattle.firing_board.specs.Core.{HasRoom, held_of, lent_of}
+use Rattle.firing_board.specs.Core.{HasRoom}
 use Rattle.firing_board.specs.Finding.{IsFound}
 use Rattle.firing_board.specs.Handing.{HandsCompilation, HandsFrame, HandsOut, claim_of, path_in}
 use Rattle.firing_board.specs.Kept.{view_with}

@@ -1,21 +1,17 @@
 -- What a worker is told where nothing may be claimed.
-use Rattle.std.proofs.Common.{◌≡◌, ⊎_elim, ℕ, zero, suc, ◌<◌, ◌≤◌, true, false, List, [], ◌∷◌, length, get_or, Option, Some, None, refl, sym, ap, ◌∙◌, subst, arith}
+use Rattle.std.proofs.Common.{◌≡◌, ⊎_elim, ℕ, suc, ◌<◌, ◌≤◌, List, [], ◌∷◌, length, get_or, Option, Some, None, refl, ap, subst, arith}
 use Rattle.std.specs.List.{All}
 use Rattle.std.proofs.lemmas.Bool.{cases_lt}
 use Rattle.std.proofs.lemmas.List.{get_or_past}
 use Rattle.std.proofs.lemmas.List.Elements.{All-nil, All-cons}
-use Rattle.nested_jobs.specs.Journals.{Runs}
 use Rattle.nested_jobs.specs.Rules.{Place}
 use Rattle.nested_jobs.specs.Steps.{IsEnabled}
 use Rattle.board_rules.specs.Board.{RunsAs}
 use Rattle.board_rules.specs.Entries.{Step}
 use Rattle.board_rules.specs.Keys.{Key, rules}
-use Rattle.board_rules.specs.Laws.{HasToWait}
-use Rattle.board_rules.specs.Legal.{HasEnded, state_after}
+use Rattle.board_rules.specs.Legal.{state_after}
 use Rattle.job_table.specs.View.{table_of}
-use Rattle.firing_board.specs.Claims.{Claims, Stays}
-use Rattle.firing_board.specs.Core.{StandsAt, held_of}
-use Rattle.firing_board.specs.Kept.{Keeps, view_with}
+use Rattle.firing_board.specs.Core.{StandsAt}
 use Rattle.firing_board.specs.OnCore.{ClaimsOn, MayClaim}
 use Rattle.firing_board.specs.declared.claim.Claim.TheVariants as claim
 use Rattle.firing_board.specs.declared.state.Core.{Core}

@@ -1,16 +1,16 @@
 -- What is true of a board doesn't depend on whether compilations are kept in it.
-use Rattle.std.proofs.Common.{◌≡◌, ⊎_elim, ℕ, Bool, false, List, inl, inr, Option, is_some, refl, sym, ap, ◌∙◌, subst}
+use Rattle.std.proofs.Common.{◌≡◌, ⊎_elim, ℕ, Bool, false, List, inl, inr, Option, sym, ap, subst}
 use Rattle.kernel_gate.specs.Value.{Places}
 use Rattle.job_rules.specs.Words as words
 use Rattle.board_rules.specs.Entries.{Step}
 use Rattle.board_rules.specs.Laws.{JournalsTellSteps}
 use Rattle.firing_board.specs.Claims.{Claims, EntersAs, Picks, Stays}
-use Rattle.firing_board.specs.Ends.{EndsAs, HasFinished, IsOver}
+use Rattle.firing_board.specs.Ends.{EndsAs, HasFinished, HasLongTraces, IsOver}
 use Rattle.firing_board.specs.Finishes.{Finishes}
 use Rattle.firing_board.specs.Kept.{IsBoard, Keeps, key_of, view_of, view_with}
 use Rattle.firing_board.specs.OnCore.{MayClaim}
 use Rattle.firing_board.specs.Runs.{AreAllIdle, IsIdle, IsSound, Runs}
-use Rattle.firing_board.specs.View.{BoardView, IsAt, lent_to}
+use Rattle.firing_board.specs.View.{BoardView, IsAt}
 use Rattle.firing_board.specs.Wanting.{MayStarve}
 use Rattle.firing_board.specs.declared.board.Board.TheInside.{Inside}
 use Rattle.firing_board.specs.declared.claim.Claim.{Claim}
@@ -92,6 +92,9 @@ pub ends_as_kept : (k : Bool) (b : BoardView) (end : BoardEnd) → EndsAs b end 
 ends_as_kept k b (ends.Done iteration delays journal) h = h
 ends_as_kept k b (ends.Refused refusal journal) h = h
 ends_as_kept k b ends.Starved h = h
+
+pub long_as : (k : Bool) (b : BoardView) → HasLongTraces b → HasLongTraces (keeping k b)
+long_as k b h = record { taken = h.taken; at = at_as k b h.taken h.at; place = h.place; answer = h.answer; done = h.done; is_long = h.is_long }
 
 -- ---- the view of a board
 

@@ -1,5 +1,5 @@
 -- A worker gives back what it runs.
-use Rattle.std.proofs.Common.{◌≡◌, ◌≢◌, ⊎_elim, ℕ, zero, suc, ◌+◌, ◌-◌, ◌<◌, ◌≤◌, Bool, true, false, List, [], ◌∷◌, ◌++◌, length, map, set, get_or, length-set, Option, Some, None, refl, sym, ap, ap₂, ◌∙◌, subst, arith}
+use Rattle.std.proofs.Common.{◌≡◌, ◌≢◌, ⊎_elim, ℕ, zero, suc, ◌+◌, ◌-◌, ◌<◌, Bool, true, false, List, [], ◌∷◌, ◌++◌, length, set, get_or, length-set, Option, Some, None, refl, sym, ap, ◌∙◌, subst, arith}
 use Rattle.std.proofs.lemmas.Bool.{cases_eq}
 use Rattle.std.proofs.lemmas.List.{get_or-set_same, get_or-set_other}
 use Rattle.kernel_gate.specs.Value.{Places}
@@ -12,7 +12,7 @@ use Rattle.job_rules.specs.Words.{Answer}
 use Rattle.nested_jobs.specs.Journals as steps
 use Rattle.nested_jobs.specs.Journals.{after, assign, start, task_of}
 use Rattle.nested_jobs.specs.Kept as kept
-use Rattle.nested_jobs.specs.Marks.{Busy, Done, Mark, answer_of}
+use Rattle.nested_jobs.specs.Marks.{Busy}
 use Rattle.nested_jobs.specs.Meanings.{Lawful}
 use Rattle.nested_jobs.specs.Rules.{Place, Task, Work}
 use Rattle.nested_jobs.proofs.Appending.{legal-snoc, state-snoc}
@@ -27,16 +27,15 @@ use Rattle.board_rules.specs.Laws.{JournalsTellSteps, WorkHasOneAnswer}
 use Rattle.board_rules.specs.Legal.{AreLegal, ArePickedFrom, IsPicked, journal_of, state_after}
 use Rattle.board_rules.specs.declared.entry.Entry.TheVariants as entry
 use Rattle.board_rules.specs.declared.entry.Entry.{Entry}
-use Rattle.job_table.specs.Calls.{LendsItem, MarksItem, StaysAs}
+use Rattle.job_table.specs.Calls.{StaysAs}
 use Rattle.job_table.specs.View.{TableView, lent_in, row_at}
 use Rattle.job_table.specs.declared.row.Row.{Row}
 use Rattle.firing_board.specs.Core.{IsLentToRunners, held_of, lent_of, lent_with, runners}
 use Rattle.firing_board.specs.Finishes.{Finishes}
 use Rattle.firing_board.specs.Kept.{Keeps, StandsOrStarves, view_with}
-use Rattle.firing_board.specs.OnCore.{FinishesOn}
 use Rattle.firing_board.specs.Returning.{HasFinish}
 use Rattle.firing_board.specs.Runs.{RunsWork}
-use Rattle.firing_board.specs.Starved.{IsStillRun, Lasts, LastsIn, StarvesAt, StillRuns}
+use Rattle.firing_board.specs.Starved.{IsStillRun, Lasts, StarvesAt, StillRuns}
 use Rattle.firing_board.specs.View.{IsAt}
 use Rattle.firing_board.specs.declared.state.Core.{Core}
 use Rattle.firing_board.specs.declared.run.Run.{Run}

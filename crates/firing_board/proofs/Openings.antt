@@ -1,9 +1,9 @@
 -- Jobs that are opened one in the other, on the way to work.
-use Rattle.std.proofs.Common.{◌≡◌, ◌≢◌, ⊎_elim, ℕ, zero, suc, ◌+◌, ◌<◌, List, [], ◌∷◌, ◌++◌, length, get_or, length-append, append_assoc, Option, Some, None, refl, sym, ap, ◌∙◌, subst, arith}
+use Rattle.std.proofs.Common.{◌≡◌, ◌≢◌, ⊎_elim, ℕ, ◌+◌, ◌<◌, List, [], ◌∷◌, ◌++◌, length, length-append, Option, Some, None, refl, sym, ap, ◌∙◌, subst, arith}
 use Rattle.std.specs.Prelude.{IfOk, OnErr, OnOk, Result, Ok, Err, slice_index_or}
 use Rattle.std.proofs.lemmas.Bool.{cases_eq}
 use Rattle.std.proofs.lemmas.List.{get_or_append_left, get_or_at}
-use Rattle.job_preparing.specs.Handing.{answers, mark_at}
+use Rattle.job_preparing.specs.Handing.{mark_at}
 use Rattle.job_rules.specs.Items.{rule}
 use Rattle.job_rules.specs.Meant.{IsFit, rank}
 use Rattle.job_rules.specs.Words as words
@@ -11,8 +11,7 @@ use Rattle.job_rules.specs.Words.{Answer}
 use Rattle.nested_jobs.specs.Marks.{Free, Marks, Open, answer_of, put}
 use Rattle.nested_jobs.specs.Meanings.{Lawful}
 use Rattle.nested_jobs.specs.Rules.{Call, Place, Task, Values, Work}
-use Rattle.nested_jobs.specs.Tables.{fresh_row, put_row, with_mark}
-use Rattle.open_job.specs.View.{IsOfferedCall, answered, task}
+use Rattle.open_job.specs.View.{answered, task}
 use Rattle.pisdf_meaning.specs.declared.firing.Firing.{Firing}
 use Rattle.pisdf_model.specs.declared.graph.Graphs.{Graphs}
 use Rattle.board_rules.specs.Board.{HasOpened, OpenJobs}
@@ -20,12 +19,12 @@ use Rattle.board_rules.specs.BoardLaws.{OneMoreOpened}
 use Rattle.board_rules.specs.Keys.{Key, rules}
 use Rattle.board_rules.specs.Offers.{AreFirst}
 use Rattle.board_journal.specs.View.{path_at}
-use Rattle.job_table.specs.Calls.{BeginsWith, OpensChild}
+use Rattle.job_table.specs.Calls.{OpensChild}
 use Rattle.job_table.specs.Laws.{FirstCallsAreFit, OpeningsSuit, TablesOpen}
 use Rattle.job_table.specs.Suits.{Suits}
 use Rattle.job_table.specs.View.{TableView, job_row, row_at, table_of}
 use Rattle.job_table.specs.declared.row.Row.{Row}
-use Rattle.firing_board.specs.Core.{AreNumbered, IsNumbered}
+use Rattle.firing_board.specs.Core.{AreNumbered}
 use Rattle.firing_board.specs.Opening.{Calls, IsOpenTo, KeepsRuns, Reaches}
 use Rattle.firing_board.specs.declared.run.Run.{Run}
 use Rattle.firing_board.specs.declared.state.Core.{Core}

@@ -1,5 +1,5 @@
 -- Room in the journal for the entries that may come.
-use Rattle.std.proofs.Common.{◌≡◌, ℕ, ◌+◌, ◌-◌, ◌*◌, ◌<◌, ◌≤◌, Bool, true, false, set, Some, refl, sym, ap, ◌∙◌, subst, arith}
+use Rattle.std.proofs.Common.{◌≡◌, ℕ, ◌+◌, ◌-◌, ◌≤◌, Bool, true, false, set, Some, refl, ap, ◌∙◌, arith}
 use Rattle.board_journal.specs.View.{JournalView}
 use Rattle.board_rules.specs.declared.entry.Item.{Item}
 use Rattle.job_table.specs.View.{free_items}
@@ -7,7 +7,7 @@ use Rattle.firing_board.specs.Closing.{KeepsJournal}
 use Rattle.firing_board.specs.Core.{HasRoom, runners}
 use Rattle.firing_board.specs.Handing.{Enters}
 use Rattle.firing_board.specs.Kept.{HasRoomUnless}
-use Rattle.firing_board.specs.Returning.{HasFinish, Leaves}
+use Rattle.firing_board.specs.Returning.{Leaves}
 use Rattle.firing_board.specs.declared.claim.Ticket.{Ticket}
 use Rattle.firing_board.specs.declared.run.Run.{Run}
 use Rattle.firing_board.specs.declared.state.Core.{Core}

@@ -2,11 +2,9 @@
 use Rattle.std.proofs.Common.{◌≡◌, ◌≢◌, ⊎_elim, ℕ, Option, Some, None, refl, sym, ap, ◌∙◌, subst}
 use Rattle.std.proofs.lemmas.Bool.{cases_eq}
 use Rattle.std.specs.Option.{option_map}
-use Rattle.job_preparing.specs.Handing.{answers, mark_at}
-use Rattle.job_rules.specs.Words.{Answer}
-use Rattle.nested_jobs.specs.Marks.{Busy, Free, Mark, answer_of}
-use Rattle.pisdf_meaning.specs.declared.firing.Firing.{Firing}
-use Rattle.job_table.specs.Calls.{MarksItem, OpensChild, SpoilsItem, StaysAs}
+use Rattle.job_preparing.specs.Handing.{mark_at}
+use Rattle.nested_jobs.specs.Marks.{Busy, Free, answer_of}
+use Rattle.job_table.specs.Calls.{OpensChild, SpoilsItem, StaysAs}
 use Rattle.job_table.specs.View.{TableView, job_row, row_at, table_of}
 use Rattle.job_table.specs.declared.row.Row.{Row}
 use Rattle.firing_board.specs.Starved.{Lasts, LastsIn}

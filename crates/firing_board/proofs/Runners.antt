@@ -1,10 +1,10 @@
 -- What workers run, and what is lent to them, when one of them begins or ends.
-use Rattle.std.proofs.Common.{◌≡◌, ◌≢◌, ℕ, zero, suc, ◌+◌, ◌<◌, ◌≤◌, true, false, cond, eqb, List, [], ◌∷◌, length, map, set, get_or, Option, Some, None, refl, sym, ap, ap₂, ◌∙◌, arith}
+use Rattle.std.proofs.Common.{◌≡◌, ◌≢◌, ℕ, zero, suc, ◌+◌, ◌<◌, ◌≤◌, true, false, cond, eqb, List, [], ◌∷◌, length, set, get_or, Option, Some, None, refl, sym, ap, ap₂, ◌∙◌, arith}
 use Rattle.std.specs.Option.{option_map}
 use Rattle.std.proofs.lemmas.Bool.{eq-eqb, eqb-true}
 use Rattle.std.proofs.lemmas.List.{get_or-set_same, get_or-set_other}
 use Rattle.kernel_gate.specs.Value.{Places}
-use Rattle.board_rules.specs.Board.{Held, hold}
+use Rattle.board_rules.specs.Board.{hold}
 use Rattle.job_table.specs.View.{TableView, lent_in}
 use Rattle.firing_board.specs.Core.{held_of, lent_of, lent_with, runners}
 use Rattle.firing_board.specs.declared.run.Run.{Run}

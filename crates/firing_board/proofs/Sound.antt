@@ -1,19 +1,17 @@
 -- What is true of every board.
-use Rattle.std.proofs.Common.{◌≡◌, ⊎_elim, ℕ, ◌*◌, ◌<◌, ◌≤◌, Bool, false, Option, Some, None, length, get_or, refl, sym, ap, ◌∙◌, subst, arith}
+use Rattle.std.proofs.Common.{◌≡◌, ⊎_elim, ◌*◌, ◌<◌, ◌≤◌, Bool, false, None, length, ap, ◌∙◌, subst, arith}
 use Rattle.std.proofs.lemmas.Bool.{cases_lt}
 use Rattle.std.proofs.lemmas.List.{get_or_past, length-map}
 use Rattle.board_rules.specs.AskingLaws.{RowsAreFew}
 use Rattle.board_rules.specs.Keys.{Key}
 use Rattle.board_rules.specs.Laws.{JournalsTellSteps}
-use Rattle.board_rules.specs.Legal.{state_after}
 use Rattle.job_table.specs.Laws.{KeysAreRows}
 use Rattle.job_table.specs.View.{keys_of, table_of}
 use Rattle.firing_board.specs.Core.{held_of, lent_of, lent_with}
 use Rattle.firing_board.specs.Kept.{Keeps, StandsOrStarves, view_with}
 use Rattle.firing_board.specs.Runs.{IsSound}
-use Rattle.firing_board.specs.View.{IsAt, lent_to}
+use Rattle.firing_board.specs.View.{IsAt}
 use Rattle.firing_board.specs.declared.state.Core.{Core}
-use Rattle.firing_board.specs.declared.run.Run.{Run}
 use Rattle.firing_board.proofs.Fields.{entered_by, legal_by, nothing_held}
 use Rattle.firing_board.proofs.Leaving.{lent_at_worker}
 

@@ -1,5 +1,5 @@
 -- A board at its start.
-use Rattle.std.proofs.Common.{◌≡◌, ◌≢◌, ⊎_elim, ℕ, zero, suc, ◌<◌, ◌≤◌, false, List, [], ◌∷◌, length, replicate, get_or, Option, Some, None, refl, sym, ap, ap₂, ◌∙◌, subst, arith}
+use Rattle.std.proofs.Common.{◌≡◌, ⊎_elim, ℕ, zero, suc, false, List, [], ◌∷◌, length, replicate, get_or, Option, Some, None, refl, sym, ap, ◌∙◌, subst, arith}
 use Rattle.std.specs.Prelude.{slice_index_or}
 use Rattle.std.proofs.lemmas.Bool.{cases_eq}
 use Rattle.std.proofs.lemmas.List.{length-replicate}
@@ -7,20 +7,18 @@ use Rattle.kernel_gate.specs.Value.{Places}
 use Rattle.job_rules.specs.Words.{Answer}
 use Rattle.nested_jobs.specs.Journals.{start}
 use Rattle.nested_jobs.specs.Marks.{Done, Mark, Open}
-use Rattle.nested_jobs.specs.Tables.{fresh_row, put_row}
 use Rattle.pisdf_meaning.specs.declared.firing.Firing.{Firing}
 use Rattle.pisdf_model.specs.declared.graph.Graphs.{Graphs}
 use Rattle.board_rules.specs.Board.{Held, KeptAs, OpenJobs}
 use Rattle.board_rules.specs.BoardLaws.{BoardsStart}
 use Rattle.board_rules.specs.Keys.{IsKey, Key, top_job}
-use Rattle.board_rules.specs.Legal.{state_after}
 use Rattle.board_journal.specs.View.{path_at}
 use Rattle.job_table.specs.Calls.{IsStarted}
 use Rattle.job_table.specs.Laws.{StartsSuit, TablesStart}
 use Rattle.job_table.specs.View.{NothingIsLent, TableView, lent_by, lent_in, row_at, table_of}
 use Rattle.job_table.specs.declared.row.Row.{Row}
 use Rattle.firing_board.specs.Beginning.{IsStartedOn}
-use Rattle.firing_board.specs.Core.{AreNumbered, HasEnd, IsEndFor, IsLentToRunners, IsNumbered, StandsAt, held_of, lent_of, runners}
+use Rattle.firing_board.specs.Core.{AreNumbered, IsLentToRunners, StandsAt, held_of, lent_of, runners}
 use Rattle.firing_board.specs.Kept.{Keeps}
 use Rattle.firing_board.specs.declared.state.Core.{Core}
 use Rattle.firing_board.specs.declared.run.Run.{Run}

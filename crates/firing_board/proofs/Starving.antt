@@ -1,18 +1,14 @@
 -- What is kept of a board when memory is wanted.
-use Rattle.std.proofs.Common.{◌≡◌, ℕ, ◌+◌, ◌<◌, ◌≤◌, true, false, List, [], ◌∷◌, length, get_or, Option, Some, None, refl, sym, ap, ap₂, ◌∙◌, subst, arith}
-use Rattle.std.specs.Option.{option_map}
+use Rattle.std.proofs.Common.{◌≡◌, ℕ, ◌<◌, ◌≤◌, true, false, List, ◌∷◌, length, Option, Some, None, sym, ap, ap₂, ◌∙◌, subst, arith}
 use Rattle.kernel_gate.specs.Value.{Places}
-use Rattle.job_preparing.specs.Handing.{answers, mark_at}
+use Rattle.job_preparing.specs.Handing.{mark_at}
 use Rattle.job_rules.specs.Items.{rule}
 use Rattle.job_rules.specs.Meant.{rank}
-use Rattle.job_rules.specs.Words as words
-use Rattle.job_rules.specs.Words.{Answer}
 use Rattle.nested_jobs.specs.Journals.{task_of}
 use Rattle.nested_jobs.specs.Marks.{Busy}
 use Rattle.nested_jobs.specs.Meanings.{Lawful}
-use Rattle.nested_jobs.specs.Rules.{Place, Task, Work}
-use Rattle.open_job.specs.View.{answered, task}
-use Rattle.pisdf_model.specs.declared.graph.Graphs.{Graphs}
+use Rattle.nested_jobs.specs.Rules.{Place, Work}
+use Rattle.open_job.specs.View.{answered}
 use Rattle.board_rules.specs.Asking.{JobRow}
 use Rattle.board_rules.specs.Board.{RunsAs}
 use Rattle.board_rules.specs.BoardLaws.{HeldAreBusy}
@@ -21,12 +17,11 @@ use Rattle.board_rules.specs.Keys.{Key, rules}
 use Rattle.board_rules.specs.Legal.{state_after}
 use Rattle.board_rules.specs.declared.entry.Entry.{Entry}
 use Rattle.job_table.specs.Calls.{LendsAsBefore}
-use Rattle.job_table.specs.View.{TableView, job_row, lent_in, row_at, table_of}
-use Rattle.job_table.specs.declared.row.Row.{Row}
+use Rattle.job_table.specs.View.{TableView, row_at, table_of}
 use Rattle.firing_board.specs.Core.{StandsAt, held_of, lent_of, runners}
-use Rattle.firing_board.specs.Kept.{Keeps, view_with}
+use Rattle.firing_board.specs.Kept.{Keeps}
 use Rattle.firing_board.specs.OnCore.{StarvesOn}
-use Rattle.firing_board.specs.Starved.{Lasts, StarvesAt, StillRuns}
+use Rattle.firing_board.specs.Starved.{Lasts, StillRuns}
 use Rattle.firing_board.specs.declared.state.Core.{Core}
 use Rattle.firing_board.specs.declared.run.Run.{Run}
 use Rattle.firing_board.proofs.Claimed.{task_stands}

@@ -1,14 +1,10 @@
 -- What a claim does.
-use Rattle.std.specs.Prelude.{◌≡◌, ◌⊎◌, ℕ, ℤ, true, false, List, [], ◌∷◌, ◌++◌, Option, Some, None, length, slice_set}
+use Rattle.std.specs.Prelude.{◌≡◌, ℕ, ℤ, true, false, List, [], ◌∷◌, ◌++◌, Option, Some, None, length, slice_set}
 use Rattle.kernel_gate.specs.Value.{Places}
 use Rattle.nested_jobs.specs.Journals as steps
 use Rattle.nested_jobs.specs.Rules.{Place}
-use Rattle.job_preparing.specs.CompileTasks.{CompileView}
 use Rattle.job_preparing.specs.Handing.{AsksFor, CopiesIn}
 use Rattle.job_rules.specs.Words.{Asked, Compiles, Copies, Fires, Spot, Work}
-use Rattle.sdf_level.specs.declared.node.Node.{Node}
-use Rattle.pisdf_meaning.specs.declared.firing.Configured.{Configured}
-use Rattle.pisdf_meaning.specs.declared.firing.Firing.{Firing}
 use Rattle.board_rules.specs.Entries.{Step}
 use Rattle.board_rules.specs.Laws.{HasToWait}
 use Rattle.board_rules.specs.Legal.{HasEnded, state_after}

@@ -1,10 +1,8 @@
 -- The item that is picked for a worker.
-use Rattle.std.specs.Prelude.{◌≡◌, ◌⊎◌, ℕ, false, List, [], ◌∷◌, Option, Some, None}
-use Rattle.nested_jobs.specs.Marks.{Free, Marks}
-use Rattle.nested_jobs.specs.Rules.{Place, Work}
+use Rattle.std.specs.Prelude.{◌≡◌, ◌⊎◌, ℕ, false, List, ◌∷◌, Option, Some, None}
+use Rattle.nested_jobs.specs.Marks.{Marks}
+use Rattle.nested_jobs.specs.Rules.{Place}
 use Rattle.nested_jobs.specs.Steps.{IsEnabled}
-use Rattle.job_preparing.specs.Handing.{mark_at}
-use Rattle.job_rules.specs.Words as words
 use Rattle.job_rules.specs.Words.{Answer}
 use Rattle.open_job.specs.View.{IsOfferedWork}
 use Rattle.pisdf_meaning.specs.declared.firing.Firing.{Firing}

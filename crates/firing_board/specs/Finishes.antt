@@ -1,5 +1,5 @@
 -- What a finish does.
-use Rattle.std.specs.Prelude.{◌≡◌, ℕ, List, [], ◌∷◌, ◌++◌, Option, Some, None, Result, slice_set}
+use Rattle.std.specs.Prelude.{◌≡◌, ℕ, List, [], ◌∷◌, ◌++◌, Some, None, Result, slice_set}
 use Rattle.kernel_gate.specs.Value.{FrameView}
 use Rattle.kernel_gate.specs.declared.fault.KernelFault.{KernelFault}
 use Rattle.nested_jobs.specs.Journals as steps

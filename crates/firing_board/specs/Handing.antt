@@ -1,5 +1,5 @@
 -- What a worker is handed that claims an item.
-use Rattle.std.specs.Prelude.{◌≡◌, ◌≢◌, ◌⊎◌, ℕ, ◌-◌, ◌<◌, List, [], ◌∷◌, ◌++◌, Option, Some, None, length, slice_index_or, slice_set}
+use Rattle.std.specs.Prelude.{◌≡◌, ◌≢◌, ◌⊎◌, ℕ, ◌-◌, ◌<◌, List, [], ◌∷◌, ◌++◌, Option, Some, length, slice_index_or, slice_set}
 use Rattle.nested_jobs.specs.Marks.{Busy}
 use Rattle.job_compiler.specs.Compilation.{Compilation}
 use Rattle.open_job.specs.Calls.{IsHanded, frame_of}

@@ -1,5 +1,5 @@
 -- What claims and finishes do to the open jobs, what workers run and the journal, as the board has them.
-use Rattle.std.specs.Prelude.{◌≡◌, ℕ, ◌<◌, Bool, true, false, Option, Some, None, length, slice_index_or}
+use Rattle.std.specs.Prelude.{◌≡◌, ℕ, ◌<◌, Bool, true, false, Option, None, length, slice_index_or}
 use Rattle.kernel_gate.specs.Value.{Places}
 use Rattle.job_rules.specs.Words.{Work}
 use Rattle.board_rules.specs.Keys.{Key}

@@ -1,5 +1,5 @@
 -- How jobs are opened for a claim.
-use Rattle.std.specs.Prelude.{◌≡◌, ℕ, ◌≤◌, List, [], ◌∷◌, ◌++◌, Some}
+use Rattle.std.specs.Prelude.{◌≡◌, ℕ, ◌≤◌, List, ◌∷◌, ◌++◌, Some}
 use Rattle.nested_jobs.specs.Marks.{Free, Marks}
 use Rattle.nested_jobs.specs.Rules.{Call, Place, Work}
 use Rattle.job_preparing.specs.Handing.{mark_at}

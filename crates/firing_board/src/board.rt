@@ -59,7 +59,7 @@ impl Model for Board {
 impl Board {
     ghost use Rattle.board_rules.specs.Keys.{IsKey};
     ghost use Rattle.firing_board.specs.Claims.{Claims, EntersAs};
-    ghost use Rattle.firing_board.specs.Ends.{EndsAs, IsOver};
+    ghost use Rattle.firing_board.specs.Ends.{EndsAs, HasLongTraces, IsOver};
     ghost use Rattle.firing_board.specs.Finishes.{Finishes, MayComeBack, MayEnd};
     ghost use Rattle.firing_board.specs.Runs.{AreAllIdle, IsIdle, IsSound, Runs};
     ghost use Rattle.firing_board.specs.Starts.{key_from};
@@ -134,12 +134,13 @@ impl Board {
     }
 
     /// Finishes a kernel or a node: its frame comes back with what it wrote, or with the fault of the kernel. It takes no
-    /// memory; where a trace would have 2^63 rows or more, the board starves.
+    /// memory: the board starves only where a firing has given a trace of 2^63 rows or more.
     pub fn finish_fire(&mut self, ticket: Ticket, frame: Frame, answer: Result<(), KernelFault>)
         requires runs { Runs self.old ticket.worker (MayComeBack self.old.key frame answer (IsOk answer)) }
         requires lent { lent_to self.old ticket.worker ≡ Some frame.places }
         ensures finishes { Finishes self.old self.new ticket.worker }
         ensures starved { self.old.starved ≡ true → self.new.starved ≡ true }
+        ensures live { self.old.starved ≡ false → self.new.starved ≡ true → HasLongTraces self.new }
     {
         self.starved = finish_frame(&mut self.core, self.starved, ticket.worker, frame, answer);
     }
@@ -155,6 +156,7 @@ impl Board {
         requires lent { lent_to self.old ticket.worker ≡ Some frame.places }
         ensures finishes { Finishes self.old self.new ticket.worker }
         ensures starved { self.old.starved ≡ true → self.new.starved ≡ true }
+        ensures live { self.old.starved ≡ false → self.new.starved ≡ true → HasLongTraces self.new }
     {
         self.finish_fire(ticket, frame, answer);
     }

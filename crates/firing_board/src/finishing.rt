@@ -1,11 +1,13 @@
 // Takes back what a worker ran.
 ghost use Rattle.std.specs.Prelude.{◌≡◌, ◌<◌, ◌≤◌, IfOk, IsErr, IsOk, None, OnErr, OnOk, Some, false, true, length, slice_index_or, slice_set};
 ghost use Rattle.board_rules.specs.Keys.{Key};
-ghost use Rattle.job_table.specs.Closing.{IsClosingFrom};
+ghost use Rattle.job_table.specs.Closing.{ClosesLong, IsClosingFrom};
 ghost use Rattle.job_table.specs.View.{free_items};
 ghost use Rattle.firing_board.specs.Closing.{ClosesOn, KeepsJournal};
 ghost use Rattle.firing_board.specs.Core.{HasRoom};
+ghost use Rattle.firing_board.specs.Ends.{HasLongTraces};
 ghost use Rattle.firing_board.specs.Finishes.{MayComeBack, MayEnd};
+ghost use Rattle.firing_board.specs.Kept.{view_with};
 ghost use Rattle.firing_board.specs.OnCore.{FinishesOn, KeepsKey, MayLeave};
 ghost use Rattle.firing_board.specs.Returning.{Compiles, GivesUp, Leaves, MayCompile, MayReturn, Returns, RunsItem};
 
@@ -81,12 +83,13 @@ fn take_compilation(
 ///
 /// # Errors
 ///
-/// Want of memory.
+/// Want of memory, only where a trace would have 2^63 rows or more.
 fn close(core: &mut Core, row: usize) -> Result<(), AllocError>
     requires { IsClosingFrom core.old.table row }
     ensures closed { IfOk result (λ done. ClosesOn core.old row core.new) }
     ensures kept { KeepsJournal core.old core.new }
     ensures fewer { free_items core.new.table ≤ free_items core.old.table }
+    ensures long { OnErr result ((c : IsClosingFrom core.old.table row) → ClosesLong c) }
 {
     if let Some(end) = core.table.close_from(row)? {
         core.end = Some(end);
@@ -106,6 +109,7 @@ pub(crate) fn finish_frame(
     ensures finished { (key : Key) → MayLeave key core.old starved worker (MayComeBack key frame answer (IsOk answer)) (Some frame.places) → FinishesOn key core.old starved worker core.new result }
     ensures kept { KeepsKey core.old core.new }
     ensures room { HasRoom core.old → HasRoom core.new }
+    ensures live { starved ≡ false → result ≡ true → (key : Key) → MayLeave key core.old starved worker (MayComeBack key frame answer (IsOk answer)) (Some frame.places) → HasLongTraces (view_with key core.new true) }
 {
     boards_keep();
     journals_grow();

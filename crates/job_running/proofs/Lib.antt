@@ -18,3 +18,4 @@ pub mod GivenStates
 pub mod FiringEnds
 pub mod EndSizes
 pub mod SuitedEnds
+pub mod LongTraces

@@ -1,5 +1,5 @@
 -- What the calls of a running firing give and take.
-use Rattle.std.specs.Prelude.{◌≡◌, ℕ, length, Option, Some, None, Result}
+use Rattle.std.specs.Prelude.{◌≡◌, ℕ, length, Option, Some, None, Result, Ok, Err}
 use Rattle.kernel_gate.specs.Value.{FrameView}
 use Rattle.nested_jobs.specs.Marks.{Open}
 use Rattle.nested_jobs.specs.Rules.{Task, Work, Call}
@@ -11,6 +11,8 @@ use Rattle.job_rules.specs.Words as words
 use Rattle.job_preparing.specs.Handing.{AsksFor, CopiesIn, EndSuits, end_of, mark_at, with_traces}
 use Rattle.job_preparing.specs.declared.handing.JobGiven.{JobGiven}
 use Rattle.job_preparing.specs.declared.handing.Left.{Left}
+use Rattle.pisdf_meaning.specs.Endings.{End}
+use Rattle.job_running.specs.Parts.{IsLong}
 use Rattle.job_running.specs.View.{RunningView}
 use Rattle.job_running.specs.declared.handed.Handed.{Handed}
 use Rattle.job_running.specs.declared.handed.Handed.TheVariants.{Fire, Copy}
@@ -62,3 +64,8 @@ pub record IsEndOfCall (v : RunningView) (n : ℕ) (end : Result JobGiven Refusa
 pub record IsLeft (v : RunningView) (left : Left) : Type 0 where
   pub traced : length left.traces ≡ length left.configured
   pub all : with_traces left.configured left.traces ≡ v.prepared.left
+
+-- what is given has a trace with as many rows as no list holds
+abbrev pub HasLongTrace : End → Type 0
+HasLongTrace (Ok given) = IsLong given.trace
+HasLongTrace (Err refusal) = ⊥

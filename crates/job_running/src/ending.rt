@@ -1,12 +1,12 @@
 // How a firing ends.
-ghost use Rattle.std.specs.Prelude.{ℕ, ◌≡◌, ◌+◌, ◌<◌, ◌≤◌, ◌++◌, List as Seq, [], drop, length, map, vec_capacity, vec_len, slice_index_or, if◌then◌else◌, IfOk};
+ghost use Rattle.std.specs.Prelude.{ℕ, ◌≡◌, ◌+◌, ◌<◌, ◌≤◌, ◌++◌, List as Seq, [], drop, length, map, vec_capacity, vec_len, slice_index_or, if◌then◌else◌, IfOk, OnErr};
 ghost use Rattle.std.specs.List.{filter};
 ghost use Rattle.pisdf_meaning.specs.Running.{Traces, actor_states, child_rows, fifo_states, state_after, state_of_first};
 ghost use Rattle.pisdf_meaning.specs.States.{goes_on, tokens_at};
 ghost use Rattle.param_resolver.specs.Numbering.{acting, has_state, is_kept};
 ghost use Rattle.pisdf_model.specs.declared.graph.Graph.{Graph as GraphView};
 ghost use Rattle.job_preparing.specs.Handing.{with_traces};
-ghost use Rattle.job_running.specs.Parts.{HaveTraces};
+ghost use Rattle.job_running.specs.Parts.{HaveTraces, IsLong};
 ghost use Rattle.job_running.specs.Stages.{refusal_at, refusal_for, spot_of, stage_at};
 ghost use Rattle.one_job.specs.View.{IsFiring};
 ghost use Rattle.pisdf_model.specs.declared.actor.Actor.{Actor as ActorView};
@@ -165,6 +165,7 @@ pub(crate) fn job_given(
     ensures same { IfOk result (λ given. (given.outs ≡ outs) × (given.exports ≡ own.exports)) }
     ensures state { (graphs : Seq GraphView) → own.keeps.items ≡ map (has_state graphs) (acting graph.now) → IfOk result (λ given. given.state ≡ state_after graphs graph.now left.configured stored) }
     ensures trace { (counts : Seq ℕ) (traces : Traces) → length left.traces ≡ length left.configured → HaveTraces counts traces own.traces.items → IfOk result (λ given. given.trace ≡ own.rows ++ child_rows counts traces 0 graph.now.actors (with_traces left.configured left.traces)) }
+    ensures long { (counts : Seq ℕ) (traces : Traces) → length left.traces ≡ length left.configured → HaveTraces counts traces own.traces.items → OnErr result (IsLong (own.rows ++ child_rows counts traces 0 graph.now.actors (with_traces left.configured left.traces))) }
 {
     let Ending {
         keeps,

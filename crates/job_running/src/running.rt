@@ -79,7 +79,7 @@ impl Model for Running {
 
 impl Running {
     ghost use Rattle.job_running.specs.View.{IsOfferedCall, IsOfferedWork, RunningView, graph_in, is_quiet, nodes_of, outcome_of, step_of_node, task};
-    ghost use Rattle.job_running.specs.Calls.{IsEndOfCall, IsHanded, IsLeft, frame_of};
+    ghost use Rattle.job_running.specs.Calls.{HasLongTrace, IsEndOfCall, IsHanded, IsLeft, frame_of};
 
     /// The number of nodes.
     pub fn count(&self) -> u32
@@ -249,11 +249,12 @@ impl Running {
     ///
     /// # Errors
     ///
-    /// Want of memory: the trace would have 2^63 rows or more.
+    /// Want of memory, only where the trace would have 2^63 rows or more.
     pub fn outcome(self, left: Left) -> Result<Result<JobGiven, Refusal>, AllocError>
         requires quiet { is_quiet self ≡ true }
         requires left { IsLeft self left }
         ensures end { IfOk result (λ end. end_of end ≡ outcome_of self) }
+        ensures long { OnErr result (HasLongTrace (outcome_of self)) }
         ensures suits { IfOk result (λ end. EndSuits self.graphs.graphs self.firing (end_of end)) }
     {
         graphs_numbered();

@@ -13,3 +13,4 @@ pub mod Beginnings
 pub mod Methods
 pub mod Openings
 pub mod CloseSteps
+pub mod LongTraces

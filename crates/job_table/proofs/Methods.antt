@@ -120,3 +120,13 @@ all_before rows last all = All-from_get_or IsUnlent rows None (λ k lt.
 
 pub all_last : (rows : List (Option Row)) (last : Option Row) → All IsUnlent (rows ++ last ∷ []) → IsUnlent last
 all_last rows last all = subst IsUnlent (get_or_at rows last [] None (length rows) refl) (All-get_or IsUnlent (rows ++ last ∷ []) (length rows) None (let t = length-append rows (last ∷ []) in omega arith) all)
+
+-- ---- results
+
+pub on_err_by : {T E : Type 0} (r : Result T E) (Q : Type 0) → Q → OnErr r Q
+on_err_by (Ok x) Q q = tt
+on_err_by (Err e) Q q = q
+
+pub on_err_weaker : {T E : Type 0} (r : Result T E) (P Q : Type 0) → (P → Q) → OnErr r P → OnErr r Q
+on_err_weaker (Ok x) P Q f is = is
+on_err_weaker (Err e) P Q f is = f is

@@ -59,7 +59,7 @@ impl JobTable {
     ghost use Rattle.open_job.specs.View.{IsOfferedCall, IsOfferedCompilation, IsOfferedWork, compilation_of, left_by, task};
     ghost use Rattle.job_table.specs.Asked.{IsAsked};
     ghost use Rattle.job_table.specs.Calls.{BeginsWith, FinishesIn, IsStarted, LendsAsBefore, LendsItem, MarksItem, OpensChild, SpoilsItem};
-    ghost use Rattle.job_table.specs.Closing.{Closes, IsClosingFrom, RowsStay};
+    ghost use Rattle.job_table.specs.Closing.{Closes, ClosesLong, IsClosingFrom, RowsStay};
     ghost use Rattle.job_table.specs.View.{HasJob, NothingIsLent, free_items, keys_of, lent_in};
 
     /// A table of one job, the top one, of which nothing is claimed. The jobs will be mapped on so many workers.
@@ -244,7 +244,7 @@ impl JobTable {
     ///
     /// # Errors
     ///
-    /// Want of memory: a trace would have 2^63 rows or more.
+    /// Want of memory, only where a trace would have 2^63 rows or more.
     pub fn close_from(
         &mut self,
         row: usize,
@@ -253,6 +253,7 @@ impl JobTable {
         ensures closed { IfOk result (Closes self.old row self.new) }
         ensures stay { RowsStay self.old self.new }
         ensures fewer { free_items self.new ≤ free_items self.old }
+        ensures long { OnErr result ((c : IsClosingFrom self.old row) → ClosesLong c) }
     {
         boards_keep();
         rules_are_lawful();

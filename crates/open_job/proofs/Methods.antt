@@ -1,5 +1,5 @@
 -- What the calls of a job do to its view, stage by stage.
-use Rattle.std.proofs.Common.{◌≡◌, ◌≢◌, ℕ, ◌+◌, ◌<◌, Bool, true, ℤ, List, [], slice_get, Option, Some, None, is_some, unwrap_or, Result, Ok, Err, IfOk, refl, sym, ap, ◌∙◌, subst, arith}
+use Rattle.std.proofs.Common.{◌≡◌, ◌≢◌, ℕ, ◌+◌, ◌<◌, Bool, true, ℤ, List, [], slice_get, Option, Some, None, is_some, unwrap_or, Result, Ok, Err, IfOk, OnErr, refl, sym, ap, ◌∙◌, subst, arith}
 use Rattle.std.proofs.lemmas.Bool.{lt-ltb}
 use Rattle.std.specs.declared.alloc.AllocError.{AllocError}
 use Rattle.kernel_gate.specs.Value.{FrameView, Places}
@@ -25,10 +25,11 @@ use Rattle.job_preparing.specs.Handing.{EndSuits, IsFrameFor, IsNothingLent, ans
 use Rattle.job_preparing.specs.View as preparing
 use Rattle.job_preparing.specs.View.{ConfiguringView}
 use Rattle.job_preparing.specs.declared.handing.JobGiven.{JobGiven}
+use Rattle.job_running.specs.Calls as calls
 use Rattle.job_running.specs.View as running
 use Rattle.job_running.specs.View.{RunningView}
 use Rattle.open_job.specs.View.{IsOfferedCall, IsOfferedWork, IsQuiet, OpenView, outcome_in, task}
-use Rattle.open_job.specs.Calls.{IsHanded, IsHandedFor, with_item, with_mark}
+use Rattle.open_job.specs.Calls.{HasLongTrace, IsHanded, IsHandedFor, with_item, with_mark}
 use Rattle.open_job.specs.Offers.{IsPick}
 use Rattle.open_job.specs.Kept.{KeepsWith, node_lent, view_with}
 use Rattle.open_job.specs.Running.{RunsFor}
@@ -44,6 +45,12 @@ use Rattle.open_job.proofs.NodeEnds as nodes
 use Rattle.open_job.proofs.Offered as offered
 use Rattle.open_job.proofs.Picks as picks
 use Rattle.open_job.proofs.Steps as steps
+
+-- ---- long traces
+
+long_answer : (end : End) → calls.HasLongTrace end → HasLongTrace (answer_of end)
+long_answer (Ok given) is_long = is_long
+long_answer (Err refusal) is_long = absurd is_long
 
 -- ---- configuration actors copy nothing
 
@@ -192,6 +199,10 @@ module _ (c : ConfiguringView) (workers : ℕ) (stage : Stage) (keeps : KeepsWit
   pub nodes_outcome_ok : (r : RunningView) (result : Result (Result JobGiven Refusal) AllocError) → stage ≡ Nodes r → IfOk result (λ end. end_of end ≡ running.outcome_of r) → IfOk result (λ end. answer_of (end_of end) ≡ outcome_in v)
   nodes_outcome_ok r (Ok end) same ends = nodes_outcome r (end_of end) same ends
   nodes_outcome_ok r (Err error) same ends = tt
+
+  pub nodes_long : (r : RunningView) (result : Result (Result JobGiven Refusal) AllocError) → stage ≡ Nodes r → OnErr result (calls.HasLongTrace (running.outcome_of r)) → OnErr result (HasLongTrace (outcome_in v))
+  nodes_long r (Ok end) same is_long = is_long
+  nodes_long r (Err error) same is_long = subst HasLongTrace (nodes_outcome r (running.outcome_of r) same refl) (long_answer (running.outcome_of r) is_long)
 
   pub nodes_suits : (r : RunningView) (result : Result (Result JobGiven Refusal) AllocError) → stage ≡ Nodes r → IfOk result (λ end. EndSuits r.graphs.graphs r.firing (end_of end)) → IfOk result (λ end. EndSuits v.graphs.graphs v.firing (end_of end))
   nodes_suits r (Ok end) same suits =

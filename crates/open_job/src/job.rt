@@ -55,7 +55,7 @@ impl OpenJob {
     ghost use Rattle.open_job.specs.Places.{config_places};
     ghost use Rattle.open_job.specs.Offers.{IsPick};
     ghost use Rattle.open_job.specs.Paths.{IsCall, step_of};
-    ghost use Rattle.open_job.specs.Calls.{FinishesCompilation, IsHanded, IsSoundFor, frame_of, with_item, with_mark};
+    ghost use Rattle.open_job.specs.Calls.{FinishesCompilation, HasLongTrace, IsHanded, IsSoundFor, frame_of, with_item, with_mark};
 
     /// The firing of which this is the job.
     pub fn firing(&self) -> &Firing
@@ -270,11 +270,12 @@ impl OpenJob {
     ///
     /// # Errors
     ///
-    /// Want of memory: the trace would have 2^63 rows or more.
+    /// Want of memory, only where the trace would have 2^63 rows or more.
     pub fn outcome(self) -> Result<Result<JobGiven, Refusal>, AllocError>
         requires { IsQuiet self }
         ensures outcome { IfOk result (λ end. answer_of (end_of end) ≡ outcome_in self) }
         ensures suits { IfOk result (λ end. EndSuits self.graphs.graphs self.firing (end_of end)) }
+        ensures long { OnErr result (HasLongTrace (outcome_in self)) }
     {
         let OpenJob {
             configuring,

@@ -1,4 +1,4 @@
-use Rattle.std.proofs.Common.{◌≡◌, ◌<◌, refl, ap, subst, arith}
+use Rattle.std.proofs.Common.{refl, ap, subst, arith}
 use Rattle.std.specs.Arc.{arc_value}
 use Rattle.std.specs.Option.{option_map}
 use Rattle.nested_jobs.specs.Marks.{Busy}

@@ -1,4 +1,4 @@
-use Rattle.std.proofs.Common.{◌<◌, refl, sym, ap, subst, arith}
+use Rattle.std.proofs.Common.{refl, sym, ap, subst, arith}
 use Rattle.open_job.specs.Calls.{IsHanded}
 use Rattle.job_table.specs.View.{row_at}
 use Rattle.job_table.specs.declared.row.Row.{Row}

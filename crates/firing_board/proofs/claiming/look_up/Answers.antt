@@ -1,6 +1,6 @@
 use Rattle.std.proofs.Common.{◌≡◌, ◌∙◌, sym, ap, subst}
 use Rattle.open_job.proofs.OfferedCompilation.{may_compile}
-use Rattle.open_job.specs.View.{IsOfferedCompilation, IsOfferedWork, OpenView, compilation_of}
+use Rattle.open_job.specs.View.{IsOfferedCompilation, IsOfferedWork, compilation_of}
 use Rattle.job_table.specs.View.{row_at}
 use Rattle.job_table.specs.declared.row.Row.{Row}
 use Rattle.firing_board.proofs.Rows.{the_same}

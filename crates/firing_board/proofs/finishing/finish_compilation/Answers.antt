@@ -1,6 +1,4 @@
-use Rattle.std.proofs.Common.{◌≡◌, ◌∙◌, Bool, true, false, None, refl, sym, ap, subst}
-use Rattle.std.specs.Prelude.{is_err}
-use Rattle.board_rules.specs.Keys.{Key}
+use Rattle.std.proofs.Common.{Bool, true, false, None, refl, sym, ap, subst}
 use Rattle.board_rules.specs.Legal.{state_after}
 use Rattle.open_job.specs.Calls.{compile_answer}
 use Rattle.job_table.specs.Closing.{IsClosingFrom}

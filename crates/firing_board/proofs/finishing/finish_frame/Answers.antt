@@ -1,14 +1,14 @@
-use Rattle.std.proofs.Common.{◌≡◌, ◌∙◌, Bool, true, false, Some, refl, sym, ap, subst}
+use Rattle.std.proofs.Common.{◌≡◌, ◌∙◌, ℕ, Bool, true, false, [], ◌∷◌, ◌++◌, Some, refl, sym, subst}
 use Rattle.std.specs.Prelude.{IsOk, is_err}
 use Rattle.nested_jobs.specs.Rules.{Work}
 use Rattle.job_preparing.specs.Handing.{answer_with}
-use Rattle.board_rules.specs.Keys.{Key}
 use Rattle.board_rules.specs.Legal.{state_after}
-use Rattle.job_table.specs.Closing.{IsClosingFrom}
+use Rattle.nested_jobs.specs.Journals as steps
+use Rattle.job_table.specs.Closing.{ClosesLong, IsClosingFrom}
 use Rattle.firing_board.specs.Closing.{ClosesOn}
 use Rattle.firing_board.specs.Finishes.{MayComeBack}
 use Rattle.firing_board.specs.OnCore.{FinishesOn, MayLeave}
-use Rattle.firing_board.proofs.Framed.{FinishLaws, by_result, closes_finishes, closing_from, has_room, is_back, may_return, runs_at, starved_finishes, wanted_finishes}
+use Rattle.firing_board.proofs.Framed.{FinishLaws, by_result, closes_finishes, closing_from, has_room, is_back, long_closing, may_return, runs_at, starved_finishes, starves_new, wanted_finishes, when_err}
 use Rattle.firing_board.proofs.Leaving.{mine}
 use Rattle.firing_board.proofs.Openings.{if_ok}
 use Rattle.firing_board.proofs.RoomSteps.{closed_room}
@@ -112,3 +112,43 @@ returns-then-starved-clause-room c = λ has. c.take_back-row.ensures.room has
 
 pub returns-else-starved-clause-room : goal.returns-else-starved-clause-room
 returns-else-starved-clause-room c = λ has. closed_room c.take_back-row.new.core c.close.new.core c.close.ensures.kept c.close.ensures.fewer (c.take_back-row.ensures.room has)
+
+pub returns-then-starved-clause-live : goal.returns-then-starved-clause-live
+returns-then-starved-clause-live c = λ live after key was. let starves = c.if-starved.true in absurd (cc)
+
+pub returns-else-starved-clause-live : goal.returns-else-starved-clause-live
+returns-else-starved-clause-live c = λ live after key was.
+    let old = c.args.core.now in
+    let w = c.args.worker in
+    let mid = c.take_back-row.new.core in
+    let new = c.close.new.core in
+    let P = MayComeBack key c.args.frame c.args.answer (IsOk c.args.answer) in
+    let may = subst (λ (b : Bool). MayLeave key old b w P (Some c.args.frame.places)) c.if-starved.false was in
+    let laws : FinishLaws key = record {
+      held = c.boards_keep.ensures.held;
+      begin = c.boards_keep.ensures.finish;
+      entered = c.journals_grow.ensures.finish;
+      one = c.entries_tell_steps.ensures.answers;
+      tell = c.entries_tell_steps.ensures.steps;
+      suit = c.tables_suit.ensures.finish;
+      marks = c.tables_suit.ensures.marks;
+      lawful = c.rules_are_lawful.ensures key.graphs may.keeps.is_key.in_range may.keeps.is_key.well_formed;
+    } in
+    let runs = runs_at laws.tell key old false may.keeps w P may.runs in
+    let a = mine laws.held key laws.lawful false old may.keeps w may.runs.is_worker may.runs.work runs in
+    let b = is_back key (state_after key may.keeps.taken) old w may.runs.work a c.args.frame c.args.answer mid c.take_back-row.result c.take_back-row.ensures.returns in
+    let leaves = c.take_back-row.ensures.returns.leaves in
+    let answer = answer_with (Some (Work may.runs.work)) c.args.frame c.args.answer in
+    let is_err : is_err c.close.result ≡ true = sym c.is_err.ensures.value ∙ after in
+    let closes = when_err c.close.result ((d : IsClosingFrom mid.table c.take_back-row.result) → ClosesLong d) is_err c.close.ensures.long in
+    let moved = subst (λ (k : ℕ). (d : IsClosingFrom mid.table k) → ClosesLong d) b.row_is closes in
+    let g = long_closing key laws old may.keeps w may.runs.is_worker may.runs.work runs answer may.runs.so.answered mid b.marks b.lends leaves.running_are leaves.journal_is moved in
+    let end = starves_new key laws old false may.keeps w may.runs.is_worker may.runs.work runs answer may.runs.so.answered mid b.marks b.lends leaves.running_are leaves.journal_is new c.close.ensures.kept in
+    record {
+      taken = may.keeps.taken ++ steps.Finish w answer ∷ [];
+      at = record { legal = end.legal; entered = end.entered };
+      place = g.place;
+      answer = g.answer;
+      done = g.done;
+      is_long = g.is_long;
+    }

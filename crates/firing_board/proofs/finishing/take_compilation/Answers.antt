@@ -1,4 +1,4 @@
-use Rattle.std.proofs.Common.{◌≡◌, ◌∙◌, Some, refl, sym, ap, subst, arith}
+use Rattle.std.proofs.Common.{◌∙◌, refl, sym, ap, subst, arith}
 use Rattle.job_table.specs.Calls.{FinishesIn, LendsAsBefore}
 use Rattle.job_table.specs.View.{TableView, free_items, row_at}
 use Rattle.firing_board.specs.Returning.{GivesUp}

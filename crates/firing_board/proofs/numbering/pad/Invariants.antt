@@ -1,4 +1,4 @@
-use Rattle.std.proofs.Common.{◌≡◌, ◌<◌, ◌+◌, ◌-◌, ℕ, length, slice_index_or}
+use Rattle.std.proofs.Common.{◌≡◌, ◌+◌, ◌-◌, ℕ, length, slice_index_or}
 use Rattle.firing_board.proofs.numbering.pad.Given as goal
 
 abbrev pub invariant-loop-numbers : goal.invariant-loop-numbers

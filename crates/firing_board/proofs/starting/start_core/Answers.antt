@@ -1,6 +1,6 @@
-use Rattle.std.proofs.Common.{◌≡◌, ℕ, ◌+◌, ◌*◌, ◌≤◌, Some, sym, ap, ◌∙◌, subst, arith}
+use Rattle.std.proofs.Common.{◌≡◌, ℕ, Some, ap, ◌∙◌, subst, arith}
 use Rattle.std.specs.Arc.{arc_value}
-use Rattle.open_job.specs.View.{OpenView, compilation_of}
+use Rattle.open_job.specs.View.{compilation_of}
 use Rattle.job_table.specs.View.{row_at}
 use Rattle.job_table.specs.declared.row.Row.{Row}
 use Rattle.firing_board.specs.Core.{runners}

@@ -1,7 +1,7 @@
 use Rattle.std.proofs.Common.{◌≡◌, ◌∙◌, Bool, true, false, is_some, sym, ap, ap₂, subst}
 use Rattle.board_rules.specs.Keys.{Key}
 use Rattle.firing_board.specs.Claims.{Claims, EntersAs}
-use Rattle.firing_board.specs.Kept.{HasRoomUnless, Keeps, key_of, key_with, view_of, view_with}
+use Rattle.firing_board.specs.Kept.{HasRoomUnless, Keeps, key_of, key_with, view_with}
 use Rattle.firing_board.specs.View.{BoardView}
 use Rattle.firing_board.specs.Wanting.{MayStarve}
 use Rattle.firing_board.proofs.Fields.{key_same}

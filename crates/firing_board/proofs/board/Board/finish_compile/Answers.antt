@@ -1,4 +1,4 @@
-use Rattle.std.proofs.Common.{◌≡◌, ◌∙◌, Bool, false, None, is_some, sym, ap, subst}
+use Rattle.std.proofs.Common.{◌≡◌, ◌∙◌, Bool, false, is_some, sym, ap, subst}
 use Rattle.board_rules.specs.Keys.{Key}
 use Rattle.firing_board.specs.Finishes.{Finishes, MayEnd}
 use Rattle.firing_board.specs.Kept.{Keeps, key_of, key_with, view_of, view_with}

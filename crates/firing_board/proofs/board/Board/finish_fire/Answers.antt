@@ -1,12 +1,14 @@
-use Rattle.std.proofs.Common.{◌≡◌, ◌∙◌, false, Some, sym, ap, subst}
+use Rattle.std.proofs.Common.{◌≡◌, ◌∙◌, Bool, true, false, Some, sym, ap, subst}
 use Rattle.std.specs.Prelude.{IsOk, is_some}
 use Rattle.board_rules.specs.Keys.{Key}
+use Rattle.firing_board.specs.Ends.{HasLongTraces}
 use Rattle.firing_board.specs.Finishes.{Finishes, MayComeBack}
+use Rattle.firing_board.specs.OnCore.{MayLeave}
 use Rattle.firing_board.specs.Kept.{Keeps, key_of, key_with, view_of, view_with}
 use Rattle.firing_board.specs.Runs.{Runs}
 use Rattle.firing_board.specs.View.{BoardView, lent_to}
 use Rattle.firing_board.proofs.Fields.{key_same}
-use Rattle.firing_board.proofs.KeptViews.{finishes_as, keeping, runs_as}
+use Rattle.firing_board.proofs.KeptViews.{finishes_as, keeping, long_as, runs_as}
 use Rattle.firing_board.proofs.RoomSteps.{room_unless}
 use Rattle.firing_board.proofs.board.Board.finish_fire.Goals as goal
 
@@ -68,3 +70,22 @@ returns-clause-starved c = λ is.
       lent = ap (λ (b : BoardView). lent_to b w) c.self.view_is ∙ c.requires.lent;
     } in
     f.stays (ap (λ (b : BoardView). b.starved) c.self.view_is ∙ is)
+
+pub returns-clause-live : goal.returns-clause-live
+returns-clause-live c = λ live starves.
+    let i = c.self.inside in
+    let key = key_of i in
+    let w = c.args.ticket.worker in
+    let new = c.finish_frame-self-inside.new.core in
+    let after = c.finish_frame-self-inside.result in
+    let may : MayLeave key i.core i.starved w (MayComeBack key c.args.frame c.args.answer (IsOk c.args.answer)) (Some c.args.frame.places) = record {
+      keeps = c.self.invariant.0;
+      runs = runs_as false (view_of i) w (MayComeBack key c.args.frame c.args.answer (IsOk c.args.answer)) (subst (λ (b : BoardView). Runs b w (MayComeBack b.key c.args.frame c.args.answer (IsOk c.args.answer))) (sym c.self.view_is) c.requires.runs);
+      lent = ap (λ (b : BoardView). lent_to b w) c.self.view_is ∙ c.requires.lent;
+    } in
+    let same = key_same i.signatures.items i.top.value i.core new c.finish_frame-self-inside.ensures.kept in
+    let has = is_some i.kept in
+    let was : i.starved ≡ false = ap (λ (b : BoardView). b.starved) c.self.view_is ∙ live in
+    let long = long_as has (view_with key new true) (c.finish_frame-self-inside.ensures.live was starves key may) in
+    subst (λ (s : Bool). HasLongTraces (keeping has (view_with (key_with i.signatures.items i.top.value new) new s))) (sym starves)
+    (subst (λ (k : Key). HasLongTraces (keeping has (view_with k new true))) (sym same) long)

@@ -1,6 +1,6 @@
-use Rattle.std.proofs.Common.{◌≤◌, ◌*◌, ◌≡◌, ℕ, false, length, sym, ◌∙◌, ap, subst}
+use Rattle.std.proofs.Common.{◌≤◌, ◌*◌, ℕ, length, sym, ◌∙◌, ap, subst}
 use Rattle.job_table.specs.View.{keys_of}
-use Rattle.firing_board.specs.Kept.{key_of, view_of}
+use Rattle.firing_board.specs.Kept.{key_of}
 use Rattle.firing_board.specs.View.{BoardView}
 use Rattle.firing_board.proofs.Sound.{few_open}
 use Rattle.firing_board.proofs.board.Board.open_jobs.Goals as goal

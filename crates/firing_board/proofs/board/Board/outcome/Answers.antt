@@ -1,4 +1,4 @@
-use Rattle.std.proofs.Common.{◌≡◌, false, is_some, sym, subst}
+use Rattle.std.proofs.Common.{false, is_some, sym, subst}
 use Rattle.firing_board.specs.Beginning.{EndsWith}
 use Rattle.firing_board.specs.Ends.{EndsAs, IsOver}
 use Rattle.firing_board.specs.Kept.{key_of, view_with}

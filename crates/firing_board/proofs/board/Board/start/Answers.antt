@@ -1,9 +1,7 @@
-use Rattle.std.proofs.Common.{◌≡◌, ◌∙◌, ℕ, ℤ, false, List, [], length, map, replicate, Option, None, refl, sym, ap, ap₂, subst}
+use Rattle.std.proofs.Common.{◌≡◌, ◌∙◌, ℕ, false, List, length, replicate, None, refl, sym, ap, subst}
 use Rattle.std.specs.Arc.{arc_value}
 use Rattle.std.proofs.lemmas.List.{get_or_read}
 use Rattle.std.proofs.lemmas.Option.{slice_get_within}
-use Rattle.kernel_gate.specs.Signed.{Counts}
-use Rattle.kernel_gate.specs.Value.{Places}
 use Rattle.pisdf_model.specs.Ports.{inherited_count}
 use Rattle.pisdf_model.specs.declared.graph.Graph.{Graph}
 use Rattle.pisdf_model.specs.declared.graph.Graphs.{Graphs}
@@ -11,7 +9,6 @@ use Rattle.pisdf_meaning.specs.Run.{top_firing}
 use Rattle.pisdf_meaning.specs.declared.firing.Firing.{Firing}
 use Rattle.job_rules.specs.Items.{no_graph}
 use Rattle.board_rules.specs.Keys.{Key, top_job}
-use Rattle.board_rules.specs.declared.entry.Entry.{Entry}
 use Rattle.firing_board.specs.Beginning.{IsStartedOn}
 use Rattle.firing_board.specs.Core.{lent_of}
 use Rattle.firing_board.specs.Kept.{Keeps, key_with}

@@ -1,4 +1,4 @@
-use Rattle.std.proofs.Common.{◌≡◌, ◌<◌, ◌≤◌, ◌+◌, ◌++◌, List, length, map, sym, ap, ◌∙◌, subst, arith, vec_len, vec_capacity}
+use Rattle.std.proofs.Common.{◌≡◌, ◌<◌, ◌≤◌, ◌+◌, ◌++◌, List, length, map, refl, sym, ap, ◌∙◌, subst, arith, vec_len, vec_capacity}
 use Rattle.std.proofs.lemmas.List.{length-map}
 use Rattle.job_compiler.specs.Compilation.{Compilation}
 use Rattle.job_flow.specs.GraphLaws.{GraphLaws}
@@ -13,8 +13,9 @@ use Rattle.pisdf_meaning.specs.Running.{child_rows, state_after}
 use Rattle.pisdf_model.specs.declared.graph.Graph.{Graph}
 use Rattle.pisdf_model.specs.declared.graph.Graphs.{Graphs}
 use Rattle.sdf_level.specs.declared.node.Node.{Node}
+use Rattle.job_running.specs.Calls.{HasLongTrace}
 use Rattle.job_running.specs.Kept.{fixed_of, view_of}
-use Rattle.job_running.specs.Parts.{fired}
+use Rattle.job_running.specs.Parts.{IsLong, fired}
 use Rattle.job_running.specs.View.{RunningView, is_quiet, outcome_of, traces_of}
 use Rattle.job_running.proofs.EndedFiring.{have_traces, no_frames}
 use Rattle.job_running.proofs.FiringEnds.{ends_done, failed_fires, failed_there, given_end, refused_here}
@@ -96,3 +97,19 @@ returns-in-Ok-clause-suits c =
     let laws : GraphLaws = record { found = n.found; once = n.once; there = n.firings; stands = n.in_order; all = n.all; stages = n.stages; ends = n.ends; tokens = n.tokens; names_fit = n.names; ports = n.ports; used = n.used } in
     subst (λ (v : RunningView). SuitsCall v.graphs.graphs v.firing (given_of c.in-Ok.given)) c.self.view_is
     (end_suits (fixed_of i) i.stages.items i.frames.items i.traces.items i.job c.self.invariant laws c.tokens_delivered.ensures.one_flow c.tokens_delivered.ensures.delivers quiet done.none c.in-Ok.given.outs c.in-Done.stored (c.in-Ok.ensures.same.0 ∙ done.outs_are) done.stored_are c.args.left.configured c.args.left.traces left_is c.in-Ok.given.state state_is c.in-Ok.given.trace c.in-Ok.given.exports c.in-Ok.ensures.same.1)
+
+pub returns-clause-long : goal.returns-clause-long
+returns-clause-long c =
+    let i = c.self.inside in
+    let f = fixed_of i in
+    let here : c.index-items-place.result ≡ fired f = graph_is f.graphs.graphs f.firing c.self.invariant.set_up.fit c.items-in-Done.result.now (c.items-in-Done.ensures ∙ ap (λ (x : Graphs). x.graphs) c.deref-in-Done.ensures) i.place c.self.invariant.parts.place_is c.index-items-place.result c.index-items-place.is in
+    let done = ends_done (failure (leased.graph_of i.job) (one.values i.job.marks)) (ended (leased.graph_of i.job) (one.values i.job.marks)) c.in-Done.outs c.in-Done.stored (sym c.in-Done.is ∙ c.outcome.ensures) in
+    let left_is = c.requires.left.all ∙ ap (λ (v : RunningView). v.prepared.left) (sym c.self.view_is) in
+    let last = ended (leased.graph_of i.job) (one.values i.job.marks) in
+    let rows = i.rows ++ child_rows f.compilation.counts (traces_of (view_of i)) 0 (fired f).actors (with_traces c.args.left.configured c.args.left.traces) in
+    let is_long : IsLong rows = subst (λ (g : Graph). IsLong (i.rows ++ child_rows f.compilation.counts (traces_of (view_of i)) 0 g.actors (with_traces c.args.left.configured c.args.left.traces))) here
+    (c.in-Err.ensures.long f.compilation.counts (traces_of (view_of i)) c.requires.left.traced (have_traces f i.stages.items i.frames.items i.traces.items i.job c.self.invariant c.graphs_numbered.ensures.found c.graphs_numbered.ensures.firings)) in
+    let end = given_end f i.stages.items i.frames.items i.traces.items i.job c.self.invariant c.faults_renamed.ensures.failure c.faults_renamed.ensures.ended done.none last.outs last.left refl refl c.args.left.configured c.args.left.traces left_is
+    (state_after f.graphs.graphs (fired f) c.args.left.configured last.left) refl rows refl f.exports refl
+    ∙ ap outcome_of c.self.view_is in
+    subst HasLongTrace end is_long

@@ -7,12 +7,15 @@ use Rattle.nested_jobs.specs.Marks.{Done, Open}
 use Rattle.open_job.specs.Calls as job
 use Rattle.open_job.specs.View.{IsQuiet, OpenView}
 use Rattle.pisdf_meaning.specs.declared.firing.Firing.{Firing}
+use Rattle.job_table.specs.Closing.{ClosesLong, IsClosingFrom}
 use Rattle.job_table.specs.Slots.{InSlot, change_row}
 use Rattle.job_table.specs.View.{TableView, free_items, row_at}
 use Rattle.job_table.specs.declared.row.Row.{Row}
 use Rattle.job_table.proofs.Closings.{AllLawful, none_busy_at, rows_less, rows_through}
 use Rattle.job_table.proofs.CloseSteps.{HasClosed, closes_on, ends, falls, may_finish, mid, mid_free, next, place_some, quiet_by, rest_stays, stays_on, stops, unquiet_by, upper_inside}
 use Rattle.job_table.proofs.Freeing.{less_free}
+use Rattle.job_table.proofs.LongTraces.{closes_long}
+use Rattle.job_table.proofs.Methods.{on_err_by, on_err_weaker}
 use Rattle.job_table.proofs.Rows.{inside_of, the_same}
 use Rattle.job_table.proofs.Writes.{slot_row}
 use Rattle.job_table.proofs.table.JobTable.+close_from.Goals as goal
@@ -335,3 +338,50 @@ returns-clause-fewer t c =
     let less = mid_free lawful now k row end rest closed go_on l below c.requires other c.finish_call_in.new.slot other_read written in
     let after = c.close_from.ensures.fewer in
     omega (arith, less, after)
+
+pub returns-in_err-end-clause-long : goal.returns-in_err-end-clause-long
+returns-in_err-end-clause-long t c =
+    let now = c.args.self.now in
+    let k = c.args.row in
+    let e = c.self.view_is in
+    let s = c.self.inside in
+    let slot = c.index_mut.result.now in
+    let read : slot ≡ get_or now.rows k slot = c.index_mut.ensures.value ∙ ap (λ (x : TableView). get_or x.rows k slot) e in
+    let row = c.take_row-job.result in
+    let here : row_at now k ≡ Some row = c.requires.here ∙ (sym (slot_row now k c.requires.row slot c.requires.here read) ∙ c.take_row-job.ensures.taken) in
+    let first = c.index.result.now in
+    let quiet = quiet_by row first c.is_quiet.result (slot_row now k row first here (c.index.ensures ∙ ap (λ (x : TableView). get_or x.rows k first) e)) c.is_quiet.ensures c.if-not-is_quiet.false in
+    on_err_by c.from_residual.result ((c' : IsClosingFrom now k) → ClosesLong c') (closes_long now k row here quiet c.in_err-end.ensures.long)
+
+pub returns-clause-long : goal.returns-clause-long
+returns-clause-long t c =
+    let now = c.args.self.now in
+    let k = c.args.row in
+    let e = c.self.view_is in
+    let s = c.self.inside in
+    let slot = c.index_mut.result.now in
+    let read : slot ≡ get_or now.rows k slot = c.index_mut.ensures.value ∙ ap (λ (x : TableView). get_or x.rows k slot) e in
+    let row = c.take_row-job.result in
+    let here : row_at now k ≡ Some row = c.requires.here ∙ (sym (slot_row now k c.requires.row slot c.requires.here read) ∙ c.take_row-job.ensures.taken) in
+    let first = c.index.result.now in
+    let quiet = quiet_by row first c.is_quiet.result (slot_row now k row first here (c.index.ensures ∙ ap (λ (x : TableView). get_or x.rows k first) e)) c.is_quiet.ensures c.if-not-is_quiet.false in
+    let lawful : AllLawful = λ key is. c.rules_are_lawful.ensures key.graphs is.in_range is.well_formed in
+    let rest : TableView = record { graphs = arc_value s.graphs; workers = s.workers; rows = set s.rows.items k c.take_row-job.new.slot } in
+    let graphs : rest.graphs ≡ now.graphs = ap (λ (x : TableView). x.graphs) e in
+    let workers : rest.workers ≡ now.workers = ap (λ (x : TableView). x.workers) e in
+    let less : rest.rows ≡ set now.rows k None = ap (λ (x : TableView). set x.rows k c.take_row-job.new.slot) e ∙ ap (set now.rows k) c.take_row-job.ensures.rest in
+    let end = c.in_ok-end.end in
+    let closed : HasClosed now k row end rest = record { here = here; quiet = quiet; outcome = c.in_ok-end.ensures.outcome; suits = c.in_ok-end.ensures.suits; graphs_are = graphs; workers_are = workers; rows_are = less } in
+    let go_on = c.boards_keep.ensures.go_on in
+    let l = c.in-Some.upper in
+    let below = c.in-Some.is in
+    let other = c.index_mut-in-Some.result.now in
+    let other_read = c.index_mut-in-Some.ensures.value in
+    let written : c.finish_call_in.new.slot ≡ change_row (λ (j : OpenView). job.with_mark j (slice_index row.place 0) (Done (answer_of (end_of end)))) other =
+    c.finish_call_in.ensures ∙ ap (λ i. change_row (λ (j : OpenView). job.with_mark j i (Done (answer_of (end_of end)))) other) c.calling_item.ensures in
+    let after : TableView = record { graphs = rest.graphs; workers = rest.workers; rows = set rest.rows l c.finish_call_in.new.slot } in
+    on_err_weaker c.close_from.result ((c' : IsClosingFrom after l) → ClosesLong c') ((c' : IsClosingFrom now k) → ClosesLong c')
+    (λ (h : (c' : IsClosingFrom after l) → ClosesLong c') (c' : IsClosingFrom now k).
+    let g = h (next lawful now k row end rest closed go_on l below c' other c.finish_call_in.new.slot other_read written) in
+    record { place = g.place; answer = g.answer; done = g.done; is_long = g.is_long })
+    c.close_from.ensures.long

@@ -1,5 +1,5 @@
 use Rattle.std.proofs.Common.{◌∙◌}
-use Rattle.open_job.proofs.Methods.{compiling_unquiet, left_nodes, nodes_outcome_ok, nodes_suits, quiet_nodes, ready_nodes, refused_outcome, waiting_outcome, waiting_refused}
+use Rattle.open_job.proofs.Methods.{compiling_unquiet, left_nodes, nodes_long, nodes_outcome_ok, nodes_suits, quiet_nodes, ready_nodes, refused_outcome, waiting_outcome, waiting_refused}
 use Rattle.open_job.proofs.job.OpenJob.outcome.Goals as goal
 
 pub refused_early-requires : goal.refused_early-requires
@@ -66,3 +66,8 @@ pub returns-in-Nodes-clause-suits : goal.returns-in-Nodes-clause-suits
 returns-in-Nodes-clause-suits c =
     let i = c.self.inside in
     nodes_suits i.configuring i.workers i.stage c.self.invariant c.args.self c.self.view_is c.in-Nodes.running c.outcome.result c.in-Nodes.is c.outcome.ensures.suits
+
+pub returns-in-Nodes-clause-long : goal.returns-in-Nodes-clause-long
+returns-in-Nodes-clause-long c =
+    let i = c.self.inside in
+    nodes_long i.configuring i.workers i.stage c.self.invariant c.args.self c.self.view_is c.in-Nodes.running c.outcome.result c.in-Nodes.is c.outcome.ensures.long
