@@ -1,0 +1,58 @@
+// The board of an iteration, from its start to its outcome.
+ghost use Rattle.std.specs.Prelude.{◌≡◌, IfOk};
+ghost use Rattle.kernel_gate.specs.Signed.{unnamed};
+ghost use Rattle.firing_board.specs.Runs.{AreAllIdle};
+ghost use Rattle.quiescent_driver.specs.Endings.{EndsWith};
+
+use board_lock::NotMade;
+use firing_board::{Board, BoardEnd};
+use job_compiler::Kept;
+use kernel_gate::Gate;
+use std::alloc::{AllocError, Global};
+use std::mem;
+use std::sync::Wait;
+use std::thread::Threads;
+use worker_crew::run_crew;
+
+/// Moves the compilations that are kept, if any are, into the board.
+fn lend_kept(board: &mut Board, kept: &mut Option<Kept>)
+    ensures { board.new ≡ board.old }
+{
+    match mem::replace(kept, None) {
+        Some(compilations) => board.put_kept(compilations),
+        None => {}
+    }
+}
+
+/// Runs a board of which no worker runs anything to its end. It uses the compilations that are kept, and keeps those that it
+/// makes.
+///
+/// # Errors
+///
+/// Want of memory. The board is given up.
+pub(crate) fn drive<K: Gate + Sync, R: Threads + Wait + Sync>(
+    rt: &R,
+    alloc: Global,
+    mut board: Board,
+    workers: u32,
+    kept: &mut Option<Kept>,
+    gate: &K,
+) -> Result<BoardEnd, AllocError>
+    requires workers { workers ≡ board.key.workers }
+    requires kernels { board.key.signatures ≡ unnamed (K.kernels gate.now) }
+    requires idle { AreAllIdle board }
+    ensures { IfOk result (EndsWith board.key) }
+{
+    lend_kept(&mut board, kept);
+    match run_crew(rt, alloc, board, workers, gate) {
+        Ok(mut board) => {
+            *kept = board.take_kept();
+            board.outcome(alloc)
+        }
+        Err(NotMade { state: mut board }) => {
+            *kept = board.take_kept();
+            board.end();
+            Err(AllocError)
+        }
+    }
+}

@@ -1,0 +1,152 @@
+// One iteration of a run, by many workers.
+ghost use Rattle.std.specs.Prelude.{◌≡◌, ◌⊎◌, ◌<◌, ◌≤◌, ℤ, List as Seq, [], Ok, Err, IfOk, IfErr, OnErr};
+ghost use Rattle.std.specs.Arc.{arc_value};
+ghost use Rattle.kernel_gate.specs.Signed.{unnamed};
+ghost use Rattle.kernel_gate.specs.Value.{lengths};
+ghost use Rattle.param_resolver.specs.EarlyCheck.{early_faults};
+ghost use Rattle.pisdf_model.specs.Range.{InRange};
+ghost use Rattle.pisdf_model.specs.WellFormed.{WellFormed};
+ghost use Rattle.pisdf_meaning.specs.Run.{IterationEnds, IterationGives, top_needs};
+ghost use Rattle.pisdf_meaning.specs.Sizes.{GiveLengths};
+ghost use Rattle.pisdf_meaning.specs.Sound.{KernelsFit};
+ghost use Rattle.pisdf_meaning.specs.declared.outcome.Iteration.{Iteration as Outcome};
+ghost use Rattle.pisdf_meaning.specs.declared.refusal.Refusal.{Refusal as Cause};
+ghost use Rattle.board_journal.specs.View.{JournalView};
+ghost use Rattle.firing_board.specs.Runs.{AreAllIdle};
+ghost use Rattle.quiescent_driver.specs.Endings.{HasWholeJournal, IfRefused};
+ghost use Rattle.quiescent_driver.specs.Given.{IsTopState, key_with};
+
+use crate::driving::drive;
+use crate::fault::IterationFault;
+use board_journal::Journal;
+use firing_board::{Board, BoardEnd};
+use job_compiler::Kept;
+use kernel_gate::Gate;
+use pisdf_meaning::{Delays, Iteration, one_meaning, runnable, sizes_kept};
+use pisdf_model::Graphs;
+use sdf_level::List;
+use std::alloc::{AllocError, Global};
+use std::sync::{Arc, Wait};
+use std::thread::Threads;
+
+/// The board of an iteration, in which nothing is claimed.
+fn start_board<K: Gate>(
+    alloc: Global,
+    graphs: &Arc<Graphs>,
+    delays: &Delays,
+    ins: &[List<i64>],
+    workers: u32,
+    gate: &K,
+) -> Result<Board, AllocError>
+    requires in_range { InRange (arc_value graphs.now) }
+    requires well_formed { WellFormed (arc_value graphs.now) }
+    requires kernels { KernelsFit (unnamed (K.kernels gate.now)) (arc_value graphs.now).graphs }
+    requires lengths { GiveLengths (unnamed (K.kernels gate.now)) }
+    requires sound { early_faults (arc_value graphs.now).graphs (arc_value graphs.now).top [] ≡ [] }
+    requires inputs { lengths ins.now ≡ top_needs (arc_value graphs.now) }
+    requires state { IsTopState (arc_value graphs.now) delays.now.lists }
+    requires some { 0 < workers }
+    requires few { workers ≤ 16 }
+    ensures key { IfOk result (λ b. b.key ≡ key_with (arc_value graphs.now) (K.kernels gate.now) delays.now.lists ins.now workers) }
+    ensures idle { IfOk result AreAllIdle }
+{
+    Board::start(
+        alloc,
+        graphs.clone()?,
+        gate.signatures(),
+        delays,
+        ins,
+        workers,
+    )
+}
+
+/// One iteration by many workers, which gives or is refused.
+fn iterate<K: Gate + Sync, R: Threads + Wait + Sync>(
+    rt: &R,
+    alloc: Global,
+    graphs: &Arc<Graphs>,
+    delays: &mut Delays,
+    ins: &[List<i64>],
+    workers: u32,
+    kept: &mut Option<Kept>,
+    gate: &K,
+) -> Result<(Iteration, Journal), IterationFault>
+    requires in_range { InRange (arc_value graphs.now) }
+    requires well_formed { WellFormed (arc_value graphs.now) }
+    requires kernels { KernelsFit (unnamed (K.kernels gate.now)) (arc_value graphs.now).graphs }
+    requires lengths { GiveLengths (unnamed (K.kernels gate.now)) }
+    requires sound { early_faults (arc_value graphs.now).graphs (arc_value graphs.now).top [] ≡ [] }
+    requires inputs { lengths ins.now ≡ top_needs (arc_value graphs.now) }
+    requires state { IsTopState (arc_value graphs.now) delays.old.lists }
+    requires some { 0 < workers }
+    requires few { workers ≤ 16 }
+    ensures gives { IfOk result (λ r. IterationGives (arc_value graphs.now) ins.now delays.old.lists r.0 delays.new.lists) }
+    ensures refused { IfErr result (IfRefused (λ refusal. IterationEnds (arc_value graphs.now) ins.now delays.old.lists (Err refusal))) }
+    ensures unchanged { OnErr result (delays.new ≡ delays.old) }
+    ensures journal { HasWholeJournal (key_with (arc_value graphs.now) (K.kernels gate.now) delays.old.lists ins.now workers) result }
+{
+    let board = start_board(alloc, graphs, delays, ins, workers, gate)?;
+    match drive(rt, alloc, board, workers, kept, gate)? {
+        BoardEnd::Done {
+            iteration,
+            delays: left,
+            journal,
+        } => {
+            *delays = left;
+            Ok((iteration, journal))
+        }
+        BoardEnd::Refused { refusal, journal } => Err(IterationFault::Refused(refusal, journal)),
+        BoardEnd::Starved => Err(IterationFault::Memory),
+    }
+}
+
+/// One iteration by 1 to 16 workers, each in a thread: a firing of the top graph (Desnos and others 2013, PiMM; Lee and
+/// Messerschmitt 1987), whose early check finds nothing. It gives what one thread gets, whatever the order of the workers'
+/// steps, and the journal of these steps. `ins` has the tokens of each of the top graph's inputs, as many as the input's rate,
+/// and `delays` the state that the iteration before left, which becomes the one that this iteration leaves. The compilations of
+/// jobs that are in `kept` are used, and those that are made are kept there; where it is `None` none are kept. It may wait.
+///
+/// # Errors
+///
+/// - `Refused`: the firing is refused here, and the journal.
+/// - `Memory`: want of memory.
+///
+/// Either leaves `delays` unchanged.
+pub fn run_iteration<K: Gate + Sync, R: Threads + Wait + Sync>(
+    rt: &R,
+    alloc: Global,
+    graphs: &Arc<Graphs>,
+    delays: &mut Delays,
+    ins: &[List<i64>],
+    workers: u32,
+    kept: &mut Option<Kept>,
+    gate: &K,
+) -> Result<(Iteration, Journal), IterationFault>
+    requires in_range { InRange (arc_value graphs.now) }
+    requires well_formed { WellFormed (arc_value graphs.now) }
+    requires kernels { KernelsFit (unnamed (K.kernels gate.now)) (arc_value graphs.now).graphs }
+    requires lengths { GiveLengths (unnamed (K.kernels gate.now)) }
+    requires sound { early_faults (arc_value graphs.now).graphs (arc_value graphs.now).top [] ≡ [] }
+    requires inputs { lengths ins.now ≡ top_needs (arc_value graphs.now) }
+    requires state { IsTopState (arc_value graphs.now) delays.old.lists }
+    requires some { 0 < workers }
+    requires few { workers ≤ 16 }
+    ensures gives { IfOk result (λ r. IterationGives (arc_value graphs.now) ins.now delays.old.lists r.0 delays.new.lists) }
+    ensures refused { IfErr result (IfRefused (λ refusal. IterationEnds (arc_value graphs.now) ins.now delays.old.lists (Err refusal))) }
+    ensures unchanged { OnErr result (delays.new ≡ delays.old) }
+
+    // Where the iteration gives something the answer is that, and where it is refused that refusal, unless there was no memory.
+    ensures only_given { (iteration : Outcome) (state : Seq (Seq ℤ)) → IterationGives (arc_value graphs.now) ins.now delays.old.lists iteration state → ((journal : JournalView) × (result ≡ Ok (iteration, journal)) × (delays.new.lists ≡ state)) ⊎ (result ≡ Err IterationFault.Memory) }
+    ensures only_refused { (refusal : Cause) → IterationEnds (arc_value graphs.now) ins.now delays.old.lists (Err refusal) → ((journal : JournalView) × (result ≡ Err (IterationFault.Refused refusal journal))) ⊎ (result ≡ Err IterationFault.Memory) }
+
+    // The journal is one of such a board, and has ended.
+    ensures journal { HasWholeJournal (key_with (arc_value graphs.now) (K.kernels gate.now) delays.old.lists ins.now workers) result }
+
+    // The state that is left suits the next iteration.
+    ensures state { IsTopState (arc_value graphs.now) delays.new.lists }
+{
+    one_meaning();
+    sizes_kept();
+    runnable();
+    iterate(rt, alloc, graphs, delays, ins, workers, kept, gate)
+}
