@@ -1,4 +1,4 @@
-use Rattle.std.proofs.Common.{◌++◌, ◌+◌, ◌<◌, ◌^◌, arith}
+use Rattle.std.proofs.Common.{◌++◌, ◌+◌, ◌<◌, ◌^◌}
 use Rattle.std.proofs.lemmas.List.Elements.{All-append}
 use Rattle.placement.specs.declared.gap.Placed.{Placed}
 use Rattle.placement.proofs.least.least_offset.Goals as goal

@@ -1,4 +1,4 @@
-use Rattle.std.proofs.Common.{ℕ, ◌+◌, ◌/◌, ◌<◌, ◌≤◌, length, slice_index}
+use Rattle.std.proofs.Common.{ℕ, ◌/◌, ◌<◌, ◌≤◌, length, slice_index}
 use Rattle.placement_checker.specs.Rows.{RowHas}
 use Rattle.placement.proofs.start.least_gained.Given as goal
 

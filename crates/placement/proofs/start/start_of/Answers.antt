@@ -1,7 +1,6 @@
 use Rattle.std.proofs.Common.{rules, ◌-◌, ◌≤◌, arith}
 use Rattle.std.proofs.lemmas.Bool.Decides.{nat_tests}
-use Rattle.placement_checker.specs.Rows.{RowHas}
-use Rattle.placement.proofs.Beginning.{start_below, start_behind, start_at_zero}
+use Rattle.placement.proofs.Beginning.{start_below, start_behind}
 use Rattle.placement.proofs.start.start_of.Goals as goal
 
 pub returns-then-has_bit : goal.returns-then-has_bit
