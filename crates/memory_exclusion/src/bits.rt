@@ -4,12 +4,12 @@ ghost use Rattle.memory_exclusion.specs.Bits.{HasBit, AddsBit, DropsBit, AddsRow
 
 const BITS: usize = u64::BITS as usize;
 
-/// Whether the row has the bit.
+/// Whether this row has the bit.
 pub(crate) fn has_bit(words: &[u64], width: usize, row: usize, bit: usize) -> bool
     requires { row * width + bit / 64 < length words.now }
     ensures { IsTrue result ↔ HasBit words.now width row bit }
 {
-    words[row * width + bit / BITS] >> (bit % BITS) & 1 == 1
+    placement_checker::has_bit(&words[row * width..], bit)
 }
 
 /// Sets one bit of one row.

@@ -1,5 +1,5 @@
 -- What was in the way of the last buffer is in the way of the next one too.
-use Rattle.std.proofs.Common.{◌≡◌, ℕ, ◌+◌, ◌-◌, ◌*◌, ◌/◌, ◌%◌, ◌^◌, ◌<◌, ◌≤◌, ◌⊎◌, inl, inr, ⊎_elim, List, length, slice_index, bit_and, w64, min, max, All, Any, ap, ◌∙◌, arith}
+use Rattle.std.proofs.Common.{◌≡◌, ℕ, ◌+◌, ◌-◌, ◌*◌, ◌/◌, ◌%◌, ◌^◌, ◌<◌, ◌≤◌, inl, inr, ⊎_elim, List, length, slice_index, bit_and, w64, min, All, Any, ap, ◌∙◌, arith}
 use Rattle.std.proofs.lemmas.Bool.{cases_lt, cases_eq}
 use Rattle.std.proofs.lemmas.List.{get_or_past}
 use Rattle.std.proofs.lemmas.Nat.{and_le_l}
@@ -43,25 +43,17 @@ has_within row bit has = ⊎_elim
     absurd (omega arith))
     (cases_lt (bit / 64) (length row))
 
-pub max_is : (a b : ℕ) → (max a b ≡ a) ⊎ (max a b ≡ b)
-max_is a b = ⊎_elim
-    (λ (below : a < b). inr (omega arith))
-    (λ (above : b ≤ a). inl (omega arith))
-    (cases_lt a b)
-
-module _ (row last_row : List ℕ) (size : ℕ) (placed : List Placed) (offsets sizes : List ℕ) (last : Placed) (is : IsLast last_row placed last) (as_large : last.end - last.offset ≡ size) (filled : 1 ≤ size) (standing : All (StandsAt offsets sizes) placed) (room : All (λ (p : Placed). p.end + size < 2 ^ 32) placed)
-    (from least : ℕ) (before : IsStart (RowHas row) size placed from)
-    (gained : (e : ℕ) → e < length offsets → e < length sizes → from < slice_index offsets e + slice_index sizes e → RowHas last_row e → (RowHas row e → ⊥) → least ≤ slice_index offsets e)
-    (reached start : ℕ) (up_to : reached ≤ last.offset) (low : reached ≤ least - (size - 1)) (start_is : (start ≡ reached) ⊎ (start ≡ from))
+module _ (row last_row : List ℕ) (size : ℕ) (placed : List Placed) (offsets : List ℕ) (last : Placed) (is : IsLast last_row placed last) (as_large : last.end - last.offset ≡ size) (filled : 1 ≤ size) (standing : All (StandsAt offsets) placed) (room : All (λ (p : Placed). p.end + size < 2 ^ 32) placed)
+    (least : ℕ)
+    (gained : (e : ℕ) → e < length offsets → RowHas last_row e → (RowHas row e → ⊥) → least ≤ slice_index offsets e)
+    (start : ℕ) (up_to : start ≤ last.offset) (low : start ≤ least - (size - 1))
   where
-    blocked_between : (lower : ℕ) → from ≤ lower → lower < reached → Any (Blocks (RowHas row) size lower) placed
-    blocked_between lower above below =
+    blocked_below : (lower : ℕ) → lower < start → Any (Blocks (RowHas row) size lower) placed
+    blocked_below lower below =
         let some = rw as_large at (is.blocked lower (omega arith)) in
         let at = rw some.3 at (standing some.0 some.1 some.2) in
         let begins = at.begins in
-        let ends = at.ends in
-        let begins_low = some.4.1 in
-        let ends_high = some.4.2 in (
+        let begins_low = some.4.1 in (
           some.0,
           some.1,
           some.2,
@@ -69,21 +61,12 @@ module _ (row last_row : List ℕ) (size : ℕ) (placed : List Placed) (offsets 
           (
             elim (cases_eq (bit_at (slice_index row (some.1.number / 64)) (some.1.number % 64)) 1) [
               | inl has ↦ has
-              | inr lacks ↦ absurd (let g = gained some.1.number at.there at.sized (omega arith) some.4.0 lacks in omega arith)
+              | inr lacks ↦ absurd (let g = gained some.1.number at.there some.4.0 lacks in omega arith)
             ],
             some.4.1,
             some.4.2,
           ),
         )
-
-    blocked_below : (lower : ℕ) → lower < start → Any (Blocks (RowHas row) size lower) placed
-    blocked_below lower below = ⊎_elim
-        (λ (early : lower < from). before.blocked lower early)
-        (λ (late : from ≤ lower). blocked_between lower late (⊎_elim
-        (λ (on : start ≡ reached). omega arith)
-        (λ (here : start ≡ from). absurd (omega arith))
-        start_is))
-        (cases_lt lower from)
 
     last_room : last.end + size < 2 ^ 32
     last_room = let there = is.there in rw there.4 at (rw there.3 at (room there.0 there.1 there.2))
@@ -91,14 +74,7 @@ module _ (row last_row : List ℕ) (size : ℕ) (placed : List Placed) (offsets 
     pub start_below : IsStart (RowHas row) size placed start
     start_below = record {
       blocked = blocked_below;
-      room =
-          let r = last_room in
-          let f = is.filled in
-          let b = before.room in
-          ⊎_elim
-          (λ (on : start ≡ reached). omega arith)
-          (λ (here : start ≡ from). omega arith)
-          start_is;
+      room = let r = last_room in let f = is.filled in omega arith;
     }
 
     pub start_behind : last.offset < start + size → RowHas row last.number → IsStart (RowHas row) size placed last.end
@@ -111,3 +87,10 @@ module _ (row last_row : List ℕ) (size : ℕ) (placed : List Placed) (offsets 
           (cases_lt lower start);
       room = last_room;
     }
+
+-- at 0
+pub start_at_zero : (Others : ℕ → Type 0) (size : ℕ) (placed : List Placed) → size < 2 ^ 32 → IsStart Others size placed 0
+start_at_zero Others size placed fits = record {
+  blocked = λ lower below. absurd (omega arith);
+  room = omega arith;
+}

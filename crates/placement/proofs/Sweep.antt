@@ -2,7 +2,7 @@
 use Rattle.std.proofs.Common.{◌≡◌, ℕ, ◌+◌, ◌-◌, ◌^◌, ◌<◌, ◌≤◌, ⊎_elim, List, ◌++◌, length, get_or, All, Any, refl, ◌∙◌, arith}
 use Rattle.std.proofs.lemmas.Bool.{cases_lt}
 use Rattle.std.proofs.lemmas.List.{get_or_default, get_or_append_left, get_or-append_right, length-append}
-use Rattle.placement.specs.Placing.{IsOpenTo, IsStart, IsBehind, ArePassed, Blocks}
+use Rattle.placement.specs.Placing.{IsOpenTo, IsStart, IsBehind, ArePassed, AreAmong, Blocks}
 use Rattle.placement.specs.declared.gap.Placed.{Placed}
 
 pub any_left : {A : Type 0} (P : A → Type 0) (xs ys : List A) → Any P xs → Any P (xs ++ ys)
@@ -24,6 +24,20 @@ all_right P xs ys all = λ k d inside.
     let here : length xs + k - length xs ≡ k = omega arith in
     let moved = rw here at (get_or-append_right xs ys (length xs) (length xs + k) d refl (omega arith)) in
     rw moved at (all (length xs + k) d (rw length-append (omega arith)))
+
+-- each is among them
+pub among_self : (xs : List Placed) → AreAmong xs xs
+among_self xs = λ k d inside. (k, get_or xs k d, inside, get_or_default xs k (get_or xs k d) d inside, refl)
+
+pub among_left : (xs ys : List Placed) → AreAmong (xs ++ ys) xs
+among_left xs ys = λ k d inside. any_left (λ (p : Placed). p ≡ get_or xs k d) xs ys (among_self xs k d inside)
+
+pub among_right : (xs ys : List Placed) → AreAmong (xs ++ ys) ys
+among_right xs ys = λ k d inside. any_right (λ (p : Placed). p ≡ get_or ys k d) xs ys (among_self ys k d inside)
+
+-- what holds of all holds of those that are among them
+pub holds_among : (P : Placed → Type 0) (placed some : List Placed) → All P placed → AreAmong placed some → All P some
+holds_among P placed some all among = λ k d inside. let there = among k d inside in rw there.4 at (rw there.3 at (all there.0 there.1 there.2))
 
 module _ (Others : ℕ → Type 0) (size : ℕ) where
   module _ (placed : List Placed) where
@@ -100,6 +114,19 @@ module _ (Others : ℕ → Type 0) (size : ℕ) where
         up = let u = so_far.up in let n = no_lower in omega arith;
         room = has_room words open_ so_far.room;
       }
+
+  -- and behind one that begins before the end of what is looked for
+  pub start_after : (placed : List Placed) (p : Placed) (offset next : ℕ) → Any (λ (q : Placed). q ≡ p) placed → p.end + size < 2 ^ 32 → p.offset < offset + size → IsBehind Others p offset next → IsStart Others size placed offset → IsStart Others size placed next
+  start_after placed p offset next there room begins behind start = ⊎_elim
+      (λ (over : Others p.number × (offset < p.end) × (next ≡ p.end)). record {
+        blocked = λ lower below. ⊎_elim
+            (λ (before : lower < offset). start.blocked lower before)
+            (λ (later : offset ≤ lower). let e = over.2 in (there.0, there.1, there.2, there.3, rw there.4 (over.0, omega arith, omega arith)))
+            (cases_lt lower offset);
+        room = let e = over.2 in omega arith;
+      })
+      (λ (by : (Others p.number → p.end ≤ offset) × (next ≡ offset)). rw by.1 start)
+      behind
 
   module _ (small large : List Placed) where
     -- the search has come to this offset, before these places

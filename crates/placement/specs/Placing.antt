@@ -42,9 +42,32 @@ IsBehind Others p offset next =
     (Others p.number × (offset < p.end) × (next ≡ p.end))
     ⊎ ((Others p.number → p.end ≤ offset) × (next ≡ offset))
 
+-- each of these is one of those that are placed
+abbrev pub AreAmong : List Placed → List Placed → Type 0
+AreAmong placed some = All (λ (s : Placed). Any (λ (p : Placed). p ≡ s) placed) some
+
+-- From `start` on a search has come to this offset, before this place: up to there some of the others is in the way. It is free where it is below the bound.
+pub record IsGap (Others : ℕ → Type 0) (size : ℕ) (placed : List Placed) (start bound place offset : ℕ) : Type 0 where
+  pub passed : ArePassed Others placed place offset
+  pub free : offset < bound → All (λ (p : Placed). Blocks Others size offset p → ⊥) placed
+  pub blocked : (lower : ℕ) → start ≤ lower → lower < offset → Any (Blocks Others size lower) placed
+  pub up : start ≤ offset
+  pub room : offset + size < 2 ^ 32
+
 -- where a search can begin: at each lower offset some of the others is in the way
 pub record IsStart (Others : ℕ → Type 0) (size : ℕ) (placed : List Placed) (offset : ℕ) : Type 0 where
   pub blocked : (lower : ℕ) → lower < offset → Any (Blocks Others size lower) placed
+  pub room : offset + size < 2 ^ 32
+
+-- where a search ends: none of the others is in the way, or it isn't below the bound
+pub record IsFound (Others : ℕ → Type 0) (size : ℕ) (placed : List Placed) (bound offset : ℕ) : Type 0 where
+  pub free : offset < bound → All (λ (p : Placed). Blocks Others size offset p → ⊥) placed
+  pub start : IsStart Others size placed offset
+
+-- at this offset none of the others is in the way, and at each lower one some is
+pub record IsLeast (Others : ℕ → Type 0) (size : ℕ) (placed : List Placed) (offset : ℕ) : Type 0 where
+  pub free : All (λ (p : Placed). Blocks Others size offset p → ⊥) placed
+  pub least : (lower : ℕ) → lower < offset → Any (Blocks Others size lower) placed
   pub room : offset + size < 2 ^ 32
 
 -- the buffer that was placed last, of whose others this row told
@@ -53,9 +76,7 @@ pub record IsLast (row : List ℕ) (placed : List Placed) (last : Placed) : Type
   pub filled : last.offset < last.end
   pub blocked : (lower : ℕ) → lower < last.offset → Any (Blocks (RowHas row) (last.end - last.offset) lower) placed
 
--- the offset and the size of p stand at its number
-pub record StandsAt (offsets sizes : List ℕ) (p : Placed) : Type 0 where
+-- the offset of p stands at its number
+pub record StandsAt (offsets : List ℕ) (p : Placed) : Type 0 where
   pub there : p.number < length offsets
-  pub sized : p.number < length sizes
   pub begins : p.offset ≡ slice_index offsets p.number
-  pub ends : p.end ≡ slice_index offsets p.number + slice_index sizes p.number

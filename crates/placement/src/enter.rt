@@ -2,7 +2,7 @@
 ghost use Rattle.std.specs.Prelude.{◌≡◌, ◌≤◌, ◌++◌, ◌∷◌, OnOk, IsPermutation};
 ghost use Rattle.placement.specs.Placing.{Rise, IsNarrow};
 
-use crate::gap::Placed;
+use crate::gap::{Buffers, Placed};
 use std::alloc::AllocError;
 
 /// How many buffers, the largest, are kept apart from the others. A search begins among the others as far before its
@@ -20,26 +20,20 @@ fn insert(placed: &mut Vec<Placed>, next: Placed) -> Result<(), AllocError>
     Ok(())
 }
 
-/// Enters a buffer among the large ones while these are few, and else among the small ones, none of which has more than
-/// `limit` cells.
-pub(crate) fn enter(
-    small: &mut Vec<Placed>,
-    large: &mut Vec<Placed>,
-    limit: &mut u32,
-    next: Placed,
-) -> Result<(), AllocError>
+/// Enters a buffer among the large ones while these are few, and else among the small ones.
+pub(crate) fn enter(placed: &mut Buffers, next: Placed) -> Result<(), AllocError>
     requires filled { next.offset ≤ next.end }
-    requires small { Rise small.old.items }
-    requires large { Rise large.old.items }
-    requires narrow { IsNarrow limit.old small.old.items }
-    ensures same { OnOk result (IsPermutation (next ∷ small.old.items ++ large.old.items) (small.new.items ++ large.new.items)) }
-    ensures small { OnOk result (Rise small.new.items) }
-    ensures large { OnOk result (Rise large.new.items) }
-    ensures narrow { OnOk result (IsNarrow limit.new small.new.items) }
+    requires small { Rise placed.old.small.items }
+    requires large { Rise placed.old.large.items }
+    requires narrow { IsNarrow placed.old.limit placed.old.small.items }
+    ensures same { OnOk result (IsPermutation (next ∷ placed.old.small.items ++ placed.old.large.items) (placed.new.small.items ++ placed.new.large.items)) }
+    ensures small { OnOk result (Rise placed.new.small.items) }
+    ensures large { OnOk result (Rise placed.new.large.items) }
+    ensures narrow { OnOk result (IsNarrow placed.new.limit placed.new.small.items) }
 {
-    if large.len() < LARGE {
-        return insert(large, next);
+    if placed.large.len() < LARGE {
+        return insert(&mut placed.large, next);
     }
-    *limit = (*limit).max(next.end - next.offset);
-    insert(small, next)
+    placed.limit = placed.limit.max(next.end - next.offset);
+    insert(&mut placed.small, next)
 }

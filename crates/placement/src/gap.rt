@@ -1,8 +1,11 @@
 // The buffers placed so far, by their offsets, and where one more fits among them.
-ghost use Rattle.std.specs.Prelude.{ℕ, ◌≡◌, ◌+◌, ◌/◌, ◌^◌, ◌<◌, ◌≤◌, ◌++◌, ◌↔◌, length, slice_index_or, All, Any, IsTrue};
+ghost use Rattle.std.specs.Prelude.{ℕ, ◌≡◌, ◌+◌, ◌/◌, ◌^◌, ◌<◌, ◌≤◌, ◌++◌, List, length, slice_index_or, All, Any, IfOk, OnOk};
 ghost use Rattle.placement_checker.specs.Rows.{RowHas};
-ghost use Rattle.placement.specs.Placing.{Rise, IsNarrow, IsOpenTo, IsStart, ArePassed, IsBehind, Blocks};
+ghost use Rattle.placement.specs.Placing.{Rise, IsNarrow, IsOpenTo, IsStart, IsFound, IsGap, ArePassed, AreAmong, IsBehind};
 ghost use Rattle.placement.specs.declared.gap.Placed.{Placed};
+
+use placement_checker::has_bit;
+use std::alloc::AllocError;
 
 /// A buffer in the cells from `offset` up to `end`.
 #[derive(Clone, Copy, Debug)]
@@ -12,25 +15,69 @@ pub(crate) struct Placed {
     pub(crate) end: u32,
 }
 
-/// Whether the row has the bit.
-pub(crate) fn has_bit(row: &[u64], bit: u32) -> bool
-    requires { bit / 64 < length row.now }
-    ensures { IsTrue result ↔ RowHas row.now bit }
+/// The buffers placed so far, by their offsets: a few large ones, and small ones of at most `limit` cells.
+#[derive(Debug, Drop)]
+pub(crate) struct Buffers {
+    pub(crate) small: Vec<Placed>,
+    pub(crate) large: Vec<Placed>,
+    pub(crate) limit: u32,
+}
+
+/// A buffer that looks for its offset.
+#[derive(Clone, Copy, Debug)]
+pub(crate) struct Sought<'a> {
+    pub(crate) size: u32,
+    /// A bit for each buffer that excludes it.
+    pub(crate) row: &'a [u64],
+}
+
+/// How far a search has come: to an offset, and to a place among the buffers.
+#[derive(Clone, Copy, Debug)]
+struct Gap {
+    place: usize,
+    offset: u32,
+}
+
+/// Leaves out the last of those that were in the way of a search, where the search would have come to the next one without
+/// it.
+fn leave_out(met: &mut Vec<Placed>, next: Placed, size: u32)
+    ensures { (placed : List Placed) → AreAmong placed met.old.items → AreAmong placed met.new.items }
 {
-    row[(bit / 64) as usize] >> (bit % 64) & 1 == 1
+    let count = met.len();
+    if count < 2 {
+        return;
+    }
+    if next.offset < met[count - 2].end.saturating_add(size) {
+        met.truncate(count - 1);
+    }
+}
+
+/// Adds a buffer to those that were in the way of a search.
+fn remember(met: &mut Vec<Placed>, next: Placed, size: u32) -> Result<(), AllocError>
+    ensures { (placed : List Placed) → Any (λ p. p ≡ next) placed → AreAmong placed met.old.items → OnOk result (AreAmong placed met.new.items) }
+{
+    leave_out(met, next, size);
+    met.push(next)?;
+    Ok(())
 }
 
 /// Where a search goes on that has come to a buffer beginning before the end of what it looks for: at the offset, or
-/// behind the buffer where that is in the way.
-fn behind(p: &Placed, row: &[u64], offset: u32) -> u32
-    requires { p.now.number / 64 < length row.now }
-    ensures { IsBehind (RowHas row.now) p.now offset result }
+/// behind the buffer where that is in the way, which then joins those that were met.
+pub(crate) fn pass(
+    p: &Placed,
+    sought: &Sought<'_>,
+    offset: u32,
+    met: &mut Vec<Placed>,
+) -> Result<u32, AllocError>
+    requires { p.now.number / 64 < length sought.now.row.now }
+    ensures behind { IfOk result (IsBehind (RowHas sought.now.row.now) p.now offset) }
+    ensures met { (placed : List Placed) → Any (λ q. q ≡ p.now) placed → AreAmong placed met.old.items → OnOk result (AreAmong placed met.new.items) }
 {
-    if offset < p.end && has_bit(row, p.number) {
-        p.end
-    } else {
-        offset
+    if p.end <= offset || !has_bit(sought.row, p.number as usize) {
+        return Ok(offset);
     }
+    remember(met, *p, sought.size)?;
+    Ok(p.end)
 }
 
 /// The first of these buffers, none of which has more than `limit` cells, that may end behind the cell.
@@ -47,73 +94,105 @@ fn first_behind(placed: &[Placed], limit: u32, cell: u32) -> usize
     placed.partition_point(|p: &Placed| p.offset < first)
 }
 
-/// The place of the first buffer, from one on, that begins behind a gap of this size, and the offset of the gap: the
-/// least from `start` on. Where that is not below `bound`, any offset from there on up to which there is no gap.
+/// The place of the first buffer, from one on, that begins behind a gap of the size, and the offset of the gap: the least
+/// from one on. Where that is not below `bound`, any offset from there on up to which there is no gap.
 fn next_gap(
     placed: &[Placed],
-    row: &[u64],
-    size: u32,
-    from: usize,
-    start: u32,
+    sought: &Sought<'_>,
+    from: Gap,
     bound: u32,
-) -> (usize, u32)
-    requires placed { IsOpenTo (length row.now) size placed.now }
-    requires filled { 1 ≤ size }
-    requires room { start + size < 2 ^ 32 }
-    requires passed { ArePassed (RowHas row.now) placed.now from start }
-    ensures passed { ArePassed (RowHas row.now) placed.now result.0 result.1 }
-    ensures free { result.1 < bound → All (λ p. Blocks (RowHas row.now) size result.1 p → ⊥) placed.now }
-    ensures blocked { (lower : ℕ) → start ≤ lower → lower < result.1 → Any (Blocks (RowHas row.now) size lower) placed.now }
-    ensures up { start ≤ result.1 }
-    ensures room { result.1 + size < 2 ^ 32 }
+    met: &mut Vec<Placed>,
+) -> Result<Gap, AllocError>
+    requires placed { IsOpenTo (length sought.now.row.now) sought.now.size placed.now }
+    requires filled { 1 ≤ sought.now.size }
+    requires room { from.offset + sought.now.size < 2 ^ 32 }
+    requires passed { ArePassed (RowHas sought.now.row.now) placed.now from.place from.offset }
+    ensures gap { IfOk result (λ gap. IsGap (RowHas sought.now.row.now) sought.now.size placed.now from.offset bound gap.place gap.offset) }
+    ensures met { (all : List Placed) → AreAmong all placed.now → AreAmong all met.old.items → OnOk result (AreAmong all met.new.items) }
 {
-    let mut offset = start;
-    for k in from..placed.len() {
+    let mut offset = from.offset;
+    for k in from.place..placed.len() {
         if bound <= offset {
-            return (k, offset);
+            return Ok(Gap { place: k, offset });
         }
         let p = &placed[k];
-        if offset + size <= p.offset {
-            return (k, offset);
+        if offset + sought.size <= p.offset {
+            return Ok(Gap { place: k, offset });
         }
-        offset = behind(p, row, offset);
+        offset = pass(p, sought, offset, met)?;
     }
-    (placed.len(), offset)
+    Ok(Gap {
+        place: placed.len(),
+        offset,
+    })
 }
 
-/// The least offset at which the buffer overlaps none that the row has, among a few large ones and small ones of at most
-/// `limit` cells, where it is known that this is not below `start`. Where it is not below `bound`, any offset from there
-/// on that is not above it.
-pub(crate) fn search(
+/// The search from a place among the small ones on: see `search`.
+fn search_from(
     small: &[Placed],
     large: &[Placed],
-    limit: u32,
-    row: &[u64],
-    size: u32,
-    start: u32,
+    sought: &Sought<'_>,
+    start: Gap,
     bound: u32,
-) -> u32
-    requires small { IsOpenTo (length row.now) size small.now }
-    requires large { IsOpenTo (length row.now) size large.now }
-    requires narrow { IsNarrow limit small.now }
-    requires filled { 1 ≤ size }
-    requires start { IsStart (RowHas row.now) size (small.now ++ large.now) start }
-    ensures free { result < bound → All (λ p. Blocks (RowHas row.now) size result p → ⊥) (small.now ++ large.now) }
-    ensures start { IsStart (RowHas row.now) size (small.now ++ large.now) result }
+    met: &mut Vec<Placed>,
+) -> Result<u32, AllocError>
+    requires small { IsOpenTo (length sought.now.row.now) sought.now.size small.now }
+    requires large { IsOpenTo (length sought.now.row.now) sought.now.size large.now }
+    requires filled { 1 ≤ sought.now.size }
+    requires passed { ArePassed (RowHas sought.now.row.now) small.now start.place start.offset }
+    requires start { IsStart (RowHas sought.now.row.now) sought.now.size (small.now ++ large.now) start.offset }
+    requires met { AreAmong (small.now ++ large.now) met.old.items }
+    ensures found { IfOk result (IsFound (RowHas sought.now.row.now) sought.now.size (small.now ++ large.now) bound) }
+    ensures met { OnOk result (AreAmong (small.now ++ large.now) met.new.items) }
 {
-    let mut from = first_behind(small, limit, start);
-    let mut offset = start;
+    let mut from = start;
     for k in 0..large.len() {
-        let gap = next_gap(small, row, size, from, offset, bound);
-        if bound <= gap.1 {
-            return gap.1;
+        let gap = next_gap(small, sought, from, bound, met)?;
+        if bound <= gap.offset {
+            return Ok(gap.offset);
         }
         let p = &large[k];
-        if gap.1 + size <= p.offset {
-            return gap.1;
+        if gap.offset + sought.size <= p.offset {
+            return Ok(gap.offset);
         }
-        from = gap.0;
-        offset = behind(p, row, gap.1);
+        let offset = pass(p, sought, gap.offset, met)?;
+        from = Gap {
+            place: gap.place,
+            offset,
+        };
     }
-    next_gap(small, row, size, from, offset, bound).1
+    let last = next_gap(small, sought, from, bound, met)?;
+    Ok(last.offset)
+}
+
+/// The least offset at which the buffer overlaps none that its row has, where it is known that this is not below `start`.
+/// Where it is not below `bound`, any offset from there on that is not above it. Those that were in the way join those
+/// that were met.
+pub(crate) fn search(
+    placed: &Buffers,
+    sought: &Sought<'_>,
+    start: u32,
+    bound: u32,
+    met: &mut Vec<Placed>,
+) -> Result<u32, AllocError>
+    requires small { IsOpenTo (length sought.now.row.now) sought.now.size placed.now.small.items }
+    requires large { IsOpenTo (length sought.now.row.now) sought.now.size placed.now.large.items }
+    requires narrow { IsNarrow placed.now.limit placed.now.small.items }
+    requires filled { 1 ≤ sought.now.size }
+    requires start { IsStart (RowHas sought.now.row.now) sought.now.size (placed.now.small.items ++ placed.now.large.items) start }
+    requires met { AreAmong (placed.now.small.items ++ placed.now.large.items) met.old.items }
+    ensures found { IfOk result (IsFound (RowHas sought.now.row.now) sought.now.size (placed.now.small.items ++ placed.now.large.items) bound) }
+    ensures met { OnOk result (AreAmong (placed.now.small.items ++ placed.now.large.items) met.new.items) }
+{
+    if bound <= start {
+        return Ok(start);
+    }
+    let small = placed.small.as_slice();
+    let large = placed.large.as_slice();
+    let place = first_behind(small, placed.limit, start);
+    let from = Gap {
+        place,
+        offset: start,
+    };
+    search_from(small, large, sought, from, bound, met)
 }

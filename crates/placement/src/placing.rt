@@ -2,9 +2,10 @@ ghost use Rattle.std.specs.Prelude.{◌≡◌, ◌^◌, ◌<◌, ◌≤◌, leng
 ghost use Rattle.placement_checker.specs.Placed.{Valid, Tight};
 
 use crate::enter::enter;
-use crate::gap::Placed;
+use crate::gap::{Buffers, Placed, Sought};
 use crate::least::least_offset;
 use crate::order::placing_order;
+use crate::start::Before;
 use placement_checker::Exclusion;
 use sdf_level::List;
 use std::alloc::{AllocError, Global};
@@ -42,30 +43,39 @@ pub fn place<X: Exclusion>(
     prove!(sizes.len() <= range);
     let order = placing_order(alloc, sizes)?;
     let mut offsets = vec![in alloc; u32::MAX; sizes.len()]?;
-    let mut small = Vec::with_capacity(alloc, sizes.len())?;
-    let mut large = Vec::new(alloc);
-    let mut limit = 0;
+    let mut placed = Buffers {
+        small: Vec::with_capacity(alloc, sizes.len())?,
+        large: Vec::new(alloc),
+        limit: 0,
+    };
+    let mut before = Before {
+        buffer: None,
+        row: vec![in alloc; 0u64; range.div_ceil(64)]?,
+        met: Vec::new(alloc),
+    };
     let mut row = vec![in alloc; 0u64; range.div_ceil(64)]?;
-    let mut last_row = vec![in alloc; 0u64; range.div_ceil(64)]?;
-    let mut last = None;
+    let mut met = Vec::new(alloc);
     let mut height = 0;
     for &number in &order {
-        let size = sizes[number as usize];
         exclusion.write_row(number, &mut row);
-        let offset = least_offset(
-            &small, &large, limit, &row, size, last, &last_row, &offsets, sizes,
-        );
-        let end = offset + size;
+        let sought = Sought {
+            size: sizes[number as usize],
+            row: &row,
+        };
+        let offset = least_offset(&placed, &offsets, &sought, &before, &mut met)?;
+        let end = offset + sizes[number as usize];
         let buffer = Placed {
             number,
             offset,
             end,
         };
-        enter(&mut small, &mut large, &mut limit, buffer)?;
+        enter(&mut placed, buffer)?;
         offsets[number as usize] = offset;
         height = height.max(end);
-        last = Some(buffer);
-        mem::swap(&mut row, &mut last_row);
+        mem::swap(&mut row, &mut before.row);
+        mem::swap(&mut met, &mut before.met);
+        met.clear();
+        before.buffer = Some(buffer);
     }
     Ok(Placement {
         offsets: List::new(offsets),

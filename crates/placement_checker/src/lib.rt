@@ -7,3 +7,4 @@ mod row;
 
 pub use checker::{Clash, check};
 pub use exclusion::Exclusion;
+pub use row::has_bit;

@@ -1,12 +1,32 @@
 use Rattle.placement_checker.specs.Rows.{RowHas}
-use Rattle.placement.proofs.Sweep.{free_before, free_at_end, one_more}
+use Rattle.placement.proofs.Sweep.{free_before, one_more}
 use Rattle.placement.proofs.gap.next_gap.Goals as goal
+use Rattle.std.proofs.Common.{arith}
 
-pub returns-then-offset-size-clause-free : goal.returns-then-offset-size-clause-free
-returns-then-offset-size-clause-free c = λ below. free_before (RowHas c.args.row.now) c.args.size c.args.placed.now _ c.loop-k.k c.loop-k.offset _ c.requires.placed c.loop-k.invariant.passed c.if-offset-size.true
+pub loop-k-init : goal.loop-k-init
+loop-k-init c = record {
+  so_far = record {
+    passed = c.requires.passed;
+    blocked = λ lower low below. absurd (omega arith);
+    up = omega arith;
+    room = c.requires.room;
+  };
+  met = λ all among old. old;
+}
+
+pub returns-then-offset-sought-clause-gap : goal.returns-then-offset-sought-clause-gap
+returns-then-offset-sought-clause-gap c =
+    let so_far = c.loop-k.invariant.so_far in
+    record {
+      passed = so_far.passed;
+      free = λ below. free_before (RowHas c.args.sought.now.row.now) c.args.sought.now.size c.args.placed.now _ c.loop-k.k c.loop-k.offset _ c.requires.placed so_far.passed c.if-offset-sought.true;
+      blocked = so_far.blocked;
+      up = so_far.up;
+      room = so_far.room;
+    }
 
 pub loop-k-preserved : goal.loop-k-preserved
-loop-k-preserved c = one_more (RowHas c.args.row.now) c.args.size c.args.placed.now c.loop-k.k c.loop-k.offset c.behind-offset.result _ c.loop-k-test.true c.behind-offset.ensures _ c.args.start c.requires.placed c.if-offset-size.false c.loop-k.invariant
-
-pub returns-clause-free : goal.returns-clause-free
-returns-clause-free c = λ below. free_at_end (RowHas c.args.row.now) c.args.size c.args.placed.now c.loop-k.k c.loop-k.offset c.loop-k-test.false c.loop-k.invariant.passed
+loop-k-preserved c = record {
+  so_far = one_more (RowHas c.args.sought.now.row.now) c.args.sought.now.size c.args.placed.now c.loop-k.k c.loop-k.offset c.in_ok-offset.offset _ c.loop-k-test.true c.in_ok-offset.ensures.behind _ c.args.from.offset c.requires.placed c.if-offset-sought.false c.loop-k.invariant.so_far;
+  met = λ all among old. c.in_ok-offset.ensures.met all (among c.loop-k.k _ c.loop-k-test.true) (c.loop-k.invariant.met all among old);
+}

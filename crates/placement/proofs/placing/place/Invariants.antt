@@ -1,18 +1,20 @@
-use Rattle.std.proofs.Common.{◌≡◌, ◌≤◌, ◌<◌, ◌*◌, ◌/◌, ◌^◌, ◌++◌, length, IfSome}
-use Rattle.placement.specs.Placing.{IsPlacingOrder, IsLast, Rise, IsNarrow}
+use Rattle.std.proofs.Common.{◌≡◌, ◌≤◌, ◌<◌, ◌*◌, ◌/◌, ◌^◌, ◌++◌, [], length, IfSome}
+use Rattle.placement.specs.Placing.{IsPlacingOrder, IsLast, AreAmong, Rise, IsNarrow}
 use Rattle.placement.proofs.Fitting.{PlacedSoFar}
 use Rattle.placement.proofs.placing.place.Given as goal
 
 abbrev pub invariant-loop-number : goal.invariant-loop-number
 invariant-loop-number g l = record {
   order : IsPlacingOrder l.sizes l.number-items;
-  so_far : PlacedSoFar l.sizes (g.X.Exclusion.excludes l.exclusion) l.number-items order l.number-index (l.small.items ++ l.large.items) l.offsets.items l.height;
-  small : Rise l.small.items;
-  large : Rise l.large.items;
-  narrow : IsNarrow l.limit l.small.items;
+  so_far : PlacedSoFar l.sizes (g.X.Exclusion.excludes l.exclusion) l.number-items order l.number-index (l.placed.small.items ++ l.placed.large.items) l.offsets.items l.height;
+  small : Rise l.placed.small.items;
+  large : Rise l.placed.large.items;
+  narrow : IsNarrow l.placed.limit l.placed.small.items;
   wide : g.X.Exclusion.range l.exclusion ≤ 64 * length l.row.items;
   few : length l.row.items < 2 ^ 32;
-  rows : length l.row.items ≡ length l.last_row.items;
-  told : IfSome l.last (λ p. (p.number / 64 < length l.row.items) × (p.offset < p.end));
-  last : IfSome l.last (IsLast l.last_row.items (l.small.items ++ l.large.items));
+  rows : length l.row.items ≡ length l.before.row.items;
+  told : IfSome l.before.buffer (λ p. (p.number / 64 < length l.row.items) × (p.offset < p.end));
+  last : IfSome l.before.buffer (IsLast l.before.row.items (l.placed.small.items ++ l.placed.large.items));
+  hints : AreAmong (l.placed.small.items ++ l.placed.large.items) l.before.met.items;
+  met : l.met.items ≡ [];
 }

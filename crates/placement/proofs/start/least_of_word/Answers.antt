@@ -16,16 +16,16 @@ loop-left-preserved c =
     let others = (cleared c.loop-left.left _ lowest.0 lowest.1).1 in
     let lower = c.least_with-least.ensures.least in (
       (let before = c.loop-left.invariant.0 in omega arith),
-      λ bit small inside sized ends set gone.
+      λ bit small inside set gone.
           elim (cases_eq bit (trailing_zeros w64 c.loop-left.left)) [
-            | inl same ↦ rw same (c.least_with-least.ensures.at (rw same at inside) (rw same at sized) (rw same at ends))
-            | inr other ↦ let before = c.loop-left.invariant.1 bit small inside sized ends set (λ still. gone (others bit small other ∙ still)) in omega arith
+            | inl same ↦ rw same (c.least_with-least.ensures.at (rw same at inside))
+            | inr other ↦ let before = c.loop-left.invariant.1 bit small inside set (λ still. gone (others bit small other ∙ still)) in omega arith
           ],
     )
 
 pub returns-clause-each : goal.returns-clause-each
-returns-clause-each c = λ bit small inside sized ends set.
-    c.loop-left.invariant.1 bit small inside sized ends set (λ still.
+returns-clause-each c = λ bit small inside set.
+    c.loop-left.invariant.1 bit small inside set (λ still.
     let zero_left : c.loop-left.left ≡ 0 = omega arith in
     let h = rw zero_left at still in
     let none = bit_at-zero bit in

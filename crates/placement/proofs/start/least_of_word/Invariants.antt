@@ -6,7 +6,7 @@ use Rattle.placement.proofs.start.least_of_word.Given as goal
 abbrev pub invariant-loop-left : goal.invariant-loop-left
 invariant-loop-left l =
     (l.least ≤ l.fn.least)
-    × ((bit : ℕ) → bit < 64 → l.first + bit < length l.offsets → l.first + bit < length l.sizes → l.cell < slice_index l.offsets (l.first + bit) + slice_index l.sizes (l.first + bit) → bit_at l.word bit ≡ 1 → (bit_at l.left bit ≡ 1 → ⊥) → l.least ≤ slice_index l.offsets (l.first + bit))
+    × ((bit : ℕ) → bit < 64 → l.first + bit < length l.offsets → bit_at l.word bit ≡ 1 → (bit_at l.left bit ≡ 1 → ⊥) → l.least ≤ slice_index l.offsets (l.first + bit))
 
 abbrev pub decreases-loop-left : goal.decreases-loop-left
 decreases-loop-left l = l.left
