@@ -3,6 +3,7 @@ use Rattle.std.proofs.Common.{◌≡◌, ℕ, zero, suc, ◌+◌, ◌-◌, ◌*�
 use Rattle.std.specs.Prelude.{nat_lt}
 use Rattle.std.proofs.lemmas.Bool.Decides.{nat_tests}
 use Rattle.std.proofs.lemmas.List.FromFn.{length-map-range_with_len, take-map-range_with_len}
+use Rattle.kernel_gate.specs.Value.{lengths}
 use Rattle.pisdf_meaning.specs.Run.{first_lack, taken}
 use Rattle.pisdf_program.specs.Load.{k_token, load_iterations, load_part, load_streams, tokens_from, x_token}
 use Rattle.pisdf_program.specs.Streams.{rest_of}
@@ -46,3 +47,10 @@ module _ (number iteration : ℕ) (within : iteration < load_iterations number) 
       let first : nat_lt (length k_left) 1 ≡ false = grind (arith, nat_tests) in
       let second : nat_lt (length x_left) 64 ≡ false = grind (arith, nat_tests) in
       rw (first, second) refl
+
+-- a token of k and 64 of x
+pub part_lengths : (number iteration : ℕ) → lengths (load_part number iteration) ≡ 1 ∷ 64 ∷ []
+part_lengths number iteration =
+    let k = length-map-range_with_len (k_token number) iteration 1 in
+    let x = length-map-range_with_len (x_token number) (64 * iteration) 64 in
+    ap (λ n. n ∷ length (tokens_from (x_token number) (64 * iteration) 64) ∷ []) k ∙ ap (λ n. 1 ∷ n ∷ []) x

@@ -6,15 +6,15 @@ use Rattle.pisdf_model.specs.Hold.{initial}
 use Rattle.pisdf_model.specs.declared.graph.Graphs.{Graphs}
 use Rattle.pisdf_meaning.specs.Run as run
 use Rattle.pisdf_meaning.specs.declared.outcome.Iteration.{Iteration}
-use Rattle.pisdf_meaning.specs.declared.refusal.PlainFault.{PlainFault}
-use Rattle.pisdf_meaning.specs.declared.refusal.PlainFault.TheVariants as plain
+use Rattle.pisdf_meaning.specs.declared.refusal.Refusal.{Refusal}
 use Rattle.pisdf_program.specs.Calls.{EndsRun}
 use Rattle.pisdf_program.specs.Iterated.{Gives, HaveIterated}
 use Rattle.pisdf_program.specs.Load.{all_tokens, load_file, load_iterations, load_row, load_streams, sum_of, y_tokens}
 use Rattle.pisdf_program.specs.LoadEnd.{EndsLoad, IsLoadStatus, LacksNothing, LoadEndsBy, LoadIsDone, total_row}
 use Rattle.pisdf_program.specs.Loaded.{is_answer}
 use Rattle.pisdf_program.specs.Result.{Outcome, Soaks, SoaksIn, SoaksOn, ends_load, read_graphs, refused, told}
-use Rattle.pisdf_program.specs.Stepped.{StopsAt, refused_stop, run_end}
+use Rattle.pisdf_program.specs.Making.{StopsOnly}
+use Rattle.pisdf_program.specs.Stepped.{StopsAt, run_end}
 use Rattle.pisdf_program.specs.Streams.{rest_of}
 use Rattle.pisdf_program.specs.Worked.{IsThere, StopsWith, TellsLoad, Works}
 use Rattle.pisdf_program.specs.declared.load_totals.Total.{Total}
@@ -146,9 +146,11 @@ module _ (one : HasOneEnd) (g : Graphs) (number : ℕ) (is : read_graphs load_fi
 
 -- ---- how a load may end
 
-pub refused_lacks : (fault : PlainFault) → LacksNothing (refused_stop fault)
-refused_lacks (plain.Refused refusal) = tt
-refused_lacks plain.Memory = tt
+pub made_lacks : (P : Refusal → Type 0) (result : Result Iteration Stop) → IfErr result (StopsOnly P) → IfErr result LacksNothing
+made_lacks P (Ok iteration) h = tt
+made_lacks P (Err (stop.Short stream has needs)) h = absurd h
+made_lacks P (Err (stop.Refused refusal)) h = tt
+made_lacks P (Err stop.Memory) h = tt
 
 pub stop_tells : (g : Graphs) (end : Stop) (s : Status) → LacksNothing end → StopsWith g end s → IsLoadStatus s
 stop_tells g (stop.Short stream has needs) s enough is = absurd enough

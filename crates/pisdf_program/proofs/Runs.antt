@@ -140,13 +140,6 @@ refused_by_one g s tokens ins needs k refusal e sound none is h =
       ends = subst (λ x. run.IterationEnds g x s (Err refusal)) (is ∙ ap (λ n. run.taken n (rest_of k n tokens)) e) h;
     }
 
--- the same of what is answered
-pub refused_or_starved : (g : Graphs) (s tokens ins : State) (needs : List ℕ) (k : ℕ) (fault : PlainFault) → needs ≡ run.top_needs g → early_faults g.graphs g.top [] ≡ []
-    → None ≡ run.first_lack 0 needs (rest_of k needs tokens) → ins ≡ run.taken needs (rest_of k needs tokens) → IfRefused (λ refusal. run.IterationEnds g ins s (Err refusal)) fault
-    → StopsAt g s (rest_of k (run.top_needs g) tokens) (refused_stop fault)
-refused_or_starved g s tokens ins needs k (plain.Refused refusal) e sound none is h = refused_by_one g s tokens ins needs k refusal e sound none is h
-refused_or_starved g s tokens ins needs k plain.Memory e sound none is h = tt
-
 -- an iteration that isn't done ends the run, and nothing is put
 pub ends_by : (g : Graphs) (k : ℕ) (s rest : State) (had : Option (List ℕ)) (f : ℕ) (stop : Stop) → StopsAt g s rest stop → EndsAt g k s rest had had f f (run_end stop)
 ends_by g k s rest had f (stop.Short stream held needs) h = (h, grows_none had)

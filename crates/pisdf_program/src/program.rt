@@ -175,7 +175,7 @@ fn work<S: Shelf, O: Sink, K: Gate + Sync, R: Threads + Wait + Sync>(
         } => tell_journals(
             rt, alloc, graph, tokens, iterations, workers, shelf, out, gate,
         ),
-        Command::Soak { number, .. } => soak(alloc, number, out, gate),
+        Command::Soak { number, workers } => soak(rt, alloc, number, workers, out, gate),
         Command::Upgrade { graph } => upgrade(alloc, graph, shelf, out, gate),
     }
 }

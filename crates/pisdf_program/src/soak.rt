@@ -1,5 +1,6 @@
 // The command that runs a load of its own.
-ghost use Rattle.std.specs.Prelude.{◌≡◌, ◌⊎◌, ◌<◌, ◌≤◌, [], ◌∷◌, length, map, Err, IfErr, IfOk};
+ghost use Rattle.std.specs.Prelude.{◌≡◌, ◌⊎◌, ◌<◌, ◌≤◌, [], ◌∷◌, length, map, Err, IfErr, IfOk, OnOk};
+ghost use Rattle.std.specs.Arc.{arc_value};
 ghost use Rattle.kernel_gate.specs.Signed.{signature_view};
 ghost use Rattle.kernel_gate.specs.Table.{the_signatures};
 ghost use Rattle.param_resolver.specs.EarlyCheck.{early_faults};
@@ -8,24 +9,30 @@ ghost use Rattle.pisdf_program.specs.Iterated.{Gives};
 ghost use Rattle.pisdf_program.specs.Load.{load_file, load_iterations, load_streams};
 ghost use Rattle.pisdf_program.specs.LoadEnd.{EndsLoad, IsLoadStatus, LacksNothing, total_row};
 ghost use Rattle.pisdf_program.specs.Loaded.{AreGood, Settles};
+ghost use Rattle.pisdf_program.specs.Making.{IsReady};
 ghost use Rattle.pisdf_program.specs.Result.{Soaks, read_graphs, told};
 ghost use Rattle.pisdf_program.specs.Stepped.{StopsAt};
 ghost use Rattle.pisdf_program.specs.Streams.{rest_of};
 ghost use Rattle.pisdf_program.specs.Worked.{IsThere, TellsLoad, Works};
 ghost use Rattle.pisdf_program.specs.Words.{greatest_load};
+ghost use Rattle.quiescent_driver.specs.Given.{IsTopState};
 
 use crate::load::{graphs_in, parse_graphs};
 use crate::load_tokens::{load_iterations, load_part};
 use crate::load_totals::{Total, total_row, with_tokens, y_tokens};
+use crate::maker::Maker;
 use crate::put::put_text;
 use crate::status::Status;
-use crate::stop::{Stop, refused, stop_status};
+use crate::stop::{Stop, stop_status};
 use graph_writer::write;
+use job_compiler::kept;
 use kernel_gate::{Gate, Signature};
 use outer_world::Sink;
-use pisdf_meaning::{Delays, Iteration, first_delays, one_meaning, plain_iteration};
+use pisdf_meaning::{Delays, Iteration, first_delays, one_meaning};
 use pisdf_model::Graphs;
 use std::alloc::Global;
+use std::sync::{Arc, Wait};
+use std::thread::Threads;
 
 /// The file of the load's graphs.
 const LOAD_FILE: &str =
@@ -49,41 +56,52 @@ fn load_graphs(alloc: Global, signatures: &[Signature]) -> Result<Graphs, Status
 }
 
 /// Makes one iteration, whose part of the streams is made here.
-fn load_iteration<K: Gate>(
+fn load_iteration<K: Gate + Sync, R: Threads + Wait + Sync>(
+    rt: &R,
     alloc: Global,
-    graphs: &Graphs,
+    graphs: &Arc<Graphs>,
     number: u32,
     iteration: u32,
+    maker: &mut Maker,
     delays: &mut Delays,
     gate: &K,
 ) -> Result<Iteration, Stop>
-    requires good { AreGood graphs.now }
+    requires good { AreGood (arc_value graphs.now) }
     requires kernels { K.kernels gate.now ≡ the_signatures }
     requires number { number ≤ greatest_load }
     requires iteration { iteration < load_iterations number }
-    requires needs { top_needs graphs.now ≡ 1 ∷ 64 ∷ [] }
-    requires sound { early_faults graphs.now.graphs graphs.now.top [] ≡ [] }
-    ensures gives { IfOk result (λ i. Gives graphs.now delays.old.lists (rest_of iteration (top_needs graphs.now) (load_streams number)) i delays.new.lists) }
-    ensures stops { IfErr result (StopsAt graphs.now delays.old.lists (rest_of iteration (top_needs graphs.now) (load_streams number))) }
+    requires needs { top_needs (arc_value graphs.now) ≡ 1 ∷ 64 ∷ [] }
+    requires sound { early_faults (arc_value graphs.now).graphs (arc_value graphs.now).top [] ≡ [] }
+    requires state { IsTopState (arc_value graphs.now) delays.old.lists }
+    requires ready { IsReady maker.old }
+    ensures gives { IfOk result (λ i. Gives (arc_value graphs.now) delays.old.lists (rest_of iteration (top_needs (arc_value graphs.now)) (load_streams number)) i delays.new.lists) }
+    ensures stops { IfErr result (StopsAt (arc_value graphs.now) delays.old.lists (rest_of iteration (top_needs (arc_value graphs.now)) (load_streams number))) }
     ensures enough { IfErr result LacksNothing }
+    ensures state { OnOk result (IsTopState (arc_value graphs.now) delays.new.lists) }
+    ensures ready { IsReady maker.new }
 {
     let Ok(ins) = load_part(alloc, number, iteration) else {
         return Err(Stop::Memory);
     };
-    match plain_iteration(alloc, graphs, delays, ins.as_slice(), gate) {
-        Ok(iteration) => Ok(iteration),
-        Err(fault) => Err(refused(fault)),
-    }
+    maker.iteration(rt, alloc, graphs, delays, ins.as_slice(), gate)
 }
 
-/// Runs the iterations of a load in one thread.
-fn run_load<K: Gate>(alloc: Global, graphs: &Graphs, number: u32, gate: &K) -> Result<Total, Stop>
-    requires good { AreGood graphs.now }
+/// Runs the iterations of a load.
+fn run_load<K: Gate + Sync, R: Threads + Wait + Sync>(
+    rt: &R,
+    alloc: Global,
+    graphs: &Arc<Graphs>,
+    number: u32,
+    maker: &mut Maker,
+    gate: &K,
+) -> Result<Total, Stop>
+    requires good { AreGood (arc_value graphs.now) }
     requires kernels { K.kernels gate.now ≡ the_signatures }
     requires number { number ≤ greatest_load }
-    requires needs { top_needs graphs.now ≡ 1 ∷ 64 ∷ [] }
-    requires sound { early_faults graphs.now.graphs graphs.now.top [] ≡ [] }
-    ensures ends { EndsLoad graphs.now number result }
+    requires needs { top_needs (arc_value graphs.now) ≡ 1 ∷ 64 ∷ [] }
+    requires sound { early_faults (arc_value graphs.now).graphs (arc_value graphs.now).top [] ≡ [] }
+    requires ready { IsReady maker.old }
+    ensures ends { EndsLoad (arc_value graphs.now) number result }
     ensures enough { IfErr result LacksNothing }
 {
     let Ok(mut delays) = first_delays(alloc, graphs) else {
@@ -91,7 +109,16 @@ fn run_load<K: Gate>(alloc: Global, graphs: &Graphs, number: u32, gate: &K) -> R
     };
     let mut total = Total { count: 0, sum: 0 };
     for place in 0..load_iterations(number) {
-        let iteration = match load_iteration(alloc, graphs, number, place, &mut delays, gate) {
+        let iteration = match load_iteration(
+            rt,
+            alloc,
+            graphs,
+            number,
+            place,
+            maker,
+            &mut delays,
+            gate,
+        ) {
             Ok(iteration) => iteration,
             Err(stop) => return Err(stop),
         };
@@ -142,16 +169,20 @@ fn tell_load<O: Sink>(
     }
 }
 
-/// Runs the load of a number, and puts one row that tells of it. Its iterations are run by one thread, whatever the number of
-/// workers: the result is the same for each. The answer is no text for standard error, or a status.
-pub(crate) fn soak<O: Sink, K: Gate>(
+/// Runs the load of a number by so many workers, and puts one row that tells of it. The answer is no text for standard error,
+/// or a status.
+pub(crate) fn soak<O: Sink, K: Gate + Sync, R: Threads + Wait + Sync>(
+    rt: &R,
     alloc: Global,
     number: u32,
+    workers: u32,
     out: &mut O,
     gate: &K,
 ) -> Result<String, Status>
     requires kernels { K.kernels gate.now ≡ the_signatures }
     requires number { number ≤ greatest_load }
+    requires some { 0 < workers }
+    requires most { workers ≤ 16 }
     ensures works { Works (Soaks number) (O.written out.old) (O.written out.new) (O.faults out.old) (O.faults out.new) result }
     ensures there { IsThere (Unit {0}) (Soaks number) result }
     ensures answers { IfErr result IsLoadStatus }
@@ -161,6 +192,16 @@ pub(crate) fn soak<O: Sink, K: Gate>(
         Ok(graphs) => graphs,
         Err(status) => return Err(status),
     };
-    let end = run_load(alloc, &graphs, number, gate);
+    let Ok(graphs) = Arc::new(alloc, graphs) else {
+        return Err(Status::WantOfMemory);
+    };
+    let Ok(kept) = kept(alloc) else {
+        return Err(Status::WantOfMemory);
+    };
+    let mut maker = Maker::Workers {
+        count: workers,
+        kept: Some(kept),
+    };
+    let end = run_load(rt, alloc, &graphs, number, &mut maker, gate);
     tell_load(alloc, &graphs, number, end, out)
 }
