@@ -1,4 +1,4 @@
-// A long chain, of as many buffers as the greatest job has: `reach`, `place` and `map` find memory for it, and give what is plain of a
+// A long chain, near the greatest size of a job: `reach`, `place` and `map` find memory for it, and give what is plain of a
 // chain.
 ghost use Rattle.std.specs.Prelude.{◌≡◌, ◌+◌, ◌<◌, length, slice_index, All, IfOk};
 
@@ -11,15 +11,15 @@ use std::io;
 use worker_mapping::map;
 
 /// How many buffers the chain has. It has one node more.
-const BUFFERS: u32 = 16_384;
+const BUFFERS: u32 = 8_192;
 
 /// The cells of each buffer.
 const SIZE: u32 = 5;
 
 /// The edges from each node to the next.
 fn chain(alloc: Global) -> Result<Vec<(u32, u32)>, AllocError>
-    ensures few { IfOk result (λ edges. length edges.items ≡ 16384) }
-    ensures ends { IfOk result (λ edges. All (λ edge. (edge.0 < 16385) × (edge.1 < 16385)) edges.items) }
+    ensures few { IfOk result (λ edges. length edges.items ≡ 8192) }
+    ensures ends { IfOk result (λ edges. All (λ edge. (edge.0 < 8193) × (edge.1 < 8193)) edges.items) }
 {
     let mut edges = Vec::new(alloc);
     for tail in 0..BUFFERS {
@@ -30,7 +30,7 @@ fn chain(alloc: Global) -> Result<Vec<(u32, u32)>, AllocError>
 
 /// The rank of each node.
 fn ranks(alloc: Global) -> Result<Vec<u32>, AllocError>
-    ensures { IfOk result (λ ranks. length ranks.items ≡ 16385) }
+    ensures { IfOk result (λ ranks. length ranks.items ≡ 8193) }
 {
     let mut ranks = Vec::new(alloc);
     for rank in 0..BUFFERS + 1 {
@@ -76,9 +76,9 @@ fn take_turns(home: &[u32], priority: &[u64], workers: u32) -> bool {
 
 /// Whether `reach` and `place` place the buffers of the chain by turns.
 fn places_by_turns(alloc: Global, edges: &[(u32, u32)], ranks: &[u32]) -> Result<bool, AllocError>
-    requires few { length edges.now ≡ 16384 }
-    requires ends { All (λ edge. (edge.0 < 16385) × (edge.1 < 16385)) edges.now }
-    requires ranks { length ranks.now ≡ 16385 }
+    requires few { length edges.now ≡ 8192 }
+    requires ends { All (λ edge. (edge.0 < 8193) × (edge.1 < 8193)) edges.now }
+    requires ranks { length ranks.now ≡ 8193 }
     requires rising { All (λ edge. slice_index ranks.now edge.0 < slice_index ranks.now edge.1) edges.now }
 {
     let exclusion = reach(alloc, BUFFERS + 1, edges, ranks)?;
@@ -89,8 +89,8 @@ fn places_by_turns(alloc: Global, edges: &[(u32, u32)], ranks: &[u32]) -> Result
 
 /// Whether `map` maps the nodes of the chain by turns.
 fn maps_by_turns(alloc: Global, edges: &[(u32, u32)], ranks: &[u32]) -> Result<bool, AllocError>
-    requires ends { All (λ edge. (edge.0 < 16385) × (edge.1 < 16385)) edges.now }
-    requires ranks { length ranks.now ≡ 16385 }
+    requires ends { All (λ edge. (edge.0 < 8193) × (edge.1 < 8193)) edges.now }
+    requires ranks { length ranks.now ≡ 8193 }
     requires rising { All (λ edge. slice_index ranks.now edge.0 < slice_index ranks.now edge.1) edges.now }
 {
     let costs = repeated(alloc, 1, BUFFERS + 1)?;

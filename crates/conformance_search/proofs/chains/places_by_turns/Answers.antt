@@ -3,7 +3,7 @@ use Rattle.std.specs.List.{sum, All}
 use Rattle.std.proofs.lemmas.List.Sums.{sum_by-le}
 use Rattle.conformance_search.proofs.chains.places_by_turns.Goals as goal
 
-few_cells : (sizes : List ℕ) → length sizes ≡ 16384 → All (λ size. size ≡ 5) sizes → sum sizes < 2 ^ 32
+few_cells : (sizes : List ℕ) → length sizes ≡ 8192 → All (λ size. size ≡ 5) sizes → sum sizes < 2 ^ 32
 few_cells sizes long each =
     let bound : sum sizes ≤ length sizes * 5 = sum_by-le (λ (x : ℕ). x) 5 sizes (λ k d below. let e : get_or sizes k d ≡ 5 = each k d below in omega arith) in
     omega arith
