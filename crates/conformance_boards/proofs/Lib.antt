@@ -1,0 +1,10 @@
+pub mod KernelsFit
+pub mod Steps
+pub mod Compiling
+pub mod Fitting
+pub mod Framing
+pub mod Lasting
+pub mod Answering
+pub mod Claiming
+pub mod Starting
+pub mod Playing

@@ -1,0 +1,44 @@
+// What is known of boards and of what workers run, for the proofs of this crate. The functions do nothing; their contracts are
+// the laws.
+ghost use Rattle.conformance_boards.specs.Laws.{BoardsHaveLaws, CompilationsEnd, WorkFits};
+
+use board_rules::entries_tell_steps;
+use job_flow::{edges_have_ports, frames_told, ready_stays};
+use job_rules::{jobs_mean_firings, rules_are_lawful, tasks_fit};
+use level_schedule::schedules_exist;
+use pisdf_meaning::{Refusal, runnable};
+use sdf_level::repetition_suffices;
+use single_rate::graphs_numbered;
+
+/// A worker runs something exactly where its last entry is a claim, and what it runs stays the same work until its next entry,
+/// whatever the others do.
+pub(crate) fn board_laws()
+    ensures { BoardsHaveLaws }
+{
+    entries_tell_steps();
+    rules_are_lawful();
+}
+
+/// A compilation has an answer, whether or not there is memory to work it out.
+pub(crate) fn compilations_end()
+    ensures { CompilationsEnd }
+{
+    rules_are_lawful();
+    jobs_mean_firings();
+    schedules_exist();
+}
+
+/// The work that a worker runs is such that its frame can be run.
+pub(crate) fn work_fits()
+    ensures { WorkFits }
+{
+    rules_are_lawful();
+    jobs_mean_firings();
+    tasks_fit();
+    runnable();
+    graphs_numbered();
+    ready_stays::<i64, Refusal, ()>();
+    frames_told::<i64, Refusal, u64>();
+    edges_have_ports::<i64>();
+    repetition_suffices();
+}
