@@ -1,5 +1,5 @@
 -- What a worker ran gives an answer that its work may have.
-use Rattle.std.proofs.Common.{◌≡◌, ◌≢◌, ℕ, IsOk, Bool, true, false, Option, Some, None, Result, Ok, Err, List, [], ◌∷◌, ◌++◌, get_or, set, length, refl, sym, ap, ◌∙◌, subst, get_or-set_other}
+use Rattle.std.proofs.Common.{◌≡◌, ◌≢◌, ℕ, ◌<◌, IsOk, Bool, true, false, Option, Some, None, Result, Ok, Err, List, [], ◌∷◌, ◌++◌, get_or, set, length, refl, sym, ap, ◌∙◌, subst, get_or-set_other}
 use Rattle.kernel_gate.specs.Signed.{Counts, IsFrameOf, unnamed}
 use Rattle.kernel_gate.specs.Table.{frame_value, the_signatures, the_value}
 use Rattle.kernel_gate.specs.Value.{FrameView, Places, SameFrame, told_by}
@@ -156,7 +156,7 @@ gives_back laws x y w P sound later runs answer answered finishes =
         more = Finish w ∷ [];
         journal = journal;
         others = only_mine w;
-        lent = λ v ne. ap (λ (b : BoardView). get_or b.lent v None) finishes.new_is ∙ get_or-set_other x.lent v w None None ne;
+        lent = λ v ne. ap (λ (b : BoardView). get_or b.lent v None) finishes.new_is ∙ get_or-set_other x.lent w v None None ne;
       },
       told_idle laws y later w (subst (λ (k : Key). w < k.workers) (sym key_is) runs.is_worker) last,
     )

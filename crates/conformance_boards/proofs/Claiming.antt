@@ -52,7 +52,7 @@ module _ (laws : BoardsHaveLaws) (fits : WorkFits) (x y : BoardView) (w : ℕ) (
       more = entry ∷ [];
       journal = picks.after.entered ∙ (ap (λ (k : Key). journal_of k then) key_is ∙ (entered.2 ∙ ap (λ (l : List Entry). l ++ entry ∷ []) (sym picks.before.entered)));
       others = λ v ne. other_first v entry [] (λ e. ne (sym e));
-      lent = λ v ne. ap (λ (l : List (Option Places)). get_or l v None) lent_is ∙ get_or-set_other x.lent v w frame None ne;
+      lent = λ v ne. ap (λ (l : List (Option Places)). get_or l v None) lent_is ∙ get_or-set_other x.lent w v frame None ne;
     }
 
     fit : IsFitWork x.key.signatures work

@@ -107,7 +107,7 @@ module _ (laws : BoardsHaveLaws) (w : ℕ) (x y : BoardView) (sound : IsSound x)
   -- so it is where its place in the list is written
   pub held_set : (held : List Held) (next : Held) → w < length held → AreHeld x held → Holds y w next → AreHeld y (set held w next)
   held_set held next inside are own =
-      held_then held (set held w next) are (subst (Holds y w) (sym (get_or-set_same held w next Nothing inside)) own) (λ v ne. get_or-set_other held v w next Nothing ne)
+      held_then held (set held w next) are (subst (Holds y w) (sym (get_or-set_same held w next Nothing inside)) own) (λ v ne. get_or-set_other held w v next Nothing ne)
 
   -- all are idle then that were, and so is the worker
   pub idle_then : AreAllIdle x → IsIdle y w → AreAllIdle y

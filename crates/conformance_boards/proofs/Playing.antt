@@ -1,16 +1,19 @@
 -- The list of what workers hold, from step to step.
-use Rattle.std.proofs.Common.{◌≡◌, ◌≢◌, ℕ, zero, suc, ◌+◌, ◌<◌, ◌≤◌, ◌-◌, Option, List, [], ◌∷◌, ◌++◌, length, get_or, set, take, replicate, refl, sym, ap, ◌∙◌, subst, arith}
-use Rattle.kernel_gate.specs.Value.{Places}
-use Rattle.job_rules.specs.Words.{Work}
+use Rattle.std.proofs.Common.{◌≡◌, ◌≢◌, ℕ, zero, suc, ◌+◌, ◌<◌, ◌≤◌, ◌-◌, ◌^◌, Option, Some, None, List, [], ◌∷◌, ◌++◌, length, get_or, set, take, replicate, refl, sym, ap, ◌∙◌, subst, arith}
+use Rattle.kernel_gate.specs.Value.{FrameView, Places}
+use Rattle.sdf_level.specs.declared.node.Node.{Node}
+use Rattle.job_preparing.specs.CompileTasks.{CompileView}
+use Rattle.job_rules.specs.Words.{Compiles, Copies, Fires, Work}
 use Rattle.board_rules.specs.Keys.{Key}
 use Rattle.firing_board.specs.Runs.{AreAllIdle, IsIdle, IsSound}
 use Rattle.firing_board.specs.View.{BoardView}
 use Rattle.firing_board.specs.declared.claim.Ticket.{Ticket}
-use Rattle.conformance_boards.specs.Holding.{AreHeld, GivesBack, HasClaimed, HasOurKernels, Holds, IsCrewOf, StepsOf}
+use Rattle.conformance_boards.specs.Asked.{IsToCompile, IsToCopy, IsToFire}
+use Rattle.conformance_boards.specs.Holding.{AreHeld, CopiesFew, GivesBack, HasClaimed, HasOurKernels, Holds, IsCrewOf, StepsOf}
 use Rattle.conformance_boards.specs.Laws.{BoardsHaveLaws}
 use Rattle.conformance_boards.specs.declared.held.Held.{Held}
-use Rattle.conformance_boards.specs.declared.held.Held.TheVariants.{Nothing}
-use Rattle.conformance_boards.proofs.Lasting.{held_set, held_then, idle_held, none_held}
+use Rattle.conformance_boards.specs.declared.held.Held.TheVariants.{Nothing, Fire, Configure, Copy, Compile}
+use Rattle.conformance_boards.proofs.Lasting.{held_set, held_then, idle_held, no_steps}
 
 -- ---- of one worker
 
@@ -19,6 +22,35 @@ own_claim b w ticket frame P claimed = subst (λ (n : ℕ). HasClaimed b n ticke
 
 pub back_as : (v w : ℕ) (x y : BoardView) → v ≡ w → GivesBack v x y → GivesBack w x y
 back_as v w x y same back = subst (λ (n : ℕ). GivesBack n x y) same back
+
+-- a claim that is to be copied has a frame whose inputs 32 bits can number
+few_work : (node : Node) (frame : FrameView) (key : Key) (work : Work) → IsToCopy node frame key work → length frame.inputs < 2 ^ 32
+few_work node frame key (Fires spot asked) h = absurd h
+few_work node frame key (Copies copier read lens) h = h.2.few_inputs
+few_work node frame key (Compiles firing left) h = absurd h
+
+pub copies_few : (b : BoardView) (w : ℕ) (held : Held) → Holds b w held → CopiesFew held
+copies_few b w Nothing h = tt
+copies_few b w (Fire ticket frame) h = tt
+copies_few b w (Configure ticket frame) h = tt
+copies_few b w (Copy ticket node frame) h = few_work node frame b.key h.runs.work h.runs.so
+copies_few b w (Compile ticket task) h = tt
+
+-- what a worker holds is its own
+pub fire_held : (b : BoardView) (w : ℕ) (held : Held) (ticket : Ticket) (frame : FrameView) → held ≡ Fire ticket frame → Holds b w held → HasClaimed b w ticket (Some frame.places) (IsToFire frame b.key)
+fire_held b w held ticket frame is h = subst (Holds b w) is h
+
+pub configure_held : (b : BoardView) (w : ℕ) (held : Held) (ticket : Ticket) (frame : FrameView) → held ≡ Configure ticket frame → Holds b w held → HasClaimed b w ticket (Some frame.places) (IsToFire frame b.key)
+configure_held b w held ticket frame is h = subst (Holds b w) is h
+
+pub copy_held : (b : BoardView) (w : ℕ) (held : Held) (ticket : Ticket) (node : Node) (frame : FrameView) → held ≡ Copy ticket node frame → Holds b w held → HasClaimed b w ticket (Some frame.places) (IsToCopy node frame b.key)
+copy_held b w held ticket node frame is h = subst (Holds b w) is h
+
+pub compile_held : (b : BoardView) (w : ℕ) (held : Held) (ticket : Ticket) (task : CompileView) → held ≡ Compile ticket task → Holds b w held → HasClaimed b w ticket None (IsToCompile task b.key)
+compile_held b w held ticket task is h = subst (Holds b w) is h
+
+pub nothing_held : (b : BoardView) (w : ℕ) (held : Held) → held ≡ Nothing → Holds b w held → GivesBack w b b
+nothing_held b w held is h = let idle : IsIdle b w = subst (Holds b w) is h in (no_steps w b, idle)
 
 -- ---- of all
 

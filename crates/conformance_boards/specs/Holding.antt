@@ -1,5 +1,5 @@
 -- What simulated workers hold of a board.
-use Rattle.std.specs.Prelude.{◌≡◌, ◌≢◌, ℕ, ◌<◌, List, [], ◌++◌, Option, Some, None, length, slice_index_or}
+use Rattle.std.specs.Prelude.{◌≡◌, ◌≢◌, ℕ, ◌<◌, ◌^◌, List, [], ◌++◌, Option, Some, None, length, slice_index_or}
 use Rattle.kernel_gate.specs.Signed.{unnamed}
 use Rattle.kernel_gate.specs.Table.{the_signatures}
 use Rattle.kernel_gate.specs.Value.{Places}
@@ -45,6 +45,14 @@ held_by (claim.Compile ticket task) = Compile ticket task
 held_by claim.Wait = Nothing
 held_by claim.Finished = Nothing
 held_by claim.Starved = Nothing
+
+-- the frame of a node that copies has fewer inputs than 32 bits can tell
+abbrev pub CopiesFew : Held → Type 0
+CopiesFew Nothing = Unit {0}
+CopiesFew (Fire ticket frame) = Unit {0}
+CopiesFew (Configure ticket frame) = Unit {0}
+CopiesFew (Copy ticket node frame) = length frame.inputs < 2 ^ 32
+CopiesFew (Compile ticket task) = Unit {0}
 
 -- ---- what all of them hold
 

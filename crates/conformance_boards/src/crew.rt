@@ -8,11 +8,11 @@ ghost use Rattle.conformance_boards.specs.Holding.{GivesBack, HasOurKernels, Hol
 use crate::giving_back::{compile, configure, copy, fire};
 use crate::held::Held;
 use crate::holding::{held_by, put, take};
+use crate::laws::{board_laws, work_fits};
 use crate::told::Told;
 use crate::trouble::Trouble;
 use firing_board::{Board, Claim};
 use std::alloc::Global;
-use crate::laws::{board_laws, work_fits};
 
 /// Whether nothing is left to claim or to finish.
 fn is_done(claim: &Claim) -> bool {
@@ -22,6 +22,31 @@ fn is_done(claim: &Claim) -> bool {
 /// Whether memory was wanted.
 fn is_starved(claim: &Claim) -> bool {
     matches!(claim, Claim::Starved)
+}
+
+/// The answer of a step that goes on.
+fn not_done(finished: Result<(), Trouble>) -> Result<bool, Trouble> {
+    match finished {
+        Ok(()) => Ok(false),
+        Err(trouble) => Err(trouble),
+    }
+}
+
+/// The answer of a claim that was told.
+fn told_done(told: Result<(), Trouble>, starved: bool, done: bool) -> Result<bool, Trouble> {
+    match told {
+        Ok(()) if starved => Err(Trouble::Memory),
+        Ok(()) => Ok(done),
+        Err(trouble) => Err(trouble),
+    }
+}
+
+/// The answer of several finishes, of which these are the first and the last.
+fn both(first: Result<(), Trouble>, last: Result<(), Trouble>) -> Result<(), Trouble> {
+    match first {
+        Ok(()) => last,
+        Err(trouble) => Err(trouble),
+    }
 }
 
 /// Runs what a worker holds, and finishes it.
@@ -77,6 +102,7 @@ fn ask(
     ensures key { board.new.key ≡ board.old.key }
 {
     board_laws();
+    let _before = board.journal();
     let claim = claim(alloc, board, worker);
     let _after = board.journal();
     let done = is_done(&claim);
@@ -84,11 +110,7 @@ fn ask(
     let next = held_by(claim);
     let seen = told.see_claim(worker, &next, done);
     put(held, worker, next);
-    seen?;
-    if starved {
-        return Err(Trouble::Memory);
-    }
-    Ok(done)
+    told_done(seen, starved, done)
 }
 
 /// Finishes what a worker holds.
@@ -109,11 +131,11 @@ fn finish_held(
     ensures key { board.new.key ≡ board.old.key }
 {
     board_laws();
+    let _before = board.journal();
     let holding = take(held, worker);
     let finished = finish(alloc, board, worker, holding, told);
     let _after = board.journal();
-    finished?;
-    Ok(false)
+    not_done(finished)
 }
 
 /// Whether a worker holds nothing.
@@ -173,13 +195,11 @@ pub(crate) fn finish_all(
     let mut worker = workers;
     let mut all = Ok(());
     while let Some(holding) = held.pop() {
+        let _before = board.journal();
         worker -= 1;
         let finished = finish(alloc, board, worker, holding, told);
         let _after = board.journal();
-        match finished {
-            Ok(()) => {}
-            Err(trouble) => all = Err(trouble),
-        }
+        all = both(all, finished);
     }
     let _journal = board.journal();
     held.destroy_empty();
@@ -191,11 +211,7 @@ pub(crate) fn finish_all(
 /// # Errors
 ///
 /// Want of memory.
-pub(crate) fn has_ended(
-    alloc: Global,
-    board: &mut Board,
-    told: &mut Told,
-) -> Result<bool, Trouble>
+pub(crate) fn has_ended(alloc: Global, board: &mut Board, told: &mut Told) -> Result<bool, Trouble>
     requires kernels { HasOurKernels board.old }
     requires idle { AreAllIdle board.old }
     ensures idle { AreAllIdle board.new }
@@ -212,8 +228,7 @@ pub(crate) fn has_ended(
         other => {
             let finished = finish(alloc, board, 0, held_by(other), told);
             let _after = board.journal();
-            finished?;
-            Ok(false)
+            not_done(finished)
         }
     }
 }

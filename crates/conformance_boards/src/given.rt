@@ -58,7 +58,9 @@ pub(crate) fn streams_of(
 
 /// What is left of a stream after so many iterations.
 fn rest(tokens: &[i64], number: u32, need: u32) -> &[i64] {
-    let start = (number as usize).saturating_mul(need as usize).min(tokens.len());
+    let start = (number as usize)
+        .saturating_mul(need as usize)
+        .min(tokens.len());
     &tokens[start..]
 }
 
@@ -70,10 +72,9 @@ pub(crate) enum Taken {
 }
 
 /// The line of a stream with too few tokens.
-fn short(alloc: Global, input: &Interface, has: usize, needs: u32) -> Result<Taken, Trouble> {
+fn short(alloc: Global, input: &Interface, has: usize, needs: u32) -> Result<String, Trouble> {
     let name = input.name.text();
-    let line = format!(in alloc; "tokens: short {name} has {has} needs {needs}\n")?;
-    Ok(Taken::Short(line))
+    Ok(format!(in alloc; "tokens: short {name} has {has} needs {needs}\n")?)
 }
 
 /// The tokens of each input that an iteration takes, or the line of the first that has too few.
@@ -94,7 +95,8 @@ pub(crate) fn take_ins(
         let need = needs[place];
         let rest = rest(streams[place].items(), number, need);
         if rest.len() < need as usize {
-            return short(alloc, &inputs[place], rest.len(), need);
+            let line = short(alloc, &inputs[place], rest.len(), need)?;
+            return Ok(Taken::Short(line));
         }
         ins.push(List::new(Vec::from_slice(alloc, &rest[..need as usize])?))?;
     }

@@ -4,6 +4,7 @@ ghost use Rattle.firing_board.specs.Finishes.{MayComeBack, MayEnd};
 ghost use Rattle.conformance_boards.specs.Asked.{IsToCompile, IsToCopy, IsToFire};
 ghost use Rattle.conformance_boards.specs.Holding.{GivesBack, HasClaimed, HasOurKernels};
 
+use crate::laws::{board_laws, compilations_end};
 use crate::told::Told;
 use crate::trouble::Trouble;
 use firing_board::{Board, Ticket};
@@ -13,7 +14,6 @@ use kernel_library::Library;
 use sdf_level::Node;
 use special_actors::run_special;
 use std::alloc::Global;
-use crate::laws::{board_laws, compilations_end};
 
 /// Gives back the frame of a kernel or a node.
 fn give_back(board: &mut Board, ticket: Ticket, frame: Frame, answer: Result<(), KernelFault>)

@@ -14,6 +14,7 @@ use crate::crew::{finish_all, has_ended, step};
 use crate::given::{Taken, take_ins, top_of};
 use crate::held::Held;
 use crate::holding::idle;
+use crate::laws::board_laws;
 use crate::texts::{push_iteration, push_journal, push_refusal};
 use crate::told::Told;
 use crate::trouble::Trouble;
@@ -28,7 +29,6 @@ use sdf_level::List;
 use std::alloc::Global;
 use std::mem;
 use std::sync::Arc;
-use crate::laws::board_laws;
 
 /// A board that has taken so many steps is given up.
 const MOST_STEPS: u32 = 4_000_000;
@@ -144,7 +144,12 @@ fn see_board(
             journal,
         } => {
             *delays = left;
-            push_iteration(&mut told.out, number, top_of(graphs).outputs.items(), &iteration)?;
+            push_iteration(
+                &mut told.out,
+                number,
+                top_of(graphs).outputs.items(),
+                &iteration,
+            )?;
             push_journal(&mut told.journal, number, &journal)?;
             Ok(true)
         }

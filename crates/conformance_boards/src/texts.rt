@@ -99,7 +99,11 @@ pub(crate) fn push_refusal(text: &mut String, refusal: &Refusal) -> Result<(), T
 }
 
 /// Appends a line for each entry of a journal.
-pub(crate) fn push_journal(text: &mut String, number: u32, journal: &Journal) -> Result<(), Trouble> {
+pub(crate) fn push_journal(
+    text: &mut String,
+    number: u32,
+    journal: &Journal,
+) -> Result<(), Trouble> {
     for entry in 0..journal.len() {
         match journal.entry(entry) {
             EntryAt::Claim { worker, path, item } => {

@@ -1,4 +1,7 @@
 // What is told of a run.
+ghost use Rattle.std.specs.Prelude.{◌^◌, ◌<◌, length};
+ghost use Rattle.conformance_boards.specs.Holding.{CopiesFew};
+
 use crate::held::Held;
 use crate::trouble::Trouble;
 use job_preparing::CompileEnd;
@@ -15,7 +18,7 @@ pub(crate) struct Told {
     pub(crate) err: String,
     /// The entries of the journals.
     pub(crate) journal: String,
-    /// Each claim and finish with its tokens, where they are asked for.
+    /// Each claim and finish, where they are asked for.
     pub(crate) steps: String,
     pub(crate) has_steps: bool,
     /// For each claim of a compilation whether it came with one that was kept.
@@ -44,7 +47,9 @@ impl Told {
     }
 
     /// Tells what a worker got that claimed, and where that is nothing, whether all is done.
-    pub(crate) fn see_claim(&mut self, worker: u32, held: &Held, done: bool) -> Result<(), Trouble> {
+    pub(crate) fn see_claim(&mut self, worker: u32, held: &Held, done: bool) -> Result<(), Trouble>
+        requires { CopiesFew held.now }
+    {
         if let Held::Compile(_, task) = held {
             let word = if task.has_kept() { "true\n" } else { "false\n" };
             self.kept.push_str(word)?;
@@ -98,7 +103,9 @@ fn push_tokens(text: &mut String, tokens: &[i64]) -> Result<(), Trouble> {
     Ok(())
 }
 
-fn push_inputs(text: &mut String, frame: &Frame) -> Result<(), Trouble> {
+fn push_inputs(text: &mut String, frame: &Frame) -> Result<(), Trouble>
+    requires { length frame.now.inputs < 2 ^ 32 }
+{
     for port in 0..frame.inputs() {
         text.push_str(" |")?;
         push_tokens(text, frame.input(port))?;
@@ -107,20 +114,25 @@ fn push_inputs(text: &mut String, frame: &Frame) -> Result<(), Trouble> {
     Ok(())
 }
 
-/// Appends what a worker got that claimed, with the number of the claim among the entries of the journal.
-fn push_claim(text: &mut String, worker: u32, held: &Held, done: bool) -> Result<(), Trouble> {
+/// Appends what a worker got that claimed: with the tokens of a node that copies, and with the number of the claim among the entries of the journal.
+fn push_claim(text: &mut String, worker: u32, held: &Held, done: bool) -> Result<(), Trouble>
+    requires { CopiesFew held.now }
+{
     match held {
         Held::Nothing => {
             let word = if done { "is done" } else { "waits" };
             write!(text, "{worker} {word}\n")?;
         }
         Held::Fire(ticket, frame) => {
-            write!(text, "{} {worker} fires {}", ticket.entry, frame.kind())?;
-            push_inputs(text, frame)?;
+            write!(text, "{} {worker} fires {}\n", ticket.entry, frame.kind())?;
         }
         Held::Configure(ticket, frame) => {
-            write!(text, "{} {worker} configures {}", ticket.entry, frame.kind())?;
-            push_inputs(text, frame)?;
+            write!(
+                text,
+                "{} {worker} configures {}\n",
+                ticket.entry,
+                frame.kind()
+            )?;
         }
         Held::Copy(ticket, _, frame) => {
             write!(text, "{} {worker} copies", ticket.entry)?;
