@@ -11,6 +11,7 @@ use crate::leases::{return_leases, take_leases};
 use crate::nodes::{is_child, keep_tokens, kind_of, reads_stored, writes_stored};
 use crate::ready::{is_quiet, release, released};
 use crate::rooms::spend_rooms;
+use crate::rows::Rows;
 use crate::stage::{Stage, ended_stage, first_fault};
 use crate::told::told_of;
 use cell_pool::Pool;
@@ -41,8 +42,9 @@ pub struct Job {
     pub(crate) ready: GroupedHeaps,
     /// How many nodes are claimed.
     pub(crate) claimed: usize,
-    pub(crate) entering: Vec<List<Option<u32>>>,
-    pub(crate) leaving: Vec<List<Option<u32>>>,
+    /// For each node the edges that enter and leave it, port by port.
+    pub(crate) entering: Rows,
+    pub(crate) leaving: Rows,
     pub(crate) in_rooms: Vec<Vec<Lease>>,
     pub(crate) out_rooms: Vec<Vec<Lease>>,
     pub(crate) args: Vec<List<i64>>,
@@ -172,7 +174,7 @@ impl Job {
             &mut self.pool,
             edges,
             offsets,
-            self.entering[n].items(),
+            self.entering.row(n),
             reads_stored(kind),
             mem::replace(&mut self.tokens_in[n], List::new(Vec::new(self.alloc))),
             mem::replace(&mut self.in_rooms[n], Vec::new(self.alloc)),
@@ -182,7 +184,7 @@ impl Job {
             &mut self.pool,
             edges,
             offsets,
-            self.leaving[n].items(),
+            self.leaving.row(n),
             writes_stored(kind),
             mem::replace(&mut self.tokens_out[n], List::new(Vec::new(self.alloc))),
             mem::replace(&mut self.out_rooms[n], Vec::new(self.alloc)),
@@ -236,7 +238,7 @@ impl Job {
         self.claimed -= 1;
         release(
             self.compiled.graph().edges.items(),
-            released(is_done, self.leaving[n].items()),
+            released(is_done, self.leaving.row(n)),
             &mut self.waiting,
             &mut self.ready,
         );

@@ -41,7 +41,7 @@ stored_are c = c.items-2.ensures
 args_are : (c : goal.After-of-3) → c.items-3.result.now ≡ c.args.args
 args_are c = c.items-3.ensures
 
-wired_is : (c : goal.After-of-3) → AreWired (job_graph c.deref-4.result.now c.items.result.now c.items-2.result.now) c.in_ok-entering.field-0.entering.items c.in_ok-entering.field-0.leaving.items
+wired_is : (c : goal.After-of-3) → AreWired (job_graph c.deref-4.result.now c.items.result.now c.items-2.result.now) c.in_ok-entering.field-0.entering c.in_ok-entering.field-0.leaving
 wired_is c = c.in_ok-entering.ensures.wired
 
 compiled_is : (c : goal.After-of-3) → c.deref-4.result.now ≡ arc_value c.args.compiled
@@ -77,11 +77,11 @@ outs_are c = c.in_ok-outs.ensures
 left_are : (c : goal.After-of-3) → c.in_ok-left.left.items ≡ replicate (length c.items-7.result.now) []
 left_are c = c.in_ok-left.ensures
 
-ins_are : (c : goal.After-of-3) → AreSizes (map reads_stored c.items-nodes.result.now) c.in_ok-entering.field-0.entering.items c.in_ok-in_sizes.in_sizes.items
+ins_are : (c : goal.After-of-3) → AreSizes (map reads_stored c.items-nodes.result.now) c.in_ok-entering.field-0.entering c.in_ok-in_sizes.in_sizes.items
 ins_are c = subst (λ rows. AreSizes (map reads_stored c.items-nodes.result.now) rows c.in_ok-in_sizes.in_sizes.items) (c.deref-7.ensures.value)
     (subst (λ own. AreSizes own c.deref-7.result.now c.in_ok-in_sizes.in_sizes.items) (c.deref-6.ensures.value ∙ c.in_ok-stored_reads.ensures) c.in_ok-in_sizes.ensures)
 
-out_sizes_are : (c : goal.After-of-3) → AreSizes (map writes_stored c.items-nodes.result.now) c.in_ok-entering.field-0.leaving.items c.in_ok-out_sizes.out_sizes.items
+out_sizes_are : (c : goal.After-of-3) → AreSizes (map writes_stored c.items-nodes.result.now) c.in_ok-entering.field-0.leaving c.in_ok-out_sizes.out_sizes.items
 out_sizes_are c = subst (λ rows. AreSizes (map writes_stored c.items-nodes.result.now) rows c.in_ok-out_sizes.out_sizes.items) (c.deref-9.ensures.value)
     (subst (λ own. AreSizes own c.deref-9.result.now c.in_ok-out_sizes.out_sizes.items) (c.deref-8.ensures.value ∙ c.in_ok-stored_writes.ensures) c.in_ok-out_sizes.ensures)
 
@@ -113,8 +113,8 @@ view c = view_with c c.args.args c.args.sources c.args.stored
 
 abbrev parts : goal.After-of-3 → Parts
 parts c = record {
-  entering = c.in_ok-entering.field-0.entering.items;
-  leaving = c.in_ok-entering.field-0.leaving.items;
+  entering = c.in_ok-entering.field-0.entering;
+  leaving = c.in_ok-entering.field-0.leaving;
   in_rooms = c.in_ok-in_rooms.field-0.in_rooms.items;
   out_rooms = c.in_ok-in_rooms.field-0.out_rooms.items;
   args = c.in_ok-node_args.node_args.items;
