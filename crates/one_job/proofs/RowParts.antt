@@ -1,8 +1,8 @@
 -- Rows that lie in one list, when an edge is put to a port and when a row is put behind them.
-use Rattle.std.proofs.Common.{◌≡◌, ℕ, ◌+◌, ◌<◌, ◌≤◌, ⊎_elim, inl, inr, List, [], ◌∷◌, ◌++◌, length, map, set, get_or, take, drop, replicate, refl, sym, ap, ◌∙◌, subst, arith}
+use Rattle.std.proofs.Common.{◌≡◌, ℕ, ◌+◌, ◌<◌, ◌≤◌, ⊎_elim, inl, inr, List, [], ◌∷◌, ◌++◌, length, set, get_or, take, drop, replicate, refl, sym, ap, ◌∙◌, subst, arith}
 use Rattle.std.specs.Prelude.{◌≢◌, ◌⊎◌, Option, Some, None}
 use Rattle.std.proofs.lemmas.Bool.{cases_eq, cases_lt}
-use Rattle.std.proofs.lemmas.List.{length-set, length-map, length-take-le, length-drop, length-append, length-replicate, get_or-map, get_or-take, get_or-drop, get_or_past, get_or-set_same, get_or-set_other, get_or_append_left, get_or_default, same_lists, drop-set-add, drop_at, take_all, map_push, length_push, get_or_push}
+use Rattle.std.proofs.lemmas.List.{length-set, length-map, length-take-le, length-drop, length-append, length-replicate, get_or-map, get_or-take, get_or-drop, get_or-set_same, get_or-set_other, get_or_append_left, same_lists, drop_at, take_all, map_push, length_push, get_or_push}
 use Rattle.one_job.specs.Ports.{row_of}
 use Rattle.one_job.specs.Rows.{part_of, rows_in, span_at, KeepsRows}
 

@@ -1,5 +1,5 @@
 -- The ends of edges, as nodes with ports, and the rows in which they are entered.
-use Rattle.std.specs.Prelude.{◌≡◌, ℕ, ◌+◌, ◌<◌, ◌==◌, Bool, List, [], ◌∷◌, length, map, slice_index, slice_index_or, Option, Some, None, if◌then◌else◌}
+use Rattle.std.specs.Prelude.{◌≡◌, ℕ, ◌+◌, ◌<◌, ◌==◌, Bool, List, [], ◌∷◌, length, slice_index, slice_index_or, Option, Some, None, if◌then◌else◌}
 use Rattle.sdf_level.specs.Kept.{how_many}
 use Rattle.sdf_level.specs.Run.{is_into_actor}
 use Rattle.sdf_level.specs.declared.link.Link.{Link}

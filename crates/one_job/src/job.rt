@@ -5,6 +5,7 @@ ghost use Rattle.kernel_gate.specs.Value.{lengths};
 ghost use Rattle.job_flow.specs.Graphs.{node_at};
 ghost use Rattle.job_flow.specs.Frames.{inputs, lens, on_edge};
 ghost use Rattle.job_flow.specs.Events.{IsQuiet};
+ghost use Rattle.job_flow.specs.Outcomes.{ended};
 
 use crate::choosing::first_head;
 use crate::leases::{return_leases, take_leases};
@@ -148,7 +149,7 @@ impl Job {
     }
 
     /// What the job was compiled to. In every state what is claimed was claimed in the order of the edges, and has the leases
-    /// of its buffers.
+    /// of its buffers; stored tokens have blocks of their own.
     pub fn compiled(&self) -> &Compiled
         ensures value { result.now ≡ self.now.compilation }
         ensures buffers { KeepsBuffers self.now }
@@ -258,6 +259,30 @@ impl Job {
         ensures { result ≡ end_of self }
     {
         let fault = first_fault(&self.stages);
+        let (outs, left) = self.take_apart();
+        match fault {
+            Some((node, code)) => JobEnd::Fault { node, code },
+            None => JobEnd::Done {
+                outs: List::new(outs),
+                stored: List::new(left),
+            },
+        }
+    }
+
+    /// Gives up the job, which no worker runs a node of.
+    pub fn end(self)
+        requires { (n : ℕ) → phase self.marks n ≢ IsClaimed }
+    {
+        let (_outs, _left) = self.take_apart();
+    }
+
+    /// Gives up the cells, none of which is out: what remains are the tokens that the sinks keep and those that are left on the
+    /// links.
+    fn take_apart(self) -> (Vec<List<i64>>, Vec<List<i64>>)
+        requires { (n : ℕ) → phase self.marks n ≢ IsClaimed }
+        ensures outs { result.0.items ≡ (ended (graph_of self) (values self.marks)).outs }
+        ensures left { result.1.items ≡ (ended (graph_of self) (values self.marks)).left }
+    {
         let Job {
             compiled: _,
             kinds: _,
@@ -283,43 +308,6 @@ impl Job {
         drop(pool.close());
         spend_rooms(in_rooms);
         spend_rooms(out_rooms);
-        match fault {
-            Some((node, code)) => JobEnd::Fault { node, code },
-            None => JobEnd::Done {
-                outs: List::new(outs),
-                stored: List::new(left),
-            },
-        }
-    }
-
-    /// Gives up the job, which no worker runs a node of.
-    pub fn end(self)
-        requires { (n : ℕ) → phase self.marks n ≢ IsClaimed }
-    {
-        let Job {
-            compiled: _,
-            kinds: _,
-            args_given: _,
-            sources: _,
-            stored: _,
-            stages: _,
-            waiting: _,
-            ready: _,
-            claimed: _,
-            entering: _,
-            leaving: _,
-            in_rooms,
-            out_rooms,
-            args: _,
-            tokens_in: _,
-            tokens_out: _,
-            pool,
-            outs: _,
-            left: _,
-            alloc: _,
-        } = self;
-        drop(pool.close());
-        spend_rooms(in_rooms);
-        spend_rooms(out_rooms);
+        (outs, left)
     }
 }

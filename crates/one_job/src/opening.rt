@@ -146,11 +146,7 @@ pub(crate) fn stored_writes(alloc: Global, nodes: &[Node]) -> Result<Vec<bool>, 
 }
 
 /// How many leases each node has for these ports, and for stored tokens.
-pub(crate) fn sizes(
-    alloc: Global,
-    own: &[bool],
-    rows: &Rows,
-) -> Result<Vec<usize>, AllocError>
+pub(crate) fn sizes(alloc: Global, own: &[bool], rows: &Rows) -> Result<Vec<usize>, AllocError>
     requires { length own.now ≡ length rows.now }
     ensures { IfOk result (λ v. AreSizes own.now rows.now v.items) }
 {

@@ -1,4 +1,4 @@
-use Rattle.std.proofs.Common.{◌≡◌, ◌+◌, ◌<◌, length, subst, sym, arith}
+use Rattle.std.proofs.Common.{◌≡◌, ◌+◌, length, subst, sym, arith}
 use Rattle.one_job.specs.Wiring.{AreRows, end_at}
 use Rattle.one_job.proofs.RowSteps.{rows_first, rows_step}
 use Rattle.one_job.proofs.wiring.enter.Goals as goal

@@ -38,7 +38,7 @@ take_leases-inputs-requires-clause-can c =
     (record {
       edges_are = c.items-edges.ensures ∙ (ap (λ g. g.edges) c.graph-2.ensures.value ∙ ap (λ (k : Compilation). k.graph.edges) c.deref-2.ensures);
       offsets_are = c.items-offsets.ensures ∙ (ap (λ q. q.offsets) c.placement.ensures.value ∙ ap (λ (k : Compilation). k.placement.offsets) c.deref-3.ensures);
-      ins_are = c.row.ensures.value;
+      ins_are = c.row.ensures;
       outs_are = refl;
     })
 
@@ -54,8 +54,8 @@ take_leases-outputs-requires-clause-can c =
     (record {
       edges_are = c.items-edges.ensures ∙ (ap (λ g. g.edges) c.graph-2.ensures.value ∙ ap (λ (k : Compilation). k.graph.edges) c.deref-2.ensures);
       offsets_are = c.items-offsets.ensures ∙ (ap (λ q. q.offsets) c.placement.ensures.value ∙ ap (λ (k : Compilation). k.placement.offsets) c.deref-3.ensures);
-      ins_are = c.row.ensures.value;
-      outs_are = c.row-2.ensures.value;
+      ins_are = c.row.ensures;
+      outs_are = c.row-2.ensures;
     })
     c.take_leases-inputs.new.pool c.take_leases-inputs.ensures.pool
 
@@ -73,8 +73,8 @@ read_at c =
     record {
       edges_are = c.items-edges.ensures ∙ (ap (λ g. g.edges) c.graph-2.ensures.value ∙ ap (λ (k : Compilation). k.graph.edges) c.deref-2.ensures);
       offsets_are = c.items-offsets.ensures ∙ (ap (λ q. q.offsets) c.placement.ensures.value ∙ ap (λ (k : Compilation). k.placement.offsets) c.deref-3.ensures);
-      ins_are = c.row.ensures.value;
-      outs_are = c.row-2.ensures.value;
+      ins_are = c.row.ensures;
+      outs_are = c.row-2.ensures;
     }
 
 took_at : (c : goal.After-self-7-1) → HasTakenAll (view_of c.self.inside) (parts_of c.self.inside) c.self.inside.pool c.self.inside.outs.items c.self.inside.left.items c.self.invariant.0 c.args.node (enabled_at c)

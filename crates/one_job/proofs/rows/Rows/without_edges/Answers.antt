@@ -1,4 +1,4 @@
-use Rattle.std.proofs.Common.{◌≡◌, ℕ, ◌+◌, ◌<◌, List, [], ◌∷◌, ◌++◌, length, map, take, get_or, replicate, sym, ap, ◌∙◌, subst, arith}
+use Rattle.std.proofs.Common.{◌≡◌, ℕ, ◌+◌, List, [], ◌∷◌, ◌++◌, length, map, take, get_or, replicate, sym, ap, ◌∙◌, subst, arith}
 use Rattle.std.specs.Prelude.{Option, None}
 use Rattle.std.proofs.lemmas.List.{map_more}
 use Rattle.one_job.specs.Rows.{rows_in, KeepsRows}
@@ -16,7 +16,7 @@ loop-count-preserved c =
     let inside = c.loop-count-test.true in
     let empty_row : ℕ → List (Option ℕ) = λ (k : ℕ). replicate k None in
     let rows_are = more_rows ports spans c.loop-count.invariant.0 count
-        ∙ (ap (λ rows. rows ++ replicate count None ∷ []) c.loop-count.invariant.1 ∙ sym (map_more empty_row counts c.loop-count.count-index 0 inside)) in
+    ∙ (ap (λ rows. rows ++ replicate count None ∷ []) c.loop-count.invariant.1 ∙ sym (map_more empty_row counts c.loop-count.count-index 0 inside)) in
     subst (λ (xs : List (Option ℕ)). KeepsRows xs c.push.new.self.items × (rows_in xs c.push.new.self.items ≡ map empty_row (take (c.loop-count.count-index + 1) counts))) (sym c.in_ok-add_ports.ensures)
     (subst (λ (xs : List (ℕ × ℕ)). KeepsRows (ports ++ replicate count None) xs × (rows_in (ports ++ replicate count None) xs ≡ map empty_row (take (c.loop-count.count-index + 1) counts))) (sym spans_are)
     (more_keeps ports spans c.loop-count.invariant.0 count, rows_are))
