@@ -24,6 +24,15 @@ use Rattle.one_job.specs.View.{JobView, graph_of, HasGiven, args_at}
 use Rattle.one_job.specs.Kept.{Parts, AreParts, HasParts, IsPoolOf, Keeps}
 use Rattle.one_job.proofs.Wires.{enters_at}
 
+-- the edge at the first port of a node is there
+pub first_there : (job : JobGraph ℤ) (entering leaving : List (List (Option ℕ))) → AreWired job entering leaving → (n e : ℕ) → get_or (row_of entering n) 0 None ≡ Some e → e < length job.edges
+first_there job entering leaving wired n e found = ⊎_elim
+    (λ (inside : n < length job.nodes). (enters_at job.edges n 0 (row_of entering n) 0 e (wired.enters n inside) found).0)
+    (λ (past : length job.nodes ≤ n).
+    let none : row_of entering n ≡ [] = get_or_past entering n [] (omega (arith, past, wired.rows_in)) in
+    let bad : None ≡ Some e = sym (ap (λ (row : List (Option ℕ)). get_or row 0 None) none) ∙ found in absurd (cc))
+    (cases_lt n (length job.nodes))
+
 mark_free : (count n : ℕ) → mark_at (replicate count Free) n ≡ Free
 mark_free count n = ⊎_elim
     (λ (inside : n < count). get_or-replicate count n Free Free inside)

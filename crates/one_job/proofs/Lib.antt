@@ -12,6 +12,7 @@ pub mod JobFinish
 pub mod JobDone
 pub mod JobEnds
 pub mod FirstFault
+pub mod RowParts
 pub mod RowSteps
 pub mod JobWires
 pub mod StartWires

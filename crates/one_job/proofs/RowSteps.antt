@@ -1,11 +1,10 @@
 -- Ends entered in rows, one after the other.
 use Rattle.std.proofs.Common.{◌≡◌, ℕ, ◌+◌, ◌<◌, ◌≤◌, ⊎_elim, List, [], length, map, set, get_or, replicate, sym, ap, ◌∙◌, subst, arith}
-use Rattle.std.specs.Prelude.{◌≢◌, Option, Some, None, Vec, slice_index}
-use Rattle.std.specs.Global.{Global}
+use Rattle.std.specs.Prelude.{◌≢◌, Option, Some, None, slice_index}
 use Rattle.std.proofs.lemmas.Bool.{cases_eq, cases_lt}
 use Rattle.std.proofs.lemmas.List.{length-set, length-map, length-replicate, get_or-map, get_or-replicate, get_or_past, get_or-set_same, get_or-set_other}
 use Rattle.one_job.specs.Ports.{row_of}
-use Rattle.one_job.specs.Wiring.{end_at, HaveRows, AreRows, rows_of}
+use Rattle.one_job.specs.Wiring.{end_at, HaveRows, AreRows}
 
 abbrev nothing : Option ℕ
 nothing = None
@@ -93,10 +92,3 @@ module _ (counts : List ℕ) (ends : List (ℕ × ℕ)) (k : ℕ) (rows : List (
         (omega (arith, old.0), old.1, old.2))
         (cases_eq n h);
   }
-
--- a row as it was read
-pub row_at : (rows : List (Vec (Option ℕ) Global)) (n : ℕ) (row : Vec (Option ℕ) Global) → n < length rows → row ≡ get_or rows n row → row_of (rows_of rows) n ≡ row.items
-row_at rows n row inside is = get_or-map (λ (r : Vec (Option ℕ) Global). r.items) rows n row [] inside ∙ ap (λ (r : Vec (Option ℕ) Global). r.items) (sym is)
-
-pub length-rows_of : (rows : List (Vec (Option ℕ) Global)) → length (rows_of rows) ≡ length rows
-length-rows_of rows = length-map rows (λ (r : Vec (Option ℕ) Global). r.items)

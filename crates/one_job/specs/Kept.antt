@@ -47,8 +47,8 @@ pub record Parts : Type 0 where
 
 abbrev pub parts_of : Inside → Parts
 parts_of i = record {
-  entering = i.entering.items;
-  leaving = i.leaving.items;
+  entering = i.entering;
+  leaving = i.leaving;
   in_rooms = i.in_rooms.items;
   out_rooms = i.out_rooms.items;
   args = i.args.items;

@@ -14,4 +14,5 @@ pub mod Calls
 pub mod LiveLaws
 pub mod Images
 pub mod Rooms
+pub mod Rows
 pub mod Kept

@@ -1,6 +1,5 @@
 -- The ends of edges, as nodes with ports, and the rows in which they are entered.
-use Rattle.std.specs.Prelude.{◌≡◌, ℕ, ◌+◌, ◌<◌, ◌==◌, Bool, List, [], ◌∷◌, length, map, slice_index, slice_index_or, Option, Some, None, Vec, if◌then◌else◌}
-use Rattle.std.specs.Global.{Global}
+use Rattle.std.specs.Prelude.{◌≡◌, ℕ, ◌+◌, ◌<◌, ◌==◌, Bool, List, [], ◌∷◌, length, slice_index, slice_index_or, Option, Some, None, if◌then◌else◌}
 use Rattle.sdf_level.specs.Kept.{how_many}
 use Rattle.sdf_level.specs.Run.{is_into_actor}
 use Rattle.sdf_level.specs.declared.link.Link.{Link}
@@ -66,9 +65,6 @@ pub record AreRows (counts : List ℕ) (ends : List (ℕ × ℕ)) (k : ℕ) (row
   pub longs : (n : ℕ) → n < length counts → length (row_of rows n) ≡ slice_index counts n
   pub entered : (i : ℕ) → i < k → slice_index_or (row_of rows (end_at ends i).0) (end_at ends i).1 None ≡ Some i
   pub only : (n p i : ℕ) → slice_index_or (row_of rows n) p None ≡ Some i → (i < k) × ((end_at ends i).0 ≡ n) × ((end_at ends i).1 ≡ p)
-
-abbrev pub rows_of : List (Vec (Option ℕ) Global) → List (List (Option ℕ))
-rows_of rows = map (λ (row : Vec (Option ℕ) Global). row.items) rows
 
 -- for each node the number of its ports, by how many edges it has
 pub record AreCounts (count : Node → ℕ → ℕ) (nodes : List Node) (edges counts : List ℕ) : Type 0 where

@@ -5,12 +5,14 @@ ghost use Rattle.kernel_gate.specs.Value.{lengths};
 ghost use Rattle.job_flow.specs.Graphs.{node_at};
 ghost use Rattle.job_flow.specs.Frames.{inputs, lens, on_edge};
 ghost use Rattle.job_flow.specs.Events.{IsQuiet};
+ghost use Rattle.job_flow.specs.Outcomes.{ended};
 
 use crate::choosing::first_head;
 use crate::leases::{return_leases, take_leases};
 use crate::nodes::{is_child, keep_tokens, kind_of, reads_stored, writes_stored};
 use crate::ready::{is_quiet, release, released};
 use crate::rooms::spend_rooms;
+use crate::rows::Rows;
 use crate::stage::{Stage, ended_stage, first_fault};
 use crate::told::told_of;
 use cell_pool::Pool;
@@ -41,8 +43,9 @@ pub struct Job {
     pub(crate) ready: GroupedHeaps,
     /// How many nodes are claimed.
     pub(crate) claimed: usize,
-    pub(crate) entering: Vec<List<Option<u32>>>,
-    pub(crate) leaving: Vec<List<Option<u32>>>,
+    /// For each node the edges that enter and leave it, port by port.
+    pub(crate) entering: Rows,
+    pub(crate) leaving: Rows,
     pub(crate) in_rooms: Vec<Vec<Lease>>,
     pub(crate) out_rooms: Vec<Vec<Lease>>,
     pub(crate) args: Vec<List<i64>>,
@@ -146,7 +149,7 @@ impl Job {
     }
 
     /// What the job was compiled to. In every state what is claimed was claimed in the order of the edges, and has the leases
-    /// of its buffers.
+    /// of its buffers; stored tokens have blocks of their own.
     pub fn compiled(&self) -> &Compiled
         ensures value { result.now ≡ self.now.compilation }
         ensures buffers { KeepsBuffers self.now }
@@ -172,7 +175,7 @@ impl Job {
             &mut self.pool,
             edges,
             offsets,
-            self.entering[n].items(),
+            self.entering.row(n),
             reads_stored(kind),
             mem::replace(&mut self.tokens_in[n], List::new(Vec::new(self.alloc))),
             mem::replace(&mut self.in_rooms[n], Vec::new(self.alloc)),
@@ -182,7 +185,7 @@ impl Job {
             &mut self.pool,
             edges,
             offsets,
-            self.leaving[n].items(),
+            self.leaving.row(n),
             writes_stored(kind),
             mem::replace(&mut self.tokens_out[n], List::new(Vec::new(self.alloc))),
             mem::replace(&mut self.out_rooms[n], Vec::new(self.alloc)),
@@ -236,7 +239,7 @@ impl Job {
         self.claimed -= 1;
         release(
             self.compiled.graph().edges.items(),
-            released(is_done, self.leaving[n].items()),
+            released(is_done, self.leaving.row(n)),
             &mut self.waiting,
             &mut self.ready,
         );
@@ -256,6 +259,30 @@ impl Job {
         ensures { result ≡ end_of self }
     {
         let fault = first_fault(&self.stages);
+        let (outs, left) = self.take_apart();
+        match fault {
+            Some((node, code)) => JobEnd::Fault { node, code },
+            None => JobEnd::Done {
+                outs: List::new(outs),
+                stored: List::new(left),
+            },
+        }
+    }
+
+    /// Gives up the job, which no worker runs a node of.
+    pub fn end(self)
+        requires { (n : ℕ) → phase self.marks n ≢ IsClaimed }
+    {
+        let (_outs, _left) = self.take_apart();
+    }
+
+    /// Gives up the cells, none of which is out: what remains are the tokens that the sinks keep and those that are left on the
+    /// links.
+    fn take_apart(self) -> (Vec<List<i64>>, Vec<List<i64>>)
+        requires { (n : ℕ) → phase self.marks n ≢ IsClaimed }
+        ensures outs { result.0.items ≡ (ended (graph_of self) (values self.marks)).outs }
+        ensures left { result.1.items ≡ (ended (graph_of self) (values self.marks)).left }
+    {
         let Job {
             compiled: _,
             kinds: _,
@@ -281,43 +308,6 @@ impl Job {
         drop(pool.close());
         spend_rooms(in_rooms);
         spend_rooms(out_rooms);
-        match fault {
-            Some((node, code)) => JobEnd::Fault { node, code },
-            None => JobEnd::Done {
-                outs: List::new(outs),
-                stored: List::new(left),
-            },
-        }
-    }
-
-    /// Gives up the job, which no worker runs a node of.
-    pub fn end(self)
-        requires { (n : ℕ) → phase self.marks n ≢ IsClaimed }
-    {
-        let Job {
-            compiled: _,
-            kinds: _,
-            args_given: _,
-            sources: _,
-            stored: _,
-            stages: _,
-            waiting: _,
-            ready: _,
-            claimed: _,
-            entering: _,
-            leaving: _,
-            in_rooms,
-            out_rooms,
-            args: _,
-            tokens_in: _,
-            tokens_out: _,
-            pool,
-            outs: _,
-            left: _,
-            alloc: _,
-        } = self;
-        drop(pool.close());
-        spend_rooms(in_rooms);
-        spend_rooms(out_rooms);
+        (outs, left)
     }
 }

@@ -10,6 +10,7 @@ mod nodes;
 mod opening;
 mod ready;
 mod rooms;
+mod rows;
 mod stage;
 mod starting;
 mod told;

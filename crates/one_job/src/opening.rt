@@ -9,6 +9,7 @@ ghost use Rattle.one_job.specs.View.{args_at};
 
 use crate::nodes::{reads_stored, writes_stored};
 use crate::rooms::{make_rooms, spend_rooms};
+use crate::rows::Rows;
 use crate::stage::Stage;
 use cell_pool::Pool;
 use sdf_level::{Edge, List, Node};
@@ -117,7 +118,7 @@ pub(crate) fn tokens_written(
     alloc: Global,
     nodes: &[Node],
     edges: &[Edge],
-    entering: &[List<Option<u32>>],
+    entering: &Rows,
 ) -> Result<Vec<List<i64>>, AllocError>
     requires rows { length entering.now ≡ length nodes.now }
     requires there { (n e : ℕ) → slice_index_or (slice_index_or entering.now n []) 0 None ≡ Some e → e < length edges.now }
@@ -125,7 +126,7 @@ pub(crate) fn tokens_written(
 {
     let mut lists = Vec::with_capacity(alloc, nodes.len())?;
     for n in 0..nodes.len() {
-        lists.push(List::new(written_by(alloc, nodes[n], edges, entering[n].items())?))?;
+        lists.push(List::new(written_by(alloc, nodes[n], edges, entering.row(n))?))?;
     }
     Ok(lists)
 }
@@ -145,17 +146,13 @@ pub(crate) fn stored_writes(alloc: Global, nodes: &[Node]) -> Result<Vec<bool>, 
 }
 
 /// How many leases each node has for these ports, and for stored tokens.
-pub(crate) fn sizes(
-    alloc: Global,
-    own: &[bool],
-    rows: &[List<Option<u32>>],
-) -> Result<Vec<usize>, AllocError>
+pub(crate) fn sizes(alloc: Global, own: &[bool], rows: &Rows) -> Result<Vec<usize>, AllocError>
     requires { length own.now ≡ length rows.now }
     ensures { IfOk result (λ v. AreSizes own.now rows.now v.items) }
 {
     let mut sizes = Vec::with_capacity(alloc, rows.len())?;
     for n in 0..rows.len() {
-        let count = rows[n].items().len();
+        let count = rows.row(n).len();
         sizes.push(if own[n] {
             count.saturating_add(1)
         } else {

@@ -13,7 +13,8 @@ use crate::opening::{
     tokens_read, tokens_written,
 };
 use crate::ready::start_ready;
-use crate::wiring::{counts_in, counts_out, end_counts, heads, rows, tails};
+use crate::rows::Rows;
+use crate::wiring::{counts_in, counts_out, end_counts, enter, heads, tails};
 use job_compiler::Compiled;
 use job_flow::edges_have_ports;
 use sdf_level::List;
@@ -25,8 +26,8 @@ use std::sync::Arc;
 /// For each node the edges at its ports.
 #[derive(Drop)]
 struct Wiring {
-    entering: Vec<List<Option<u32>>>,
-    leaving: Vec<List<Option<u32>>>,
+    entering: Rows,
+    leaving: Rows,
     /// For each node how many edges enter it.
     into: Vec<usize>,
 }
@@ -40,7 +41,7 @@ fn wire(
 ) -> Result<Wiring, AllocError>
     requires sources { map length sources.now ≡ compiled.now.level.sources }
     requires stored { HaveDelays compiled.now.level.links stored.now }
-    ensures wired { IfOk result (λ w. AreWired (job_graph compiled.now sources.now stored.now) w.entering.items w.leaving.items) }
+    ensures wired { IfOk result (λ w. AreWired (job_graph compiled.now sources.now stored.now) w.entering w.leaving) }
     ensures into { IfOk result (λ w. AreEndCounts (length compiled.now.graph.nodes) (map head_of compiled.now.graph.edges) w.into.items) }
 {
     edges_have_ports::<i64>();
@@ -57,8 +58,8 @@ fn wire(
     let ins = counts_in(alloc, nodes, links, actors, &into)?;
     let outs = counts_out(alloc, nodes, links, actors, &from)?;
     Ok(Wiring {
-        entering: rows(alloc, &ins, &heads)?,
-        leaving: rows(alloc, &outs, &tails)?,
+        entering: enter(alloc, &ins, &heads)?,
+        leaving: enter(alloc, &outs, &tails)?,
         into,
     })
 }

@@ -1,12 +1,13 @@
 // The edges at the ports of each node.
-ghost use Rattle.std.specs.Prelude.{◌≡◌, ◌+◌, ◌<◌, ◌^◌, ◌≤◌, slice_set, ℕ, None, All, map, length, replicate, slice_index, IfOk};
+ghost use Rattle.std.specs.Prelude.{◌≡◌, ◌+◌, ◌<◌, ◌^◌, ◌≤◌, slice_set, All, map, length, slice_index, IfOk};
 ghost use Rattle.sdf_level.specs.Kept.{how_many};
 ghost use Rattle.sdf_level.specs.Run.{is_into_actor};
 ghost use Rattle.sdf_level.specs.LevelRun.{HaveDelays};
 ghost use Rattle.single_rate.specs.Names.{is_from_actor};
-ghost use Rattle.one_job.specs.Wiring.{head_of, tail_of, AreEndCounts, in_count, out_count, HaveRows, AreRows, rows_of, AreCounts, AreLinkCounts};
+ghost use Rattle.one_job.specs.Wiring.{head_of, tail_of, AreEndCounts, in_count, out_count, HaveRows, AreRows, AreCounts, AreLinkCounts};
 
-use sdf_level::{Edge, Head, Link, List, Node, Tail};
+use crate::rows::Rows;
+use sdf_level::{Edge, Head, Link, Node, Tail};
 use std::alloc::{AllocError, Global};
 
 /// How many links lead into an actor.
@@ -213,60 +214,20 @@ pub(crate) fn counts_out(
     Ok(counts)
 }
 
-/// For each node a row of ports, to which no edge is known yet.
-fn no_edges(alloc: Global, counts: &[usize]) -> Result<Vec<Vec<Option<u32>>>, AllocError>
-    ensures { IfOk result (λ v. rows_of v.items ≡ map (λ count. replicate count None) counts.now) }
-{
-    let mut rows = Vec::with_capacity(alloc, counts.len())?;
-    for count in counts {
-        rows.push(vec![in alloc; None; *count]?)?;
-    }
-    Ok(rows)
-}
-
-/// Enters the ends in rows.
-fn enter(
+/// For each node a row of ports, in which the ends are entered.
+pub(crate) fn enter(
     alloc: Global,
     counts: &[usize],
     ends: &[(u32, u32)],
-) -> Result<Vec<Vec<Option<u32>>>, AllocError>
+) -> Result<Rows, AllocError>
     requires rows { HaveRows counts.now ends.now }
     requires few { length ends.now < 2 ^ 32 }
-    ensures { IfOk result (λ v. AreRows counts.now ends.now (length ends.now) (rows_of v.items)) }
+    ensures { IfOk result (λ r. AreRows counts.now ends.now (length ends.now) r) }
 {
-    let mut rows = no_edges(alloc, counts)?;
+    let mut rows = Rows::without_edges(alloc, counts)?;
     for e in 0..ends.len() {
         let (node, port) = ends[e];
-        let row = &mut rows[node as usize];
-        row[port as usize] = Some(e as u32);
+        rows.put(node as usize, port as usize, e as u32);
     }
     Ok(rows)
-}
-
-/// The same rows as lists.
-fn as_lists(
-    alloc: Global,
-    entered: Vec<Vec<Option<u32>>>,
-) -> Result<Vec<List<Option<u32>>>, AllocError>
-    ensures { IfOk result (λ v. v.items ≡ rows_of entered.items) }
-{
-    let mut lists = Vec::with_capacity(alloc, entered.len())?;
-    for row in entered {
-        lists.push(List::new(row))?;
-    }
-    Ok(lists)
-}
-
-/// For each node a row of ports, in which the ends are entered.
-pub(crate) fn rows(
-    alloc: Global,
-    counts: &[usize],
-    ends: &[(u32, u32)],
-) -> Result<Vec<List<Option<u32>>>, AllocError>
-    requires rows { HaveRows counts.now ends.now }
-    requires few { length ends.now < 2 ^ 32 }
-    ensures { IfOk result (λ v. AreRows counts.now ends.now (length ends.now) v.items) }
-{
-    let entered = enter(alloc, counts, ends)?;
-    as_lists(alloc, entered)
 }

@@ -282,8 +282,8 @@ module _ (groups spots starts members : List ℕ) (heaps : List HeapView) (keeps
   abbrev held_all : List Bool
   held_all = each_at is_held_in heaps groups spots
 
-  abbrev pub view_with : List ℕ → List Bool → HeapsView
-  view_with keys held = record { groups = groups; keys = keys; held = held }
+  abbrev pub view_with : ℕ → List ℕ → List Bool → HeapsView
+  view_with count keys held = record { groups = groups; keys = keys; held = held; count = count }
 
   pub held_all_length : length held_all ≡ length groups
   held_all_length = length-each_at is_held_in heaps groups spots keeps.spots_long
@@ -393,9 +393,9 @@ module _ (groups spots starts members : List ℕ) (heaps : List HeapView) (keeps
         let now : new ≡ heap_now = new_is ∙ (λ t. record { keys = (h_is t).keys; held = set (h_is t).held (spot_is t) b }) in
         λ t. set heaps (at_is t) (now t)
 
-    pub view_after : (new : List HeapView) → new ≡ heaps_after → view_with (each_at key_in new groups spots) (each_at is_held_in new groups spots) ≡ view_with keys_all (set held_all n b)
+    pub view_after : (new : List HeapView) → new ≡ heaps_after → view_with (length new) (each_at key_in new groups spots) (each_at is_held_in new groups spots) ≡ view_with (length heaps) keys_all (set held_all n b)
     view_after new is =
-        (λ t. view_with (each_at key_in (is t) groups spots) (each_at is_held_in (is t) groups spots)) ∙ (λ t. view_with (keys_after t) (held_after t))
+        (λ t. view_with (length (is t)) (each_at key_in (is t) groups spots) (each_at is_held_in (is t) groups spots)) ∙ (λ t. view_with (length-set heaps g heap_now t) (keys_after t) (held_after t))
 
     pub keeps_changed : (new : List HeapView) → new ≡ heaps_after → KeepsGroups groups spots starts members new
     keeps_changed new is = subst (KeepsGroups groups spots starts members) (sym is) keeps_after
@@ -403,7 +403,7 @@ module _ (groups spots starts members : List ℕ) (heaps : List HeapView) (keeps
   -- ---- the least number of a group
 
   abbrev view : HeapsView
-  view = view_with keys_all held_all
+  view = view_with (length heaps) keys_all held_all
 
   pub none_in : (g : ℕ) → ((k : ℕ) → Holds (heap_at heaps g).held k → ⊥) → IsLeastOf view g None
   none_in g none = λ n is. none (slice_index spots n)

@@ -2,11 +2,12 @@
 use Rattle.std.specs.Prelude.{◌≡◌, ◌≢◌, ℕ, ◌+◌, ◌<◌, ◌≤◌, Bool, false, List, [], ◌∷◌, length, slice_index, slice_index_or, Option, Some, None}
 use Rattle.ready_heap.specs.Heaps.{HeapView, Holds}
 
--- the group and the key of each number, and whether it is in
+-- the group and the key of each number, whether it is in, and how many groups there are
 pub record HeapsView : Type 0 where
   pub groups : List ℕ
   pub keys : List ℕ
   pub held : List Bool
+  pub count : ℕ
 
 -- a number of a group that is in
 pub record IsIn (h : HeapsView) (group n : ℕ) : Type 0 where

@@ -24,6 +24,7 @@ pub struct GroupedHeaps {
 }
 
 impl Model for GroupedHeaps {
+    ghost use Rattle.std.specs.Prelude.{length};
     ghost use Rattle.ready_heap.specs.Groups.{HeapsView, KeepsGroups, each_at, key_in, is_held_in};
 
     ghost Value = { HeapsView };
@@ -32,6 +33,7 @@ impl Model for GroupedHeaps {
       groups = h.groups.items;
       keys = each_at key_in h.heaps.items h.groups.items h.spots.items;
       held = each_at is_held_in h.heaps.items h.groups.items h.spots.items;
+      count = length h.heaps.items;
     } };
 
     ghost invariant = { λ h. KeepsGroups h.groups.items h.spots.items h.starts.items h.members.items h.heaps.items };
@@ -73,7 +75,7 @@ impl GroupedHeaps {
         requires few { length groups.items < 2 ^ 32 }
         requires keys { length keys.now ≡ length groups.items }
         requires count { EachIndex groups.items (λ n. slice_index groups.items n < count) }
-        ensures { IfOk result (λ h. h ≡ record { groups = groups.items; keys = keys.now; held = replicate (length groups.items) false }) }
+        ensures { IfOk result (λ h. h ≡ record { groups = groups.items; keys = keys.now; held = replicate (length groups.items) false; count = count }) }
     {
         let mut spots = vec![in alloc; 0u32; groups.len()]?;
         let mut members = Vec::with_capacity(alloc, groups.len())?;
@@ -108,7 +110,8 @@ impl GroupedHeaps {
 
     /// How many groups there are.
     pub fn groups(&self) -> usize
-        ensures { EachIndex self.now.groups (λ n. slice_index self.now.groups n < result) }
+        ensures count { result ≡ self.now.count }
+        ensures above { EachIndex self.now.groups (λ n. slice_index self.now.groups n < result) }
     {
         self.heaps.len()
     }

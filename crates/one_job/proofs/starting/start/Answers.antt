@@ -8,7 +8,8 @@ use Rattle.one_job.specs.Ports.{reads_stored, writes_stored, AreWired}
 use Rattle.one_job.specs.Opening.{stored_in, AreWritten, AreSizes}
 use Rattle.one_job.specs.Rooms.{HaveRoom}
 use Rattle.one_job.specs.View.{job_graph, args_at}
-use Rattle.one_job.proofs.JobStart.{parts_of_free, keeps_at_start}
+use Rattle.sdf_level.specs.declared.single_rate.Edge.{Edge}
+use Rattle.one_job.proofs.JobStart.{first_there, parts_of_free, keeps_at_start}
 use Rattle.one_job.specs.Kept.{Parts, HasParts, Keeps}
 use Rattle.one_job.specs.Ready.{AreGroups, AreKeys, AreStarted, KeepsReady}
 use Rattle.one_job.specs.Wiring.{head_of, AreEndCounts}
@@ -41,7 +42,7 @@ stored_are c = c.items-2.ensures
 args_are : (c : goal.After-of-3) → c.items-3.result.now ≡ c.args.args
 args_are c = c.items-3.ensures
 
-wired_is : (c : goal.After-of-3) → AreWired (job_graph c.deref-4.result.now c.items.result.now c.items-2.result.now) c.in_ok-entering.field-0.entering.items c.in_ok-entering.field-0.leaving.items
+wired_is : (c : goal.After-of-3) → AreWired (job_graph c.deref-4.result.now c.items.result.now c.items-2.result.now) c.in_ok-entering.field-0.entering c.in_ok-entering.field-0.leaving
 wired_is c = c.in_ok-entering.ensures.wired
 
 compiled_is : (c : goal.After-of-3) → c.deref-4.result.now ≡ arc_value c.args.compiled
@@ -59,7 +60,7 @@ sources_are_2 c = c.items-4.ensures
 stored_are_2 : (c : goal.After-of-3) → c.items-5.result.now ≡ c.args.stored
 stored_are_2 c = c.items-5.ensures
 
-written_are : (c : goal.After-of-3) → AreWritten c.items-nodes.result.now c.items-edges.result.now c.deref-5.result.now c.in_ok-tokens_out.tokens_out.items
+written_are : (c : goal.After-of-3) → AreWritten c.items-nodes.result.now c.items-edges.result.now c.in_ok-entering.field-0.entering c.in_ok-tokens_out.tokens_out.items
 written_are c = c.in_ok-tokens_out.ensures
 
 marks_are : (c : goal.After-of-3) → map mark_of c.in_ok-stages.stages.items ≡ replicate (length c.items-nodes.result.now) Free
@@ -77,22 +78,20 @@ outs_are c = c.in_ok-outs.ensures
 left_are : (c : goal.After-of-3) → c.in_ok-left.left.items ≡ replicate (length c.items-7.result.now) []
 left_are c = c.in_ok-left.ensures
 
-ins_are : (c : goal.After-of-3) → AreSizes (map reads_stored c.items-nodes.result.now) c.in_ok-entering.field-0.entering.items c.in_ok-in_sizes.in_sizes.items
-ins_are c = subst (λ rows. AreSizes (map reads_stored c.items-nodes.result.now) rows c.in_ok-in_sizes.in_sizes.items) (c.deref-7.ensures.value)
-    (subst (λ own. AreSizes own c.deref-7.result.now c.in_ok-in_sizes.in_sizes.items) (c.deref-6.ensures.value ∙ c.in_ok-stored_reads.ensures) c.in_ok-in_sizes.ensures)
+ins_are : (c : goal.After-of-3) → AreSizes (map reads_stored c.items-nodes.result.now) c.in_ok-entering.field-0.entering c.in_ok-in_sizes.in_sizes.items
+ins_are c = subst (λ own. AreSizes own c.in_ok-entering.field-0.entering c.in_ok-in_sizes.in_sizes.items) (c.deref-5.ensures.value ∙ c.in_ok-stored_reads.ensures) c.in_ok-in_sizes.ensures
 
-out_sizes_are : (c : goal.After-of-3) → AreSizes (map writes_stored c.items-nodes.result.now) c.in_ok-entering.field-0.leaving.items c.in_ok-out_sizes.out_sizes.items
-out_sizes_are c = subst (λ rows. AreSizes (map writes_stored c.items-nodes.result.now) rows c.in_ok-out_sizes.out_sizes.items) (c.deref-9.ensures.value)
-    (subst (λ own. AreSizes own c.deref-9.result.now c.in_ok-out_sizes.out_sizes.items) (c.deref-8.ensures.value ∙ c.in_ok-stored_writes.ensures) c.in_ok-out_sizes.ensures)
+out_sizes_are : (c : goal.After-of-3) → AreSizes (map writes_stored c.items-nodes.result.now) c.in_ok-entering.field-0.leaving c.in_ok-out_sizes.out_sizes.items
+out_sizes_are c = subst (λ own. AreSizes own c.in_ok-entering.field-0.leaving c.in_ok-out_sizes.out_sizes.items) (c.deref-6.ensures.value ∙ c.in_ok-stored_writes.ensures) c.in_ok-out_sizes.ensures
 
 in_room : (c : goal.After-of-3) → HaveRoom c.in_ok-in_sizes.in_sizes.items c.in_ok-in_rooms.field-0.in_rooms.items
-in_room c = subst (λ sizes. HaveRoom sizes c.in_ok-in_rooms.field-0.in_rooms.items) c.deref-13.ensures.value c.in_ok-in_rooms.ensures.in_rooms.1
+in_room c = subst (λ sizes. HaveRoom sizes c.in_ok-in_rooms.field-0.in_rooms.items) c.deref-10.ensures.value c.in_ok-in_rooms.ensures.in_rooms.1
 
 out_room : (c : goal.After-of-3) → HaveRoom c.in_ok-out_sizes.out_sizes.items c.in_ok-in_rooms.field-0.out_rooms.items
-out_room c = subst (λ sizes. HaveRoom sizes c.in_ok-in_rooms.field-0.out_rooms.items) c.deref-14.ensures.value c.in_ok-in_rooms.ensures.out_rooms.1
+out_room c = subst (λ sizes. HaveRoom sizes c.in_ok-in_rooms.field-0.out_rooms.items) c.deref-11.ensures.value c.in_ok-in_rooms.ensures.out_rooms.1
 
 height_is : (c : goal.After-of-3) → c.placement.result.now.height ≡ (arc_value c.args.compiled).placement.height
-height_is c = ap (λ x. x.height) (c.placement.ensures.value ∙ ap (λ x. x.placement) c.deref-12.ensures)
+height_is c = ap (λ x. x.height) (c.placement.ensures.value ∙ ap (λ x. x.placement) c.deref-9.ensures)
 
 cells_are : (c : goal.After-of-3) → c.in_ok-in_rooms.field-0.pool.cells ≡ replicate c.placement.result.now.height (Rattle.std.proofs.Common.pos 0)
 cells_are c = c.in_ok-in_rooms.ensures.cells
@@ -113,8 +112,8 @@ view c = view_with c c.args.args c.args.sources c.args.stored
 
 abbrev parts : goal.After-of-3 → Parts
 parts c = record {
-  entering = c.in_ok-entering.field-0.entering.items;
-  leaving = c.in_ok-entering.field-0.leaving.items;
+  entering = c.in_ok-entering.field-0.entering;
+  leaving = c.in_ok-entering.field-0.leaving;
   in_rooms = c.in_ok-in_rooms.field-0.in_rooms.items;
   out_rooms = c.in_ok-in_rooms.field-0.out_rooms.items;
   args = c.in_ok-node_args.node_args.items;
@@ -134,8 +133,7 @@ wired_so c =
 written_so : (c : goal.After-of-3) → AreWritten (arc_value c.args.compiled).graph.nodes (arc_value c.args.compiled).graph.edges (parts c).entering (parts c).tokens_out
 written_so c =
     subst (λ nodes. AreWritten nodes (arc_value c.args.compiled).graph.edges (parts c).entering (parts c).tokens_out) (nodes_are c)
-    (subst (λ edges. AreWritten c.items-nodes.result.now edges (parts c).entering (parts c).tokens_out) (edges_are c)
-    (subst (λ rows. AreWritten c.items-nodes.result.now c.items-edges.result.now rows (parts c).tokens_out) c.deref-5.ensures.value (written_are c)))
+    (subst (λ edges. AreWritten c.items-nodes.result.now edges (parts c).entering (parts c).tokens_out) (edges_are c) (written_are c))
 
 args_so : (c : goal.After-of-3) → (parts c).args ≡ map (args_at c.args.args) (arc_value c.args.compiled).graph.nodes
 args_so c = node_args_are c ∙ (ap (λ args. map (args_at args) c.items-nodes.result.now) (args_are c) ∙ ap (map (args_at c.args.args)) (nodes_are c))
@@ -196,15 +194,22 @@ keeps_ready c =
     let comp = arc_value c.args.compiled in
     let ready = c.in_ok-ready.ready in
     let into = c.in_ok-entering.field-0.into.items in
-    let mapping_is : c.mapping.result.now ≡ comp.mapping = c.mapping.ensures.value ∙ ap (λ x. x.mapping) c.deref-10.ensures in
+    let mapping_is : c.mapping.result.now ≡ comp.mapping = c.mapping.ensures.value ∙ ap (λ x. x.mapping) c.deref-7.ensures in
     let groups : AreGroups comp.mapping.home comp.graph.nodes c.args.kinds ready.groups =
     subst (λ (t : Type 0). t) (λ t. AreGroups (mapping_is t).home (nodes_are c t) (c.items-8.ensures t) ready.groups) c.in_ok-ready.ensures.groups in
     let keys : AreKeys comp.mapping.priority ready.keys = subst (λ (m : Mapping). AreKeys m.priority ready.keys) mapping_is c.in_ok-ready.ensures.keys in
     let counts : AreEndCounts (length comp.graph.nodes) (map head_of comp.graph.edges) into =
     subst (λ (x : Compilation). AreEndCounts (length x.graph.nodes) (map head_of x.graph.edges) into) (compiled_is c) c.in_ok-entering.ensures.into in
     let started : AreStarted ready.groups ready.keys into (length into) ready =
-    subst (λ (xs : List ℕ). AreStarted ready.groups ready.keys xs (length xs) ready) c.deref-11.ensures.value c.in_ok-ready.ensures.started in
+    subst (λ (xs : List ℕ). AreStarted ready.groups ready.keys xs (length xs) ready) c.deref-8.ensures.value c.in_ok-ready.ensures.started in
     start_ready_keeps (view c) into ready (marks_are c ∙ ap (λ k. replicate k Free) (ap length (nodes_are c))) groups keys counts started
+
+pub tokens_written-requires-clause-there : goal.tokens_written-requires-clause-there
+tokens_written-requires-clause-there c = λ n e found.
+    let given = c.deref-4.ensures in
+    let read = c.items-edges.ensures ∙ ap (λ g. g.edges) (c.graph-2.ensures.value ∙ ap (λ x. x.graph) c.deref-2.ensures) in
+    subst (λ (edges : List Edge). e < length edges) (ap (λ (x : Compilation). x.graph.edges) given ∙ sym read)
+    (first_there (job_graph c.deref-4.result.now c.items.result.now c.items-2.result.now) c.in_ok-entering.field-0.entering c.in_ok-entering.field-0.leaving c.in_ok-entering.ensures.wired n e found)
 
 pub invariant_of-result : goal.invariant_of-result
 invariant_of-result c = (

@@ -32,8 +32,8 @@ end_counts-requires-2 c =
     let tails_are : c.in_ok-tails.tails.items ≡ map tail_of comp.graph.edges = c.in_ok-tails.ensures ∙ ap (map tail_of) edges_are in
     below_as (length c.items-nodes.result.now) (length comp.graph.nodes) c.deref-2.result.now (map tail_of comp.graph.edges) (ap length nodes_are) (c.deref-2.ensures.value ∙ tails_are) (tails_below law used at_nodes comp is c.args.sources.now c.args.stored.now c.requires.sources c.requires.stored)
 
-pub rows-requires-clause-rows : goal.rows-requires-clause-rows
-rows-requires-clause-rows c =
+pub enter-requires-clause-rows : goal.enter-requires-clause-rows
+enter-requires-clause-rows c =
     let comp = c.args.compiled.now in
     let nodes_are : c.items-nodes.result.now ≡ comp.graph.nodes = c.items-nodes.ensures ∙ ap (λ g. g.nodes) c.graph.ensures.value in
     let edges_are : c.items-edges.result.now ≡ comp.graph.edges = c.items-edges.ensures ∙ ap (λ g. g.edges) c.graph-2.ensures.value in
@@ -49,8 +49,8 @@ rows-requires-clause-rows c =
     let ins_are = counts_as in_count c.items-links.result.now comp.level.links c.items-nodes.result.now comp.graph.nodes c.deref-3.result.now c.in_ok-into.into.items c.in_ok-ins.ins.items c.in_ok-ins.ins.items links_are nodes_are c.deref-3.ensures.value refl c.in_ok-ins.ensures in
     have_as c.deref-5.result.now c.in_ok-ins.ins.items c.deref-6.result.now (map head_of comp.graph.edges) c.deref-5.ensures.value (c.deref-6.ensures.value ∙ heads_are) (have_ins law used at_nodes comp is c.args.sources.now c.args.stored.now c.requires.sources c.requires.stored c.in_ok-into.into.items c.in_ok-ins.ins.items into_are ins_are)
 
-pub rows-requires-2-clause-rows : goal.rows-requires-2-clause-rows
-rows-requires-2-clause-rows c =
+pub enter-requires-2-clause-rows : goal.enter-requires-2-clause-rows
+enter-requires-2-clause-rows c =
     let comp = c.args.compiled.now in
     let nodes_are : c.items-nodes.result.now ≡ comp.graph.nodes = c.items-nodes.ensures ∙ ap (λ g. g.nodes) c.graph.ensures.value in
     let edges_are : c.items-edges.result.now ≡ comp.graph.edges = c.items-edges.ensures ∙ ap (λ g. g.edges) c.graph-2.ensures.value in
@@ -83,9 +83,9 @@ returns-clause-wired c =
     let from_are = ends_as (length c.items-nodes.result.now) (length comp.graph.nodes) c.deref-2.result.now (map tail_of comp.graph.edges) c.in_ok-from.from.items c.in_ok-from.from.items (ap length nodes_are) (c.deref-2.ensures.value ∙ tails_are) refl c.in_ok-from.ensures in
     let ins_are = counts_as in_count c.items-links.result.now comp.level.links c.items-nodes.result.now comp.graph.nodes c.deref-3.result.now c.in_ok-into.into.items c.in_ok-ins.ins.items c.in_ok-ins.ins.items links_are nodes_are c.deref-3.ensures.value refl c.in_ok-ins.ensures in
     let outs_are = counts_as out_count c.items-links.result.now comp.level.links c.items-nodes.result.now comp.graph.nodes c.deref-4.result.now c.in_ok-from.from.items c.in_ok-outs.outs.items c.in_ok-outs.outs.items links_are nodes_are c.deref-4.ensures.value refl c.in_ok-outs.ensures in
-    let in_rows = rows_as c.deref-5.result.now c.in_ok-ins.ins.items c.deref-6.result.now (map head_of comp.graph.edges) c.in_ok-rows.field-0.items c.deref-5.ensures.value (c.deref-6.ensures.value ∙ heads_are) c.in_ok-rows.ensures in
-    let out_rows = rows_as c.deref-7.result.now c.in_ok-outs.outs.items c.deref-8.result.now (map tail_of comp.graph.edges) c.in_ok-rows-2.field-0.items c.deref-7.ensures.value (c.deref-8.ensures.value ∙ tails_are) c.in_ok-rows-2.ensures in
-    wired_of law used at_nodes comp is c.args.sources.now c.args.stored.now c.requires.sources c.requires.stored c.in_ok-into.into.items c.in_ok-ins.ins.items into_are ins_are c.in_ok-from.from.items c.in_ok-outs.outs.items from_are outs_are c.in_ok-rows.field-0.items c.in_ok-rows-2.field-0.items in_rows out_rows
+    let in_rows = rows_as c.deref-5.result.now c.in_ok-ins.ins.items c.deref-6.result.now (map head_of comp.graph.edges) c.in_ok-enter.field-0 c.deref-5.ensures.value (c.deref-6.ensures.value ∙ heads_are) c.in_ok-enter.ensures in
+    let out_rows = rows_as c.deref-7.result.now c.in_ok-outs.outs.items c.deref-8.result.now (map tail_of comp.graph.edges) c.in_ok-enter-2.field-0 c.deref-7.ensures.value (c.deref-8.ensures.value ∙ tails_are) c.in_ok-enter-2.ensures in
+    wired_of law used at_nodes comp is c.args.sources.now c.args.stored.now c.requires.sources c.requires.stored c.in_ok-into.into.items c.in_ok-ins.ins.items into_are ins_are c.in_ok-from.from.items c.in_ok-outs.outs.items from_are outs_are c.in_ok-enter.field-0 c.in_ok-enter-2.field-0 in_rows out_rows
 
 pub returns-clause-into : goal.returns-clause-into
 returns-clause-into c =

@@ -32,13 +32,13 @@ take_leases-inputs-requires-clause-can c =
     let i = c.self.inside in
     let n = c.args.node in
     let enabled : IsEnabled (view_of i) n = subst (λ v. IsEnabled v n) (sym c.self.view_is) c.requires in
-    let row_inside : n < length i.entering.items = omega (arith, c.self.invariant.0.wired.rows_in, enabled.ready.there) in
+    let row_inside : n < length i.entering = omega (arith, c.self.invariant.0.wired.rows_in, enabled.ready.there) in
     can_take_ins (view_of i) (parts_of i) i.pool i.outs.items i.left.items c.self.invariant.0 n enabled
-    c.items-edges.result.now c.items-offsets.result.now c.items-2.result.now (get_or i.leaving.items n [])
+    c.items-edges.result.now c.items-offsets.result.now c.row.result.now (get_or i.leaving n [])
     (record {
       edges_are = c.items-edges.ensures ∙ (ap (λ g. g.edges) c.graph-2.ensures.value ∙ ap (λ (k : Compilation). k.graph.edges) c.deref-2.ensures);
       offsets_are = c.items-offsets.ensures ∙ (ap (λ q. q.offsets) c.placement.ensures.value ∙ ap (λ (k : Compilation). k.placement.offsets) c.deref-3.ensures);
-      ins_are = c.items-2.ensures ∙ get_or_read i.entering.items n c.index.result.now row_inside c.index.ensures [];
+      ins_are = c.row.ensures;
       outs_are = refl;
     })
 
@@ -47,15 +47,15 @@ take_leases-outputs-requires-clause-can c =
     let i = c.self.inside in
     let n = c.args.node in
     let enabled : IsEnabled (view_of i) n = subst (λ v. IsEnabled v n) (sym c.self.view_is) c.requires in
-    let row_inside : n < length i.entering.items = omega (arith, c.self.invariant.0.wired.rows_in, enabled.ready.there) in
-    let row_out_inside : n < length i.leaving.items = omega (arith, c.self.invariant.0.wired.rows_out, enabled.ready.there) in
+    let row_inside : n < length i.entering = omega (arith, c.self.invariant.0.wired.rows_in, enabled.ready.there) in
+    let row_out_inside : n < length i.leaving = omega (arith, c.self.invariant.0.wired.rows_out, enabled.ready.there) in
     can_take_outs (view_of i) (parts_of i) i.pool i.outs.items i.left.items c.self.invariant.0 n enabled
-    c.items-edges.result.now c.items-offsets.result.now c.items-2.result.now c.items-3.result.now
+    c.items-edges.result.now c.items-offsets.result.now c.row.result.now c.row-2.result.now
     (record {
       edges_are = c.items-edges.ensures ∙ (ap (λ g. g.edges) c.graph-2.ensures.value ∙ ap (λ (k : Compilation). k.graph.edges) c.deref-2.ensures);
       offsets_are = c.items-offsets.ensures ∙ (ap (λ q. q.offsets) c.placement.ensures.value ∙ ap (λ (k : Compilation). k.placement.offsets) c.deref-3.ensures);
-      ins_are = c.items-2.ensures ∙ get_or_read i.entering.items n c.index.result.now row_inside c.index.ensures [];
-      outs_are = c.items-3.ensures ∙ get_or_read i.leaving.items n c.index-2.result.now row_out_inside c.index-2.ensures [];
+      ins_are = c.row.ensures;
+      outs_are = c.row-2.ensures;
     })
     c.take_leases-inputs.new.pool c.take_leases-inputs.ensures.pool
 
@@ -64,21 +64,21 @@ enabled_at : (c : goal.After-self-7-1) → IsEnabled (view_of c.self.inside) c.a
 enabled_at c = subst (λ v. IsEnabled v c.args.node) (sym c.self.view_is) c.requires
 
 read_at : (c : goal.After-self-7-1) → HasRead (view_of c.self.inside) (parts_of c.self.inside) c.self.inside.pool c.self.inside.outs.items c.self.inside.left.items c.self.invariant.0 c.args.node (enabled_at c)
-    c.items-edges.result.now c.items-offsets.result.now c.items-2.result.now c.items-3.result.now
+    c.items-edges.result.now c.items-offsets.result.now c.row.result.now c.row-2.result.now
 read_at c =
     let i = c.self.inside in
     let n = c.args.node in
-    let row_inside : n < length i.entering.items = omega (arith, c.self.invariant.0.wired.rows_in, (enabled_at c).ready.there) in
-    let row_out_inside : n < length i.leaving.items = omega (arith, c.self.invariant.0.wired.rows_out, (enabled_at c).ready.there) in
+    let row_inside : n < length i.entering = omega (arith, c.self.invariant.0.wired.rows_in, (enabled_at c).ready.there) in
+    let row_out_inside : n < length i.leaving = omega (arith, c.self.invariant.0.wired.rows_out, (enabled_at c).ready.there) in
     record {
       edges_are = c.items-edges.ensures ∙ (ap (λ g. g.edges) c.graph-2.ensures.value ∙ ap (λ (k : Compilation). k.graph.edges) c.deref-2.ensures);
       offsets_are = c.items-offsets.ensures ∙ (ap (λ q. q.offsets) c.placement.ensures.value ∙ ap (λ (k : Compilation). k.placement.offsets) c.deref-3.ensures);
-      ins_are = c.items-2.ensures ∙ get_or_read i.entering.items n c.index.result.now row_inside c.index.ensures [];
-      outs_are = c.items-3.ensures ∙ get_or_read i.leaving.items n c.index-2.result.now row_out_inside c.index-2.ensures [];
+      ins_are = c.row.ensures;
+      outs_are = c.row-2.ensures;
     }
 
 took_at : (c : goal.After-self-7-1) → HasTakenAll (view_of c.self.inside) (parts_of c.self.inside) c.self.inside.pool c.self.inside.outs.items c.self.inside.left.items c.self.invariant.0 c.args.node (enabled_at c)
-    c.items-edges.result.now c.items-offsets.result.now c.items-2.result.now c.items-3.result.now (read_at c)
+    c.items-edges.result.now c.items-offsets.result.now c.row.result.now c.row-2.result.now (read_at c)
     c.reads_stored.result c.writes_stored.result c.replace.result c.replace-3.result c.take_leases-inputs.result.items c.take_leases-outputs.result.items c.take_leases-inputs.new.pool c.take_leases-outputs.new.pool
 took_at c =
     let i = c.self.inside in

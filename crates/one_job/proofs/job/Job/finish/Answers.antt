@@ -1,6 +1,6 @@
 use Rattle.std.proofs.Common.{◌≡◌, ◌<◌, ◌-◌, ◌⊎◌, ◌++◌, [], length, map, set, take, drop, sym, ap, ap₂, ◌∙◌, subst, arith}
 use Rattle.std.specs.Prelude.{IsOk, if◌then◌else◌}
-use Rattle.std.proofs.lemmas.List.{map-set, with_items_is, get_or_read}
+use Rattle.std.proofs.lemmas.List.{map-set, with_items_is}
 use Rattle.split_block.specs.View.{lease_place, cells_of}
 use Rattle.cell_pool.specs.View.{PoolView}
 use Rattle.job_compiler.specs.Compilation.{Compilation}
@@ -99,9 +99,9 @@ invariant_of-self c =
     let j = view_of i in
     let claimed : mark_at j.marks n ≡ Claimed c.args.frame.places = subst (λ (v : JobView). mark_at v.marks n ≡ Claimed c.args.frame.places) (sym c.self.view_is) c.requires.claimed in
     let n_marked = Rattle.one_job.proofs.Phases.inside_of j.marks n (λ free. let bad : Rattle.one_job.specs.Marks.IsClaimed ≡ Rattle.one_job.specs.Marks.IsFree = sym (ap Rattle.one_job.specs.Marks.phase_of claimed) ∙ free in absurd (cc)) in
-    let row_inside : n < length i.leaving.items = omega (arith, c.self.invariant.0.wired.rows_out, c.self.invariant.0.one_each, n_marked) in
+    let row_inside : n < length i.leaving = omega (arith, c.self.invariant.0.wired.rows_out, c.self.invariant.0.one_each, n_marked) in
     let edges_are : c.items-2.result.now ≡ j.compilation.graph.edges = c.items-2.ensures ∙ (ap (λ g. g.edges) c.graph-2.ensures.value ∙ ap (λ (k : Compilation). k.graph.edges) c.deref-2.ensures) in
-    let row_is : c.items-3.result.now ≡ row_of (parts_of i).leaving n = c.items-3.ensures ∙ get_or_read i.leaving.items n c.index.result.now row_inside c.index.ensures [] in
+    let row_is : c.row.result.now ≡ row_of (parts_of i).leaving n = c.row.ensures in
     let ports_are : c.released.result.now ≡ (if c.is_ok-is_done.result then row_of (parts_of i).leaving n else []) = c.released.ensures ∙ ap (λ ports. if c.is_ok-is_done.result then ports else []) row_is in
     let same = with_items_is i.waiting c.release.new.waiting (c.release.auto.waiting ∙ (ap length c.deref_mut-3.ensures.value ∙ sym i.waiting.ok.0)) in
     let then_ready = release_keeps j (parts_of i) i.pool i.outs.items i.left.items c.self.invariant.0 i.waiting.items i.claimed i.ready c.self.invariant.1 n c.args.frame claimed c.args.answer c.is_ok-is_done.result c.is_ok-is_done.ensures.value c.items-2.result.now c.released.result.now c.deref_mut-3.result.now edges_are ports_are c.deref_mut-3.ensures.value c.release.new.waiting c.release.new.ready c.release.ensures in (
@@ -120,9 +120,9 @@ release-requires c =
     let j = view_of i in
     let claimed : mark_at j.marks n ≡ Claimed c.args.frame.places = subst (λ (v : JobView). mark_at v.marks n ≡ Claimed c.args.frame.places) (sym c.self.view_is) c.requires.claimed in
     let n_marked = Rattle.one_job.proofs.Phases.inside_of j.marks n (λ free. let bad : Rattle.one_job.specs.Marks.IsClaimed ≡ Rattle.one_job.specs.Marks.IsFree = sym (ap Rattle.one_job.specs.Marks.phase_of claimed) ∙ free in absurd (cc)) in
-    let row_inside : n < length i.leaving.items = omega (arith, c.self.invariant.0.wired.rows_out, c.self.invariant.0.one_each, n_marked) in
+    let row_inside : n < length i.leaving = omega (arith, c.self.invariant.0.wired.rows_out, c.self.invariant.0.one_each, n_marked) in
     let edges_are : c.items-2.result.now ≡ j.compilation.graph.edges = c.items-2.ensures ∙ (ap (λ g. g.edges) c.graph-2.ensures.value ∙ ap (λ (k : Compilation). k.graph.edges) c.deref-2.ensures) in
-    let row_is : c.items-3.result.now ≡ row_of (parts_of i).leaving n = c.items-3.ensures ∙ get_or_read i.leaving.items n c.index.result.now row_inside c.index.ensures [] in
+    let row_is : c.row.result.now ≡ row_of (parts_of i).leaving n = c.row.ensures in
     let ports_are : c.released.result.now ≡ (if c.is_ok-is_done.result then row_of (parts_of i).leaving n else []) = c.released.ensures ∙ ap (λ ports. if c.is_ok-is_done.result then ports else []) row_is in
     release_asks j (parts_of i) i.pool i.outs.items i.left.items c.self.invariant.0 i.waiting.items i.claimed i.ready c.self.invariant.1 n c.args.frame claimed c.args.answer c.is_ok-is_done.result c.is_ok-is_done.ensures.value c.items-2.result.now c.released.result.now c.deref_mut-3.result.now edges_are ports_are c.deref_mut-3.ensures.value
 

@@ -39,4 +39,5 @@ returns c =
     let all : c.loop-group.group ≡ c.args.count = omega arith in
     let keys_are = made_keys c.args.groups.items c.args.keys.now c.loop-group.group c.loop-group.spots.items c.loop-group.starts.items c.loop-group.members.items c.loop-group.heaps.items c.loop-group.invariant (λ n inside. let below = c.requires.count n inside in omega arith) c.requires.keys in
     let none_is = made_none c.args.groups.items c.args.keys.now c.loop-group.group c.loop-group.spots.items c.loop-group.starts.items c.loop-group.members.items c.loop-group.heaps.items c.loop-group.invariant (λ n inside. let below = c.requires.count n inside in omega arith) in
-    λ t. record { groups = c.args.groups.items; keys = keys_are t; held = none_is t }
+    let count_is : length c.loop-group.heaps.items ≡ c.args.count = c.loop-group.invariant.heaps_long ∙ all in
+    λ t. record { groups = c.args.groups.items; keys = keys_are t; held = none_is t; count = count_is t }

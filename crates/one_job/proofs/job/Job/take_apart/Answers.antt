@@ -5,7 +5,7 @@ use Rattle.one_job.specs.Places.{buffer_at}
 use Rattle.one_job.specs.View.{JobView}
 use Rattle.one_job.specs.Kept.{view_of}
 use Rattle.one_job.proofs.JobEnds.{none_out}
-use Rattle.one_job.proofs.job.Job.end.Goals as goal
+use Rattle.one_job.proofs.job.Job.take_apart.Goals as goal
 
 pub close-requires : goal.close-requires
 close-requires c =

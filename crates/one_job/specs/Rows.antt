@@ -1,0 +1,18 @@
+-- Rows of ports that lie in one list.
+use Rattle.std.specs.Prelude.{◌≡◌, ℕ, ◌+◌, ◌<◌, ◌≤◌, List, length, map, take, drop, slice_index_or, Option}
+
+-- so many ports from a place on
+abbrev pub part_of : List (Option ℕ) → ℕ × ℕ → List (Option ℕ)
+part_of ports span = take span.1 (drop span.0 ports)
+
+abbrev pub rows_in : List (Option ℕ) → List (ℕ × ℕ) → List (List (Option ℕ))
+rows_in ports spans = map (part_of ports) spans
+
+abbrev pub span_at : List (ℕ × ℕ) → ℕ → ℕ × ℕ
+span_at spans n = slice_index_or spans n (0, 0)
+
+-- each row ends within the list, and no port lies in two of them
+pub record KeepsRows (ports : List (Option ℕ)) (spans : List (ℕ × ℕ)) : Type 0 where
+  pub within : (n : ℕ) → n < length spans → (span_at spans n).0 + (span_at spans n).1 ≤ length ports
+  pub apart : (n m k l : ℕ) → n < length spans → m < length spans → k < (span_at spans n).1 → l < (span_at spans m).1
+      → (span_at spans n).0 + k ≡ (span_at spans m).0 + l → n ≡ m
