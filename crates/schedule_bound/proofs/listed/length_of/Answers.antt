@@ -2,7 +2,7 @@ use Rattle.std.proofs.Common.{arith}
 use Rattle.schedule_bound.specs.declared.slots.Slot.{Slot}
 use Rattle.schedule_bound.specs.Slots.{no_slot}
 use Rattle.schedule_bound.proofs.Greatest.{greatest_map_more}
-use Rattle.schedule_bound.proofs.listed.last_end.Goals as goal
+use Rattle.schedule_bound.proofs.listed.length_of.Goals as goal
 
 pub loop-slot-preserved : goal.loop-slot-preserved
 loop-slot-preserved c =
