@@ -17,15 +17,13 @@ is_load (Journal graph tokens iterations workers) = false
 is_load (Soak number workers) = true
 is_load (Upgrade graph) = false
 
-pub no_load : (a : Command) (b : Option Command) (r : Result (String Global) Status) → Some a ≡ b → is_load a ≡ false → (n w : ℕ) → b ≡ Some (Soak n w) → IfErr r IsLoadStatus
-no_load a b r e non n w h =
+-- another command is no load
+pub no_load : {P : Type 0} (a : Command) (b : Option Command) → Some a ≡ b → is_load a ≡ false → (n w : ℕ) → b ≡ Some (Soak n w) → P
+no_load a b e non n w h =
     let both : Some a ≡ Some (Soak n w) = e ∙ h in
     let same : a ≡ Soak n w = cc in
     let no : is_load (Soak n w) ≡ false = ap is_load (sym same) ∙ non in
     absurd cc
-
-pub nothing_read : (b : Option Command) (r : Result (String Global) Status) → b ≡ None → (n w : ℕ) → b ≡ Some (Soak n w) → IfErr r IsLoadStatus
-nothing_read b r e n w h = let both : None ≡ Some (Soak n w) = sym e ∙ h in absurd cc
 
 pub load_told : (worked : Result (String Global) Status) (eh en : File) (eb enow : ℕ) (s : Status) → Concludes worked eh en eb enow s → IfErr worked IsLoadStatus → IsLoadStatus s
 load_told (Ok text) eh en eb enow s (inl (is, rest)) h = subst IsLoadStatus (sym is) tt

@@ -1,5 +1,5 @@
 -- The result of a command: what it writes and how it ends, from the words and the files that they name.
-use Rattle.std.specs.Prelude.{◌≡◌, ℕ, ◌==◌, nat_lt, ℤ, List, [], ◌∷◌, length, slice_index_or, Option, Some, None, Result, Ok, Err, if◌then◌else◌}
+use Rattle.std.specs.Prelude.{◌≡◌, ℕ, ◌==◌, nat_lt, ℤ, List, [], ◌∷◌, length, Option, Some, None, Result, Ok, Err, if◌then◌else◌}
 use Rattle.std.specs.Str.{is_utf8}
 use Rattle.serde_json.specs.Data.{Data}
 use Rattle.serde_json.specs.Read.{read}
@@ -17,6 +17,7 @@ use Rattle.graph_writer.specs.Upgraded.{upgraded}
 use Rattle.pisdf_meaning.specs.Run as run
 use Rattle.pisdf_meaning.specs.declared.outcome.Iteration.{Iteration}
 use Rattle.job_report.specs.Names.{names_of}
+use Rattle.job_report.specs.Rows.{name_at}
 use Rattle.job_report.specs.Told.{Tells}
 use Rattle.job_report.specs.declared.text.JobText.{JobText}
 use Rattle.pisdf_program.specs.Boards.{boards}
@@ -102,9 +103,6 @@ abbrev pub FromFiles : (Input → Outcome → Type 0) → Option (List ℕ) → 
 FromFiles next graph tokens o = (read : Result Input Status) × ReadsFiles graph tokens read × GoesOn next read o
 
 -- ---- the iterations
-
-abbrev pub name_at : List (List ℕ) → ℕ → List ℕ
-name_at names n = slice_index_or names n []
 
 abbrev pub short_of : Graphs → run.Lack → Status
 short_of graphs lack = TokensRefused (tokens.Short (name_at (input_names graphs) lack.stream) lack.has lack.needs)

@@ -15,7 +15,8 @@ pub(crate) struct Total {
     pub(crate) sum: i128,
 }
 
-/// The total with these tokens more. There is none where a number of it doesn't fit: so many tokens fit no memory.
+/// The total with these tokens more. There is none where a number of it doesn't fit, which no load comes near: its iterations,
+/// 2,048 at most, give 8 tokens each.
 pub(crate) fn with_tokens(total: Total, tokens: &[i64]) -> Option<Total>
     ensures count { IfSome result (λ t. t.count ≡ total.count + length tokens.now) }
     ensures sum { IfSome result (λ t. t.sum ≡ fold (λ sum token. sum +ℤ token) total.sum tokens.now) }

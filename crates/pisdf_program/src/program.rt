@@ -132,7 +132,7 @@ fn work<S: Shelf, O: Sink, K: Gate + Sync, R: Threads + Wait + Sync>(
     ensures read { IfErr result (CountRose (table.command_of (map string_bytes words.now)) (S.faults shelf.old) (S.faults shelf.new)) }
     ensures usage { table.command_of (map string_bytes words.now) ≡ None → (result ≡ Err Status.Usage) × (shelf.new ≡ shelf.old) }
     ensures only { result ≡ Err Status.Usage → table.command_of (map string_bytes words.now) ≡ None }
-    ensures load { (number workers : ℕ) → table.command_of (map string_bytes words.now) ≡ Some (table.Soak number workers) → IfErr result IsLoadStatus }
+    ensures load { (number workers : ℕ) → table.command_of (map string_bytes words.now) ≡ Some (table.Soak number workers) → IfErr result IsLoadStatus × (shelf.new ≡ shelf.old) }
 {
     let Some(command) = read_words(words) else {
         return Err(Status::Usage);
@@ -236,8 +236,8 @@ pub fn run_program<S: Shelf, O: Sink, E: Sink, K: Gate + Sync, R: Threads + Wait
     ensures read { CountRose (table.command_of (map string_bytes words.now)) (S.faults shelf.old) (S.faults shelf.new) result }
     ensures usage { table.command_of (map string_bytes words.now) ≡ None → ((result ≡ Status.Usage) ⊎ (result ≡ Status.WriteFault)) × (shelf.new ≡ shelf.old) }
     ensures only_usage { result ≡ Status.Usage → table.command_of (map string_bytes words.now) ≡ None }
-    // A load refuses no file and lacks no tokens.
-    ensures load { (number workers : ℕ) → table.command_of (map string_bytes words.now) ≡ Some (table.Soak number workers) → IsLoadStatus result }
+    // A load of its own loads no file, refuses none and lacks no tokens.
+    ensures load { (number workers : ℕ) → table.command_of (map string_bytes words.now) ≡ Some (table.Soak number workers) → IsLoadStatus result × (shelf.new ≡ shelf.old) }
     ensures complete { Completes (ResultOf (map string_bytes words.now) (S.holds shelf.old)) (table.command_of (map string_bytes words.now)) (S.faults shelf.old) (S.faults shelf.new) (O.faults out.old) (O.faults out.new) (E.faults err.old) (E.faults err.new) result }
     // Where the files that the command loads are told, an answer is the status of such a result.
     ensures there { Knows (table.command_of (map string_bytes words.now)) (S.holds shelf.old) → is_answer result ≡ true → (o : Outcome) × ResultOf (map string_bytes words.now) (S.holds shelf.old) o }

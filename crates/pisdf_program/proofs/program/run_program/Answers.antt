@@ -37,5 +37,8 @@ returns-clause-there g c =
 
 pub returns-clause-load : goal.returns-clause-load
 returns-clause-load g c = λ number workers is.
-    load_told c.work-worked.result (g.E.Sink.written c.args.err.now) (g.E.Sink.written c.conclude.new.err) (g.E.Sink.faults c.args.err.now) (g.E.Sink.faults c.conclude.new.err) c.conclude.result
-    c.conclude.ensures.concludes (c.work-worked.ensures.load number workers is)
+    let load = c.work-worked.ensures.load number workers is in (
+      load_told c.work-worked.result (g.E.Sink.written c.args.err.now) (g.E.Sink.written c.conclude.new.err) (g.E.Sink.faults c.args.err.now) (g.E.Sink.faults c.conclude.new.err) c.conclude.result
+          c.conclude.ensures.concludes load.0,
+      load.1,
+    )

@@ -32,7 +32,7 @@ returns-in-Journal-clause-works g c =
     (ap (λ (x : Here). Some (seen x)) (sym c.in-Journal.is) ∙ c.in-Some.ensures.command) c.tell_journals.ensures.works
 
 pub returns-in-Journal-clause-load : goal.returns-in-Journal-clause-load
-returns-in-Journal-clause-load g c = no_load (words.Journal c.in-Journal.graph.now c.in-Journal.tokens.now c.in-Journal.iterations c.in-Journal.workers) (command_of (map string_bytes c.args.words.now)) c.tell_journals.result (ap (λ (x : Here). Some (seen x)) (sym c.in-Journal.is) ∙ c.in-Some.ensures.command) refl
+returns-in-Journal-clause-load g c = no_load (words.Journal c.in-Journal.graph.now c.in-Journal.tokens.now c.in-Journal.iterations c.in-Journal.workers) (command_of (map string_bytes c.args.words.now)) (ap (λ (x : Here). Some (seen x)) (sym c.in-Journal.is) ∙ c.in-Some.ensures.command) refl
 
 pub returns-in-Soak-clause-works : goal.returns-in-Soak-clause-works
 returns-in-Soak-clause-works g c =
@@ -45,13 +45,13 @@ returns-in_default-clause-there g c =
     usage_there (command_of (map string_bytes c.args.words.now)) (g.S.Shelf.holds c.args.shelf.now) (sym c.in_default.ensures.command)
 
 pub returns-in-Run-clause-load : goal.returns-in-Run-clause-load
-returns-in-Run-clause-load g c = no_load (words.Run c.in-Run.graph.now c.in-Run.tokens.now c.in-Run.iterations c.in-Run.workers) (command_of (map string_bytes c.args.words.now)) c.run_by_workers.result (ap (λ (x : Here). Some (seen x)) (sym c.in-Run.is) ∙ c.in-Some.ensures.command) refl
+returns-in-Run-clause-load g c = no_load (words.Run c.in-Run.graph.now c.in-Run.tokens.now c.in-Run.iterations c.in-Run.workers) (command_of (map string_bytes c.args.words.now)) (ap (λ (x : Here). Some (seen x)) (sym c.in-Run.is) ∙ c.in-Some.ensures.command) refl
 
 pub returns-in-Plain-clause-load : goal.returns-in-Plain-clause-load
-returns-in-Plain-clause-load g c = no_load (words.Plain c.in-Plain.graph.now c.in-Plain.tokens.now c.in-Plain.iterations) (command_of (map string_bytes c.args.words.now)) c.run.result (ap (λ (x : Here). Some (seen x)) (sym c.in-Plain.is) ∙ c.in-Some.ensures.command) refl
+returns-in-Plain-clause-load g c = no_load (words.Plain c.in-Plain.graph.now c.in-Plain.tokens.now c.in-Plain.iterations) (command_of (map string_bytes c.args.words.now)) (ap (λ (x : Here). Some (seen x)) (sym c.in-Plain.is) ∙ c.in-Some.ensures.command) refl
 
 pub returns-in-Job-clause-load : goal.returns-in-Job-clause-load
-returns-in-Job-clause-load g c = no_load (words.Job c.in-Job.what c.in-Job.graph.now c.in-Job.tokens.now c.in-Job.workers) (command_of (map string_bytes c.args.words.now)) c.tell_job.result (ap (λ (x : Here). Some (seen x)) (sym c.in-Job.is) ∙ c.in-Some.ensures.command) refl
+returns-in-Job-clause-load g c = no_load (words.Job c.in-Job.what c.in-Job.graph.now c.in-Job.tokens.now c.in-Job.workers) (command_of (map string_bytes c.args.words.now)) (ap (λ (x : Here). Some (seen x)) (sym c.in-Job.is) ∙ c.in-Some.ensures.command) refl
 
 pub returns-in-Upgrade-clause-load : goal.returns-in-Upgrade-clause-load
-returns-in-Upgrade-clause-load g c = no_load (words.Upgrade c.in-Upgrade.graph.now) (command_of (map string_bytes c.args.words.now)) c.upgrade.result (ap (λ (x : Here). Some (seen x)) (sym c.in-Upgrade.is) ∙ c.in-Some.ensures.command) refl
+returns-in-Upgrade-clause-load g c = no_load (words.Upgrade c.in-Upgrade.graph.now) (command_of (map string_bytes c.args.words.now)) (ap (λ (x : Here). Some (seen x)) (sym c.in-Upgrade.is) ∙ c.in-Some.ensures.command) refl
