@@ -6,13 +6,13 @@ use Rattle.outer_world.specs.Sink.{Grows}
 use Rattle.pisdf_model.specs.declared.graph.Graphs.{Graphs}
 use Rattle.pisdf_program.specs.Calls.{GrowsPartly}
 use Rattle.pisdf_program.specs.Loaded.{is_answer}
-use Rattle.pisdf_program.specs.LoadEnd.{total_row}
+use Rattle.pisdf_program.specs.SoakEnd.{total_row}
 use Rattle.pisdf_program.specs.Result.{Outcome, TellsStop, short_of, told}
 use Rattle.pisdf_program.specs.Top.{top_of}
 use Rattle.pisdf_program.specs.Texts.{left_lines, line_of, memory_line, read_line}
 use Rattle.pisdf_program.specs.Written.{Wrote, WroteFirst, WrotePartly}
 use Rattle.pisdf_program.specs.Words.{Command, Run, Plain, Job, Journal, Soak, Upgrade}
-use Rattle.pisdf_program.specs.declared.load_totals.Total.{Total}
+use Rattle.pisdf_program.specs.declared.soak_totals.Total.{Total}
 use Rattle.pisdf_program.specs.declared.stop.Stop.{Stop}
 use Rattle.pisdf_program.specs.declared.stop.Stop.TheVariants as stop
 use Rattle.pisdf_program.specs.declared.run.RunEnd.{RunEnd}
@@ -92,11 +92,11 @@ abbrev pub Concludes : Result (String Global) Status → Option (List ℕ) → O
 Concludes (Ok text) had has before now status = PutsLine (string_bytes text) Done had has before now status
 Concludes (Err told) had has before now status = TellsUnlessCut told had has before now status
 
--- ---- the end of a load, told
+-- ---- the end of a soak run, told
 
-abbrev pub TellsLoad : Graphs → ℕ → Result Total Stop → Outcome → Type 0
-TellsLoad graphs number (Ok total) o = o ≡ told (total_row number total)
-TellsLoad graphs number (Err stop) o = TellsStop graphs stop o
+abbrev pub TellsSoak : Graphs → ℕ → Result Total Stop → Outcome → Type 0
+TellsSoak graphs number (Ok total) o = o ≡ told (total_row number total)
+TellsSoak graphs number (Err stop) o = TellsStop graphs stop o
 
 -- ---- the whole call
 

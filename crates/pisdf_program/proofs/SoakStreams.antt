@@ -1,11 +1,11 @@
--- What the iterations of a load take from its streams.
+-- What the iterations of a soak run take from its streams.
 use Rattle.std.proofs.Common.{◌≡◌, ℕ, zero, suc, ◌+◌, ◌-◌, ◌*◌, ◌<◌, ◌≤◌, ℤ, false, List, [], ◌∷◌, length, take, drop, None, refl, ap, ◌∙◌, arith}
 use Rattle.std.specs.Prelude.{nat_lt}
 use Rattle.std.proofs.lemmas.Bool.Decides.{nat_tests}
 use Rattle.std.proofs.lemmas.List.FromFn.{length-map-range_with_len, take-map-range_with_len}
 use Rattle.kernel_gate.specs.Value.{lengths}
 use Rattle.pisdf_meaning.specs.Run.{first_lack, taken}
-use Rattle.pisdf_program.specs.Load.{k_token, load_iterations, load_part, load_streams, tokens_from, x_token}
+use Rattle.pisdf_program.specs.Soak.{k_token, soak_iterations, soak_part, soak_streams, tokens_from, x_token}
 use Rattle.pisdf_program.specs.Streams.{rest_of}
 
 dropped : (token : ℕ → ℤ) (a s m : ℕ) → drop s (tokens_from token a m) ≡ tokens_from token (a + s) (m - s)
@@ -25,31 +25,31 @@ part_of token s n m within =
 left_of : (token : ℕ → ℤ) (s m : ℕ) → length (drop s (tokens_from token 0 m)) ≡ m - s
 left_of token s m = ap length (dropped token 0 s m) ∙ length-map-range_with_len token (0 + s) (m - s)
 
-module _ (number iteration : ℕ) (within : iteration < load_iterations number) where
+module _ (number iteration : ℕ) (within : iteration < soak_iterations number) where
   abbrev k_left : List ℤ
-  k_left = drop (iteration * 1) (tokens_from (k_token number) 0 (load_iterations number))
+  k_left = drop (iteration * 1) (tokens_from (k_token number) 0 (soak_iterations number))
 
   abbrev x_left : List ℤ
-  x_left = drop (iteration * 64) (tokens_from (x_token number) 0 (64 * load_iterations number))
+  x_left = drop (iteration * 64) (tokens_from (x_token number) 0 (64 * soak_iterations number))
 
-  pub part_taken : taken (1 ∷ 64 ∷ []) (rest_of iteration (1 ∷ 64 ∷ []) (load_streams number)) ≡ load_part number iteration
+  pub part_taken : taken (1 ∷ 64 ∷ []) (rest_of iteration (1 ∷ 64 ∷ []) (soak_streams number)) ≡ soak_part number iteration
   part_taken =
       let one : iteration * 1 ≡ iteration = omega arith in
       let many : iteration * 64 ≡ 64 * iteration = omega arith in
-      let k : take 1 k_left ≡ tokens_from (k_token number) iteration 1 = part_of (k_token number) (iteration * 1) 1 (load_iterations number) (omega arith) ∙ ap (λ s. tokens_from (k_token number) s 1) one in
-      let x : take 64 x_left ≡ tokens_from (x_token number) (64 * iteration) 64 = part_of (x_token number) (iteration * 64) 64 (64 * load_iterations number) (omega arith) ∙ ap (λ s. tokens_from (x_token number) s 64) many in
+      let k : take 1 k_left ≡ tokens_from (k_token number) iteration 1 = part_of (k_token number) (iteration * 1) 1 (soak_iterations number) (omega arith) ∙ ap (λ s. tokens_from (k_token number) s 1) one in
+      let x : take 64 x_left ≡ tokens_from (x_token number) (64 * iteration) 64 = part_of (x_token number) (iteration * 64) 64 (64 * soak_iterations number) (omega arith) ∙ ap (λ s. tokens_from (x_token number) s 64) many in
       ap (λ (l : List ℤ). l ∷ take 64 x_left ∷ []) k ∙ ap (λ (l : List ℤ). tokens_from (k_token number) iteration 1 ∷ l ∷ []) x
 
-  pub none_lacks : first_lack 0 (1 ∷ 64 ∷ []) (rest_of iteration (1 ∷ 64 ∷ []) (load_streams number)) ≡ None
+  pub none_lacks : first_lack 0 (1 ∷ 64 ∷ []) (rest_of iteration (1 ∷ 64 ∷ []) (soak_streams number)) ≡ None
   none_lacks =
-      let k = left_of (k_token number) (iteration * 1) (load_iterations number) in
-      let x = left_of (x_token number) (iteration * 64) (64 * load_iterations number) in
+      let k = left_of (k_token number) (iteration * 1) (soak_iterations number) in
+      let x = left_of (x_token number) (iteration * 64) (64 * soak_iterations number) in
       let first : nat_lt (length k_left) 1 ≡ false = grind (arith, nat_tests) in
       let second : nat_lt (length x_left) 64 ≡ false = grind (arith, nat_tests) in
       rw (first, second) refl
 
 -- a token of k and 64 of x
-pub part_lengths : (number iteration : ℕ) → lengths (load_part number iteration) ≡ 1 ∷ 64 ∷ []
+pub part_lengths : (number iteration : ℕ) → lengths (soak_part number iteration) ≡ 1 ∷ 64 ∷ []
 part_lengths number iteration =
     let k = length-map-range_with_len (k_token number) iteration 1 in
     let x = length-map-range_with_len (x_token number) (64 * iteration) 64 in

@@ -1,7 +1,7 @@
 use Rattle.std.proofs.Common.{◌≡◌, ◌*◌, ℤ, List, [], ◌∷◌, ◌++◌, ap, ◌∙◌, rules, FitsSigned, w64}
 use Rattle.std.proofs.lemmas.Int.{to_z-of_z}
-use Rattle.pisdf_program.specs.Load.{k_token, tokens_from, x_token}
-use Rattle.pisdf_program.proofs.load_tokens.load_part.Goals as goal
+use Rattle.pisdf_program.specs.Soak.{k_token, tokens_from, x_token}
+use Rattle.pisdf_program.proofs.soak_tokens.soak_part.Goals as goal
 
 pub returns : goal.returns
 returns c =

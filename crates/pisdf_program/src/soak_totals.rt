@@ -1,9 +1,9 @@
-// What is told of the outputs of a load.
+// What is told of the outputs of a soak run.
 ghost use Rattle.std.specs.Prelude.{◌≡◌, ◌+◌, ◌+ℤ◌, ◌++◌, fold, length, string_bytes, IfOk, IfSome, OnOk};
-ghost use Rattle.pisdf_program.specs.Load.{last_field, soak_row, y_tokens};
-ghost use Rattle.pisdf_program.specs.LoadEnd.{total_row};
+ghost use Rattle.pisdf_program.specs.Soak.{last_field, soak_row, y_tokens};
+ghost use Rattle.pisdf_program.specs.SoakEnd.{total_row};
 
-use crate::load_tokens::load_iterations;
+use crate::soak_tokens::soak_iterations;
 use pisdf_meaning::Iteration;
 use std::alloc::{AllocError, Global};
 use std::fmt::Write;
@@ -15,7 +15,7 @@ pub(crate) struct Total {
     pub(crate) sum: i128,
 }
 
-/// The total with these tokens more. There is none where a number of it doesn't fit, which no load comes near: its iterations,
+/// The total with these tokens more. There is none where a number of it doesn't fit, which no soak run comes near: its iterations,
 /// 2,048 at most, give 8 tokens each.
 pub(crate) fn with_tokens(total: Total, tokens: &[i64]) -> Option<Total>
     ensures count { IfSome result (λ t. t.count ≡ total.count + length tokens.now) }
@@ -61,14 +61,14 @@ fn soak_row(
     Ok(text)
 }
 
-/// The row that tells of a load.
+/// The row that tells of a soak run.
 pub(crate) fn total_row(alloc: Global, number: u32, total: Total) -> Result<String, AllocError>
     ensures { IfOk result (λ text. string_bytes text ≡ total_row number total) }
 {
     soak_row(
         alloc,
         number,
-        load_iterations(number),
+        soak_iterations(number),
         total.count,
         total.sum,
     )

@@ -1,8 +1,8 @@
 use Rattle.std.proofs.Common.{◌≡◌, ℕ, ◌+◌, ◌-◌, ℤ, List, [], ◌∷◌, ◌++◌, ap, sym, ◌∙◌, arith, rules, FitsSigned, w64}
 use Rattle.std.proofs.lemmas.List.FromFn.{map-range_with_len_more}
 use Rattle.std.proofs.lemmas.Int.{to_z-of_z}
-use Rattle.pisdf_program.specs.Load.{tokens_from, x_token}
-use Rattle.pisdf_program.proofs.load_tokens.x_tokens.Goals as goal
+use Rattle.pisdf_program.specs.Soak.{tokens_from, x_token}
+use Rattle.pisdf_program.proofs.soak_tokens.x_tokens.Goals as goal
 
 pub loop-place-preserved : goal.loop-place-preserved
 loop-place-preserved c =

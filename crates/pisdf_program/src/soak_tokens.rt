@@ -1,21 +1,21 @@
-// The tokens of a load.
+// The tokens of a soak run.
 ghost use Rattle.std.specs.Prelude.{◌≡◌, ◌+◌, ◌*◌, ◌<◌, ◌≤◌, IfOk};
-ghost use Rattle.pisdf_program.specs.Load.{k_token, load_iterations, load_part, tokens_from, x_token};
-ghost use Rattle.pisdf_program.specs.Words.{greatest_load};
+ghost use Rattle.pisdf_program.specs.Soak.{k_token, soak_iterations, soak_part, tokens_from, x_token};
+ghost use Rattle.pisdf_program.specs.Words.{greatest_number};
 
 use sdf_level::List;
 use std::alloc::{AllocError, Global};
 
-/// How many iterations a load has.
-pub(crate) fn load_iterations(number: u32) -> u32
-    ensures { result ≡ load_iterations number }
+/// How many iterations it has.
+pub(crate) fn soak_iterations(number: u32) -> u32
+    ensures { result ≡ soak_iterations number }
 {
     4 + number % 2045
 }
 
 /// The token of the input `k` at a place of its stream.
 fn k_token(number: u32, place: u32) -> i64
-    requires number { number ≤ greatest_load }
+    requires number { number ≤ greatest_number }
     requires place { place < 131072 }
     ensures { result ≡ k_token number place }
 {
@@ -24,7 +24,7 @@ fn k_token(number: u32, place: u32) -> i64
 
 /// The token of the input `x` at a place of its stream.
 fn x_token(number: u32, place: u32) -> i64
-    requires number { number ≤ greatest_load }
+    requires number { number ≤ greatest_number }
     requires place { place < 131136 }
     ensures { result ≡ x_token number place }
 {
@@ -33,7 +33,7 @@ fn x_token(number: u32, place: u32) -> i64
 
 /// So many tokens of `x`, from a place on.
 fn x_tokens(alloc: Global, number: u32, start: u32, count: u32) -> Result<Vec<i64>, AllocError>
-    requires number { number ≤ greatest_load }
+    requires number { number ≤ greatest_number }
     requires within { start + count ≤ 131136 }
     ensures { IfOk result (λ tokens. tokens.items ≡ tokens_from (x_token number) start count) }
 {
@@ -45,14 +45,14 @@ fn x_tokens(alloc: Global, number: u32, start: u32, count: u32) -> Result<Vec<i6
 }
 
 /// The tokens that an iteration takes from each stream.
-pub(crate) fn load_part(
+pub(crate) fn soak_part(
     alloc: Global,
     number: u32,
     iteration: u32,
 ) -> Result<Vec<List<i64>>, AllocError>
-    requires number { number ≤ greatest_load }
+    requires number { number ≤ greatest_number }
     requires iteration { iteration < 2049 }
-    ensures { IfOk result (λ part. part.items ≡ load_part number iteration) }
+    ensures { IfOk result (λ part. part.items ≡ soak_part number iteration) }
 {
     let k = vec![in alloc; k_token(number, iteration)]?;
     let x = x_tokens(alloc, number, 64 * iteration, 64)?;

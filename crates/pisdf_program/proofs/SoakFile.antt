@@ -1,4 +1,4 @@
--- The file of the load's graphs: it is read as graphs, which are read again from what is written of them, and whose inputs take 1 and 64 tokens.
+-- The file of `soak`'s graphs: it is read as graphs, which are read again from what is written of them, and whose inputs take 1 and 64 tokens.
 use Rattle.std.proofs.Common.{◌≡◌, ℕ, ◌+◌, ◌<◌, ◌≤◌, List, [], ◌∷◌, length, map, slice_index_or, Bool, true, false, Option, Some, None, Result, Ok, Err, refl, sym, ap, ◌∙◌, arith}
 use Rattle.std.specs.Prelude.{if◌then◌else◌, IfErr, ◌==◌, ◌&&◌}
 use Rattle.std.specs.List.{range_with_len}
@@ -34,7 +34,7 @@ use Rattle.pisdf_model.specs.ParamOrder.{is_late}
 use Rattle.param_resolver.specs.EarlyCheck.{check_to}
 use Rattle.graph_format.specs.Objects.{actor_at, child_members_at, config_child_members_at, config_members_at, config_ports_at, delay_at, derived_members_at, fifo_at, fifo_members_at, file_at, file_members_at, given_members_at, graph_at, graph_members_at, graph_parts_at, input_at, kernel_members_at, param_at, port_at, port_members_at, ranged_at}
 use Rattle.graph_format.specs.Walk.{has_form, items_at}
-use Rattle.pisdf_program.specs.Load.{load_file}
+use Rattle.pisdf_program.specs.Soak.{soak_file}
 use Rattle.pisdf_program.specs.Result.{graphs_in_json, graphs_in_reading, json_of, read_graphs}
 use Rattle.pisdf_program.specs.Loaded.{NoFault, Settles, is_answer}
 use Rattle.pisdf_program.specs.declared.status.Status.{Status}
@@ -94,23 +94,23 @@ early_facts : Result Graphs Status → List ℕ
 early_facts (Ok graphs) = length (early_faults graphs.graphs graphs.top []) ∷ top_needs graphs
 early_facts (Err status) = []
 
-facts_are : early_facts (read_graphs load_file) ≡ 0 ∷ 1 ∷ 64 ∷ []
-unfolding early_facts read_graphs load_file is_utf8 chars encode value items members lex punctuate code_unit content short_escape after_number word number_of scan_numeral digits answer_of run tallied tokens_from leads_below initial_to nesting_to is_late check_to actor_at child_members_at config_child_members_at config_members_at config_ports_at delay_at derived_members_at fifo_at fifo_members_at file_at file_members_at given_members_at graph_at graph_members_at graph_parts_at input_at kernel_members_at param_at port_at port_members_at ranged_at has_form items_at
+facts_are : early_facts (read_graphs soak_file) ≡ 0 ∷ 1 ∷ 64 ∷ []
+unfolding early_facts read_graphs soak_file is_utf8 chars encode value items members lex punctuate code_unit content short_escape after_number word number_of scan_numeral digits answer_of run tallied tokens_from leads_below initial_to nesting_to is_late check_to actor_at child_members_at config_child_members_at config_members_at config_ports_at delay_at derived_members_at fifo_at fifo_members_at file_at file_members_at given_members_at graph_at graph_members_at graph_parts_at input_at kernel_members_at param_at port_at port_members_at ranged_at has_form items_at
 facts_are = refl
 
-facts_of : (graphs : Graphs) → read_graphs load_file ≡ Ok graphs → length (early_faults graphs.graphs graphs.top []) ∷ top_needs graphs ≡ 0 ∷ 1 ∷ 64 ∷ []
+facts_of : (graphs : Graphs) → read_graphs soak_file ≡ Ok graphs → length (early_faults graphs.graphs graphs.top []) ∷ top_needs graphs ≡ 0 ∷ 1 ∷ 64 ∷ []
 unfolding early_facts
 facts_of graphs h = ap early_facts (sym h) ∙ facts_are
 
-pub load_needs : (graphs : Graphs) → read_graphs load_file ≡ Ok graphs → top_needs graphs ≡ 1 ∷ 64 ∷ []
-load_needs graphs h = let e = facts_of graphs h in cc
+pub soak_needs : (graphs : Graphs) → read_graphs soak_file ≡ Ok graphs → top_needs graphs ≡ 1 ∷ 64 ∷ []
+soak_needs graphs h = let e = facts_of graphs h in cc
 
 none_of : {X : Type 0} (xs : List X) → length xs ≡ 0 → xs ≡ []
 none_of [] e = refl
 none_of (x ∷ xs) e = absurd (omega arith)
 
-pub load_sound : (graphs : Graphs) → read_graphs load_file ≡ Ok graphs → early_faults graphs.graphs graphs.top [] ≡ []
-load_sound graphs h = let e = facts_of graphs h in none_of (early_faults graphs.graphs graphs.top []) cc
+pub soak_sound : (graphs : Graphs) → read_graphs soak_file ≡ Ok graphs → early_faults graphs.graphs graphs.top [] ≡ []
+soak_sound graphs h = let e = facts_of graphs h in none_of (early_faults graphs.graphs graphs.top []) cc
 
 no_facts : (status : Status) → early_facts (Err status) ≡ []
 unfolding early_facts
@@ -120,29 +120,29 @@ not_both : (facts : List ℕ) → facts ≡ [] → facts ≡ 0 ∷ 1 ∷ 64 ∷ 
 not_both facts none some = absurd (let l : 0 ≡ 3 = ap length (sym none ∙ some) in omega arith)
 
 -- reading them is not refused
-load_reads : (status : Status) → read_graphs load_file ≡ Err status → ⊥
-load_reads status h = not_both (early_facts (read_graphs load_file)) (ap early_facts h ∙ no_facts status) facts_are
+soak_reads : (status : Status) → read_graphs soak_file ≡ Err status → ⊥
+soak_reads status h = not_both (early_facts (read_graphs soak_file)) (ap early_facts h ∙ no_facts status) facts_are
 
 -- so that want of memory alone is answered
-pub only_memory : (s : Status) → NoFault s → (is_answer s ≡ true → read_graphs load_file ≡ Err s) → s ≡ WantOfMemory
-only_memory Done ok h = absurd (load_reads Done (h refl))
-only_memory Usage ok h = absurd (load_reads Usage (h refl))
-only_memory (GraphRefused cause) ok h = absurd (load_reads (GraphRefused cause) (h refl))
-only_memory (TokensRefused cause) ok h = absurd (load_reads (TokensRefused cause) (h refl))
-only_memory (RunRefused refusal) ok h = absurd (load_reads (RunRefused refusal) (h refl))
+pub only_memory : (s : Status) → NoFault s → (is_answer s ≡ true → read_graphs soak_file ≡ Err s) → s ≡ WantOfMemory
+only_memory Done ok h = absurd (soak_reads Done (h refl))
+only_memory Usage ok h = absurd (soak_reads Usage (h refl))
+only_memory (GraphRefused cause) ok h = absurd (soak_reads (GraphRefused cause) (h refl))
+only_memory (TokensRefused cause) ok h = absurd (soak_reads (TokensRefused cause) (h refl))
+only_memory (RunRefused refusal) ok h = absurd (soak_reads (RunRefused refusal) (h refl))
 only_memory (ReadFault which) ok h = absurd ok
 only_memory WriteFault ok h = absurd ok
 only_memory WantOfMemory ok h = refl
 
-pub only_memories : (r : Result Graphs Status) → IfErr r NoFault → Settles (read_graphs load_file) r → IfErr r (λ s. s ≡ WantOfMemory)
+pub only_memories : (r : Result Graphs Status) → IfErr r NoFault → Settles (read_graphs soak_file) r → IfErr r (λ s. s ≡ WantOfMemory)
 only_memories (Ok graphs) ok h = tt
 only_memories (Err s) ok h = only_memory s ok h
 
-load_short : length load_file ≤ 4194304
-unfolding load_file
-load_short = let e : length load_file ≡ 950 = refl in omega arith
+soak_short : length soak_file ≤ 4194304
+unfolding soak_file
+soak_short = let e : length soak_file ≡ 950 = refl in omega arith
 
 -- what is written of them is read as they were
-pub read_again : (bytes : List ℕ) (graphs : Graphs) → read_graphs load_file ≡ Ok graphs → (WasRead the_signatures load_file graphs → AreReadAs the_signatures bytes (Ok graphs)) → graphs_in_json (json_of bytes) ≡ read_graphs load_file
+pub read_again : (bytes : List ℕ) (graphs : Graphs) → read_graphs soak_file ≡ Ok graphs → (WasRead the_signatures soak_file graphs → AreReadAs the_signatures bytes (Ok graphs)) → graphs_in_json (json_of bytes) ≡ read_graphs soak_file
 read_again bytes graphs h again =
-    graphs_read bytes graphs (again (was_read load_file graphs (sym (read_graphs_short load_file load_short) ∙ h))) ∙ sym h
+    graphs_read bytes graphs (again (was_read soak_file graphs (sym (read_graphs_short soak_file soak_short) ∙ h))) ∙ sym h
