@@ -1,5 +1,5 @@
 -- What the other commands say of a soak run.
-use Rattle.std.proofs.Common.{◌≡◌, inl, inr, ℕ, List, Bool, true, false, Option, Some, None, Result, Ok, Err, String, Global, sym, ap, ◌∙◌, subst}
+use Rattle.std.proofs.Common.{◌≡◌, inl, inr, ℕ, List, Bool, true, false, Option, Some, Result, Ok, Err, String, Global, sym, ap, ◌∙◌, subst}
 use Rattle.std.specs.Prelude.{IfErr}
 use Rattle.pisdf_program.specs.SoakEnd.{IsSoakStatus}
 use Rattle.pisdf_program.specs.Words.{Command, Run, Plain, Job, Journal, Soak, Upgrade}

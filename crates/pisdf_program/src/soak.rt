@@ -18,10 +18,10 @@ ghost use Rattle.pisdf_program.specs.Words.{greatest_number};
 ghost use Rattle.quiescent_driver.specs.Given.{IsTopState};
 
 use crate::load::{graphs_in, parse_graphs};
-use crate::soak_tokens::{soak_iterations, soak_part};
-use crate::soak_totals::{Total, total_row, with_tokens, y_tokens};
 use crate::maker::Maker;
 use crate::put::put_text;
+use crate::soak_tokens::{soak_iterations, soak_part};
+use crate::soak_totals::{Total, total_row, with_tokens, y_tokens};
 use crate::status::Status;
 use crate::stop::{Stop, stop_status};
 use graph_writer::write;
