@@ -1,4 +1,8 @@
 // Whole cases: a job from its start to its end.
+//
+// A row has a level, as the tables of levels write it (`actors`, `links`), the number of `workers` that it is compiled for,
+// what the job is started with (`kinds`, null for an actor whose firings are jobs of their own; `args`, `sources` and
+// `stored`, a list for each actor, source and link), the `steps`, and how the job ends (`end`).
 ghost use Rattle.std.specs.Prelude.{◌≢◌, ℕ};
 ghost use Rattle.one_job.specs.Marks.{IsClaimed, phase};
 

@@ -1,4 +1,12 @@
-// The steps of a case.
+// The steps of a case, one after the other, each with one answer:
+//
+// - `{"pick": w}` and `{"pick_child": w}`: the node that the worker is handed, -1 where there is none;
+// - `{"is_child": n}` and `{"quiet": 1}`: 1 where it is so, else 0; `{"home": n}` and `{"priority": n}` of a node;
+// - `{"claim": n}`: what the frame holds: its kind, its arguments, its inputs, and the lengths of its outputs. The node is
+//   the one that its home is handed at the time, or that its home is handed as a job of its own where there is no other;
+// - `{"finish": n, "outs": [list, ..]}` with these tokens written to the outputs, and `{"finish": n, "fault": code}`: 0;
+// - `{"run": w}`: the worker claims and finishes all nodes that it is handed, each of which copies its inputs to its outputs:
+//   how many they were.
 ghost use Rattle.std.specs.Prelude.{◌≡◌, ◌⊎◌, ◌<◌, length, IfOk, IfSome, IsOk};
 ghost use Rattle.std.specs.Bool.{OnTrue};
 ghost use Rattle.one_job.specs.View.{IsEnabled, IsFiring};
