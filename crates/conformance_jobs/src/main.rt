@@ -1,10 +1,11 @@
-//! Compares what jobs do with a table of cases: each line of the table is a JSON object with a level, what a job of it is
-//! started with, the steps that are made of the job one after the other, and the answer that is wanted of each. It prints
-//! each case whose answers are others, and at the end the number of cases.
+//! Compares what jobs, and the heaps of their ready nodes, do with tables of cases: each line of a table is a JSON object with
+//! what a job or a heap is started with, the steps that are made of it one after the other, and the answer that is wanted of
+//! each. It prints each case whose answers are others, and at the end of a table the number of its cases.
 #![tactic(auto)]
 
 mod ending;
 mod frames;
+mod heaps;
 mod levels;
 mod lists;
 mod places;
@@ -14,9 +15,10 @@ mod steps;
 mod table;
 mod trouble;
 
-use crate::table::run_table;
+use crate::table::{Subject, run_table};
 use std::io;
 
 fn main(rt: HostRuntime) -> io::Result<()> {
-    run_table(&rt, "jobs.jsonl")
+    run_table(&rt, "jobs.jsonl", Subject::Job)?;
+    run_table(&rt, "heaps.jsonl", Subject::Heaps)
 }

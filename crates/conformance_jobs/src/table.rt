@@ -1,12 +1,19 @@
-// The table: each of its lines is a case.
-use crate::ending::answers;
+// The tables: each of their lines is a case.
 use crate::lists::written_out;
 use crate::row::member;
 use crate::trouble::Trouble;
+use crate::{ending, heaps};
 use serde_json::Value;
 use std::alloc::Global;
 use std::rt::Files;
 use std::{fs, io};
+
+/// What a table is about.
+#[derive(Clone, Copy)]
+pub enum Subject {
+    Job,
+    Heaps,
+}
 
 /// What is wanted of a case, and what it gave, where that is another answer.
 #[derive(Drop)]
@@ -16,12 +23,15 @@ struct Difference {
 }
 
 /// The case of a line.
-fn difference_of(alloc: Global, line: &str) -> Result<Option<Difference>, Trouble> {
+fn difference_of(alloc: Global, subject: Subject, line: &str) -> Result<Option<Difference>, Trouble> {
     let Ok(row) = Value::from_str(alloc, line) else {
         return Err(Trouble::Member("the line"));
     };
     let wanted = written_out(member(&row, "want")?, alloc)?;
-    let answers = answers(alloc, &row)?;
+    let answers = match subject {
+        Subject::Job => ending::answers(alloc, &row)?,
+        Subject::Heaps => heaps::answers(alloc, &row)?,
+    };
     if answers == wanted {
         return Ok(None);
     }
@@ -35,10 +45,11 @@ fn difference_of(alloc: Global, line: &str) -> Result<Option<Difference>, Troubl
 fn run_case(
     rt: &(impl Print + AllocGlobal),
     file: &str,
+    subject: Subject,
     number: u32,
     line: &str,
 ) -> io::Result<bool> {
-    match difference_of(rt.alloc(), line) {
+    match difference_of(rt.alloc(), subject, line) {
         Ok(None) => return Ok(true),
         Ok(Some(Difference { wanted, got })) => {
             println!(rt; "{file}, line {number}: wanted {wanted}, got {got}")?;
@@ -50,13 +61,17 @@ fn run_case(
 }
 
 /// Runs the cases of a table, and prints how many there are.
-pub fn run_table(rt: &(impl Files + Print + AllocGlobal), file: &str) -> io::Result<()> {
+pub fn run_table(
+    rt: &(impl Files + Print + AllocGlobal),
+    file: &str,
+    subject: Subject,
+) -> io::Result<()> {
     let text = fs::read_to_string(rt, file)?;
     let mut cases = 0u32;
     let mut differences = 0u32;
     for line in text.as_str().lines() {
         cases = cases.saturating_add(1);
-        if !run_case(rt, file, cases, line)? {
+        if !run_case(rt, file, subject, cases, line)? {
             differences = differences.saturating_add(1);
         }
     }
