@@ -23,7 +23,11 @@ struct Difference {
 }
 
 /// The case of a line.
-fn difference_of(alloc: Global, subject: Subject, line: &str) -> Result<Option<Difference>, Trouble> {
+fn difference_of(
+    alloc: Global,
+    subject: Subject,
+    line: &str,
+) -> Result<Option<Difference>, Trouble> {
     let Ok(row) = Value::from_str(alloc, line) else {
         return Err(Trouble::Member("the line"));
     };
