@@ -8,10 +8,10 @@ use crate::pass::{Held, Pass, StateSeat, Turn};
 use crate::rule::{Cut, Keeps, Leaves, Merge, Opening, Rule, Starts, Tries};
 use crate::view::View;
 use atomic_table::Table;
+use crossbeam_utils::Backoff;
 use std::alloc::{AllocError, AllocFailed, Global};
 use std::marker::{Brand, Model};
 use std::sync::Wait;
-use std::thread::yield_now;
 
 // The word of the table.
 pub(crate) const FREE: u64 = 0;
@@ -113,8 +113,8 @@ impl<S: Locked> Lock<S> {
         )
     }
 
-    /// Takes the state out of the lock, once no other pass holds it. A try that is lost lets other threads run before the
-    /// next one: nothing is known of how long that takes.
+    /// Takes the state out of the lock, once no other pass holds it. After a try that is lost the thread pauses, longer each
+    /// time, and lets other threads run at last: nothing is known of how long that takes.
     pub fn enter<'a, R: Wait>(&'a self, rt: &R, pass: Pass<S>) -> Held<'a, S>
         requires { pass.lock ≡ self.now }
         ensures finds { Finds S.meant pass.known result.state.value }
@@ -127,6 +127,7 @@ impl<S: Locked> Lock<S> {
             number,
             count,
         } = pass;
+        let pause = Backoff::new();
         for _ in rt.forever() {
             if self
                 .table
@@ -147,7 +148,7 @@ impl<S: Locked> Lock<S> {
                     state,
                 };
             }
-            yield_now();
+            pause.snooze();
         }
         unreachable!()
     }

@@ -85,6 +85,13 @@ impl<'a, S: Locked> Held<'a, S> {
     ghost use mir.Syntax.{named};
     ghost use Rattle.board_lock.specs.contracts.pass.Held.{the_row};
 
+    /// The least number of the pass that holds the state.
+    pub fn number(&self) -> u32
+        ensures { result ≡ self.now.turn.known.number }
+    {
+        self.turn.number
+    }
+
     /// The state, to be changed in place.
     pub fn state(&mut self) -> &mut S
         ensures value { result.now ≡ self.old.state.value }

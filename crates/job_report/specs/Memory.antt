@@ -31,18 +31,18 @@ abbrev pub offset_row : ℕ → ℕ → List ℕ
 offset_row edge offset = row_of (codes "offset" ∷ decimal edge ∷ decimal offset ∷ [])
 
 -- order,WORKER,NODE
-abbrev pub turn_row : ℕ → ℕ → List ℕ
-turn_row worker node = row_of (codes "order" ∷ decimal worker ∷ decimal node ∷ [])
+abbrev pub worker_row : ℕ → ℕ → List ℕ
+worker_row worker node = row_of (codes "order" ∷ decimal worker ∷ decimal node ∷ [])
 
 -- the rows of a worker's nodes, in its order
 abbrev pub worker_rows : ℕ → List ℕ → List ℕ
-worker_rows worker nodes = flat_map (λ n. turn_row worker n) nodes
+worker_rows worker nodes = flat_map (λ n. worker_row worker n) nodes
 
 abbrev pub offset_rows : List ℕ → List ℕ
 offset_rows offsets = of_each (λ e offset. offset_row e offset) offsets
 
-abbrev pub order_rows : List (List ℕ) → List ℕ
-order_rows orders = of_each (λ w nodes. worker_rows w nodes) orders
+abbrev pub orders_rows : List (List ℕ) → List ℕ
+orders_rows orders = of_each (λ w nodes. worker_rows w nodes) orders
 
 -- first the height of the plan's cells, then that of the cells under the orders
 abbrev pub memory_text : Compilation → Ordered → List ℕ
@@ -50,4 +50,4 @@ memory_text job ordered =
     height_row job.placement.height
     ++ ordered_row ordered.placement.height
     ++ offset_rows ordered.placement.offsets
-    ++ order_rows ordered.orders
+    ++ orders_rows ordered.orders

@@ -1,6 +1,6 @@
 // The text of a job's memory.
 ghost use Rattle.std.specs.Prelude.{◌≡◌, ◌++◌, IfOk, OnOk, string_bytes};
-ghost use Rattle.job_report.specs.Memory.{memory_text, offset_row, offset_rows, order_rows, ordered_row, turn_row, worker_rows};
+ghost use Rattle.job_report.specs.Memory.{memory_text, offset_row, offset_rows, orders_rows, ordered_row, worker_row, worker_rows};
 
 use crate::plan::push_height;
 use job_compiler::Compiled;
@@ -30,8 +30,8 @@ fn push_offsets(text: &mut String, offsets: &[u32]) -> Result<(), AllocError>
     Ok(())
 }
 
-fn push_turn(text: &mut String, worker: usize, node: u32) -> Result<(), AllocError>
-    ensures { OnOk result (string_bytes text.new ≡ string_bytes text.old ++ turn_row worker node) }
+fn push_node(text: &mut String, worker: usize, node: u32) -> Result<(), AllocError>
+    ensures { OnOk result (string_bytes text.new ≡ string_bytes text.old ++ worker_row worker node) }
 {
     write!(text, "order,{worker},{node}\n")
 }
@@ -40,13 +40,13 @@ fn push_worker(text: &mut String, worker: usize, nodes: &[u32]) -> Result<(), Al
     ensures { OnOk result (string_bytes text.new ≡ string_bytes text.old ++ worker_rows worker nodes.now) }
 {
     for node in nodes {
-        push_turn(text, worker, *node)?;
+        push_node(text, worker, *node)?;
     }
     Ok(())
 }
 
 fn push_orders(text: &mut String, orders: &[List<u32>]) -> Result<(), AllocError>
-    ensures { OnOk result (string_bytes text.new ≡ string_bytes text.old ++ order_rows orders.now) }
+    ensures { OnOk result (string_bytes text.new ≡ string_bytes text.old ++ orders_rows orders.now) }
 {
     for (worker, nodes) in orders.iter().enumerate() {
         push_worker(text, worker, nodes.items())?;

@@ -4,12 +4,12 @@ pub mod Reading
 pub mod Rows
 pub mod Runs
 pub mod Working
-pub mod NoLoads
+pub mod NoSoak
 pub mod Jobs
 pub mod Telling
-pub mod LoadFile
-pub mod LoadStreams
-pub mod Loads
+pub mod SoakFile
+pub mod SoakStreams
+pub mod SoakRuns
 pub mod Making
 pub mod Written
 pub mod Boards

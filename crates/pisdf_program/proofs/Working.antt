@@ -362,13 +362,13 @@ stop_unread g stop.Memory s is = unread_as s WantOfMemory is unread_memory
 abbrev First : Expected → Option (List ℕ) → Option (List ℕ) → Type 0
 First expected oh on = (o : Outcome) → expected o → WroteFirst oh on o.texts
 
-cut_by : (expected : Expected) (oh on eh en : Option (List ℕ)) (ob onow eb enow : ℕ) (s : Status) (line : List ℕ) → First expected oh on
-    → ((o : Outcome) → expected o → MayTell o line) → s ≡ WriteFault → Rose eb enow → GrowsPartly eh en line → Ended expected oh on eh en ob onow eb enow s
-cut_by expected oh on eh en ob onow eb enow s line first may is rose partly = record {
+cut_by : (expected : Expected) (oh on eh en : Option (List ℕ)) (ob onow eb enow : ℕ) (s : Status) (line : List ℕ) → ((o : Outcome) → expected o → MayTell o oh on line)
+    → s ≡ WriteFault → Rose eb enow → GrowsPartly eh en line → Ended expected oh on eh en ob onow eb enow s
+cut_by expected oh on eh en ob onow eb enow s line may is rose partly = record {
   result = λ o e a. absurd (not_answer s WriteFault is refl a);
   memory = λ o e m. absurd (let t : WriteFault ≡ WantOfMemory = sym is ∙ m in cc);
   write = λ h. inr rose;
-  cut = λ o e h. inr (first o e, (line, may o e, partly));
+  cut = λ o e h. inr (line, may o e, partly);
   unread = λ which h. absurd (let t : WriteFault ≡ ReadFault which = sym is ∙ h in cc);
 }
 
@@ -382,7 +382,7 @@ memory_by expected oh on eh en ob onow eb enow s first (inl (is, grows)) = recor
   unread = λ which h. absurd (let t : WantOfMemory ≡ ReadFault which = sym is ∙ h in cc);
 }
 memory_by expected oh on eh en ob onow eb enow s first (inr (is, rose, partly)) =
-    cut_by expected oh on eh en ob onow eb enow s memory_line first (λ o e. inr (inl refl)) is rose partly
+    cut_by expected oh on eh en ob onow eb enow s memory_line (λ o e. inr (inl (refl, first o e))) is rose partly
 
 answered_by : (expected : Expected) (oh on eh en : Option (List ℕ)) (ob onow eb enow : ℕ) (s told : Status) (line : List ℕ) → is_answer told ≡ true → Decided expected oh on line told
     → PutsLine line told eh en eb enow s → Ended expected oh on eh en ob onow eb enow s
@@ -394,7 +394,7 @@ answered_by expected oh on eh en ob onow eb enow s told line a d (inl (is, grows
   unread = λ which h. absurd (no_read told which a (sym is ∙ h));
 }
 answered_by expected oh on eh en ob onow eb enow s told line a d (inr (is, rose, partly)) =
-    cut_by expected oh on eh en ob onow eb enow s line (λ o e. all_first oh on o.texts (d o e).2) (λ o e. inl (sym (d o e).1)) is rose partly
+    cut_by expected oh on eh en ob onow eb enow s line (λ o e. inl (sym (d o e).1, (d o e).2)) is rose partly
 
 read_by : (expected : Expected) (oh on eh en : Option (List ℕ)) (ob onow eb enow : ℕ) (s : Status) (which : Which) → Grows oh on []
     → PutsLine (read_line which) (ReadFault which) eh en eb enow s → Ended expected oh on eh en ob onow eb enow s
@@ -406,7 +406,7 @@ read_by expected oh on eh en ob onow eb enow s which none (inl (is, grows)) = re
   unread = λ w h. let t : ReadFault which ≡ ReadFault w = sym is ∙ h in let same : which ≡ w = cc in record { out = none; err = grows_as eh en _ _ (ap read_line same) grows };
 }
 read_by expected oh on eh en ob onow eb enow s which none (inr (is, rose, partly)) =
-    cut_by expected oh on eh en ob onow eb enow s (read_line which) (λ o e. wrote_nothing oh on o.texts none) (λ o e. inr (inr (which, refl))) is rose partly
+    cut_by expected oh on eh en ob onow eb enow s (read_line which) (λ o e. inr (inr (which, refl, none))) is rose partly
 
 decided_by : (expected : Expected) (oh on eh en : Option (List ℕ)) (ob onow eb enow : ℕ) (s told : Status) → is_answer told ≡ true → Decided expected oh on (line_of told) told
     → Concludes (Err told) eh en eb enow s → Ended expected oh on eh en ob onow eb enow s

@@ -18,6 +18,6 @@ pub mod Texts
 pub mod Boards
 pub mod Written
 pub mod Journals
-pub mod Load
-pub mod LoadEnd
+pub mod Soak
+pub mod SoakEnd
 pub mod Result

@@ -1,5 +1,5 @@
 -- The result of a command: what it writes and how it ends, from the words and the files that they name.
-use Rattle.std.specs.Prelude.{◌≡◌, ℕ, ◌==◌, nat_lt, ℤ, List, [], ◌∷◌, length, slice_index_or, Option, Some, None, Result, Ok, Err, if◌then◌else◌}
+use Rattle.std.specs.Prelude.{◌≡◌, ℕ, ◌==◌, nat_lt, ℤ, List, [], ◌∷◌, length, Option, Some, None, Result, Ok, Err, if◌then◌else◌}
 use Rattle.std.specs.Str.{is_utf8}
 use Rattle.serde_json.specs.Data.{Data}
 use Rattle.serde_json.specs.Read.{read}
@@ -17,11 +17,12 @@ use Rattle.graph_writer.specs.Upgraded.{upgraded}
 use Rattle.pisdf_meaning.specs.Run as run
 use Rattle.pisdf_meaning.specs.declared.outcome.Iteration.{Iteration}
 use Rattle.job_report.specs.Names.{names_of}
+use Rattle.job_report.specs.Rows.{name_at}
 use Rattle.job_report.specs.Told.{Tells}
 use Rattle.job_report.specs.declared.text.JobText.{JobText}
 use Rattle.pisdf_program.specs.Boards.{boards}
 use Rattle.pisdf_program.specs.Job.{EndsJob, JobEnd}
-use Rattle.pisdf_program.specs.Load.{all_tokens, load_file, load_iterations, load_row, load_streams}
+use Rattle.pisdf_program.specs.Soak.{all_tokens, soak_file, soak_iterations, soak_text, soak_streams}
 use Rattle.pisdf_program.specs.Top.{input_names, top_of}
 use Rattle.pisdf_program.specs.Words.{Command, command_of, Run, Plain, Job, Journal, Soak, Upgrade}
 use Rattle.pisdf_program.specs.Texts.{texts_from, left_lines, line_of}
@@ -103,9 +104,6 @@ FromFiles next graph tokens o = (read : Result Input Status) × ReadsFiles graph
 
 -- ---- the iterations
 
-abbrev pub name_at : List (List ℕ) → ℕ → List ℕ
-name_at names n = slice_index_or names n []
-
 abbrev pub short_of : Graphs → run.Lack → Status
 short_of graphs lack = TokensRefused (tokens.Short (name_at (input_names graphs) lack.stream) lack.has lack.needs)
 
@@ -164,17 +162,17 @@ TellsEnd what graphs (Err stop) o = TellsStop graphs stop o
 abbrev pub TellsJob : JobText → ℕ → Input → Outcome → Type 0
 TellsJob what workers input o = (end : JobEnd) × EndsJob input.graphs input.streams workers end × TellsEnd what input.graphs end o
 
--- ---- a load
+-- ---- a soak run
 
--- what is told of a load whose run ends so
-abbrev pub ends_load : ℕ → Graphs → run.RunEnd → List Iteration → Outcome
-ends_load number graphs (run.Done left) iterations = told (load_row number (all_tokens iterations))
-ends_load number graphs (run.Short lack) iterations = refused (short_of graphs lack)
-ends_load number graphs (run.Refused refusal) iterations = refused (RunRefused refusal)
+-- what is told of one that ends so
+abbrev pub soak_ends : ℕ → Graphs → run.RunEnd → List Iteration → Outcome
+soak_ends number graphs (run.Done left) iterations = told (soak_text number (all_tokens iterations))
+soak_ends number graphs (run.Short lack) iterations = refused (short_of graphs lack)
+soak_ends number graphs (run.Refused refusal) iterations = refused (RunRefused refusal)
 
--- what one thread gets from the iterations of the load of a number
+-- what one thread gets from the iterations of the soak run of a number
 abbrev pub SoaksOn : ℕ → Graphs → Outcome → Type 0
-SoaksOn number graphs o = (r : run.Run) × run.IsRun graphs (load_streams number) (load_iterations number) r × (o ≡ ends_load number graphs r.end r.iterations)
+SoaksOn number graphs o = (r : run.Run) × run.IsRun graphs (soak_streams number) (soak_iterations number) r × (o ≡ soak_ends number graphs r.end r.iterations)
 
 abbrev pub SoaksIn : ℕ → Result Graphs Status → Outcome → Type 0
 SoaksIn number (Ok graphs) o = SoaksOn number graphs o
@@ -182,7 +180,7 @@ SoaksIn number (Err status) o = o ≡ refused status
 
 -- on the graphs of its file
 abbrev pub Soaks : ℕ → Outcome → Type 0
-Soaks number o = SoaksIn number (read_graphs load_file) o
+Soaks number o = SoaksIn number (read_graphs soak_file) o
 
 -- ---- graph files written anew
 

@@ -14,15 +14,15 @@ pub data Command : Type 0 where
   Soak : (number workers : ℕ) → Command
   Upgrade : (graph : List ℕ) → Command
 
--- the most iterations of a run, the most workers, and the greatest number of a generated load
+-- the most iterations of a run, the most workers, and the greatest number of a soak run
 abbrev pub most_iterations : ℕ
 most_iterations = 65536
 
 abbrev pub most_workers : ℕ
 most_workers = 16
 
-abbrev pub greatest_load : ℕ
-greatest_load = 65535
+abbrev pub greatest_number : ℕ
+greatest_number = 65535
 
 -- from 0 on, in 1 to 5 digits
 abbrev pub iterations_of : List ℕ → Option ℕ
@@ -34,7 +34,7 @@ workers_of word = number_within 2 1 most_workers word
 
 -- from 0 on, in 1 to 5 digits
 abbrev pub generated_of : List ℕ → Option ℕ
-generated_of word = number_within 5 0 greatest_load word
+generated_of word = number_within 5 0 greatest_number word
 
 -- ---- the words after a command's name
 

@@ -6,13 +6,13 @@ use Rattle.outer_world.specs.Sink.{Grows}
 use Rattle.pisdf_model.specs.declared.graph.Graphs.{Graphs}
 use Rattle.pisdf_program.specs.Calls.{GrowsPartly}
 use Rattle.pisdf_program.specs.Loaded.{is_answer}
-use Rattle.pisdf_program.specs.LoadEnd.{total_row}
+use Rattle.pisdf_program.specs.SoakEnd.{total_row}
 use Rattle.pisdf_program.specs.Result.{Outcome, TellsStop, short_of, told}
 use Rattle.pisdf_program.specs.Top.{top_of}
 use Rattle.pisdf_program.specs.Texts.{left_lines, line_of, memory_line, read_line}
 use Rattle.pisdf_program.specs.Written.{Wrote, WroteFirst, WrotePartly}
 use Rattle.pisdf_program.specs.Words.{Command, Run, Plain, Job, Journal, Soak, Upgrade}
-use Rattle.pisdf_program.specs.declared.load_totals.Total.{Total}
+use Rattle.pisdf_program.specs.declared.soak_totals.Total.{Total}
 use Rattle.pisdf_program.specs.declared.stop.Stop.{Stop}
 use Rattle.pisdf_program.specs.declared.stop.Stop.TheVariants as stop
 use Rattle.pisdf_program.specs.declared.run.RunEnd.{RunEnd}
@@ -92,11 +92,11 @@ abbrev pub Concludes : Result (String Global) Status → Option (List ℕ) → O
 Concludes (Ok text) had has before now status = PutsLine (string_bytes text) Done had has before now status
 Concludes (Err told) had has before now status = TellsUnlessCut told had has before now status
 
--- ---- the end of a load, told
+-- ---- the end of a soak run, told
 
-abbrev pub TellsLoad : Graphs → ℕ → Result Total Stop → Outcome → Type 0
-TellsLoad graphs number (Ok total) o = o ≡ told (total_row number total)
-TellsLoad graphs number (Err stop) o = TellsStop graphs stop o
+abbrev pub TellsSoak : Graphs → ℕ → Result Total Stop → Outcome → Type 0
+TellsSoak graphs number (Ok total) o = o ≡ told (total_row number total)
+TellsSoak graphs number (Err stop) o = TellsStop graphs stop o
 
 -- ---- the whole call
 
@@ -111,15 +111,16 @@ pub record IsStarved (o : Outcome) (out_had out_has err_had err_has : Option (Li
   pub out : WroteFirst out_had out_has o.texts
   pub err : Grows err_had err_has memory_line
 
--- a line that a call of this outcome may put: the outcome's, or that of want of memory or of a fault of reading
-abbrev pub MayTell : Outcome → List ℕ → Type 0
-MayTell o line = (line ≡ o.line) ⊎ (line ≡ memory_line) ⊎ ((which : Which) × (line ≡ read_line which))
+-- a line that a call of this outcome may put, and what it has put to out before: all its texts before the outcome's line, the
+-- first of them before that of want of memory, and nothing before that of a fault of reading
+abbrev pub MayTell : Outcome → Option (List ℕ) → Option (List ℕ) → List ℕ → Type 0
+MayTell o had has line =
+    ((line ≡ o.line) × Wrote had has o.texts) ⊎ ((line ≡ memory_line) × WroteFirst had has o.texts) ⊎ ((which : Which) × (line ≡ read_line which) × Grows had has [])
 
 -- a put failed and was the last: one to out, after which nothing was put to err, or one to err
 abbrev pub IsCut : Outcome → Option (List ℕ) → Option (List ℕ) → Option (List ℕ) → Option (List ℕ) → Type 0
 IsCut o out_had out_has err_had err_has =
-    (WrotePartly out_had out_has o.texts × Grows err_had err_has [])
-    ⊎ (WroteFirst out_had out_has o.texts × ((line : List ℕ) × MayTell o line × GrowsPartly err_had err_has line))
+    (WrotePartly out_had out_has o.texts × Grows err_had err_has []) ⊎ ((line : List ℕ) × MayTell o out_had out_has line × GrowsPartly err_had err_has line)
 
 -- nothing but the line of the file that couldn't be read was written
 pub record IsUnread (which : Which) (out_had out_has err_had err_has : Option (List ℕ)) : Type 0 where

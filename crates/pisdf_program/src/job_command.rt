@@ -1,9 +1,7 @@
 // The commands that tell of the compiled job of the top graph.
 ghost use Rattle.std.specs.Prelude.{◌≡◌, ◌≢◌, ◌≤◌, ◌<◌, ◌⊎◌, Ok, Err, IfErr, IfOk, length};
-ghost use Rattle.job_report.specs.Names.{names_of};
 ghost use Rattle.kernel_gate.specs.Table.{the_signatures};
 ghost use Rattle.pisdf_program.specs.Result.{AreTold, FromFiles, TellsEnd, TellsJob};
-ghost use Rattle.pisdf_program.specs.Top.{top_of};
 ghost use Rattle.pisdf_program.specs.Worked.{FilesRose, IsThere, ReadsNothing, Works};
 
 use crate::job::first_job;
@@ -13,7 +11,7 @@ use crate::run::top_of;
 use crate::status::Status;
 use crate::stop::{Stop, stop_status};
 use job_compiler::Compiled;
-use job_report::{JobNames, JobText, job_names, job_text};
+use job_report::{JobText, job_text};
 use kernel_gate::Gate;
 use outer_world::{Shelf, Sink};
 use pisdf_model::Graphs;
@@ -24,17 +22,16 @@ fn put_job<O: Sink>(
     alloc: Global,
     what: JobText,
     graphs: &Graphs,
-    names: &JobNames,
     job: &Compiled,
     out: &mut O,
 ) -> Result<String, Status>
-    requires names { names.now ≡ names_of graphs.now.graphs (top_of graphs.now) }
+    requires there { graphs.now.top < length graphs.now.graphs }
     requires workers { 1 ≤ job.now.workers }
     ensures works { Works (TellsEnd what graphs.now (Ok job.now)) (O.written out.old) (O.written out.new) (O.faults out.old) (O.faults out.new) result }
     ensures there { IsThere (Unit {0}) (TellsEnd what graphs.now (Ok job.now)) result }
     ensures fault { IfErr result (λ s. (s ≡ Status.WantOfMemory) ⊎ (s ≡ Status.WriteFault)) }
 {
-    let Ok(text) = job_text(alloc, what, names, job) else {
+    let Ok(text) = job_text(alloc, what, graphs.graphs.items(), top_of(graphs), job) else {
         return Err(Status::WantOfMemory);
     };
     match put_text(out, text.as_bytes()) {
@@ -48,12 +45,10 @@ fn tell_end<O: Sink>(
     alloc: Global,
     what: JobText,
     graphs: &Graphs,
-    names: &JobNames,
     end: Result<Compiled, Stop>,
     out: &mut O,
 ) -> Result<String, Status>
     requires there { graphs.now.top < length graphs.now.graphs }
-    requires names { names.now ≡ names_of graphs.now.graphs (top_of graphs.now) }
     requires workers { IfOk end (λ job. 1 ≤ job.workers) }
     ensures works { Works (TellsEnd what graphs.now end) (O.written out.old) (O.written out.new) (O.faults out.old) (O.faults out.new) result }
     ensures there { IsThere (Unit {0}) (TellsEnd what graphs.now end) result }
@@ -61,7 +56,7 @@ fn tell_end<O: Sink>(
     ensures read { IfErr result ReadsNothing }
 {
     match end {
-        Ok(job) => put_job(alloc, what, graphs, names, &job, out),
+        Ok(job) => put_job(alloc, what, graphs, &job, out),
         Err(stop) => Err(stop_status(alloc, graphs, stop)),
     }
 }
@@ -89,10 +84,6 @@ pub(crate) fn tell_job<S: Shelf, O: Sink, K: Gate>(
         Ok(input) => input,
         Err(status) => return Err(status),
     };
-    let graphs = &input.graphs;
-    let Ok(names) = job_names(alloc, graphs.graphs.items(), top_of(graphs)) else {
-        return Err(Status::WantOfMemory);
-    };
     let end = first_job(alloc, &input, workers, gate);
-    tell_end(alloc, what, graphs, &names, end, out)
+    tell_end(alloc, what, &input.graphs, end, out)
 }

@@ -68,7 +68,7 @@ pub(crate) fn graphs_in(
     parse_graphs(alloc, bytes, signatures)
 }
 
-/// Loads a graph file, and reads the graphs in it.
+/// SoakRuns a graph file, and reads the graphs in it.
 pub(crate) fn load_graphs<S: Shelf>(
     alloc: Global,
     shelf: &mut S,
@@ -118,7 +118,7 @@ fn parse_streams(alloc: Global, bytes: &[u8], graphs: &Graphs) -> Result<List<Li
     }
 }
 
-/// Loads the token file, and reads it.
+/// SoakRuns the token file, and reads it.
 pub(crate) fn load_streams<S: Shelf>(
     alloc: Global,
     shelf: &mut S,
@@ -148,7 +148,7 @@ pub(crate) struct Input {
     pub(crate) streams: List<List<i64>>,
 }
 
-/// Loads the graph file, and then the token file, and reads them.
+/// SoakRuns the graph file, and then the token file, and reads them.
 pub(crate) fn load_input<S: Shelf>(
     alloc: Global,
     shelf: &mut S,

@@ -1,7 +1,7 @@
 // The top call.
 ghost use Rattle.std.specs.Prelude.{ℕ, ◌≡◌, ◌≢◌, ◌⊎◌, ◌↔◌, ◌<◌, ◌≤◌, ◌==◌, true, map, IfErr, IsTrue, length, string_bytes};
 ghost use Rattle.kernel_gate.specs.Table.{the_signatures};
-ghost use Rattle.pisdf_program.specs.LoadEnd.{IsLoadStatus};
+ghost use Rattle.pisdf_program.specs.SoakEnd.{IsSoakStatus};
 ghost use Rattle.pisdf_program.specs.Loaded.{is_answer};
 ghost use Rattle.pisdf_program.specs.Making.{IsReady};
 ghost use Rattle.pisdf_program.specs.Result.{AreTold, Knows, Outcome, ResultOf, RunsFile};
@@ -132,7 +132,7 @@ fn work<S: Shelf, O: Sink, K: Gate + Sync, R: Threads + Wait + Sync>(
     ensures read { IfErr result (CountRose (table.command_of (map string_bytes words.now)) (S.faults shelf.old) (S.faults shelf.new)) }
     ensures usage { table.command_of (map string_bytes words.now) ≡ None → (result ≡ Err Status.Usage) × (shelf.new ≡ shelf.old) }
     ensures only { result ≡ Err Status.Usage → table.command_of (map string_bytes words.now) ≡ None }
-    ensures load { (number workers : ℕ) → table.command_of (map string_bytes words.now) ≡ Some (table.Soak number workers) → IfErr result IsLoadStatus }
+    ensures soak { (number workers : ℕ) → table.command_of (map string_bytes words.now) ≡ Some (table.Soak number workers) → IfErr result IsSoakStatus × (shelf.new ≡ shelf.old) }
 {
     let Some(command) = read_words(words) else {
         return Err(Status::Usage);
@@ -236,8 +236,8 @@ pub fn run_program<S: Shelf, O: Sink, E: Sink, K: Gate + Sync, R: Threads + Wait
     ensures read { CountRose (table.command_of (map string_bytes words.now)) (S.faults shelf.old) (S.faults shelf.new) result }
     ensures usage { table.command_of (map string_bytes words.now) ≡ None → ((result ≡ Status.Usage) ⊎ (result ≡ Status.WriteFault)) × (shelf.new ≡ shelf.old) }
     ensures only_usage { result ≡ Status.Usage → table.command_of (map string_bytes words.now) ≡ None }
-    // A load refuses no file and lacks no tokens.
-    ensures load { (number workers : ℕ) → table.command_of (map string_bytes words.now) ≡ Some (table.Soak number workers) → IsLoadStatus result }
+    // A soak run loads no file, refuses none and lacks no tokens.
+    ensures soak { (number workers : ℕ) → table.command_of (map string_bytes words.now) ≡ Some (table.Soak number workers) → IsSoakStatus result × (shelf.new ≡ shelf.old) }
     ensures complete { Completes (ResultOf (map string_bytes words.now) (S.holds shelf.old)) (table.command_of (map string_bytes words.now)) (S.faults shelf.old) (S.faults shelf.new) (O.faults out.old) (O.faults out.new) (E.faults err.old) (E.faults err.new) result }
     // Where the files that the command loads are told, an answer is the status of such a result.
     ensures there { Knows (table.command_of (map string_bytes words.now)) (S.holds shelf.old) → is_answer result ≡ true → (o : Outcome) × ResultOf (map string_bytes words.now) (S.holds shelf.old) o }

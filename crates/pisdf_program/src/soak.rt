@@ -1,4 +1,4 @@
-// The command that runs a load of its own.
+// The command that runs graphs of its own on tokens that it makes.
 ghost use Rattle.std.specs.Prelude.{◌≡◌, ◌⊎◌, ◌<◌, ◌≤◌, [], ◌∷◌, length, map, Err, IfErr, IfOk, OnOk};
 ghost use Rattle.std.specs.Arc.{arc_value};
 ghost use Rattle.kernel_gate.specs.Signed.{signature_view};
@@ -6,22 +6,22 @@ ghost use Rattle.kernel_gate.specs.Table.{the_signatures};
 ghost use Rattle.param_resolver.specs.EarlyCheck.{early_faults};
 ghost use Rattle.pisdf_meaning.specs.Run.{top_needs};
 ghost use Rattle.pisdf_program.specs.Iterated.{Gives};
-ghost use Rattle.pisdf_program.specs.Load.{load_file, load_iterations, load_streams};
-ghost use Rattle.pisdf_program.specs.LoadEnd.{EndsLoad, IsLoadStatus, LacksNothing, total_row};
+ghost use Rattle.pisdf_program.specs.Soak.{soak_file, soak_iterations, soak_streams};
+ghost use Rattle.pisdf_program.specs.SoakEnd.{EndsSoak, IsSoakStatus, LacksNothing, total_row};
 ghost use Rattle.pisdf_program.specs.Loaded.{AreGood, Settles};
 ghost use Rattle.pisdf_program.specs.Making.{IsReady};
 ghost use Rattle.pisdf_program.specs.Result.{Soaks, read_graphs, told};
 ghost use Rattle.pisdf_program.specs.Stepped.{StopsAt};
 ghost use Rattle.pisdf_program.specs.Streams.{rest_of};
-ghost use Rattle.pisdf_program.specs.Worked.{IsThere, TellsLoad, Works};
-ghost use Rattle.pisdf_program.specs.Words.{greatest_load};
+ghost use Rattle.pisdf_program.specs.Worked.{IsThere, TellsSoak, Works};
+ghost use Rattle.pisdf_program.specs.Words.{greatest_number};
 ghost use Rattle.quiescent_driver.specs.Given.{IsTopState};
 
 use crate::load::{graphs_in, parse_graphs};
-use crate::load_tokens::{load_iterations, load_part};
-use crate::load_totals::{Total, total_row, with_tokens, y_tokens};
 use crate::maker::Maker;
 use crate::put::put_text;
+use crate::soak_tokens::{soak_iterations, soak_part};
+use crate::soak_totals::{Total, total_row, with_tokens, y_tokens};
 use crate::status::Status;
 use crate::stop::{Stop, stop_status};
 use graph_writer::write;
@@ -34,18 +34,18 @@ use std::alloc::Global;
 use std::sync::{Arc, Wait};
 use std::thread::Threads;
 
-/// The file of the load's graphs.
-const LOAD_FILE: &str =
+/// The file of its graphs.
+const SOAK_FILE: &str =
     "{\"pisdf\":3,\"top\":\"g\",\"graphs\":[{\"name\":\"g\",\"params\":[{\"name\":\"n\",\"kind\":\"set\",\"low\":1,\"high\":8}],\"inputs\":[{\"name\":\"k\",\"rate\":\"1\"},{\"name\":\"x\",\"rate\":\"64\"}],\"outputs\":[{\"name\":\"y\",\"rate\":\"8\"}],\"actors\":[{\"name\":\"c\",\"kind\":\"config\",\"kernel\":\"read_param\",\"args\":[],\"ins\":[{\"name\":\"i\"}],\"outs\":[],\"sets\":[\"n\"]},{\"name\":\"h\",\"kind\":\"graph\",\"graph\":\"blk\",\"args\":[\"n\"]}],\"fifos\":[{\"from\":\"k\",\"to\":\"c.i\"},{\"from\":\"x\",\"to\":\"h.i\"},{\"from\":\"h.o\",\"to\":\"y\"}],\"exports\":[]},{\"name\":\"blk\",\"params\":[{\"name\":\"n\",\"kind\":\"in\",\"low\":1,\"high\":8}],\"inputs\":[{\"name\":\"i\",\"rate\":\"n\"}],\"outputs\":[{\"name\":\"o\",\"rate\":\"1\"}],\"actors\":[{\"name\":\"s\",\"kind\":\"kernel\",\"kernel\":\"sum\",\"args\":[],\"ins\":[{\"name\":\"i\",\"rate\":\"n\"}],\"outs\":[{\"name\":\"o\",\"rate\":\"1\"}]},{\"name\":\"m\",\"kind\":\"kernel\",\"kernel\":\"gain\",\"args\":[\"n\"],\"ins\":[{\"name\":\"i\",\"rate\":\"1\"}],\"outs\":[{\"name\":\"o\",\"rate\":\"1\"}]}],\"fifos\":[{\"from\":\"i\",\"to\":\"s.i\"},{\"from\":\"s.o\",\"to\":\"m.i\"},{\"from\":\"m.o\",\"to\":\"o\"}],\"exports\":[]}]}";
 
-/// The graphs of the load: read from their file, written anew, and read again.
-fn load_graphs(alloc: Global, signatures: &[Signature]) -> Result<Graphs, Status>
+/// Its graphs: read from their file, written anew, and read again.
+fn soak_graphs(alloc: Global, signatures: &[Signature]) -> Result<Graphs, Status>
     requires { map signature_view signatures.now ≡ the_signatures }
-    ensures settles { Settles (read_graphs load_file) result }
+    ensures settles { Settles (read_graphs soak_file) result }
     ensures good { IfOk result AreGood }
     ensures memory { IfErr result (λ s. s ≡ Status.WantOfMemory) }
 {
-    let graphs = match graphs_in(alloc, LOAD_FILE.as_bytes(), signatures) {
+    let graphs = match graphs_in(alloc, SOAK_FILE.as_bytes(), signatures) {
         Ok(graphs) => graphs,
         Err(status) => return Err(status),
     };
@@ -56,7 +56,7 @@ fn load_graphs(alloc: Global, signatures: &[Signature]) -> Result<Graphs, Status
 }
 
 /// Makes one iteration, whose part of the streams is made here.
-fn load_iteration<K: Gate + Sync, R: Threads + Wait + Sync>(
+fn soak_iteration<K: Gate + Sync, R: Threads + Wait + Sync>(
     rt: &R,
     alloc: Global,
     graphs: &Arc<Graphs>,
@@ -68,26 +68,26 @@ fn load_iteration<K: Gate + Sync, R: Threads + Wait + Sync>(
 ) -> Result<Iteration, Stop>
     requires good { AreGood (arc_value graphs.now) }
     requires kernels { K.kernels gate.now ≡ the_signatures }
-    requires number { number ≤ greatest_load }
-    requires iteration { iteration < load_iterations number }
+    requires number { number ≤ greatest_number }
+    requires iteration { iteration < soak_iterations number }
     requires needs { top_needs (arc_value graphs.now) ≡ 1 ∷ 64 ∷ [] }
     requires sound { early_faults (arc_value graphs.now).graphs (arc_value graphs.now).top [] ≡ [] }
     requires state { IsTopState (arc_value graphs.now) delays.old.lists }
     requires ready { IsReady maker.old }
-    ensures gives { IfOk result (λ i. Gives (arc_value graphs.now) delays.old.lists (rest_of iteration (top_needs (arc_value graphs.now)) (load_streams number)) i delays.new.lists) }
-    ensures stops { IfErr result (StopsAt (arc_value graphs.now) delays.old.lists (rest_of iteration (top_needs (arc_value graphs.now)) (load_streams number))) }
+    ensures gives { IfOk result (λ i. Gives (arc_value graphs.now) delays.old.lists (rest_of iteration (top_needs (arc_value graphs.now)) (soak_streams number)) i delays.new.lists) }
+    ensures stops { IfErr result (StopsAt (arc_value graphs.now) delays.old.lists (rest_of iteration (top_needs (arc_value graphs.now)) (soak_streams number))) }
     ensures enough { IfErr result LacksNothing }
     ensures state { OnOk result (IsTopState (arc_value graphs.now) delays.new.lists) }
     ensures ready { IsReady maker.new }
 {
-    let Ok(ins) = load_part(alloc, number, iteration) else {
+    let Ok(ins) = soak_part(alloc, number, iteration) else {
         return Err(Stop::Memory);
     };
     maker.iteration(rt, alloc, graphs, delays, ins.as_slice(), gate)
 }
 
-/// Runs the iterations of a load.
-fn run_load<K: Gate + Sync, R: Threads + Wait + Sync>(
+/// Runs the iterations of a soak run.
+fn run_soak<K: Gate + Sync, R: Threads + Wait + Sync>(
     rt: &R,
     alloc: Global,
     graphs: &Arc<Graphs>,
@@ -97,19 +97,19 @@ fn run_load<K: Gate + Sync, R: Threads + Wait + Sync>(
 ) -> Result<Total, Stop>
     requires good { AreGood (arc_value graphs.now) }
     requires kernels { K.kernels gate.now ≡ the_signatures }
-    requires number { number ≤ greatest_load }
+    requires number { number ≤ greatest_number }
     requires needs { top_needs (arc_value graphs.now) ≡ 1 ∷ 64 ∷ [] }
     requires sound { early_faults (arc_value graphs.now).graphs (arc_value graphs.now).top [] ≡ [] }
     requires ready { IsReady maker.old }
-    ensures ends { EndsLoad (arc_value graphs.now) number result }
+    ensures ends { EndsSoak (arc_value graphs.now) number result }
     ensures enough { IfErr result LacksNothing }
 {
     let Ok(mut delays) = first_delays(alloc, graphs) else {
         return Err(Stop::Memory);
     };
     let mut total = Total { count: 0, sum: 0 };
-    for place in 0..load_iterations(number) {
-        let iteration = match load_iteration(
+    for place in 0..soak_iterations(number) {
+        let iteration = match soak_iteration(
             rt,
             alloc,
             graphs,
@@ -130,7 +130,7 @@ fn run_load<K: Gate + Sync, R: Threads + Wait + Sync>(
     Ok(total)
 }
 
-/// Puts the row of a load that is done, in one put.
+/// Puts the row of a soak run that is done, in one put.
 fn put_total<O: Sink>(
     alloc: Global,
     number: u32,
@@ -149,8 +149,8 @@ fn put_total<O: Sink>(
     }
 }
 
-/// Puts the row of a load, or answers why its run isn't done.
-fn tell_load<O: Sink>(
+/// Puts the row of a soak run, or answers why it isn't done.
+fn tell_soak<O: Sink>(
     alloc: Global,
     graphs: &Graphs,
     number: u32,
@@ -159,9 +159,9 @@ fn tell_load<O: Sink>(
 ) -> Result<String, Status>
     requires there { graphs.now.top < length graphs.now.graphs }
     requires enough { IfErr end LacksNothing }
-    ensures works { Works (TellsLoad graphs.now number end) (O.written out.old) (O.written out.new) (O.faults out.old) (O.faults out.new) result }
+    ensures works { Works (TellsSoak graphs.now number end) (O.written out.old) (O.written out.new) (O.faults out.old) (O.faults out.new) result }
     ensures memory { end ≡ Err Stop.Memory → result ≡ Err Status.WantOfMemory }
-    ensures answers { IfErr result IsLoadStatus }
+    ensures answers { IfErr result IsSoakStatus }
 {
     match end {
         Ok(total) => put_total(alloc, number, total, out),
@@ -169,7 +169,7 @@ fn tell_load<O: Sink>(
     }
 }
 
-/// Runs the load of a number by so many workers, and puts one row that tells of it. The answer is no text for standard error,
+/// Makes the soak run of a number by so many workers, and puts one row that tells of it. The answer is no text for standard error,
 /// or a status.
 pub(crate) fn soak<O: Sink, K: Gate + Sync, R: Threads + Wait + Sync>(
     rt: &R,
@@ -180,15 +180,15 @@ pub(crate) fn soak<O: Sink, K: Gate + Sync, R: Threads + Wait + Sync>(
     gate: &K,
 ) -> Result<String, Status>
     requires kernels { K.kernels gate.now ≡ the_signatures }
-    requires number { number ≤ greatest_load }
+    requires number { number ≤ greatest_number }
     requires some { 0 < workers }
     requires most { workers ≤ 16 }
     ensures works { Works (Soaks number) (O.written out.old) (O.written out.new) (O.faults out.old) (O.faults out.new) result }
     ensures there { IsThere (Unit {0}) (Soaks number) result }
-    ensures answers { IfErr result IsLoadStatus }
+    ensures answers { IfErr result IsSoakStatus }
 {
     one_meaning();
-    let graphs = match load_graphs(alloc, gate.signatures()) {
+    let graphs = match soak_graphs(alloc, gate.signatures()) {
         Ok(graphs) => graphs,
         Err(status) => return Err(status),
     };
@@ -202,6 +202,6 @@ pub(crate) fn soak<O: Sink, K: Gate + Sync, R: Threads + Wait + Sync>(
         count: workers,
         kept: Some(kept),
     };
-    let end = run_load(rt, alloc, &graphs, number, &mut maker, gate);
-    tell_load(alloc, &graphs, number, end, out)
+    let end = run_soak(rt, alloc, &graphs, number, &mut maker, gate);
+    tell_soak(alloc, &graphs, number, end, out)
 }

@@ -1,6 +1,7 @@
 // Why an iteration ends a run before it is done.
 ghost use Rattle.std.specs.Prelude.{◌≡◌, ◌⊎◌, ◌<◌, length, map, IfOk};
-ghost use Rattle.pisdf_program.specs.Result.{name_at, short_of};
+ghost use Rattle.job_report.specs.Rows.{name_at};
+ghost use Rattle.pisdf_program.specs.Result.{short_of};
 ghost use Rattle.pisdf_program.specs.Stepped.{refused_stop, workers_stop};
 ghost use Rattle.pisdf_program.specs.Worked.{StopsWith};
 

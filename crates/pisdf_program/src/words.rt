@@ -1,5 +1,5 @@
 ghost use Rattle.std.specs.Prelude.{◌≡◌, ◌≤◌, IfSome, map, option_map, string_bytes};
-ghost use Rattle.pisdf_program.specs.Words.{command_of, run_row, plain_row, job_row, journal_row, soak_row, upgrade_row, iterations_of, workers_of, generated_of, greatest_load, most_iterations, most_workers};
+ghost use Rattle.pisdf_program.specs.Words.{command_of, run_row, plain_row, job_row, journal_row, soak_row, upgrade_row, iterations_of, workers_of, generated_of, greatest_number, most_iterations, most_workers};
 ghost use Rattle.pisdf_program.specs.WordsSeen.{IsWithin, seen};
 
 use crate::limits;
@@ -59,7 +59,7 @@ fn workers_of(word: &str) -> Option<u32>
 
 fn generated_of(word: &str) -> Option<u32>
     ensures number { result ≡ generated_of word.now }
-    ensures few { IfSome result (λ n. n ≤ greatest_load) }
+    ensures few { IfSome result (λ n. n ≤ greatest_number) }
 {
     number_within(limits::GENERATED_DIGITS, 0, limits::GENERATED, word)
 }

@@ -35,7 +35,7 @@ pub(crate) fn slots_of(
 }
 
 /// The greatest end, 0 with no node.
-pub(crate) fn last_end(slots: &[Slot]) -> u64
+pub(crate) fn length_of(slots: &[Slot]) -> u64
     ensures { result ≡ length_of slots.now }
 {
     let mut last = 0u64;

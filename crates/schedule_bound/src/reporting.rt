@@ -7,7 +7,7 @@ ghost use Rattle.schedule_bound.specs.Listed.{IsListed};
 ghost use Rattle.schedule_bound.specs.Critical.{IsCritical};
 
 use crate::critical::{critical_path, greatest_of};
-use crate::listed::{last_end, slots_of};
+use crate::listed::{length_of, slots_of};
 use crate::tables::Report;
 use sdf_level::List;
 use std::alloc::{AllocError, Global};
@@ -58,7 +58,7 @@ pub fn report(
     let path = critical_path(alloc, nodes, edges, ranks, costs, priority)?;
     let entries = slots_of(alloc, nodes, schedule.entries.items())?;
     Ok(Report {
-        length: last_end(&entries),
+        length: length_of(&entries),
         entries: List::new(entries),
         critical: greatest_of(priority),
         path: List::new(path),

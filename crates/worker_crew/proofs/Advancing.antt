@@ -65,15 +65,15 @@ more_entries p q k more later own =
 
 -- ---- the first number
 
-first_gained : {E : Type 0} (own : List (List E)) (more : List E) → 0 < length own → get_or (first_gains own more) 0 [] ≡ get_or own 0 [] ++ more
+pub first_gained : {E : Type 0} (own : List (List E)) (more : List E) → 0 < length own → get_or (first_gains own more) 0 [] ≡ get_or own 0 [] ++ more
 first_gained [] more some = absurd (omega arith)
 first_gained (o ∷ own) more some = refl
 
-others_gained : {E : Type 0} (own : List (List E)) (more : List E) (k : ℕ) → get_or (first_gains own more) (suc k) [] ≡ get_or own (suc k) [] ++ []
+pub others_gained : {E : Type 0} (own : List (List E)) (more : List E) (k : ℕ) → get_or (first_gains own more) (suc k) [] ≡ get_or own (suc k) [] ++ []
 others_gained [] more k = refl
 others_gained (o ∷ own) more k = sym (append-nil (get_or own k []))
 
-gained_twice : {E : Type 0} (own : List (List E)) (xs ys : List E) → first_gains (first_gains own xs) ys ≡ first_gains own (xs ++ ys)
+pub gained_twice : {E : Type 0} (own : List (List E)) (xs ys : List E) → first_gains (first_gains own xs) ys ≡ first_gains own (xs ++ ys)
 gained_twice [] xs ys = refl
 gained_twice (o ∷ own) xs ys = ap (λ (l : List _). l ∷ own) (append_assoc o xs ys)
 
@@ -81,11 +81,14 @@ gained_none : {E : Type 0} (own : List (List E)) → first_gains own [] ≡ own
 gained_none [] = refl
 gained_none (o ∷ own) = ap (λ (l : List _). l ∷ own) (append-nil o)
 
-at_zero : (n : ℕ) → n + 0 ≡ n
+pub at_zero : (n : ℕ) → n + 0 ≡ n
 at_zero n = omega arith
 
 pub added_twice : (p q r : BoardPass) (xs ys : List Entry) → HasAdded p q xs → HasAdded q r ys → HasAdded p r (xs ++ ys)
 added_twice p q r xs ys a b = record { later = later_on p q r a.later b.later; own = b.own ∙ (ap (λ (o : List (List Entry)). first_gains o ys) a.own ∙ gained_twice p.own xs ys) }
+
+pub added_same : (p : BoardPass) → HasAdded p p []
+added_same p = record { later = later_same p; own = sym (gained_none p.own) }
 
 pub added_worked : (p q : BoardPass) (more : List Entry) → HasAdded p q more → AreFinished p.number more → HasWorked p q
 added_worked p q more added finished = record { later = added.later; own = go }
@@ -98,6 +101,12 @@ added_worked p q more added finished = record { later = added.later; own = go }
 pub ran_worked : (p q r : BoardPass) → AddsClaim p q → HasAdded q r (Finish q.number ∷ []) → HasWorked p r
 ran_worked p q r claim finish =
     added_worked p r (Claim p.number claim.0 claim.1 ∷ Finish q.number ∷ []) (added_twice p q r (Claim p.number claim.0 claim.1 ∷ []) (Finish q.number ∷ []) claim.2 finish) (refl, claim.2.later.number, tt)
+
+-- a worker that has finished runs nothing
+pub finished_idle : (p q : BoardPass) → 0 < length p.own → HasAdded p q (Finish p.number ∷ []) → IsIdleAt q 0
+finished_idle p q some added =
+    let own : get_or q.own 0 [] ≡ get_or p.own 0 [] ++ Finish p.number ∷ [] = ap (λ (o : List (List Entry)). get_or o 0 []) added.own ∙ first_gained p.own (Finish p.number ∷ []) some in
+    ap (last_claims false) (more_entries p q 0 (Finish p.number ∷ []) added.later own) ∙ last_append false (entries_at p 0) (Finish p.number ∷ [])
 
 pub waited_worked : (p q : BoardPass) → HasAdded p q [] → HasWorked p q
 waited_worked p q added = added_worked p q [] added tt

@@ -23,6 +23,7 @@ use Rattle.worker_crew.specs.Laws.{BoardLaws, BoardsHaveLaws, IsFitWork, WorkFit
 use Rattle.worker_crew.specs.Passes.{BoardPass, HasSeenEnd}
 use Rattle.worker_crew.specs.Worked.{AddsClaim, HasAdded}
 use Rattle.worker_crew.proofs.Framing.{kernel_frame, node_frame}
+use Rattle.worker_crew.proofs.Holding.{became_first}
 use Rattle.worker_crew.proofs.Leaving.{Changes, added_left, left_by}
 
 one_mine : (w : ℕ) (e : Entry) → worker_of e ≡ w → All (λ e. worker_of e ≡ w) (e ∷ [])
@@ -34,10 +35,6 @@ none_mine w k d lt = absurd (omega arith)
 
 no_starving : (x : BoardView) → x.starved ≡ false → x.starved ≡ true → ⊥
 no_starving x live starved = let no : true ≡ false = sym starved ∙ live in cc
-
-first_is : {P : Type 0} (lists : List (List P)) (places : List P) → 0 < length lists → get_or (first_becomes lists places) 0 [] ≡ places
-first_is [] places some = absurd (omega arith)
-first_is (l ∷ lists) places some = refl
 
 gains_some : {E : Type 0} (own : List (List E)) (more : List E) → 0 < length own → 0 < length (first_gains own more)
 gains_some [] more some = some
@@ -113,7 +110,7 @@ module _ (laws : BoardsHaveLaws) (fits : WorkFits) (p : BoardPass) (x y : BoardV
       seen_is = then_entered;
       work = work;
       runs = picks.runs;
-      lent = first_is p.lent (places_of (lent_to y w)) (subst (λ (n : ℕ). 0 < n) (sym found.sound.lists) some) ∙ ap places_of lent_so;
+      lent = became_first p.lent (places_of (lent_to y w)) (subst (λ (n : ℕ). 0 < n) (sym found.sound.lists) some) ∙ ap places_of lent_so;
       so = so;
     }
 

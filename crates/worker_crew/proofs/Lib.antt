@@ -4,6 +4,7 @@ pub mod Leaving
 pub mod Framing
 pub mod Claiming
 pub mod Advancing
+pub mod Holding
 pub mod Finishing
 pub mod Compiling
 pub mod Answering

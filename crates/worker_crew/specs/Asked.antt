@@ -8,6 +8,7 @@ use Rattle.job_preparing.specs.CompileTasks.{CompileView}
 use Rattle.job_preparing.specs.Handing.{AsksFor, CopiesIn}
 use Rattle.job_rules.specs.Words.{Compiles, Copies, Fires, Work}
 use Rattle.board_rules.specs.Entries.{Step}
+use Rattle.board_rules.specs.declared.entry.Entry.{Entry}
 use Rattle.board_rules.specs.Keys.{IsKey, Key}
 use Rattle.board_rules.specs.Legal.{AreLegal, journal_of, state_after}
 use Rattle.firing_board.specs.Locking.{places_of}
@@ -60,3 +61,9 @@ Asked p q (claim.Compile ticket task) = (ticket.worker ≡ q.number) × AddsClai
 Asked p q claim.Wait = HasAdded p q []
 Asked p q claim.Finished = HasAdded p q [] × HasSeenEnd q
 Asked p q claim.Starved = HasAdded p q [] × (q.over ≡ true)
+
+-- a pass that knew this has added these entries, and has asked then
+pub record AskedAfter (p : BoardPass) (more : List Entry) (q : BoardPass) (c : Claim) : Type 0 where
+  pub between : BoardPass
+  pub added : HasAdded p between more
+  pub asked : Asked between q c

@@ -1,5 +1,4 @@
 pub mod Passes
 pub mod Worked
 pub mod Asked
-pub mod Turns
 pub mod Laws

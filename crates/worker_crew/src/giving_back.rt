@@ -1,63 +1,66 @@
-// A worker gives back what it ran.
+// A worker gives back what it ran, and asks for the next item.
 ghost use Rattle.std.specs.Prelude.{◌≡◌, ◌∷◌, [], IsOk, None, Some};
 ghost use Rattle.board_rules.specs.declared.entry.Entry.TheVariants as entry;
 ghost use Rattle.firing_board.specs.Finishes.{MayComeBack, MayEnd};
-ghost use Rattle.worker_crew.specs.Asked.{HasClaimed};
-ghost use Rattle.worker_crew.specs.Worked.{HasAdded};
+ghost use Rattle.worker_crew.specs.Asked.{AskedAfter, HasClaimed};
 
+use crate::asking::claim_held;
 use crate::laws::board_laws;
 use board_lock::{Lock, Pass};
-use firing_board::{Board, Ticket};
+use firing_board::{Board, Claim, Ticket};
 use job_preparing::CompileEnd;
 use kernel_gate::{Frame, KernelFault};
 use std::alloc::Global;
 use std::sync::Wait;
 
-/// Gives back the frame of a kernel or a node, in one holding of the lock.
+/// Gives back the frame of a kernel or a node, and claims the next item, in one holding of the lock.
 pub(crate) fn give_back<R: Wait>(
     rt: &R,
+    alloc: Global,
     lock: &Lock<Board>,
     pass: Pass<Board>,
     ticket: Ticket,
     frame: Frame,
     answer: Result<(), KernelFault>,
-) -> Pass<Board>
+) -> (Pass<Board>, Claim)
     requires lock { pass.lock ≡ lock.now }
     requires ticket { ticket.worker ≡ pass.known.number }
     requires claimed { HasClaimed pass.known (Some frame.places) (λ key. MayComeBack key frame answer (IsOk answer)) }
-    ensures lock { result.lock ≡ lock.now }
-    ensures added { HasAdded pass.known result.known (entry.Finish pass.known.number ∷ []) }
+    ensures lock { result.0.lock ≡ lock.now }
+    ensures asked { AskedAfter pass.known (entry.Finish pass.known.number ∷ []) result.0.known result.1 }
 {
     board_laws();
     let mut held = lock.enter(rt, pass);
     let _journal = held.state.journal();
     held.state.finish_fire(ticket, frame, answer);
-    held.leave()
+    claim_held(alloc, held)
 }
 
-/// Gives back the frame of a configuration actor's kernel, in one holding of the lock.
+/// Gives back the frame of a configuration actor's kernel, and claims the next item, in one holding of the lock.
 pub(crate) fn give_back_configured<R: Wait>(
     rt: &R,
+    alloc: Global,
     lock: &Lock<Board>,
     pass: Pass<Board>,
     ticket: Ticket,
     frame: Frame,
     answer: Result<(), KernelFault>,
-) -> Pass<Board>
+) -> (Pass<Board>, Claim)
     requires lock { pass.lock ≡ lock.now }
     requires ticket { ticket.worker ≡ pass.known.number }
     requires claimed { HasClaimed pass.known (Some frame.places) (λ key. MayComeBack key frame answer (IsOk answer)) }
-    ensures lock { result.lock ≡ lock.now }
-    ensures added { HasAdded pass.known result.known (entry.Finish pass.known.number ∷ []) }
+    ensures lock { result.0.lock ≡ lock.now }
+    ensures asked { AskedAfter pass.known (entry.Finish pass.known.number ∷ []) result.0.known result.1 }
 {
     board_laws();
     let mut held = lock.enter(rt, pass);
     let _journal = held.state.journal();
     held.state.finish_configure(ticket, frame, answer);
-    held.leave()
+    claim_held(alloc, held)
 }
 
-/// Gives back how a compilation ended, in one holding of the lock. Where memory was wanted, the board is over.
+/// Gives back how a compilation ended, and claims the next item, in one holding of the lock. Where memory was wanted, the board
+/// is over.
 pub(crate) fn give_back_compiled<R: Wait>(
     rt: &R,
     alloc: Global,
@@ -65,16 +68,16 @@ pub(crate) fn give_back_compiled<R: Wait>(
     pass: Pass<Board>,
     ticket: Ticket,
     end: CompileEnd,
-) -> Pass<Board>
+) -> (Pass<Board>, Claim)
     requires lock { pass.lock ≡ lock.now }
     requires ticket { ticket.worker ≡ pass.known.number }
     requires claimed { HasClaimed pass.known None (λ key. MayEnd key end) }
-    ensures lock { result.lock ≡ lock.now }
-    ensures added { HasAdded pass.known result.known (entry.Finish pass.known.number ∷ []) }
+    ensures lock { result.0.lock ≡ lock.now }
+    ensures asked { AskedAfter pass.known (entry.Finish pass.known.number ∷ []) result.0.known result.1 }
 {
     board_laws();
     let mut held = lock.enter(rt, pass);
     let _journal = held.state.journal();
     let _refused = held.state.finish_compile(alloc, ticket, end);
-    held.leave()
+    claim_held(alloc, held)
 }

@@ -1,4 +1,5 @@
 use Rattle.std.proofs.Common.{ℕ, List, IfOk, string_bytes, ◌≡◌, sym, subst}
+use Rattle.job_report.specs.Names.{names_of}
 use Rattle.job_report.specs.Told.{Tells}
 use Rattle.job_report.specs.declared.text.JobText.{JobText}
 use Rattle.std.specs.Prelude.{OnOk}
@@ -9,13 +10,13 @@ use Rattle.job_report.proofs.text.job_text.Goals as goal
 
 pub returns-in_ok-report_on-in-Schedule-clause-only : goal.returns-in_ok-report_on-in-Schedule-clause-only
 returns-in_ok-report_on-in-Schedule-clause-only c =
-    subst (λ (what : JobText). IfOk c.schedule_text.result (λ text. (other : List ℕ) → Tells what c.args.names.now c.args.job.now other → other ≡ string_bytes text)) (sym c.in-Schedule.is)
-    (schedule_only c.args.names.now c.args.job.now c.in_ok-report_on-in-Schedule.field-0 c.schedule_text.result c.in_ok-report_on-in-Schedule.ensures.only c.schedule_text.ensures)
+    subst (λ (what : JobText). IfOk c.schedule_text.result (λ text. (other : List ℕ) → Tells what (names_of c.args.graphs.now c.args.graph.now) c.args.job.now other → other ≡ string_bytes text)) (sym c.in-Schedule.is)
+    (schedule_only (names_of c.args.graphs.now c.args.graph.now) c.args.job.now c.in_ok-report_on-in-Schedule.field-0 c.schedule_text.result c.in_ok-report_on-in-Schedule.ensures.only c.schedule_text.ensures)
 
 pub returns-in_ok-ordering_of-in-Memory-clause-only : goal.returns-in_ok-ordering_of-in-Memory-clause-only
 returns-in_ok-ordering_of-in-Memory-clause-only c =
-    subst (λ (what : JobText). IfOk c.memory_text.result (λ text. (other : List ℕ) → Tells what c.args.names.now c.args.job.now other → other ≡ string_bytes text)) (sym c.in-Memory.is)
-    (memory_only c.args.names.now c.args.job.now c.in_ok-ordering_of-in-Memory.field-0 c.memory_text.result c.in_ok-ordering_of-in-Memory.ensures.only c.memory_text.ensures)
+    subst (λ (what : JobText). IfOk c.memory_text.result (λ text. (other : List ℕ) → Tells what (names_of c.args.graphs.now c.args.graph.now) c.args.job.now other → other ≡ string_bytes text)) (sym c.in-Memory.is)
+    (memory_only (names_of c.args.graphs.now c.args.graph.now) c.args.job.now c.in_ok-ordering_of-in-Memory.field-0 c.memory_text.result c.in_ok-ordering_of-in-Memory.ensures.only c.memory_text.ensures)
 
 pub returns-in_ok-report_on-in-Schedule-clause-holds : goal.returns-in_ok-report_on-in-Schedule-clause-holds
 returns-in_ok-report_on-in-Schedule-clause-holds c =

@@ -1,7 +1,7 @@
 use Rattle.std.proofs.Common.{map, string_bytes}
 use Rattle.pisdf_program.specs.Words.{command_of}
 use Rattle.pisdf_program.specs.Result.{Knows, ResultOf}
-use Rattle.pisdf_program.proofs.NoLoads.{load_told}
+use Rattle.pisdf_program.proofs.NoSoak.{soak_told}
 use Rattle.pisdf_program.proofs.Working.{completes, ended, rose_told, there, usage_told}
 use Rattle.pisdf_program.proofs.program.run_program.Goals as goal
 
@@ -35,7 +35,10 @@ returns-clause-there g c =
     (g.E.Sink.written c.args.err.now) (g.E.Sink.written c.conclude.new.err) (g.E.Sink.faults c.args.err.now) (g.E.Sink.faults c.conclude.new.err) c.conclude.result
     c.work-worked.ensures.there c.conclude.ensures.concludes
 
-pub returns-clause-load : goal.returns-clause-load
-returns-clause-load g c = λ number workers is.
-    load_told c.work-worked.result (g.E.Sink.written c.args.err.now) (g.E.Sink.written c.conclude.new.err) (g.E.Sink.faults c.args.err.now) (g.E.Sink.faults c.conclude.new.err) c.conclude.result
-    c.conclude.ensures.concludes (c.work-worked.ensures.load number workers is)
+pub returns-clause-soak : goal.returns-clause-soak
+returns-clause-soak g c = λ number workers is.
+    let soak = c.work-worked.ensures.soak number workers is in (
+      soak_told c.work-worked.result (g.E.Sink.written c.args.err.now) (g.E.Sink.written c.conclude.new.err) (g.E.Sink.faults c.args.err.now) (g.E.Sink.faults c.conclude.new.err) c.conclude.result
+          c.conclude.ensures.concludes soak.0,
+      soak.1,
+    )

@@ -3,7 +3,7 @@ use Rattle.pisdf_program.specs.Words.{command_of}
 use Rattle.pisdf_program.specs.Words as words
 use Rattle.pisdf_program.specs.WordsSeen.{seen}
 use Rattle.pisdf_program.specs.declared.words.Command.{Command as Here}
-use Rattle.pisdf_program.proofs.NoLoads.{no_load}
+use Rattle.pisdf_program.proofs.NoSoak.{not_soak}
 use Rattle.pisdf_program.proofs.Working.{usage_there, works_as}
 use Rattle.pisdf_program.proofs.program.work.Goals as goal
 
@@ -31,8 +31,8 @@ returns-in-Journal-clause-works g c =
     (g.O.Sink.written c.args.out.now) (g.O.Sink.written c.tell_journals.new.out) (g.O.Sink.faults c.args.out.now) (g.O.Sink.faults c.tell_journals.new.out) c.tell_journals.result
     (ap (λ (x : Here). Some (seen x)) (sym c.in-Journal.is) ∙ c.in-Some.ensures.command) c.tell_journals.ensures.works
 
-pub returns-in-Journal-clause-load : goal.returns-in-Journal-clause-load
-returns-in-Journal-clause-load g c = no_load (words.Journal c.in-Journal.graph.now c.in-Journal.tokens.now c.in-Journal.iterations c.in-Journal.workers) (command_of (map string_bytes c.args.words.now)) c.tell_journals.result (ap (λ (x : Here). Some (seen x)) (sym c.in-Journal.is) ∙ c.in-Some.ensures.command) refl
+pub returns-in-Journal-clause-soak : goal.returns-in-Journal-clause-soak
+returns-in-Journal-clause-soak g c = not_soak (words.Journal c.in-Journal.graph.now c.in-Journal.tokens.now c.in-Journal.iterations c.in-Journal.workers) (command_of (map string_bytes c.args.words.now)) (ap (λ (x : Here). Some (seen x)) (sym c.in-Journal.is) ∙ c.in-Some.ensures.command) refl
 
 pub returns-in-Soak-clause-works : goal.returns-in-Soak-clause-works
 returns-in-Soak-clause-works g c =
@@ -44,14 +44,14 @@ pub returns-in_default-clause-there : goal.returns-in_default-clause-there
 returns-in_default-clause-there g c =
     usage_there (command_of (map string_bytes c.args.words.now)) (g.S.Shelf.holds c.args.shelf.now) (sym c.in_default.ensures.command)
 
-pub returns-in-Run-clause-load : goal.returns-in-Run-clause-load
-returns-in-Run-clause-load g c = no_load (words.Run c.in-Run.graph.now c.in-Run.tokens.now c.in-Run.iterations c.in-Run.workers) (command_of (map string_bytes c.args.words.now)) c.run_by_workers.result (ap (λ (x : Here). Some (seen x)) (sym c.in-Run.is) ∙ c.in-Some.ensures.command) refl
+pub returns-in-Run-clause-soak : goal.returns-in-Run-clause-soak
+returns-in-Run-clause-soak g c = not_soak (words.Run c.in-Run.graph.now c.in-Run.tokens.now c.in-Run.iterations c.in-Run.workers) (command_of (map string_bytes c.args.words.now)) (ap (λ (x : Here). Some (seen x)) (sym c.in-Run.is) ∙ c.in-Some.ensures.command) refl
 
-pub returns-in-Plain-clause-load : goal.returns-in-Plain-clause-load
-returns-in-Plain-clause-load g c = no_load (words.Plain c.in-Plain.graph.now c.in-Plain.tokens.now c.in-Plain.iterations) (command_of (map string_bytes c.args.words.now)) c.run.result (ap (λ (x : Here). Some (seen x)) (sym c.in-Plain.is) ∙ c.in-Some.ensures.command) refl
+pub returns-in-Plain-clause-soak : goal.returns-in-Plain-clause-soak
+returns-in-Plain-clause-soak g c = not_soak (words.Plain c.in-Plain.graph.now c.in-Plain.tokens.now c.in-Plain.iterations) (command_of (map string_bytes c.args.words.now)) (ap (λ (x : Here). Some (seen x)) (sym c.in-Plain.is) ∙ c.in-Some.ensures.command) refl
 
-pub returns-in-Job-clause-load : goal.returns-in-Job-clause-load
-returns-in-Job-clause-load g c = no_load (words.Job c.in-Job.what c.in-Job.graph.now c.in-Job.tokens.now c.in-Job.workers) (command_of (map string_bytes c.args.words.now)) c.tell_job.result (ap (λ (x : Here). Some (seen x)) (sym c.in-Job.is) ∙ c.in-Some.ensures.command) refl
+pub returns-in-Job-clause-soak : goal.returns-in-Job-clause-soak
+returns-in-Job-clause-soak g c = not_soak (words.Job c.in-Job.what c.in-Job.graph.now c.in-Job.tokens.now c.in-Job.workers) (command_of (map string_bytes c.args.words.now)) (ap (λ (x : Here). Some (seen x)) (sym c.in-Job.is) ∙ c.in-Some.ensures.command) refl
 
-pub returns-in-Upgrade-clause-load : goal.returns-in-Upgrade-clause-load
-returns-in-Upgrade-clause-load g c = no_load (words.Upgrade c.in-Upgrade.graph.now) (command_of (map string_bytes c.args.words.now)) c.upgrade.result (ap (λ (x : Here). Some (seen x)) (sym c.in-Upgrade.is) ∙ c.in-Some.ensures.command) refl
+pub returns-in-Upgrade-clause-soak : goal.returns-in-Upgrade-clause-soak
+returns-in-Upgrade-clause-soak g c = not_soak (words.Upgrade c.in-Upgrade.graph.now) (command_of (map string_bytes c.args.words.now)) (ap (λ (x : Here). Some (seen x)) (sym c.in-Upgrade.is) ∙ c.in-Some.ensures.command) refl

@@ -1,5 +1,5 @@
 use Rattle.std.proofs.Common.{◌≡◌, string_bytes, ◌∙◌}
-use Rattle.pisdf_program.specs.LoadEnd.{total_row}
+use Rattle.pisdf_program.specs.SoakEnd.{total_row}
 use Rattle.pisdf_program.specs.Result.{told}
 use Rattle.pisdf_program.proofs.Runs.{grows_as, grows_partly_as}
 use Rattle.pisdf_program.proofs.Working.{told_partly, told_whole}

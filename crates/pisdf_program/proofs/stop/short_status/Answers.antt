@@ -1,7 +1,7 @@
 use Rattle.std.proofs.Common.{inl, ap, ◌∙◌, map, List, ℕ}
 use Rattle.pisdf_model.specs.declared.graph.Graph.{Graph}
 use Rattle.pisdf_model.specs.declared.graph.Interface.{Interface}
-use Rattle.pisdf_program.specs.Result.{name_at}
+use Rattle.job_report.specs.Rows.{name_at}
 use Rattle.pisdf_program.specs.declared.status.Status.TheVariants.{TokensRefused}
 use Rattle.pisdf_program.specs.declared.status.TokenCause.TheVariants.{Short}
 use Rattle.pisdf_program.proofs.stop.short_status.Goals as goal

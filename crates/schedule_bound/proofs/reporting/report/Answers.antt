@@ -40,6 +40,6 @@ pub returns-clause-no_longer : goal.returns-clause-no_longer
 returns-clause-no_longer c =
     let graph = graph_of c.args.nodes c.args.edges.now c.args.costs.now in
     let schedule = c.in_ok-schedule.schedule in
-    rw (c.last_end.ensures, c.deref.ensures.value, c.work_of.ensures, c.greatest_of.ensures)
+    rw (c.length_of.ensures, c.deref.ensures.value, c.work_of.ensures, c.greatest_of.ensures)
     (list_bound graph c.args.workers schedule.priority schedule.entries c.in_ok-schedule.ensures.schedule c.in_ok-entries.entries.items (rw c.items.ensures at c.in_ok-entries.ensures) c.requires.edges
     _ c.requires.workers c.requires.costs c.in_ok-path.ensures.greatest)

@@ -1,43 +1,40 @@
-use Rattle.std.proofs.Common.{◌≡◌, ℕ, List, sym, subst, ◌∙◌}
-use Rattle.firing_board.specs.Claims.{Claims}
-use Rattle.firing_board.specs.Runs.{IsIdle, IsSound}
-use Rattle.firing_board.specs.View.{BoardView}
-use Rattle.worker_crew.specs.Asked.{Asked}
-use Rattle.worker_crew.specs.Passes.{BoardPass, MayWork}
-use Rattle.worker_crew.proofs.Claiming.{Turns, turns}
-use Rattle.worker_crew.proofs.Leaving.{found_idle, found_worker, left_as, may_leave_as}
+use Rattle.std.proofs.Common.{[]}
+use Rattle.worker_crew.proofs.Advancing.{may_later, waited_worked, worked_idle_at}
+use Rattle.worker_crew.proofs.Holding.{held_added, held_found, held_leaves, no_change}
 use Rattle.worker_crew.proofs.asking.ask.Goals as goal
 
-pub claim-claim-requires : goal.claim-claim-requires
-claim-claim-requires g c =
+pub claim_held-requires-clause-leave : goal.claim_held-requires-clause-leave
+claim_held-requires-clause-leave g c =
     let p = c.args.pass.known in
-    let x = c.enter-held.result.state.value in
-    let found = c.enter-held.ensures.finds in
-    let sound : IsSound x = subst IsSound c.deref.ensures c.journal-journal.ensures.sound in
-    let may = c.requires.may in
-    let idle = found_idle p x found c.board_laws.ensures sound may.1.some c.requires.idle (found_worker may.0 p x found may.1) in
-    subst (λ (b : BoardView). IsIdle b c.number-worker.result) (sym c.deref_mut.ensures.value) (subst (IsIdle x) (sym c.number-worker.ensures) idle)
+    let x = c.enter.result.state.value in
+    held_leaves p x x [] c.enter.ensures.finds (no_change x p.number) c.enter.result.turn.known c.enter.result.turn.found c.enter.ensures.known c.enter.ensures.found
 
-pub leave-requires : goal.leave-requires
-leave-requires g c =
+pub claim_held-requires-clause-found : goal.claim_held-requires-clause-found
+claim_held-requires-clause-found g c =
     let p = c.args.pass.known in
-    let x = c.enter-held.result.state.value in
-    let y = c.claim-claim.new.self in
-    let found = c.enter-held.ensures.finds in
-    let sound : IsSound x = subst IsSound c.deref.ensures c.journal-journal.ensures.sound in
-    let may = c.requires.may in
-    let claims : Claims x y p.number c.claim-claim.result = subst (λ (n : ℕ). Claims x y n c.claim-claim.result) c.number-worker.ensures (subst (λ (b : BoardView). Claims b y c.number-worker.result c.claim-claim.result) c.deref_mut.ensures.value c.claim-claim.ensures.claims) in
-    let t = turns c.board_laws.ensures c.work_fits.ensures p x y found sound may.1.some (found_worker may.0 p x found may.1) c.claim-claim.result claims in
-    may_leave_as p x y t.more found t.changes c.enter-held.result.turn.known c.enter-held.result.turn.found c.enter-held.ensures.known c.enter-held.ensures.found
+    let x = c.enter.result.state.value in
+    held_found p x x [] c.enter.ensures.finds (no_change x p.number) c.enter.result.turn.known c.enter.result.turn.found c.enter.ensures.known c.enter.ensures.found
+
+pub claim_held-requires-clause-may : goal.claim_held-requires-clause-may
+claim_held-requires-clause-may g c =
+    let p = c.args.pass.known in
+    let x = c.enter.result.state.value in
+    let added = held_added p x x [] c.enter.ensures.finds (no_change x p.number) c.enter.result.turn.known c.enter.result.turn.found c.enter.ensures.known c.enter.ensures.found in
+    (c.requires.may.0, may_later c.requires.may.0 p _ added.later c.requires.may.1)
+
+pub claim_held-requires-clause-idle : goal.claim_held-requires-clause-idle
+claim_held-requires-clause-idle g c =
+    let p = c.args.pass.known in
+    let x = c.enter.result.state.value in
+    let added = held_added p x x [] c.enter.ensures.finds (no_change x p.number) c.enter.result.turn.known c.enter.result.turn.found c.enter.ensures.known c.enter.ensures.found in
+    worked_idle_at p _ 0 c.requires.may.1.some (waited_worked p _ added) c.requires.idle
 
 pub returns-clause-asked : goal.returns-clause-asked
 returns-clause-asked g c =
     let p = c.args.pass.known in
-    let x = c.enter-held.result.state.value in
-    let y = c.claim-claim.new.self in
-    let found = c.enter-held.ensures.finds in
-    let sound : IsSound x = subst IsSound c.deref.ensures c.journal-journal.ensures.sound in
-    let may = c.requires.may in
-    let claims : Claims x y p.number c.claim-claim.result = subst (λ (n : ℕ). Claims x y n c.claim-claim.result) c.number-worker.ensures (subst (λ (b : BoardView). Claims b y c.number-worker.result c.claim-claim.result) c.deref_mut.ensures.value c.claim-claim.ensures.claims) in
-    let t = turns c.board_laws.ensures c.work_fits.ensures p x y found sound may.1.some (found_worker may.0 p x found may.1) c.claim-claim.result claims in
-    subst (λ (q : BoardPass). Asked p q c.claim-claim.result) (sym (left_as p x y c.enter-held.result.turn.known c.leave.result.known c.enter-held.ensures.known c.leave.ensures.known)) t.asked
+    let x = c.enter.result.state.value in
+    record {
+      between = _;
+      added = held_added p x x [] c.enter.ensures.finds (no_change x p.number) c.enter.result.turn.known c.enter.result.turn.found c.enter.ensures.known c.enter.ensures.found;
+      asked = c.claim_held.ensures.asked;
+    }

@@ -9,9 +9,10 @@ use Rattle.firing_board.specs.Finishes.{Finishes, MayEnd}
 use Rattle.firing_board.specs.Runs.{IsSound, Runs}
 use Rattle.firing_board.specs.View.{BoardView, lent_to}
 use Rattle.worker_crew.specs.Passes.{BoardPass}
-use Rattle.worker_crew.specs.Worked.{HasAdded}
 use Rattle.worker_crew.proofs.Finishing.{ended_answers, gives_back}
-use Rattle.worker_crew.proofs.Leaving.{added_left, found_running, found_unlent, left_as, may_leave_as}
+use Rattle.worker_crew.proofs.Advancing.{finished_idle, may_later}
+use Rattle.worker_crew.proofs.Holding.{claimed_may, held_added, held_found, held_leaves}
+use Rattle.worker_crew.proofs.Leaving.{found_running, found_unlent}
 use Rattle.worker_crew.proofs.giving_back.give_back_compiled.Goals as goal
 
 pub finish_compile-refused-requires-clause-runs : goal.finish_compile-refused-requires-clause-runs
@@ -31,8 +32,8 @@ finish_compile-refused-requires-clause-lent g c =
     let here : lent_to x c.args.ticket.worker ≡ None = subst (λ (n : ℕ). lent_to x n ≡ None) (sym c.requires.ticket) none in
     subst (λ (b : BoardView). lent_to b c.args.ticket.worker ≡ None) (sym c.deref_mut.ensures.value) here
 
-pub leave-requires : goal.leave-requires
-leave-requires g c =
+pub claim_held-requires-clause-leave : goal.claim_held-requires-clause-leave
+claim_held-requires-clause-leave g c =
     let p = c.args.pass.known in
     let x = c.enter-held.result.state.value in
     let y = c.finish_compile-refused.new.self in
@@ -40,10 +41,10 @@ leave-requires g c =
     let finishes : Finishes x y p.number = subst (λ (n : ℕ). Finishes x y n) c.requires.ticket (subst (λ (b : BoardView). Finishes b y c.args.ticket.worker) c.deref_mut.ensures.value c.finish_compile-refused.ensures.finishes) in
     let starved : x.starved ≡ true → y.starved ≡ true = subst (λ (b : BoardView). b.starved ≡ true → y.starved ≡ true) c.deref_mut.ensures.value c.finish_compile-refused.ensures.stays in
     let changes = gives_back p x y None (λ key. MayEnd key c.args.end) c.board_laws.ensures c.enter-held.ensures.finds sound c.requires.claimed (λ work may. ended_answers x.key c.args.end work may) finishes starved in
-    may_leave_as p x y (Finish p.number ∷ []) c.enter-held.ensures.finds changes c.enter-held.result.turn.known c.enter-held.result.turn.found c.enter-held.ensures.known c.enter-held.ensures.found
+    held_leaves p x y (Finish p.number ∷ []) c.enter-held.ensures.finds changes c.enter-held.result.turn.known c.enter-held.result.turn.found c.enter-held.ensures.known c.enter-held.ensures.found
 
-pub returns-clause-added : goal.returns-clause-added
-returns-clause-added g c =
+pub claim_held-requires-clause-found : goal.claim_held-requires-clause-found
+claim_held-requires-clause-found g c =
     let p = c.args.pass.known in
     let x = c.enter-held.result.state.value in
     let y = c.finish_compile-refused.new.self in
@@ -51,4 +52,39 @@ returns-clause-added g c =
     let finishes : Finishes x y p.number = subst (λ (n : ℕ). Finishes x y n) c.requires.ticket (subst (λ (b : BoardView). Finishes b y c.args.ticket.worker) c.deref_mut.ensures.value c.finish_compile-refused.ensures.finishes) in
     let starved : x.starved ≡ true → y.starved ≡ true = subst (λ (b : BoardView). b.starved ≡ true → y.starved ≡ true) c.deref_mut.ensures.value c.finish_compile-refused.ensures.stays in
     let changes = gives_back p x y None (λ key. MayEnd key c.args.end) c.board_laws.ensures c.enter-held.ensures.finds sound c.requires.claimed (λ work may. ended_answers x.key c.args.end work may) finishes starved in
-    subst (λ (q : BoardPass). HasAdded p q (Finish p.number ∷ [])) (sym (left_as p x y c.enter-held.result.turn.known c.leave.result.known c.enter-held.ensures.known c.leave.ensures.known)) (added_left p x y (Finish p.number ∷ []) c.enter-held.ensures.finds changes)
+    held_found p x y (Finish p.number ∷ []) c.enter-held.ensures.finds changes c.enter-held.result.turn.known c.enter-held.result.turn.found c.enter-held.ensures.known c.enter-held.ensures.found
+
+pub claim_held-requires-clause-may : goal.claim_held-requires-clause-may
+claim_held-requires-clause-may g c =
+    let p = c.args.pass.known in
+    let x = c.enter-held.result.state.value in
+    let y = c.finish_compile-refused.new.self in
+    let sound : IsSound x = subst IsSound c.deref.ensures c.journal-journal.ensures.sound in
+    let finishes : Finishes x y p.number = subst (λ (n : ℕ). Finishes x y n) c.requires.ticket (subst (λ (b : BoardView). Finishes b y c.args.ticket.worker) c.deref_mut.ensures.value c.finish_compile-refused.ensures.finishes) in
+    let starved : x.starved ≡ true → y.starved ≡ true = subst (λ (b : BoardView). b.starved ≡ true → y.starved ≡ true) c.deref_mut.ensures.value c.finish_compile-refused.ensures.stays in
+    let changes = gives_back p x y None (λ key. MayEnd key c.args.end) c.board_laws.ensures c.enter-held.ensures.finds sound c.requires.claimed (λ work may. ended_answers x.key c.args.end work may) finishes starved in
+    let added = held_added p x y (Finish p.number ∷ []) c.enter-held.ensures.finds changes c.enter-held.result.turn.known c.enter-held.result.turn.found c.enter-held.ensures.known c.enter-held.ensures.found in
+    let may = claimed_may p None (λ key. MayEnd key c.args.end) c.requires.claimed in
+    (_, may_later _ p _ added.later may)
+
+pub claim_held-requires-clause-idle : goal.claim_held-requires-clause-idle
+claim_held-requires-clause-idle g c =
+    let p = c.args.pass.known in
+    let x = c.enter-held.result.state.value in
+    let y = c.finish_compile-refused.new.self in
+    let sound : IsSound x = subst IsSound c.deref.ensures c.journal-journal.ensures.sound in
+    let finishes : Finishes x y p.number = subst (λ (n : ℕ). Finishes x y n) c.requires.ticket (subst (λ (b : BoardView). Finishes b y c.args.ticket.worker) c.deref_mut.ensures.value c.finish_compile-refused.ensures.finishes) in
+    let starved : x.starved ≡ true → y.starved ≡ true = subst (λ (b : BoardView). b.starved ≡ true → y.starved ≡ true) c.deref_mut.ensures.value c.finish_compile-refused.ensures.stays in
+    let changes = gives_back p x y None (λ key. MayEnd key c.args.end) c.board_laws.ensures c.enter-held.ensures.finds sound c.requires.claimed (λ work may. ended_answers x.key c.args.end work may) finishes starved in
+    finished_idle p _ c.requires.claimed.some (held_added p x y (Finish p.number ∷ []) c.enter-held.ensures.finds changes c.enter-held.result.turn.known c.enter-held.result.turn.found c.enter-held.ensures.known c.enter-held.ensures.found)
+
+pub returns-clause-asked : goal.returns-clause-asked
+returns-clause-asked g c =
+    let p = c.args.pass.known in
+    let x = c.enter-held.result.state.value in
+    let y = c.finish_compile-refused.new.self in
+    let sound : IsSound x = subst IsSound c.deref.ensures c.journal-journal.ensures.sound in
+    let finishes : Finishes x y p.number = subst (λ (n : ℕ). Finishes x y n) c.requires.ticket (subst (λ (b : BoardView). Finishes b y c.args.ticket.worker) c.deref_mut.ensures.value c.finish_compile-refused.ensures.finishes) in
+    let starved : x.starved ≡ true → y.starved ≡ true = subst (λ (b : BoardView). b.starved ≡ true → y.starved ≡ true) c.deref_mut.ensures.value c.finish_compile-refused.ensures.stays in
+    let changes = gives_back p x y None (λ key. MayEnd key c.args.end) c.board_laws.ensures c.enter-held.ensures.finds sound c.requires.claimed (λ work may. ended_answers x.key c.args.end work may) finishes starved in
+    record { between = _; added = held_added p x y (Finish p.number ∷ []) c.enter-held.ensures.finds changes c.enter-held.result.turn.known c.enter-held.result.turn.found c.enter-held.ensures.known c.enter-held.ensures.found; asked = c.claim_held.ensures.asked }

@@ -1,0 +1,40 @@
+use Rattle.std.proofs.Common.{◌≡◌, List, [], subst}
+use Rattle.firing_board.specs.declared.claim.Claim.{Claim}
+use Rattle.worker_crew.specs.Asked.{Asked}
+use Rattle.worker_crew.proofs.Advancing.{added_same, added_twice, may_later, waited_worked, worked_idle_at}
+use Rattle.worker_crew.proofs.asking.await_item.Goals as goal
+
+pub loop-init : goal.loop-init
+loop-init g c = record { can_next = tt; is_finite = tt; lock = c.requires.lock; added = added_same c.args.pass.known }
+
+pub ask-next-requires-clause-may : goal.ask-next-requires-clause-may
+ask-next-requires-clause-may g c = (c.requires.may.0, may_later c.requires.may.0 c.args.pass.known c.loop.pass.known c.loop.invariant.added.later c.requires.may.1)
+
+pub ask-next-requires-clause-idle : goal.ask-next-requires-clause-idle
+ask-next-requires-clause-idle g c = worked_idle_at c.args.pass.known c.loop.pass.known 0 c.requires.may.1.some (waited_worked c.args.pass.known c.loop.pass.known c.loop.invariant.added) c.requires.idle
+
+pub loop-preserved : goal.loop-preserved
+loop-preserved g c =
+    let after = c.ask-next.ensures.asked in
+    let p = c.args.pass.known in
+    let q = c.loop.pass.known in
+    let r = c.ask-next.result.0.known in
+    let waited = subst (λ (x : Claim). Asked after.between r x) c.in-Wait.is after.asked in
+    record {
+      can_next = tt;
+      is_finite = tt;
+      lock = c.ask-next.ensures.lock;
+      added = added_twice p q r [] [] c.loop.invariant.added (added_twice q after.between r [] [] after.added waited);
+    }
+
+pub returns-in_default : goal.returns-in_default
+returns-in_default g c =
+    let after = c.ask-next.ensures.asked in
+    record {
+      lock = c.ask-next.ensures.lock;
+      asked = record {
+        between = after.between;
+        added = added_twice c.args.pass.known c.loop.pass.known after.between [] [] c.loop.invariant.added after.added;
+        asked = after.asked;
+      };
+    }
