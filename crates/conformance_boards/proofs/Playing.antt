@@ -1,0 +1,115 @@
+-- The list of what workers hold, from step to step.
+use Rattle.std.proofs.Common.{◌≡◌, ◌≢◌, ℕ, zero, suc, ◌+◌, ◌<◌, ◌≤◌, ◌-◌, ◌^◌, Option, Some, None, List, [], ◌∷◌, ◌++◌, length, get_or, set, take, replicate, refl, sym, ap, ◌∙◌, subst, arith}
+use Rattle.kernel_gate.specs.Value.{FrameView, Places}
+use Rattle.sdf_level.specs.declared.node.Node.{Node}
+use Rattle.job_preparing.specs.CompileTasks.{CompileView}
+use Rattle.job_rules.specs.Words.{Compiles, Copies, Fires, Work}
+use Rattle.board_rules.specs.Keys.{Key}
+use Rattle.firing_board.specs.Runs.{AreAllIdle, IsIdle, IsSound}
+use Rattle.firing_board.specs.View.{BoardView}
+use Rattle.firing_board.specs.declared.claim.Ticket.{Ticket}
+use Rattle.worker_crew.specs.Asked.{IsToCompile, IsToCopy, IsToFire}
+use Rattle.conformance_boards.specs.Holding.{AreHeld, CopiesFew, GivesBack, HasClaimed, HasOurKernels, Holds, IsCrewOf, StepsOf}
+use Rattle.worker_crew.specs.Laws.{BoardsHaveLaws}
+use Rattle.conformance_boards.specs.declared.held.Held.{Held}
+use Rattle.conformance_boards.specs.declared.held.Held.TheVariants.{Nothing, Fire, Configure, Copy, Compile}
+use Rattle.conformance_boards.proofs.Lasting.{held_set, held_then, idle_held, no_steps}
+
+-- ---- of one worker
+
+pub own_claim : (b : BoardView) (w : ℕ) (ticket : Ticket) (frame : Option Places) (P : Work → Type 0) → HasClaimed b w ticket frame P → HasClaimed b ticket.worker ticket frame P
+own_claim b w ticket frame P claimed = subst (λ (n : ℕ). HasClaimed b n ticket frame P) (sym claimed.ticket_is) claimed
+
+pub back_as : (v w : ℕ) (x y : BoardView) → v ≡ w → GivesBack v x y → GivesBack w x y
+back_as v w x y same back = subst (λ (n : ℕ). GivesBack n x y) same back
+
+-- a claim that is to be copied has a frame whose inputs 32 bits can number
+few_work : (node : Node) (frame : FrameView) (key : Key) (work : Work) → IsToCopy node frame key work → length frame.inputs < 2 ^ 32
+few_work node frame key (Fires spot asked) h = absurd h
+few_work node frame key (Copies copier read lens) h = h.2.few_inputs
+few_work node frame key (Compiles firing left) h = absurd h
+
+pub copies_few : (b : BoardView) (w : ℕ) (held : Held) → Holds b w held → CopiesFew held
+copies_few b w Nothing h = tt
+copies_few b w (Fire ticket frame) h = tt
+copies_few b w (Configure ticket frame) h = tt
+copies_few b w (Copy ticket node frame) h = few_work node frame b.key h.runs.work h.runs.so
+copies_few b w (Compile ticket task) h = tt
+
+-- what a worker holds is its own
+pub fire_held : (b : BoardView) (w : ℕ) (held : Held) (ticket : Ticket) (frame : FrameView) → held ≡ Fire ticket frame → Holds b w held → HasClaimed b w ticket (Some frame.places) (IsToFire frame b.key)
+fire_held b w held ticket frame is h = subst (Holds b w) is h
+
+pub configure_held : (b : BoardView) (w : ℕ) (held : Held) (ticket : Ticket) (frame : FrameView) → held ≡ Configure ticket frame → Holds b w held → HasClaimed b w ticket (Some frame.places) (IsToFire frame b.key)
+configure_held b w held ticket frame is h = subst (Holds b w) is h
+
+pub copy_held : (b : BoardView) (w : ℕ) (held : Held) (ticket : Ticket) (node : Node) (frame : FrameView) → held ≡ Copy ticket node frame → Holds b w held → HasClaimed b w ticket (Some frame.places) (IsToCopy node frame b.key)
+copy_held b w held ticket node frame is h = subst (Holds b w) is h
+
+pub compile_held : (b : BoardView) (w : ℕ) (held : Held) (ticket : Ticket) (task : CompileView) → held ≡ Compile ticket task → Holds b w held → HasClaimed b w ticket None (IsToCompile task b.key)
+compile_held b w held ticket task is h = subst (Holds b w) is h
+
+pub nothing_held : (b : BoardView) (w : ℕ) (held : Held) → held ≡ Nothing → Holds b w held → GivesBack w b b
+nothing_held b w held is h = let idle : IsIdle b w = subst (Holds b w) is h in (no_steps w b, idle)
+
+-- ---- of all
+
+same_kernels : (x y : BoardView) → y.key ≡ x.key → HasOurKernels x → HasOurKernels y
+same_kernels x y key ours = ap (λ (k : Key). k.signatures) key ∙ ours
+
+length_set : (held : List Held) (w : ℕ) (next : Held) → length (set held w next) ≡ length held
+length_set [] w next = refl
+length_set (h ∷ held) zero next = refl
+length_set (h ∷ held) (suc w) next = ap suc (length_set held w next)
+
+module _ (laws : BoardsHaveLaws) (w : ℕ) (x y : BoardView) (sound : IsSound x) (later : IsSound y) (steps : StepsOf w x y) (held : List Held) (crew : IsCrewOf x held) (inside : w < x.key.workers) where
+  within : w < length held
+  within = subst (λ (n : ℕ). w < n) (sym crew.one_each) inside
+
+  pub crew_then : (next : Held) → Holds y w next → IsCrewOf y (set held w next)
+  crew_then next own = record {
+    kernels = same_kernels x y steps.key crew.kernels;
+    one_each = length_set held w next ∙ (crew.one_each ∙ ap (λ (k : Key). k.workers) (sym steps.key));
+    all = held_set laws w x y sound later steps held next within crew.all own;
+  }
+
+-- written twice at one place
+pub set_twice : (held : List Held) (w : ℕ) (one other : Held) → set (set held w one) w other ≡ set held w other
+set_twice [] w one other = refl
+set_twice (h ∷ held) zero one other = refl
+set_twice (h ∷ held) (suc w) one other = ap (λ (l : List Held). h ∷ l) (set_twice held w one other)
+
+pub crew_of_idle : (b : BoardView) (n : ℕ) → HasOurKernels b → AreAllIdle b → b.key.workers ≡ n → IsCrewOf b (replicate n Nothing)
+crew_of_idle b n ours idle workers = record { kernels = ours; one_each = length_same n ∙ sym workers; all = idle_held b n idle }
+  where
+    length_same : (n : ℕ) → length (replicate n Nothing) ≡ n
+    length_same zero = refl
+    length_same (suc n) = ap suc (length_same n)
+
+-- ---- the last one is taken from the list
+
+last_taken : (held rest : List Held) (last : Held) → held ≡ rest ++ last ∷ [] → (v : ℕ) → v ≢ length rest → get_or rest v Nothing ≡ get_or held v Nothing
+last_taken held rest last is v ne = sym (ap (λ (l : List Held). get_or l v Nothing) is ∙ go rest v ne)
+  where
+    go : (rest : List Held) (v : ℕ) → v ≢ length rest → get_or (rest ++ last ∷ []) v Nothing ≡ get_or rest v Nothing
+    go [] zero ne = absurd (ne refl)
+    go [] (suc v) ne = refl
+    go (r ∷ rest) zero ne = refl
+    go (r ∷ rest) (suc v) ne = go rest v (λ e. ne (ap suc e))
+
+past_end : (rest : List Held) → get_or rest (length rest) Nothing ≡ Nothing
+past_end [] = refl
+past_end (r ∷ rest) = past_end rest
+
+last_held : (rest : List Held) (last : Held) → get_or (rest ++ last ∷ []) (length rest) Nothing ≡ last
+last_held [] last = refl
+last_held (r ∷ rest) last = last_held rest last
+
+module _ (b : BoardView) (held rest : List Held) (last : Held) (is : held ≡ rest ++ last ∷ []) (are : AreHeld b held) where
+  -- its worker holds it
+  pub last_holds : length rest < b.key.workers → Holds b (length rest) last
+  last_holds inside = subst (Holds b (length rest)) (ap (λ (l : List Held). get_or l (length rest) Nothing) is ∙ last_held rest last) (are (length rest) inside)
+
+  -- and once that worker has given it back, the others hold what is left in the list
+  pub rest_held : (laws : BoardsHaveLaws) (y : BoardView) → IsSound b → IsSound y → GivesBack (length rest) b y → AreHeld y rest
+  rest_held laws y sound later back = held_then laws (length rest) b y sound later back.0 held rest are (subst (Holds y (length rest)) (sym (past_end rest)) back.1) (λ v ne. last_taken held rest last is v ne)
