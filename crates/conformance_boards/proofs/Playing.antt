@@ -13,7 +13,7 @@ use Rattle.conformance_boards.specs.Holding.{AreHeld, CopiesFew, GivesBack, HasC
 use Rattle.worker_crew.specs.Laws.{BoardsHaveLaws}
 use Rattle.conformance_boards.specs.declared.held.Held.{Held}
 use Rattle.conformance_boards.specs.declared.held.Held.TheVariants.{Nothing, Fire, Configure, Copy, Compile}
-use Rattle.conformance_boards.proofs.Lasting.{held_set, held_then, idle_held, no_steps}
+use Rattle.conformance_boards.proofs.Lasting.{held_set, held_then, idle_held, idle_then, no_steps, steps_on}
 
 -- ---- of one worker
 
@@ -73,6 +73,10 @@ module _ (laws : BoardsHaveLaws) (w : ℕ) (x y : BoardView) (sound : IsSound x)
     all = held_set laws w x y sound later steps held next within crew.all own;
   }
 
+-- all are idle once a worker has taken steps and runs nothing again
+pub idle_after : (laws : BoardsHaveLaws) (w : ℕ) (x y z : BoardView) → IsSound x → IsSound z → StepsOf w x y → GivesBack w y z → AreAllIdle x → AreAllIdle z
+idle_after laws w x y z sound later steps back idle = idle_then laws w x z sound later (steps_on w x y z steps back.0) idle back.1
+
 -- written twice at one place
 pub set_twice : (held : List Held) (w : ℕ) (one other : Held) → set (set held w one) w other ≡ set held w other
 set_twice [] w one other = refl
@@ -96,6 +100,14 @@ last_taken held rest last is v ne = sym (ap (λ (l : List Held). get_or l v Noth
     go [] (suc v) ne = refl
     go (r ∷ rest) zero ne = refl
     go (r ∷ rest) (suc v) ne = go rest v (λ e. ne (ap suc e))
+
+pub last_counted : (rest : List Held) (last : Held) → length (rest ++ last ∷ []) ≡ suc (length rest)
+last_counted [] last = refl
+last_counted (r ∷ rest) last = ap suc (last_counted rest last)
+
+pub none_left : (held : List Held) → length held ≡ 0 → held ≡ []
+none_left [] e = refl
+none_left (h ∷ held) e = absurd (omega arith)
 
 past_end : (rest : List Held) → get_or rest (length rest) Nothing ≡ Nothing
 past_end [] = refl

@@ -1,5 +1,5 @@
 // Workers that are simulated: each step of one of them is a claim, or runs and finishes what it holds.
-ghost use Rattle.std.specs.Prelude.{◌≡◌, ◌<◌, Ok, true, length, slice_index_or};
+ghost use Rattle.std.specs.Prelude.{◌≡◌, ◌<◌, IfOk, Ok, false, true, length, slice_index_or};
 ghost use Rattle.std.specs.Bool.{OnTrue};
 ghost use Rattle.firing_board.specs.Ends.{IsOver};
 ghost use Rattle.firing_board.specs.Runs.{AreAllIdle, IsIdle};
@@ -25,7 +25,9 @@ fn is_starved(claim: &Claim) -> bool {
 }
 
 /// The answer of a step that goes on.
-fn not_done(finished: Result<(), Trouble>) -> Result<bool, Trouble> {
+fn not_done(finished: Result<(), Trouble>) -> Result<bool, Trouble>
+    ensures { IfOk result (λ done. done ≡ false) }
+{
     match finished {
         Ok(()) => Ok(false),
         Err(trouble) => Err(trouble),

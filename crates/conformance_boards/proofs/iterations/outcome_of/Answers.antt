@@ -1,0 +1,5 @@
+use Rattle.quiescent_driver.proofs.Ending.{ends_here}
+use Rattle.conformance_boards.proofs.iterations.outcome_of.Goals as goal
+
+pub returns-in_ok-outcome-in-Ok-true : goal.returns-in_ok-outcome-in-Ok-true
+returns-in_ok-outcome-in-Ok-true c = ends_here c.args.board c.in_ok-outcome-in-Ok-true.field-0 (c.requires.over c.in-Ok-true.is) c.in_ok-outcome-in-Ok-true.ensures
