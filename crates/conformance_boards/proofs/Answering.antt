@@ -1,12 +1,7 @@
 -- What a worker ran gives an answer that its work may have.
-use Rattle.std.proofs.Common.{◌≡◌, ◌≢◌, ℕ, ◌<◌, IsOk, false, Option, Some, None, Result, List, [], ◌∷◌, ◌++◌, get_or, refl, sym, ap, ◌∙◌, subst, get_or-set_other}
-use Rattle.kernel_gate.specs.Signed.{Counts, IsFrameOf, unnamed}
-use Rattle.kernel_gate.specs.Table.{frame_value, the_signatures}
-use Rattle.kernel_gate.specs.Value.{FrameView, Places, SameFrame, told_by}
+use Rattle.std.proofs.Common.{◌≡◌, ◌≢◌, ℕ, ◌<◌, false, Option, Some, None, Result, List, [], ◌∷◌, ◌++◌, get_or, refl, sym, ap, ◌∙◌, subst, get_or-set_other}
+use Rattle.kernel_gate.specs.Value.{FrameView, Places}
 use Rattle.kernel_gate.specs.declared.fault.KernelFault.{KernelFault}
-use Rattle.sdf_level.specs.declared.node.Node.{Node}
-use Rattle.special_actors.specs.Copying.{PassesOn, joined}
-use Rattle.special_actors.specs.Fitting as special
 use Rattle.nested_jobs.specs.Journals as steps
 use Rattle.nested_jobs.specs.Rules as nested
 use Rattle.job_preparing.specs.CompileTasks.{CompileView, IsEndOf}
@@ -26,13 +21,13 @@ use Rattle.firing_board.specs.Locking.{worker_of}
 use Rattle.firing_board.specs.Runs.{IsSound, Runs, RunsWork}
 use Rattle.firing_board.specs.View.{BoardView}
 use Rattle.firing_board.specs.declared.claim.Ticket.{Ticket}
-use Rattle.worker_crew.specs.Asked.{IsToCompile, IsToCopy, IsToFire}
+use Rattle.worker_crew.specs.Asked.{IsToCompile}
 use Rattle.worker_crew.specs.Laws.{BoardsHaveLaws, CompilationsEnd}
 use Rattle.worker_crew.specs.Passes.{last_claims}
 use Rattle.worker_crew.proofs.Advancing.{last_append}
-use Rattle.worker_crew.proofs.Answering.{compile_answer, copied_work, ended_work, fired_work, fits_work, frame_work}
+use Rattle.worker_crew.proofs.Answering.{compile_answer, ended_work}
 use Rattle.worker_crew.proofs.Steps.{mine_first, other_first}
-use Rattle.conformance_boards.specs.Holding.{GivesBack, HasClaimed, HasOurKernels}
+use Rattle.conformance_boards.specs.Holding.{GivesBack, HasClaimed}
 use Rattle.conformance_boards.proofs.Lasting.{told_idle}
 
 -- the same claim, of which something else holds
@@ -49,26 +44,6 @@ claimed_as b w ticket old new P Q same so claimed = record {
   };
   lent = claimed.lent ∙ sym same;
 }
-
--- ---- kernels
-
-pub fits_ours : (b : BoardView) (w : ℕ) (ticket : Ticket) (frame : FrameView) → HasOurKernels b → HasClaimed b w ticket (Some frame.places) (IsToFire frame b.key) → IsFrameOf (unnamed the_signatures) frame
-fits_ours b w ticket frame ours claimed = subst (λ (s : List Counts). IsFrameOf s frame) ours (fits_work frame b.key claimed.runs.work claimed.runs.so)
-
-pub fires_back : (b : BoardView) (w : ℕ) (ticket : Ticket) (old new : FrameView) (result : Result (Unit {0}) KernelFault) → HasClaimed b w ticket (Some old.places) (IsToFire old b.key) → SameFrame old new → told_by new result ≡ frame_value old
-    → HasClaimed b w ticket (Some new.places) (MayComeBack b.key new result (IsOk result))
-fires_back b w ticket old new result claimed same value =
-    claimed_as b w ticket (Some old.places) (Some new.places) (IsToFire old b.key) (MayComeBack b.key new result (IsOk result)) (ap Some same.places) (λ c. fired_work old new result b.key c.runs.work value c.runs.so) claimed
-
--- ---- nodes
-
-pub fits_node : (b : BoardView) (w : ℕ) (ticket : Ticket) (node : Node) (frame : FrameView) → HasClaimed b w ticket (Some frame.places) (IsToCopy node frame b.key) → special.IsFrameOf node frame
-fits_node b w ticket node frame claimed = frame_work node frame b.key claimed.runs.work claimed.runs.so
-
-pub copies_back : (b : BoardView) (w : ℕ) (ticket : Ticket) (node : Node) (old new : FrameView) (result : Result (Unit {0}) KernelFault) → HasClaimed b w ticket (Some old.places) (IsToCopy node old b.key) → IsOk result → SameFrame old new → PassesOn node (joined old.inputs) (joined new.outputs)
-    → HasClaimed b w ticket (Some new.places) (MayComeBack b.key new result (IsOk result))
-copies_back b w ticket node old new result claimed ok same passed =
-    claimed_as b w ticket (Some old.places) (Some new.places) (IsToCopy node old b.key) (MayComeBack b.key new result (IsOk result)) (ap Some same.places) (λ c. copied_work node old new result b.key c.runs.work ok same passed c.runs.so) claimed
 
 -- ---- compilations
 

@@ -1,9 +1,8 @@
 -- What a worker holds once it has claimed.
-use Rattle.std.proofs.Common.{◌≡◌, ◌≢◌, ◌⊎◌, inl, inr, ℕ, ◌<◌, true, false, Option, Some, None, List, [], ◌∷◌, ◌++◌, length, get_or, set, refl, sym, ap, ◌∙◌, subst, append-nil, get_or-set_same, get_or-set_other}
+use Rattle.std.proofs.Common.{◌≡◌, inl, ℕ, ◌<◌, Option, Some, None, List, [], ◌∷◌, ◌++◌, get_or, set, refl, sym, ap, ◌∙◌, subst, append-nil, get_or-set_same, get_or-set_other}
 use Rattle.kernel_gate.specs.Value.{Places}
 use Rattle.nested_jobs.specs.Journals as steps
 use Rattle.job_rules.specs.Words.{Compiles, Copies, Fires, Work}
-use Rattle.board_lock.specs.Meant.{entries_of}
 use Rattle.board_rules.specs.Entries.{Step}
 use Rattle.board_rules.specs.Keys.{Key}
 use Rattle.board_rules.specs.Legal.{AreLegal, journal_of, state_after}
@@ -12,9 +11,8 @@ use Rattle.board_rules.specs.declared.entry.Entry.TheVariants.{Claim as claim_en
 use Rattle.board_rules.specs.declared.entry.Item.{Item}
 use Rattle.firing_board.specs.Claims.{Claims, IsTicket, Picks, Stays}
 use Rattle.firing_board.specs.Ends.{HasFinished, IsOver}
-use Rattle.firing_board.specs.Locking.{worker_of}
 use Rattle.firing_board.specs.Runs.{IsIdle, IsSound, RunsWork}
-use Rattle.firing_board.specs.View.{BoardView, IsAt, lent_to}
+use Rattle.firing_board.specs.View.{BoardView}
 use Rattle.firing_board.specs.declared.claim.Claim.{Claim}
 use Rattle.firing_board.specs.declared.claim.Claim.TheVariants as claim
 use Rattle.firing_board.specs.declared.claim.Ticket.{Ticket}

@@ -1,5 +1,5 @@
 -- What workers hold they still hold after the steps of another one.
-use Rattle.std.proofs.Common.{◌≡◌, ◌≢◌, ℕ, zero, suc, ◌+◌, ◌<◌, ◌-◌, Bool, true, false, Option, Some, None, List, [], ◌∷◌, ◌++◌, length, get_or, set, take, replicate, refl, sym, ap, ◌∙◌, subst, arith, append_assoc, append-nil, get_or-set_same, get_or-set_other}
+use Rattle.std.proofs.Common.{◌≡◌, ◌≢◌, ℕ, zero, suc, ◌+◌, ◌<◌, ◌-◌, false, Option, Some, None, List, [], ◌++◌, length, get_or, set, replicate, refl, sym, ap, ◌∙◌, subst, append_assoc, append-nil, get_or-set_same, get_or-set_other}
 use Rattle.std.specs.Prelude.{is_some}
 use native.Mathlib.Decide.{ℕ_discrete}
 use Rattle.kernel_gate.specs.Value.{Places}
@@ -10,15 +10,14 @@ use Rattle.board_rules.specs.Entries.{Step}
 use Rattle.board_rules.specs.Keys.{Key}
 use Rattle.board_rules.specs.Legal.{AreLegal, journal_of, state_after}
 use Rattle.board_rules.specs.declared.entry.Entry.{Entry}
-use Rattle.board_rules.specs.declared.entry.Entry.TheVariants.{Claim, Finish}
 use Rattle.firing_board.specs.Locking.{worker_of}
 use Rattle.firing_board.specs.Runs.{AreAllIdle, IsIdle, IsSound, Runs, RunsWork}
-use Rattle.firing_board.specs.View.{BoardView, IsAt, lent_to}
+use Rattle.firing_board.specs.View.{BoardView, IsAt}
 use Rattle.firing_board.specs.declared.claim.Ticket.{Ticket}
 use Rattle.worker_crew.specs.Asked.{IsToCompile, IsToCopy, IsToFire}
-use Rattle.worker_crew.specs.Laws.{BoardLaws, BoardsHaveLaws}
+use Rattle.worker_crew.specs.Laws.{BoardsHaveLaws}
 use Rattle.worker_crew.specs.Passes.{last_claims}
-use Rattle.conformance_boards.specs.Holding.{AreHeld, GivesBack, HasClaimed, HasOurKernels, Holds, IsCrewOf, StepsOf}
+use Rattle.conformance_boards.specs.Holding.{AreHeld, HasClaimed, Holds, StepsOf}
 use Rattle.conformance_boards.specs.declared.held.Held.{Held}
 use Rattle.conformance_boards.specs.declared.held.Held.TheVariants.{Nothing, Fire, Configure, Copy, Compile}
 

@@ -1,27 +1,19 @@
 -- The list of what workers hold, from step to step.
-use Rattle.std.proofs.Common.{◌≡◌, ◌≢◌, ℕ, zero, suc, ◌+◌, ◌<◌, ◌≤◌, ◌-◌, ◌^◌, Option, Some, None, List, [], ◌∷◌, ◌++◌, length, get_or, set, take, replicate, refl, sym, ap, ◌∙◌, subst, arith}
-use Rattle.kernel_gate.specs.Value.{FrameView, Places}
+use Rattle.std.proofs.Common.{◌≡◌, ◌≢◌, ℕ, zero, suc, ◌+◌, ◌<◌, ◌^◌, List, [], ◌∷◌, ◌++◌, length, get_or, set, refl, sym, ap, ◌∙◌, subst, arith}
+use Rattle.kernel_gate.specs.Value.{FrameView}
 use Rattle.sdf_level.specs.declared.node.Node.{Node}
-use Rattle.job_preparing.specs.CompileTasks.{CompileView}
 use Rattle.job_rules.specs.Words.{Compiles, Copies, Fires, Work}
 use Rattle.board_rules.specs.Keys.{Key}
-use Rattle.firing_board.specs.Runs.{AreAllIdle, IsIdle, IsSound}
+use Rattle.firing_board.specs.Runs.{AreAllIdle, IsSound}
 use Rattle.firing_board.specs.View.{BoardView}
-use Rattle.firing_board.specs.declared.claim.Ticket.{Ticket}
-use Rattle.worker_crew.specs.Asked.{IsToCompile, IsToCopy, IsToFire}
-use Rattle.conformance_boards.specs.Holding.{AreHeld, CopiesFew, GivesBack, HasClaimed, HasOurKernels, Holds, IsCrewOf, StepsOf}
+use Rattle.worker_crew.specs.Asked.{IsToCopy}
+use Rattle.conformance_boards.specs.Holding.{AreHeld, CopiesFew, GivesBack, HasOurKernels, Holds, IsCrewOf, StepsOf}
 use Rattle.worker_crew.specs.Laws.{BoardsHaveLaws}
 use Rattle.conformance_boards.specs.declared.held.Held.{Held}
 use Rattle.conformance_boards.specs.declared.held.Held.TheVariants.{Nothing, Fire, Configure, Copy, Compile}
-use Rattle.conformance_boards.proofs.Lasting.{held_set, held_then, idle_held, idle_then, no_steps, steps_on}
+use Rattle.conformance_boards.proofs.Lasting.{held_set, held_then, idle_then, steps_on}
 
 -- ---- of one worker
-
-pub own_claim : (b : BoardView) (w : ℕ) (ticket : Ticket) (frame : Option Places) (P : Work → Type 0) → HasClaimed b w ticket frame P → HasClaimed b ticket.worker ticket frame P
-own_claim b w ticket frame P claimed = subst (λ (n : ℕ). HasClaimed b n ticket frame P) (sym claimed.ticket_is) claimed
-
-pub back_as : (v w : ℕ) (x y : BoardView) → v ≡ w → GivesBack v x y → GivesBack w x y
-back_as v w x y same back = subst (λ (n : ℕ). GivesBack n x y) same back
 
 -- a claim that is to be copied has a frame whose inputs 32 bits can number
 few_work : (node : Node) (frame : FrameView) (key : Key) (work : Work) → IsToCopy node frame key work → length frame.inputs < 2 ^ 32
@@ -35,22 +27,6 @@ copies_few b w (Fire ticket frame) h = tt
 copies_few b w (Configure ticket frame) h = tt
 copies_few b w (Copy ticket node frame) h = few_work node frame b.key h.runs.work h.runs.so
 copies_few b w (Compile ticket task) h = tt
-
--- what a worker holds is its own
-pub fire_held : (b : BoardView) (w : ℕ) (held : Held) (ticket : Ticket) (frame : FrameView) → held ≡ Fire ticket frame → Holds b w held → HasClaimed b w ticket (Some frame.places) (IsToFire frame b.key)
-fire_held b w held ticket frame is h = subst (Holds b w) is h
-
-pub configure_held : (b : BoardView) (w : ℕ) (held : Held) (ticket : Ticket) (frame : FrameView) → held ≡ Configure ticket frame → Holds b w held → HasClaimed b w ticket (Some frame.places) (IsToFire frame b.key)
-configure_held b w held ticket frame is h = subst (Holds b w) is h
-
-pub copy_held : (b : BoardView) (w : ℕ) (held : Held) (ticket : Ticket) (node : Node) (frame : FrameView) → held ≡ Copy ticket node frame → Holds b w held → HasClaimed b w ticket (Some frame.places) (IsToCopy node frame b.key)
-copy_held b w held ticket node frame is h = subst (Holds b w) is h
-
-pub compile_held : (b : BoardView) (w : ℕ) (held : Held) (ticket : Ticket) (task : CompileView) → held ≡ Compile ticket task → Holds b w held → HasClaimed b w ticket None (IsToCompile task b.key)
-compile_held b w held ticket task is h = subst (Holds b w) is h
-
-pub nothing_held : (b : BoardView) (w : ℕ) (held : Held) → held ≡ Nothing → Holds b w held → GivesBack w b b
-nothing_held b w held is h = let idle : IsIdle b w = subst (Holds b w) is h in (no_steps w b, idle)
 
 -- ---- of all
 
@@ -76,19 +52,6 @@ module _ (laws : BoardsHaveLaws) (w : ℕ) (x y : BoardView) (sound : IsSound x)
 -- all are idle once a worker has taken steps and runs nothing again
 pub idle_after : (laws : BoardsHaveLaws) (w : ℕ) (x y z : BoardView) → IsSound x → IsSound z → StepsOf w x y → GivesBack w y z → AreAllIdle x → AreAllIdle z
 idle_after laws w x y z sound later steps back idle = idle_then laws w x z sound later (steps_on w x y z steps back.0) idle back.1
-
--- written twice at one place
-pub set_twice : (held : List Held) (w : ℕ) (one other : Held) → set (set held w one) w other ≡ set held w other
-set_twice [] w one other = refl
-set_twice (h ∷ held) zero one other = refl
-set_twice (h ∷ held) (suc w) one other = ap (λ (l : List Held). h ∷ l) (set_twice held w one other)
-
-pub crew_of_idle : (b : BoardView) (n : ℕ) → HasOurKernels b → AreAllIdle b → b.key.workers ≡ n → IsCrewOf b (replicate n Nothing)
-crew_of_idle b n ours idle workers = record { kernels = ours; one_each = length_same n ∙ sym workers; all = idle_held b n idle }
-  where
-    length_same : (n : ℕ) → length (replicate n Nothing) ≡ n
-    length_same zero = refl
-    length_same (suc n) = ap suc (length_same n)
 
 -- ---- the last one is taken from the list
 

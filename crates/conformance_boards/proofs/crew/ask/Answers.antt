@@ -1,4 +1,4 @@
-use Rattle.std.proofs.Common.{◌≡◌, sym, subst}
+use Rattle.std.proofs.Common.{sym, subst}
 use Rattle.conformance_boards.specs.Holding.{Holds, IsCrewOf}
 use Rattle.conformance_boards.proofs.Playing.{copies_few, crew_then}
 use Rattle.conformance_boards.proofs.crew.ask.Goals as goal

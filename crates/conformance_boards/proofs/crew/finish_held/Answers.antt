@@ -1,4 +1,4 @@
-use Rattle.std.proofs.Common.{◌≡◌, sym, subst}
+use Rattle.std.proofs.Common.{sym, subst}
 use Rattle.conformance_boards.specs.Holding.{Holds, IsCrewOf}
 use Rattle.conformance_boards.specs.declared.held.Held.TheVariants.{Nothing}
 use Rattle.conformance_boards.proofs.Playing.{crew_then}

@@ -1,4 +1,4 @@
-use Rattle.std.proofs.Common.{◌≡◌, Ok, IfOk, true, false, subst, ◌∙◌}
+use Rattle.std.proofs.Common.{◌≡◌, IfOk, true, false, subst, ◌∙◌}
 use Rattle.conformance_boards.proofs.Lasting.{idle_then}
 use Rattle.conformance_boards.proofs.Playing.{idle_after}
 use Rattle.conformance_boards.proofs.crew.has_ended.Goals as goal
