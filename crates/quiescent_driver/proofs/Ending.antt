@@ -13,7 +13,7 @@ whole : (b : BoardView) (entries : List Entry) → b.starved ≡ false → IsOve
 whole b entries live (inl f) is = record { taken = f.taken; legal = f.at.legal; ended = f.ended; entries_are = sym (is ∙ f.at.entered) }
 whole b entries live (inr (starved, idle)) is = let e : true ≡ false = sym starved ∙ live in cc
 
-ends_here : (b : BoardView) (end : BoardEnd) → IsOver b → EndsAs b end → EndsWith b.key end
+pub ends_here : (b : BoardView) (end : BoardEnd) → IsOver b → EndsAs b end → EndsWith b.key end
 ends_here b (ends.Done iteration delays journal) over (live, entries, gives) = (gives, whole b journal.entries live over entries)
 ends_here b (ends.Refused refusal journal) over (live, entries, refused) = (refused, whole b journal.entries live over entries)
 ends_here b ends.Starved over starved = tt

@@ -54,7 +54,7 @@ module _ (graphs : Graphs) (ins state : List (List ℤ)) (law : HasOneMeaning gr
 
 -- the state that is left is such as the next iteration begins with
 module _ (graphs : Graphs) (ins state : List (List ℤ)) (keeps : KeepsSizes graphs.graphs) (sound : early_faults graphs.graphs graphs.top [] ≡ []) (first : IsTopState graphs state) where
-  state_given : (iteration : Iteration) (after : List (List ℤ)) → IterationGives graphs ins state iteration after → IsTopState graphs after
+  pub state_given : (iteration : Iteration) (after : List (List ℤ)) → IterationGives graphs ins state iteration after → IsTopState graphs after
   state_given iteration after gives =
       ap lengths gives.state_is ∙ (keeps (top_firing gives.ends.top graphs.top ins state) gives.given sound first gives.ends.means).state
 

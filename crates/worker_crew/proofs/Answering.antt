@@ -43,7 +43,7 @@ claimed_as p old new P Q same so claimed = subst (λ (o : Option Places). HasCla
 
 -- ---- kernels
 
-fits_work : (frame : FrameView) (key : Key) (work : Work) → IsToFire frame key work → IsFrameOf key.signatures frame
+pub fits_work : (frame : FrameView) (key : Key) (work : Work) → IsToFire frame key work → IsFrameOf key.signatures frame
 fits_work frame key (Fires spot asked) h = h.1
 fits_work frame key (Copies node read lens) h = absurd h
 fits_work frame key (Compiles firing left) h = absurd h
@@ -66,7 +66,7 @@ asked_is asked frame asks =
     let sets = asks.sets in
     λ i. the_value (kind i) (args i) (inputs i) (outputs i) (sets i)
 
-fired_work : (old new : FrameView) (result : Result (Unit {0}) KernelFault) (key : Key) (work : Work) → told_by new result ≡ frame_value old → IsToFire old key work → MayComeBack key new result (IsOk result) work
+pub fired_work : (old new : FrameView) (result : Result (Unit {0}) KernelFault) (key : Key) (work : Work) → told_by new result ≡ frame_value old → IsToFire old key work → MayComeBack key new result (IsOk result) work
 fired_work old new result key (Fires spot asked) value h = record {
   answered = told_is spot new result ∙ ap (fired spot) (value ∙ asked_is asked old h.0);
   sound_so = tt;
@@ -81,7 +81,7 @@ fires_back p old new result claimed same value =
 
 -- ---- nodes
 
-frame_work : (node : Node) (frame : FrameView) (key : Key) (work : Work) → IsToCopy node frame key work → special.IsFrameOf node frame
+pub frame_work : (node : Node) (frame : FrameView) (key : Key) (work : Work) → IsToCopy node frame key work → special.IsFrameOf node frame
 frame_work node frame key (Fires spot asked) h = absurd h
 frame_work node frame key (Copies copier read lens) h = h.2
 frame_work node frame key (Compiles firing left) h = absurd h
@@ -92,7 +92,7 @@ fits_node p places node frame claimed = frame_work node frame claimed.key claime
 done : Result (Unit {0}) KernelFault
 done = Ok tt
 
-copied_work : (node : Node) (old new : FrameView) (result : Result (Unit {0}) KernelFault) (key : Key) (work : Work) → IsOk result → SameFrame old new → PassesOn node (joined old.inputs) (joined new.outputs) → IsToCopy node old key work → MayComeBack key new result (IsOk result) work
+pub copied_work : (node : Node) (old new : FrameView) (result : Result (Unit {0}) KernelFault) (key : Key) (work : Work) → IsOk result → SameFrame old new → PassesOn node (joined old.inputs) (joined new.outputs) → IsToCopy node old key work → MayComeBack key new result (IsOk result) work
 copied_work node old new result key (Fires spot asked) ok same passed h = absurd h
 copied_work node old new result key (Copies copier read lens) ok same passed h = record {
   answered = record {
@@ -112,7 +112,7 @@ copies_back p node old new result claimed ok same passed =
 
 -- ---- compilations
 
-ended_work : (task : CompileView) (end : CompileEnd) (key : Key) (work : Work) → ((answer : Answer) × Answers key.graphs.graphs work answer) → IsEndOf task.graphs.graphs task.workers task.firing task.left end → IsToCompile task key work → MayEnd key end work
+pub ended_work : (task : CompileView) (end : CompileEnd) (key : Key) (work : Work) → ((answer : Answer) × Answers key.graphs.graphs work answer) → IsEndOf task.graphs.graphs task.workers task.firing task.left end → IsToCompile task key work → MayEnd key end work
 ended_work task end key (Fires spot asked) answer ends h = absurd h
 ended_work task end key (Copies node read lens) answer ends h = absurd h
 ended_work task end key (Compiles firing left) answer ends h =
@@ -122,7 +122,7 @@ ended_work task end key (Compiles firing left) answer ends h =
     let left = h.3 in
     (subst (λ (E : Type 0). E) (λ i. IsEndOf (graphs i).graphs (workers i) (firing i) (left i) end) ends, answer)
 
-compile_answer : (key : Key) (work : Work) (task : CompileView) → IsToCompile task key work → ((firing : _) (left : _) → work ≡ Compiles firing left → (answer : Answer) × Answers key.graphs.graphs (Compiles firing left) answer) → (answer : Answer) × Answers key.graphs.graphs work answer
+pub compile_answer : (key : Key) (work : Work) (task : CompileView) → IsToCompile task key work → ((firing : _) (left : _) → work ≡ Compiles firing left → (answer : Answer) × Answers key.graphs.graphs (Compiles firing left) answer) → (answer : Answer) × Answers key.graphs.graphs work answer
 compile_answer key (Fires spot asked) task h ends = absurd h
 compile_answer key (Copies node read lens) task h ends = absurd h
 compile_answer key (Compiles firing left) task h ends = ends firing left refl

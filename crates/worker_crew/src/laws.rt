@@ -1,5 +1,5 @@
-// What is known of boards and of what workers run, for the proofs of this crate. The functions do nothing; their contracts are
-// the laws.
+// What is known of boards and of what workers run, for the proofs of whoever runs what was claimed. The functions do nothing;
+// their contracts are the laws.
 ghost use Rattle.worker_crew.specs.Laws.{BoardsHaveLaws, CompilationsEnd, WorkFits};
 
 use board_rules::entries_tell_steps;
@@ -12,7 +12,7 @@ use single_rate::graphs_numbered;
 
 /// A worker runs something exactly where its last entry is a claim, and what it runs stays the same work until its next entry,
 /// whatever the others do; a journal that has ended doesn't go on.
-pub(crate) fn board_laws()
+pub fn board_laws()
     ensures { BoardsHaveLaws }
 {
     entries_tell_steps();
@@ -20,7 +20,7 @@ pub(crate) fn board_laws()
 }
 
 /// A compilation has an answer, whether or not there is memory to work it out.
-pub(crate) fn compilations_end()
+pub fn compilations_end()
     ensures { CompilationsEnd }
 {
     rules_are_lawful();
@@ -30,7 +30,7 @@ pub(crate) fn compilations_end()
 
 /// The work that a worker runs is such that its frame can be run: it fits the signature of its kernel, or has the ports and the
 /// lengths of its node.
-pub(crate) fn work_fits()
+pub fn work_fits()
     ensures { WorkFits }
 {
     rules_are_lawful();

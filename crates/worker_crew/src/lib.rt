@@ -11,4 +11,5 @@ mod slot;
 mod working;
 
 pub use crew::run_crew;
+pub use laws::{board_laws, compilations_end, work_fits};
 pub use working::work;
