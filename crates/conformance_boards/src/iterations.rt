@@ -110,7 +110,11 @@ fn lend_kept(board: &mut Board, kept: &mut Option<Kept>)
 }
 
 /// The outcome of a board of which no worker runs anything, where it has ended.
-fn outcome_of(alloc: Global, board: Board, ended: Result<bool, Trouble>) -> Result<BoardEnd, Trouble>
+fn outcome_of(
+    alloc: Global,
+    board: Board,
+    ended: Result<bool, Trouble>,
+) -> Result<BoardEnd, Trouble>
     requires idle { AreAllIdle board }
     requires over { ended ≡ Ok true → IsOver board }
     ensures { IfOk result (EndsWith board.key) }
