@@ -1,5 +1,5 @@
 -- What a board that is over tells.
-use Rattle.std.proofs.Common.{◌≡◌, List, true, false, Result, Ok, Err, IfOk, inl, inr, refl, sym, ap, ◌∙◌, subst}
+use Rattle.std.proofs.Common.{◌≡◌, List, true, false, Result, Ok, Err, IfOk, inl, inr, sym, ◌∙◌, subst}
 use Rattle.board_rules.specs.Keys.{Key}
 use Rattle.board_rules.specs.declared.entry.Entry.{Entry}
 use Rattle.firing_board.specs.Ends.{EndsAs, IsOver}

@@ -1,8 +1,7 @@
 -- What is answered is the one end of the iteration.
-use Rattle.std.proofs.Common.{◌≡◌, ℤ, List, [], ◌⊎◌, inl, inr, slice_get, Some, Result, Ok, Err, IfOk, IfErr, OnErr, refl, ap, sym, ◌∙◌, subst}
+use Rattle.std.proofs.Common.{◌≡◌, ℤ, List, [], ◌⊎◌, inl, inr, Result, Ok, Err, IfOk, IfErr, OnErr, refl, ap, sym, ◌∙◌, subst}
 use Rattle.kernel_gate.specs.Value.{lengths}
 use Rattle.param_resolver.specs.EarlyCheck.{early_faults}
-use Rattle.pisdf_model.specs.Hold.{initial}
 use Rattle.pisdf_model.specs.declared.graph.Graph.{Graph}
 use Rattle.pisdf_model.specs.declared.graph.Graphs.{Graphs}
 use Rattle.pisdf_meaning.specs.Endings.{End}

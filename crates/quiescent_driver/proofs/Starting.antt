@@ -1,22 +1,20 @@
 -- What an iteration is given is what a board is started with.
-use Rattle.std.proofs.Common.{◌≡◌, ℕ, ◌<◌, ◌≤◌, ℤ, List, [], map, slice_get, Some, None, Result, Ok, Err, IfOk, false, refl, sym, ap, ◌∙◌, subst, length, replicate}
+use Rattle.std.proofs.Common.{◌≡◌, ℕ, ◌<◌, ◌≤◌, ℤ, List, [], map, None, Result, Ok, Err, IfOk, false, refl, sym, ap, ◌∙◌, subst, replicate}
 use Rattle.std.proofs.lemmas.Option.{slice_get-get_or}
 use Rattle.std.proofs.lemmas.Simd.{map-map}
-use Rattle.kernel_gate.specs.Signed.{Counts, SignatureView, counts_of, signature_view, unnamed}
+use Rattle.kernel_gate.specs.Signed.{SignatureView, counts_of, signature_view, unnamed}
 use Rattle.kernel_gate.specs.Value.{lengths}
 use Rattle.kernel_gate.specs.declared.signature.Signature.{Signature}
 use Rattle.param_resolver.specs.EarlyCheck.{early_faults}
 use Rattle.pisdf_model.specs.Range.{InRange}
 use Rattle.pisdf_model.specs.WellFormed.{WellFormed}
-use Rattle.pisdf_model.specs.declared.graph.Graph.{Graph}
 use Rattle.pisdf_model.specs.declared.graph.Graphs.{Graphs}
 use Rattle.pisdf_meaning.specs.Run.{top_needs}
 use Rattle.pisdf_meaning.specs.Sizes.{GiveLengths}
 use Rattle.pisdf_meaning.specs.Sound.{KernelsFit}
 use Rattle.pisdf_meaning.specs.declared.outcome.Delays.{Delays}
 use Rattle.job_rules.specs.Items.{no_graph}
-use Rattle.job_rules.specs.Meant.{IsFit}
-use Rattle.board_rules.specs.Keys.{IsKey, Key, top_job}
+use Rattle.board_rules.specs.Keys.{IsKey, Key}
 use Rattle.firing_board.specs.Runs.{AreAllIdle}
 use Rattle.firing_board.specs.Starts.{key_from}
 use Rattle.firing_board.specs.View.{BoardView}
