@@ -48,7 +48,7 @@ fn ask<R: Wait>(
 }
 
 /// Asks again and again for the pass's number, which runs none, until there is an item or the board is over. Before each time
-/// it pauses, longer from time to time, and at first for a moment alone.
+/// it pauses: for a moment, then longer each time, and at last it lets other threads run.
 pub(crate) fn await_item<R: Wait>(
     rt: &R,
     alloc: Global,

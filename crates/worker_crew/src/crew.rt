@@ -61,8 +61,8 @@ fn crew<K: Gate + Sync, R: Threads + Wait + Sync>(
 }
 
 /// Runs a board of which no worker runs anything with all its workers, each in a thread, until it is over: its journal has
-/// ended, or memory was wanted. No worker runs anything then. Where a thread can't be started, what it would do comes last in
-/// the one that would start it. It may wait.
+/// ended, or memory was wanted. No worker runs anything then. Where a thread can't be started, the half of the workers that
+/// it was for works in the thread that wanted it, once the other half has. It may wait.
 ///
 /// # Errors
 ///
