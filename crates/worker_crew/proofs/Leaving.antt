@@ -149,10 +149,6 @@ module _ (p : BoardPass) (x y : BoardView) (more : List Entry) (found : Finds bo
     own = ap (first_gains p.own) unseen_is;
   }
 
--- the pass as the lock's calls tell it
-pub left_as : (p : BoardPass) (x y : BoardView) (known after : BoardPass) → known ≡ seen_in board_meant p x → after ≡ known_after board_meant known y → after ≡ left_by p x y
-left_as p x y known after known_is after_is = after_is ∙ ap (λ (k : BoardPass). known_after board_meant k y) known_is
-
 -- the pass is of a worker of the board that is found
 pub found_worker : (kernels : List Counts) (p : BoardPass) (x : BoardView) → Finds board_meant p x → MayWork kernels p → p.number < x.key.workers
 found_worker kernels p x found may = subst (λ (k : Key). p.number < k.workers) (sym (found_key p x found may.key may.key_is)) may.is_worker

@@ -111,8 +111,8 @@ loop-preserved g c =
       asked = (
         after.between,
         worked_on c.args.pass.known c.loop.pass.known after.between
-        (worked_on c.args.pass.known c.loop.invariant.asked.0 c.loop.pass.known c.loop.invariant.asked.1 (waited_worked c.loop.invariant.asked.0 c.loop.pass.known added))
-        (waited_worked c.loop.pass.known after.between after.added),
+            (worked_on c.args.pass.known c.loop.invariant.asked.0 c.loop.pass.known c.loop.invariant.asked.1 (waited_worked c.loop.invariant.asked.0 c.loop.pass.known added))
+            (waited_worked c.loop.pass.known after.between after.added),
         after.asked,
       );
     }
