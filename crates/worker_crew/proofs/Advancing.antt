@@ -1,12 +1,12 @@
 -- What a pass knows after its numbers have worked.
-use Rattle.std.proofs.Common.{◌≡◌, ℕ, zero, suc, ◌+◌, ◌<◌, ◌≤◌, Bool, true, false, Some, List, [], ◌∷◌, ◌++◌, length, get_or, refl, sym, ap, ◌∙◌, subst, arith, append_assoc, append-nil}
+use Rattle.std.proofs.Common.{◌≡◌, ℕ, zero, suc, ◌+◌, ◌<◌, Bool, true, false, List, [], ◌∷◌, ◌++◌, length, get_or, refl, sym, ap, ◌∙◌, subst, arith, append_assoc, append-nil}
 use Rattle.kernel_gate.specs.Signed.{Counts}
 use Rattle.board_lock.specs.Meant.{entries_of}
 use Rattle.board_lock.specs.Passes.{Later, first_gains}
 use Rattle.board_rules.specs.declared.entry.Entry.{Entry}
 use Rattle.board_rules.specs.declared.entry.Entry.TheVariants.{Claim, Finish}
 use Rattle.firing_board.specs.Locking.{worker_of}
-use Rattle.worker_crew.specs.Passes.{AreIdle, BoardPass, IsIdleAt, MayWork, entries_at, last_claims}
+use Rattle.worker_crew.specs.Passes.{BoardPass, IsIdleAt, MayWork, entries_at, last_claims}
 use Rattle.worker_crew.specs.Worked.{AddsClaim, AreFinished, HasAdded, HasWorked}
 
 -- ---- later

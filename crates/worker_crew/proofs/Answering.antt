@@ -1,9 +1,8 @@
 -- What a worker ran gives an answer that its work may have.
-use Rattle.std.proofs.Common.{◌≡◌, ℕ, IsOk, Option, Some, None, Result, Ok, Err, List, [], length, refl, sym, ap, ◌∙◌, subst}
+use Rattle.std.proofs.Common.{◌≡◌, IsOk, Option, Some, None, Result, Ok, Err, List, refl, sym, ap, ◌∙◌, subst}
 use Rattle.kernel_gate.specs.Signed.{Counts, IsFrameOf}
 use Rattle.kernel_gate.specs.Table.{frame_value, the_value}
-use Rattle.kernel_gate.specs.Value as kernel
-use Rattle.kernel_gate.specs.Value.{FrameView, Places, SameFrame, lengths, told_by}
+use Rattle.kernel_gate.specs.Value.{FrameView, Places, SameFrame, told_by}
 use Rattle.kernel_gate.specs.declared.fault.KernelFault.{KernelFault}
 use Rattle.sdf_level.specs.declared.node.Node.{Node}
 use Rattle.special_actors.specs.Copying.{PassesOn, joined}

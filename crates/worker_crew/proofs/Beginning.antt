@@ -1,22 +1,20 @@
 -- What a crew knows at its start and at its end.
-use Rattle.std.proofs.Common.{◌≡◌, ◌⊎◌, ⊎_elim, inl, inr, ℕ, ◌+◌, ◌<◌, ◌≤◌, Bool, true, false, Option, Some, None, List, [], ◌∷◌, ◌++◌, length, get_or, replicate, refl, sym, ap, ◌∙◌, subst, arith, append-nil}
+use Rattle.std.proofs.Common.{◌≡◌, ⊎_elim, inl, inr, ℕ, ◌+◌, ◌<◌, ◌≤◌, false, None, List, [], ◌++◌, length, refl, sym, ap, ◌∙◌, subst, arith, append-nil}
 use Rattle.std.specs.Prelude.{is_some}
 use Rattle.std.proofs.lemmas.Bool.{cases_lt}
 use Rattle.std.proofs.lemmas.List.{length-replicate}
 use Rattle.kernel_gate.specs.Signed.{Counts}
-use Rattle.kernel_gate.specs.Value.{Places}
-use Rattle.board_lock.specs.Meant.{Begins, entries_of}
+use Rattle.board_lock.specs.Meant.{entries_of}
 use Rattle.board_lock.specs.Passes.{Finds, LendsNothing, first_known}
 use Rattle.board_lock.proofs.Entries.{entries-append}
-use Rattle.board_rules.specs.Entries.{Step}
-use Rattle.board_rules.specs.Keys.{IsKey, Key}
+use Rattle.board_rules.specs.Keys.{Key}
 use Rattle.board_rules.specs.Legal.{AreLegal, HasEnded, journal_of, state_after}
 use Rattle.board_rules.specs.declared.entry.Entry.{Entry}
 use Rattle.firing_board.specs.Ends.{HasFinished, IsOver}
 use Rattle.firing_board.specs.Locking.{board_meant, places_of, worker_of}
 use Rattle.firing_board.specs.Runs.{AreAllIdle, IsSound}
-use Rattle.firing_board.specs.View.{BoardView, IsAt, lent_to}
-use Rattle.worker_crew.specs.Laws.{BoardLaws, BoardsHaveLaws}
+use Rattle.firing_board.specs.View.{BoardView}
+use Rattle.worker_crew.specs.Laws.{BoardsHaveLaws}
 use Rattle.worker_crew.specs.Passes.{AllMayWork, AreIdle, BoardPass, HasSeenEnd, HasSeenOver, IsIdleAt, entries_at, last_claims}
 use Rattle.worker_crew.specs.Worked.{HasWorked}
 use Rattle.worker_crew.proofs.Advancing.{worked_idle_at}

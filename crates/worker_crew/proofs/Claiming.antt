@@ -1,26 +1,25 @@
 -- What a pass knows once its number has asked for an item.
-use Rattle.std.proofs.Common.{◌≡◌, ◌≢◌, ℕ, zero, suc, ◌+◌, ◌<◌, true, false, Option, Some, None, List, [], ◌∷◌, ◌++◌, length, get_or, set, All, refl, sym, ap, ◌∙◌, subst, arith, append-nil, get_or-set_same, get_or-set_other}
+use Rattle.std.proofs.Common.{◌≡◌, ℕ, zero, suc, ◌<◌, true, false, Option, Some, None, List, [], ◌∷◌, ◌++◌, length, get_or, set, All, refl, sym, ap, ◌∙◌, subst, arith, append-nil, get_or-set_same, get_or-set_other}
 use Rattle.kernel_gate.specs.Value.{Places}
 use Rattle.nested_jobs.specs.Journals as steps
 use Rattle.job_rules.specs.Words.{Compiles, Copies, Fires, Work}
-use Rattle.board_lock.specs.Passes.{Finds, first_becomes, first_gains}
+use Rattle.board_lock.specs.Passes.{Finds, first_gains}
 use Rattle.board_rules.specs.Entries.{Step}
 use Rattle.board_rules.specs.Keys.{Key}
-use Rattle.board_rules.specs.Legal.{AreLegal, HasEnded, journal_of, state_after}
-use Rattle.board_rules.specs.Laws.{HasToWait}
+use Rattle.board_rules.specs.Legal.{AreLegal, journal_of}
 use Rattle.board_rules.specs.declared.entry.Entry.{Entry}
-use Rattle.board_rules.specs.declared.entry.Entry.TheVariants.{Claim as claim_entry, Finish}
+use Rattle.board_rules.specs.declared.entry.Entry.TheVariants.{Claim as claim_entry}
 use Rattle.board_rules.specs.declared.entry.Item.{Item}
 use Rattle.firing_board.specs.Claims.{Claims, IsTicket, Picks, Stays}
 use Rattle.firing_board.specs.Locking.{board_meant, places_of, worker_of}
 use Rattle.firing_board.specs.Runs.{IsSound}
-use Rattle.firing_board.specs.View.{BoardView, IsAt, lent_to}
+use Rattle.firing_board.specs.View.{BoardView, lent_to}
 use Rattle.firing_board.specs.declared.claim.Claim.{Claim}
 use Rattle.firing_board.specs.declared.claim.Claim.TheVariants as claim
 use Rattle.firing_board.specs.declared.claim.Ticket.{Ticket}
 use Rattle.worker_crew.specs.Asked.{Asked, HasClaimed, IsToCompile, IsToCopy, IsToFire}
-use Rattle.worker_crew.specs.Laws.{BoardLaws, BoardsHaveLaws, IsFitWork, WorkFits}
-use Rattle.worker_crew.specs.Passes.{BoardPass, HasSeenEnd}
+use Rattle.worker_crew.specs.Laws.{BoardsHaveLaws, IsFitWork, WorkFits}
+use Rattle.worker_crew.specs.Passes.{BoardPass}
 use Rattle.worker_crew.specs.Worked.{AddsClaim, HasAdded}
 use Rattle.worker_crew.proofs.Framing.{kernel_frame, node_frame}
 use Rattle.worker_crew.proofs.Holding.{became_first}

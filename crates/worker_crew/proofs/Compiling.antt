@@ -1,6 +1,6 @@
 -- A compilation that a worker runs is of a firing that can be compiled, and has an answer.
-use Rattle.std.proofs.Common.{◌≡◌, ℕ, zero, suc, ◌-◌, ◌<◌, Bool, true, false, cond, if◌then◌else◌, ℤ, Option, Some, None, Result, Ok, Err, List, [], ◌∷◌, slice_get, refl, sym, ap, ◌∙◌, subst, arith}
-use Rattle.std.proofs.lemmas.Option.{get_or_from_slice_get, slice_get_within}
+use Rattle.std.proofs.Common.{◌≡◌, ℕ, zero, suc, ◌<◌, Bool, true, false, if◌then◌else◌, ℤ, Option, Some, None, Result, Ok, Err, List, [], ◌∷◌, slice_get, refl, sym, subst, arith}
+use Rattle.std.proofs.lemmas.Option.{slice_get_within}
 use Rattle.level_schedule.specs.Laws.{HasAnswer, IsAnswerOf}
 use Rattle.level_schedule.specs.declared.scheduling.LevelSchedule.{LevelSchedule}
 use Rattle.level_schedule.specs.declared.unscheduled.Unscheduled.{Unscheduled}

@@ -1,5 +1,5 @@
 -- What a worker's board is like once it has given back what it ran.
-use Rattle.std.proofs.Common.{◌≡◌, ◌≢◌, ℕ, zero, suc, ◌<◌, true, Option, Some, None, List, [], ◌∷◌, ◌++◌, get_or, set, length, All, refl, sym, ap, ◌∙◌, subst, arith, get_or-set_other}
+use Rattle.std.proofs.Common.{◌≡◌, ℕ, zero, suc, true, Option, None, List, [], ◌∷◌, ◌++◌, get_or, All, refl, sym, ap, ◌∙◌, arith, get_or-set_other}
 use Rattle.kernel_gate.specs.Value.{Places}
 use Rattle.nested_jobs.specs.Journals as steps
 use Rattle.job_preparing.specs.declared.compiling.CompileEnd.{CompileEnd}
@@ -14,7 +14,7 @@ use Rattle.board_rules.specs.declared.entry.Entry.TheVariants.{Finish}
 use Rattle.firing_board.specs.Finishes.{Finishes, MayEnd}
 use Rattle.firing_board.specs.Locking.{board_meant, worker_of}
 use Rattle.firing_board.specs.Runs.{IsSound, Runs}
-use Rattle.firing_board.specs.View.{BoardView, lent_to}
+use Rattle.firing_board.specs.View.{BoardView}
 use Rattle.worker_crew.specs.Laws.{BoardsHaveLaws}
 use Rattle.worker_crew.specs.Asked.{HasClaimed}
 use Rattle.worker_crew.specs.Passes.{BoardPass}

@@ -1,12 +1,10 @@
 -- The work that a worker runs fits its kernel or its node.
-use Rattle.std.proofs.Common.{◌≡◌, ◌≢◌, ℕ, zero, suc, ◌+◌, ◌-◌, ◌<◌, ◌≤◌, ◌^◌, ◌==◌, Bool, true, false, cond, ℤ, Option, Some, None, List, [], ◌∷◌, ◌++◌, length, map, slice_get, slice_index_or, refl, sym, ap, ◌∙◌, subst, arith, length-append}
+use Rattle.std.proofs.Common.{◌≡◌, ◌≢◌, ℕ, zero, suc, ◌+◌, ◌<◌, ◌≤◌, ◌^◌, ◌==◌, Bool, true, false, cond, ℤ, Option, Some, None, List, [], ◌∷◌, ◌++◌, length, slice_get, refl, sym, ap, ◌∙◌, subst, arith, length-append}
 use Rattle.std.proofs.lemmas.List.{length-map}
-use Rattle.kernel_gate.specs.Signed.{Counts}
 use Rattle.kernel_gate.specs.Value.{lengths}
 use Rattle.special_actors.specs.Fitting.{HasLengths}
 use Rattle.sdf_level.specs.Kept.{IsLevel}
 use Rattle.sdf_level.specs.Limits.{IsWithinLimits}
-use Rattle.sdf_level.specs.Orders.{IsTurnOrder}
 use Rattle.sdf_level.specs.Repetition.{IsRepetition}
 use Rattle.sdf_level.specs.Laws.{Suffices}
 use Rattle.sdf_level.specs.View.{LevelView}
@@ -26,15 +24,14 @@ use Rattle.pisdf_model.specs.declared.graph.Graph.{Graph}
 use Rattle.pisdf_meaning.specs.Configuring.{Configuration, configurations}
 use Rattle.pisdf_meaning.specs.declared.firing.Configured.{Configured}
 use Rattle.pisdf_meaning.specs.declared.firing.Firing.{Firing}
-use Rattle.pisdf_meaning.specs.declared.refusal.Refusal.{Refusal}
-use Rattle.nested_jobs.specs.Rules.{Call, Place, Task, Values, Work}
-use Rattle.nested_jobs.specs.Marks.{Open, values}
+use Rattle.nested_jobs.specs.Rules.{Task, Values, Work}
+use Rattle.nested_jobs.specs.Marks.{values}
 use Rattle.job_flow.specs.Frames.{arriving_size, edges_into, in_lens, inputs, lens, lengths_read, lengths_written, sizes_below, sizes_out}
 use Rattle.job_flow.specs.Graphs.{JobGraph, node_at}
 use Rattle.job_flow.specs.Laws.{FramesFit}
 use Rattle.job_rules.proofs.Answered.{answered, is_job, level_so, rule_so}
 use Rattle.job_rules.specs.Fitting.{TasksFit}
-use Rattle.job_rules.specs.Items.{Prepared, actor_task, compile_rule, config_task, firing_task, graph_of, job_graph, left_in, node_rule, node_task, node_values, prepared_in, rule, rule_from, values_in}
+use Rattle.job_rules.specs.Items.{Prepared, actor_task, compile_rule, config_task, firing_task, graph_of, job_graph, left_in, node_rule, node_task, node_values, prepared_in, rule_from, values_in}
 use Rattle.job_rules.specs.Words as words
 use Rattle.job_rules.specs.Words.{Answer}
 use Rattle.board_rules.specs.Entries.{BoardState, Step}

@@ -1,5 +1,5 @@
 -- A frame that is handed out fits its kernel or its node.
-use Rattle.std.proofs.Common.{◌≡◌, ℕ, ◌<◌, ◌≤◌, ◌^◌, ℤ, Some, List, length, slice_get, refl, sym, ap, ◌∙◌, subst, arith}
+use Rattle.std.proofs.Common.{◌≡◌, ℕ, ◌<◌, ◌≤◌, ◌^◌, ℤ, List, length, slice_get, sym, ap, ◌∙◌, subst}
 use Rattle.std.proofs.lemmas.List.{length-map}
 use Rattle.kernel_gate.specs.Signed.{Counts, Fits, IsFrameOf}
 use Rattle.kernel_gate.specs.Value.{FrameView, lengths}

@@ -1,13 +1,12 @@
 -- A pass is halved, both halves work, and they are joined.
-use Rattle.std.proofs.Common.{◌≡◌, ◌⊎◌, ⊎_elim, inl, inr, ℕ, zero, suc, ◌+◌, ◌-◌, ◌<◌, ◌≤◌, Bool, true, false, cond, ◌||◌, nat_lt, Option, Some, List, [], ◌∷◌, ◌++◌, length, get_or, take, drop, refl, sym, ap, ◌∙◌, subst, arith, length-take, length-drop, length-append}
-use Rattle.std.proofs.lemmas.Bool.{cases_Bool, cases_lt}
+use Rattle.std.proofs.Common.{◌≡◌, ⊎_elim, inl, inr, ℕ, ◌+◌, ◌-◌, ◌<◌, ◌≤◌, Bool, true, false, cond, ◌||◌, nat_lt, Some, List, [], ◌++◌, length, get_or, take, drop, refl, sym, ap, ◌∙◌, subst, arith, length-take, length-drop, length-append}
+use Rattle.std.proofs.lemmas.Bool.{cases_lt}
 use Rattle.kernel_gate.specs.Signed.{Counts}
 use Rattle.board_lock.specs.Meant.{Begins, entries_of}
 use Rattle.board_lock.specs.Passes.{Later, first_part, joined, second_part}
-use Rattle.board_rules.specs.Keys.{Key}
 use Rattle.board_rules.specs.declared.entry.Entry.{Entry}
 use Rattle.firing_board.specs.Locking.{worker_of}
-use Rattle.worker_crew.specs.Passes.{AllMayWork, AreIdle, BoardPass, HasSeenEnd, HasSeenOver, IsIdleAt, MayWork, entries_at, last_claims}
+use Rattle.worker_crew.specs.Passes.{AllMayWork, AreIdle, BoardPass, HasSeenEnd, HasSeenOver, MayWork, last_claims}
 use Rattle.worker_crew.specs.Worked.{AreFinished, HasWorked}
 use Rattle.worker_crew.proofs.Lists.{dropped_at, left_at, right_at, taken_at}
 

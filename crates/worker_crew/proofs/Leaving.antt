@@ -1,21 +1,20 @@
 -- How a pass finds a board, and what it knows once it has left it.
-use Rattle.std.proofs.Common.{◌≡◌, ◌≢◌, ℕ, zero, suc, ◌+◌, ◌<◌, Bool, true, false, Option, Some, None, List, [], ◌∷◌, ◌++◌, length, drop, get_or, All, refl, sym, ap, ◌∙◌, subst, arith, append_assoc, append-nil}
+use Rattle.std.proofs.Common.{◌≡◌, ◌≢◌, ℕ, ◌+◌, ◌<◌, true, false, Option, Some, None, List, [], ◌∷◌, ◌++◌, length, drop, get_or, All, refl, sym, ap, ◌∙◌, subst, arith, append_assoc, append-nil}
 use Rattle.std.specs.Prelude.{is_some}
 use Rattle.kernel_gate.specs.Signed.{Counts}
 use Rattle.kernel_gate.specs.Value.{Places}
 use Rattle.job_rules.specs.Words.{Work}
 use Rattle.board_lock.specs.Meant.{entries_of}
-use Rattle.board_lock.specs.Passes.{Finds, Later, MayLeave, first_gains, known_after, seen_in}
+use Rattle.board_lock.specs.Passes.{Finds, MayLeave, first_gains, known_after, seen_in}
 use Rattle.board_lock.proofs.Entries.{entries-append}
-use Rattle.board_rules.specs.Entries.{Step}
 use Rattle.board_rules.specs.Keys.{Key}
 use Rattle.board_rules.specs.Legal.{AreLegal, journal_of, state_after}
 use Rattle.board_rules.specs.declared.entry.Entry.{Entry}
 use Rattle.firing_board.specs.Locking.{board_meant, places_of, worker_of}
 use Rattle.firing_board.specs.Runs.{IsIdle, IsSound, Runs, RunsWork}
-use Rattle.firing_board.specs.View.{BoardView, IsAt, lent_to}
+use Rattle.firing_board.specs.View.{BoardView, lent_to}
 use Rattle.worker_crew.specs.Asked.{HasClaimed}
-use Rattle.worker_crew.specs.Laws.{BoardLaws, BoardsHaveLaws}
+use Rattle.worker_crew.specs.Laws.{BoardsHaveLaws}
 use Rattle.worker_crew.specs.Passes.{BoardPass, IsIdleAt, MayWork, entries_at, last_claims}
 use Rattle.worker_crew.specs.Worked.{HasAdded}
 use Rattle.worker_crew.proofs.Lists.{drop_front, front_same}

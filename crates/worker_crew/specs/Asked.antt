@@ -1,5 +1,5 @@
 -- What a worker that has asked for an item may do with it.
-use Rattle.std.specs.Prelude.{◌≡◌, ℕ, ◌<◌, true, List, [], ◌++◌, Option, Some, None, length, slice_index_or}
+use Rattle.std.specs.Prelude.{◌≡◌, ◌<◌, true, List, [], Option, Some, None, length, slice_index_or}
 use Rattle.kernel_gate.specs.Signed.{IsFrameOf}
 use Rattle.kernel_gate.specs.Value.{FrameView, Places}
 use Rattle.special_actors.specs.Fitting as special
@@ -15,7 +15,6 @@ use Rattle.firing_board.specs.Locking.{places_of}
 use Rattle.firing_board.specs.Runs.{RunsWork}
 use Rattle.firing_board.specs.declared.claim.Claim.{Claim}
 use Rattle.firing_board.specs.declared.claim.Claim.TheVariants as claim
-use Rattle.firing_board.specs.declared.claim.Ticket.{Ticket}
 use Rattle.worker_crew.specs.Passes.{BoardPass, HasSeenEnd}
 use Rattle.worker_crew.specs.Worked.{AddsClaim, HasAdded}
 

@@ -1,4 +1,4 @@
-use Rattle.std.proofs.Common.{◌≡◌, List, [], subst}
+use Rattle.std.proofs.Common.{[], subst}
 use Rattle.firing_board.specs.declared.claim.Claim.{Claim}
 use Rattle.worker_crew.specs.Asked.{Asked}
 use Rattle.worker_crew.proofs.Advancing.{added_same, added_twice, may_later, waited_worked, worked_idle_at}

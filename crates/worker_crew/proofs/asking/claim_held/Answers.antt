@@ -1,12 +1,12 @@
-use Rattle.std.proofs.Common.{◌≡◌, ℕ, List, sym, subst, ◌∙◌}
+use Rattle.std.proofs.Common.{ℕ, sym, subst, ◌∙◌}
 use Rattle.board_lock.specs.Passes.{known_after}
 use Rattle.firing_board.specs.Claims.{Claims}
 use Rattle.firing_board.specs.Locking.{board_meant}
 use Rattle.firing_board.specs.Runs.{IsIdle, IsSound}
 use Rattle.firing_board.specs.View.{BoardView}
 use Rattle.worker_crew.specs.Asked.{Asked}
-use Rattle.worker_crew.specs.Passes.{BoardPass, MayWork}
-use Rattle.worker_crew.proofs.Claiming.{Turns, turns}
+use Rattle.worker_crew.specs.Passes.{BoardPass}
+use Rattle.worker_crew.proofs.Claiming.{turns}
 use Rattle.worker_crew.proofs.Holding.{left_then, may_leave_then}
 use Rattle.worker_crew.proofs.Leaving.{found_idle, found_worker}
 use Rattle.worker_crew.proofs.asking.claim_held.Goals as goal

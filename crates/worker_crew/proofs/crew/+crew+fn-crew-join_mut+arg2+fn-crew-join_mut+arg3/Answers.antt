@@ -3,7 +3,7 @@ use denote.Exit.{no}
 use denote.Param.{param}
 use denote.Param.Send.{IsSync, arg_send, param_send}
 use Rattle.board_lock.specs.Passes.{first_part, second_part}
-use Rattle.worker_crew.specs.Passes.{BoardPass, HasSeenOver}
+use Rattle.worker_crew.specs.Passes.{HasSeenOver}
 use Rattle.worker_crew.specs.Worked.{HasWorked}
 use Rattle.worker_crew.proofs.Halving.{both_over, both_worked}
 use Rattle.worker_crew.proofs.Sending.{captures_send}

@@ -1,6 +1,6 @@
 use Rattle.std.proofs.Common.{sym, subst}
 use Rattle.worker_crew.specs.Passes.{AreIdle}
-use Rattle.worker_crew.proofs.Beginning.{ends_idle, ends_over, first_count, first_idle, first_may, lends_nothing, some_worker}
+use Rattle.worker_crew.proofs.Beginning.{ends_idle, ends_over, first_idle, lends_nothing}
 use Rattle.worker_crew.proofs.crew.run_crew.Goals as goal
 
 pub start-requires-clause-lent : goal.start-requires-clause-lent

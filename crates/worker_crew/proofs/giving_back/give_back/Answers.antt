@@ -1,16 +1,10 @@
-use Rattle.std.proofs.Common.{◌≡◌, ℕ, IsOk, None, Some, Option, List, [], ◌∷◌, true, sym, subst, ◌∙◌}
-use Rattle.kernel_gate.specs.Value.{Places}
+use Rattle.std.proofs.Common.{◌≡◌, ℕ, IsOk, Some, [], ◌∷◌, true, sym, subst}
 use Rattle.nested_jobs.specs.Rules as nested
 use Rattle.job_preparing.specs.Handing.{answer_with}
-use Rattle.job_rules.specs.Doing.{Answers}
-use Rattle.job_rules.specs.Words.{Answer, Work}
-use Rattle.board_rules.specs.Keys.{Key}
-use Rattle.board_rules.specs.declared.entry.Entry.{Entry}
 use Rattle.board_rules.specs.declared.entry.Entry.TheVariants.{Finish}
 use Rattle.firing_board.specs.Finishes.{Finishes, MayComeBack}
 use Rattle.firing_board.specs.Runs.{IsSound, Runs}
 use Rattle.firing_board.specs.View.{BoardView}
-use Rattle.worker_crew.specs.Passes.{BoardPass}
 use Rattle.worker_crew.proofs.Finishing.{gives_back}
 use Rattle.worker_crew.proofs.Advancing.{finished_idle, may_later}
 use Rattle.worker_crew.proofs.Holding.{claimed_may, held_added, held_found, held_leaves}

@@ -1,2 +1,0 @@
-use Rattle.worker_crew.proofs.Answering.{fires_back, fits_gate}
-use Rattle.worker_crew.proofs.running.configure.Goals as goal

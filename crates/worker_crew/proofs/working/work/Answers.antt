@@ -1,4 +1,4 @@
-use Rattle.std.proofs.Common.{◌≡◌, List, [], ◌∷◌, inl, inr, subst}
+use Rattle.std.proofs.Common.{◌≡◌, inl, inr, subst}
 use Rattle.firing_board.specs.declared.claim.Claim.{Claim}
 use Rattle.worker_crew.specs.Asked.{Asked}
 use Rattle.worker_crew.specs.Passes.{BoardPass}
