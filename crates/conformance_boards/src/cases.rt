@@ -81,14 +81,16 @@ fn text_of(alloc: Global, tells: Tells, told: &Told) -> Result<String, Trouble> 
     }
 }
 
-/// The answer of a case: the text that it asks for, and the line of the refusal; and where more jobs were open than may be,
-/// how many.
+/// The answer of a case: the text that it asks for, and the line of the refusal; and where fewer or more jobs were open at once
+/// than are wanted, how many.
 fn answer_of(alloc: Global, case: &Value, tells: Tells, told: &Told) -> Result<Value, Trouble> {
     let text = text_of(alloc, tells, told)?;
     let err = told.err.clone()?;
     let mut texts = vec![in alloc; Value::from(text), Value::from(err)]?;
     let open = told.open;
-    if open > small_or(case, "open", MOST_OPEN)? as usize {
+    let most = small_or(case, "open", MOST_OPEN)? as usize;
+    let least = small_or(case, "open_at_least", 0)? as usize;
+    if open < least || open > most {
         texts.push(Value::from(format!(in alloc; "{open} jobs were open")?))?;
     }
     Ok(Value::from(texts))
