@@ -104,8 +104,8 @@ impl Pool {
         } }
     {
         let free = mem::replace(&mut self.free, nothing());
-        let (run, start) = lease.into_pool();
-        self.free = put(free, start, run);
+        let (run, origin) = lease.into_pool();
+        self.free = put(free, origin, run);
     }
 
     /// The cells as a list.

@@ -5,6 +5,7 @@ ghost use denote.RawPtr.{Ptr, ◌+ₚ◌};
 ghost use Rattle.split_block.specs.Places.{Place, place_code, IsPlaced, Clear, has, without, free_owns, window, write};
 
 use crate::block::Cells;
+use crate::origin::Origin;
 use std::marker::Model;
 
 /// The cells at `ptr` without those at the places `out`, which hold what they held when they went out. It has no bytes.
@@ -45,15 +46,16 @@ pub fn part(free: Free, start: usize, len: usize) -> (Cells, Free)
     (Cells {}, Free {})
 }
 
-/// Puts the cells of a place back.
-pub fn put(free: Free, start: usize, run: Cells) -> Free
-    requires { (run.ptr ≡ free.ptr +ₚ (start * 8)) × (start + length run.items ≤ length free.cells)
-        × IsTrue (has (record { start = start; len = length run.items }) free.out)
-        × Clear (record { start = start; len = length run.items }) (without (record { start = start; len = length run.items }) free.out) }
-    ensures { (result.ptr ≡ free.ptr) × (result.cells ≡ write start run.items free.cells)
-        × (result.out ≡ without (record { start = start; len = length run.items }) free.out) }
+/// Puts the cells of a place back, which starts where `origin` says.
+pub fn put(free: Free, origin: Origin, run: Cells) -> Free
+    requires { (run.ptr ≡ free.ptr +ₚ (origin.start * 8)) × (origin.start + length run.items ≤ length free.cells)
+        × IsTrue (has (record { start = origin.start; len = length run.items }) free.out)
+        × Clear (record { start = origin.start; len = length run.items }) (without (record { start = origin.start; len = length run.items }) free.out) }
+    ensures { (result.ptr ≡ free.ptr) × (result.cells ≡ write origin.start run.items free.cells)
+        × (result.out ≡ without (record { start = origin.start; len = length run.items }) free.out) }
 {
     let Free {} = free;
+    let Origin {} = origin;
     let Cells {} = run;
     Free {}
 }

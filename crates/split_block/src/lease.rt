@@ -5,6 +5,7 @@ ghost use denote.RawPtr.{◌+ₚ◌};
 ghost use Rattle.split_block.specs.View.{IsWhole, Follows};
 
 use crate::block::{Cells, VecWithoutCells, attach, cut, detach, glue, take_cells, vec_over};
+use crate::origin::{Origin, fork, locate};
 use std::alloc::Global;
 use std::marker::Model;
 use std_alloc::vec::Lodged;
@@ -14,11 +15,7 @@ pub struct Lease {
     buf: Vec<i64, Lodged>,
     // What makes the block a `Vec` again, where that isn't a pool's: the lease that starts at 0 and has a cell has it.
     home: Option<VecWithoutCells<Global>>,
-    base: *mut i64,
-    start: usize,
-    size: usize,
-    // Whether the block is a pool's, which keeps what makes it a `Vec` again.
-    pooled: bool,
+    origin: Origin,
     alloc: Global,
 }
 
@@ -52,27 +49,20 @@ impl Lease {
         if size == 0 {
             drop(cells);
             let mut buf = Vec::new(Lodged);
-            let base = buf.as_mut_ptr();
+            let ptr = buf.as_mut_ptr();
             return Lease {
                 buf,
                 home: None,
-                base,
-                start: 0,
-                size: 0,
-                pooled: false,
+                origin: locate(ptr, 0, false, 0),
                 alloc,
             };
         }
-        let base = cells.as_mut_ptr();
+        let ptr = cells.as_mut_ptr();
         let (run, emptied) = detach(cells);
-        let buf = vec_over(base, size, run);
         Lease {
-            buf,
+            buf: vec_over(ptr, size, run),
             home: Some(emptied),
-            base,
-            start: 0,
-            size,
-            pooled: false,
+            origin: locate(ptr, size, false, 0),
             alloc,
         }
     }
@@ -86,10 +76,7 @@ impl Lease {
         let Lease {
             mut buf,
             home,
-            base,
-            start,
-            size,
-            pooled,
+            origin,
             alloc,
         } = self;
         let at = at as usize;
@@ -97,23 +84,18 @@ impl Lease {
         let ptr = buf.as_mut_ptr();
         let (front, back) = cut(take_cells(buf), at);
         let (first, second) = if at == 0 { (None, home) } else { (home, None) };
+        let (here, there) = fork(origin, at);
         let left = Lease {
             buf: vec_over(ptr, at, front),
             home: first,
-            base,
-            start,
-            size,
-            pooled,
+            origin: here,
             alloc,
         };
         let middle = unsafe { ptr.byte_add(at * 8) };
         let right = Lease {
             buf: vec_over(middle, len - at, back),
             home: second,
-            base,
-            start: start + at,
-            size,
-            pooled,
+            origin: there,
             alloc,
         };
         (left, right)
@@ -127,19 +109,13 @@ impl Lease {
         let Lease {
             mut buf,
             home,
-            base,
-            start,
-            size,
-            pooled,
+            origin,
             alloc,
         } = self;
         let Lease {
             buf: other,
             home: other_home,
-            base: _,
-            start: _,
-            size: _,
-            pooled: _,
+            origin: _,
             alloc: _,
         } = right;
         let len = buf.len() + other.len();
@@ -153,10 +129,7 @@ impl Lease {
         Lease {
             buf: vec_over(ptr, len, run),
             home,
-            base,
-            start,
-            size,
-            pooled,
+            origin,
             alloc,
         }
     }
@@ -169,10 +142,7 @@ impl Lease {
         let Lease {
             buf,
             home,
-            base: _,
-            start: _,
-            size: _,
-            pooled: _,
+            origin: _,
             alloc,
         } = self;
         match home {
@@ -216,34 +186,28 @@ impl Lease {
         Lease {
             buf: vec_over(ptr, len, run),
             home: None,
-            base,
-            start,
-            size,
-            pooled: true,
+            origin: locate(base, size, true, start),
             alloc,
         }
     }
 
-    /// The cells of a lease of a pool's block, and where they start.
-    pub fn into_pool(self) -> (Cells, usize)
+    /// The cells of a lease of a pool's block, and where they lie.
+    pub fn into_pool(self) -> (Cells, Origin)
         requires pooled { self.block.pooled ≡ true }
         ensures run { (result.0.ptr ≡ self.block.ptr +ₚ (self.start * 8)) × (result.0.items ≡ self.cells) }
-        ensures start { result.1 ≡ self.start }
+        ensures origin { (result.1.block ≡ self.block) × (result.1.start ≡ self.start) }
         ensures within { self.start + length self.cells ≤ self.block.len }
     {
         let Lease {
             buf,
             home,
-            base: _,
-            start,
-            size: _,
-            pooled: _,
+            origin,
             alloc: _,
         } = self;
         match home {
             Some(_) => unreachable!(),
             None => {}
         }
-        (take_cells(buf), start)
+        (take_cells(buf), origin)
     }
 }
