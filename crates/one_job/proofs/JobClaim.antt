@@ -1,7 +1,6 @@
 -- The claim of a node of a job.
 use Rattle.std.proofs.Common.{◌≡◌, ℕ, ℤ, ◌+◌, ◌<◌, ◌≤◌, ⊎_elim, Bool, true, false, List, [], ◌∷◌, ◌++◌, length, map, set, get_or, refl, sym, ap, ap₂, ◌∙◌, subst, arith}
-use Rattle.std.specs.Prelude.{◌≢◌, Option, Some, None, slice_index_or, slice_get, if◌then◌else◌, Vec}
-use Rattle.std.specs.Global.{Global}
+use Rattle.std.specs.Prelude.{◌≢◌, Option, Some, None, slice_index_or, slice_get, if◌then◌else◌}
 use Rattle.std.proofs.lemmas.Bool.{cases_eq, false≢true}
 use Rattle.std.proofs.lemmas.List.{length-set, length-map, map-append, get_or-set_other}
 use Rattle.std.proofs.lemmas.List.Elements.{All-set}
@@ -21,16 +20,17 @@ use Rattle.single_rate.specs.Expanded.{place_of}
 use Rattle.one_job.specs.Marks.{Mark, Claimed, mark_at, IsFree, IsClaimed, phase, phase_of, values, value_of}
 use Rattle.one_job.specs.Places.{edge_at, buffer_at}
 use Rattle.one_job.specs.Ports.{reads_stored, writes_stored, row_of, EachLies, LieBehind, port_size}
-use Rattle.one_job.specs.Rooms.{IsEmpty}
-use Rattle.one_job.specs.Taking.{Layout, taken, CanTake, IsStored, TakesAll}
+use Rattle.one_job.specs.Frames.{HasBlocks}
+use Rattle.one_job.specs.Taking.{Layout, taken, CanTake, IsStored, TakesBehind}
 use Rattle.one_job.specs.View.{JobView, IsEnabled, graph_of}
 use Rattle.one_job.specs.Calls.{LieAtBuffers}
-use Rattle.one_job.specs.Kept.{Parts, HasParts, LieRight, Keeps, list_at}
+use Rattle.one_job.specs.Kept.{Parts, HasParts, LieRight, Keeps, stored_at}
+use Rattle.one_job.specs.declared.frames.FrameParts.{FrameParts}
 use Rattle.one_job.proofs.Phases.{mark_there, mark_elsewhere, phase_there}
 use Rattle.one_job.proofs.Order.{CanClaim, IsLaid, buffer_within, claim_keeps_order}
 use Rattle.one_job.proofs.Lending.{EachEdge, EachEdge-weaker}
 use Rattle.one_job.proofs.Claiming.{ArePorts, Enters, Leaves, enters_each, leaves_each, Claims, claims, claim_keeps_full, entering_full}
-use Rattle.one_job.proofs.Wires.{laid_of, can_claim, ports_of, inputs_are, stored_part, taken_cells, taken_lie, EachLies-lengths, EachLies-at}
+use Rattle.one_job.proofs.Wires.{laid_of, can_claim, ports_of, inputs_are, stored_part, taken_cells, taken_lie, written_at_one, EachLies-lengths, EachLies-at}
 
 -- ---- the ends of the job depend on what was given alone
 
@@ -49,25 +49,28 @@ module _ (list : List Node) (v w : Values ℤ ℕ) (same : (m : ℕ) → flow_gi
 -- ---- leases as the node's frame has them
 
 -- the stored tokens and those of the ports
-pub TakesAll-cells : (place : Layout) (pool : PoolView) (ports : List (Option ℕ)) (stored : Bool) (tokens : List ℤ) (leases : List LeaseView) (takes : TakesAll place pool ports stored tokens leases) → map cells_of leases ≡ stored_part stored tokens ++ map cells_of takes.more
-TakesAll-cells place pool ports true tokens leases takes =
-    ap (map cells_of) (takes.all ∙ ap (λ own. own ++ takes.more) takes.is_stored.1) ∙ ap (λ t. t ∷ map cells_of takes.more) takes.is_stored.3
-TakesAll-cells place pool ports false tokens leases takes = ap (map cells_of) (takes.all ∙ ap (λ own. own ++ takes.more) takes.is_stored)
+stored_cells : (stored : Bool) (tokens : List ℤ) (own : List LeaseView) → IsStored stored tokens own → map cells_of own ≡ stored_part stored tokens
+stored_cells true tokens own is = ap (map cells_of) is.1 ∙ ap (λ t. t ∷ []) is.3
+stored_cells false tokens own is = ap (map cells_of) is
+
+pub TakesBehind-cells : (place : Layout) (pool : PoolView) (ports : List (Option ℕ)) (stored : Bool) (tokens : List ℤ) (own leases : List LeaseView) (takes : TakesBehind place pool ports own leases) → IsStored stored tokens own → map cells_of leases ≡ stored_part stored tokens ++ map cells_of takes.more
+TakesBehind-cells place pool ports stored tokens own leases takes is =
+    ap (map cells_of) takes.all ∙ (map-append cells_of own takes.more ∙ ap (λ cells. cells ++ map cells_of takes.more) (stored_cells stored tokens own is))
 
 own_whole : (stored : Bool) (tokens : List ℤ) (own : List LeaseView) → IsStored stored tokens own → AllWhole (map lease_place own) × (length (map lease_place own) ≡ (if stored then 1 else 0))
 own_whole true tokens own is = (subst (λ l. AllWhole (map lease_place l)) (sym is.1) (is.2, tt), ap (λ l. length (map lease_place l)) is.1)
 own_whole false tokens own is = (subst (λ l. AllWhole (map lease_place l)) (sym is) tt, ap (λ l. length (map lease_place l)) is)
 
-pub TakesAll-lie : (place : Layout) (pool : PoolView) (block : Block) (ports : List (Option ℕ)) (stored : Bool) (tokens : List ℤ) (leases : List LeaseView) (takes : TakesAll place pool ports stored tokens leases) → EachLies place block ports (map lease_place takes.more) → LieBehind place block stored ports (map lease_place leases)
-TakesAll-lie place pool block ports stored tokens leases takes lies =
-    let own = own_whole stored tokens takes.own takes.is_stored in
+pub TakesBehind-lie : (place : Layout) (pool : PoolView) (block : Block) (ports : List (Option ℕ)) (stored : Bool) (tokens : List ℤ) (own leases : List LeaseView) (takes : TakesBehind place pool ports own leases) → IsStored stored tokens own → EachLies place block ports (map lease_place takes.more) → LieBehind place block stored ports (map lease_place leases)
+TakesBehind-lie place pool block ports stored tokens own leases takes is lies =
+    let whole = own_whole stored tokens own is in
     record {
-      own = map lease_place takes.own;
-      whole = own.0;
-      count = own.1;
+      own = map lease_place own;
+      whole = whole.0;
+      count = whole.1;
       others = map lease_place takes.more;
       each = lies;
-      all = ap (map lease_place) takes.all ∙ map-append lease_place takes.own takes.more;
+      all = ap (map lease_place) takes.all ∙ map-append lease_place own takes.more;
     }
 
 -- where a port has an edge, nothing stands before the ports
@@ -120,9 +123,6 @@ module _ (j : JobView) (p : Parts) (pool : PoolView) (outs left : List (List ℤ
   ports : ArePorts j.compilation.graph.edges n row_in row_out
   ports = ports_of (graph_of j) p.entering p.leaving n keeps.wired inside
 
-  parts_here : HasParts j p n
-  parts_here = keeps.free n inside can.free
-
   height_is : pool.block.len ≡ j.compilation.placement.height
   height_is = ap (λ (b : Block). b.len) keeps.cells.block ∙ keeps.cells.len
 
@@ -137,23 +137,21 @@ module _ (j : JobView) (p : Parts) (pool : PoolView) (outs left : List (List ℤ
 
   -- what the two takes ask
   pub record CanTakeBoth : Type 0 where
-    pub there : n < length j.compilation.graph.nodes
-    pub placed : length j.compilation.placement.offsets ≡ length j.compilation.graph.edges
     pub ins_can : CanTake place count pool.block.len pool.most row_in pool.out
     pub outs_can : CanTake place count pool.block.len pool.most row_out (taken place row_in pool.out)
-    pub here : HasParts j p n
 
   pub can_take_both : CanTakeBoth
   can_take_both = record {
-    there = inside;
-    placed = keeps.compiled.placed.one_each;
     ins_can = subst (λ h. CanTake place count h pool.most row_in pool.out) (sym height_is) (facts no_places).ins_can;
     outs_can = subst (λ h. CanTake place count h pool.most row_out (taken place row_in pool.out)) (sym height_is) (facts no_places).outs_can;
-    here = parts_here;
   }
 
-  -- what was taken
-  module _ (in_leases out_leases : List LeaseView) (ins : TakesAll place pool row_in (reads_stored which) (list_at p.tokens_in n) in_leases) (outs_taken : TakesAll place (record pool { out = taken place row_in pool.out }) row_out (writes_stored which) (list_at p.tokens_out n) out_leases) where
+  -- what the node's frame is made of
+  pub parts_here : (f : FrameParts) → get_or p.frames n f ≡ f → HasParts j p n f
+  parts_here f at = keeps.free n f inside can.free at
+
+  -- what was taken behind that
+  module _ (f : FrameParts) (here : HasParts j p n f) (in_leases out_leases : List LeaseView) (ins : TakesBehind place pool row_in f.inputs.items in_leases) (outs_taken : TakesBehind place (record pool { out = taken place row_in pool.out }) row_out f.outputs.items out_leases) where
     within_row : (P : ℕ → Type 0) → ((e : ℕ) → e < count → P e) → (EachEdge P row_in) × (EachEdge P row_out)
     within_row P each = (
       EachEdge-weaker (Enters j.compilation.graph.edges n) P (λ e is. each e is.0) row_in (enters_each j.compilation.graph.edges n 0 row_in ports.enters),
@@ -174,14 +172,14 @@ module _ (j : JobView) (p : Parts) (pool : PoolView) (outs left : List (List ℤ
 
     pub lie_right : LieRight j p n places
     lie_right = record {
-      inputs = subst (λ b. LieBehind place b (reads_stored which) row_in (map lease_place in_leases)) keeps.cells.block (TakesAll-lie place pool pool.block row_in (reads_stored which) (list_at p.tokens_in n) in_leases ins ins_lie);
-      outputs = subst (λ b. LieBehind place b (writes_stored which) row_out (map lease_place out_leases)) keeps.cells.block (TakesAll-lie place (record pool { out = taken place row_in pool.out }) pool.block row_out (writes_stored which) (list_at p.tokens_out n) out_leases outs_taken outs_lie);
+      inputs = subst (λ b. LieBehind place b (reads_stored which) row_in (map lease_place in_leases)) keeps.cells.block (TakesBehind-lie place pool pool.block row_in (reads_stored which) (stored_at j which) f.inputs.items in_leases ins here.inputs.own ins_lie);
+      outputs = subst (λ b. LieBehind place b (writes_stored which) row_out (map lease_place out_leases)) keeps.cells.block (TakesBehind-lie place (record pool { out = taken place row_in pool.out }) pool.block row_out (writes_stored which) here.cells f.outputs.items out_leases outs_taken here.outputs.own outs_lie);
     }
 
     pub inputs_hold : map cells_of in_leases ≡ inputs (graph_of j) (values j.marks) n
     inputs_hold =
-        TakesAll-cells place pool row_in (reads_stored which) (list_at p.tokens_in n) in_leases ins
-        ∙ ap₂ (λ tokens rest. stored_part (reads_stored which) tokens ++ rest) parts_here.tokens_in
+        TakesBehind-cells place pool row_in (reads_stored which) (stored_at j which) f.inputs.items in_leases ins here.inputs.own
+        ∙ ap (λ rest. stored_part (reads_stored which) (stored_at j which) ++ rest)
         (taken_cells j.compilation.graph.edges j.compilation.placement.offsets pool (values j.marks) row_in ins.more ins.each
         (EachEdge-weaker (Enters j.compilation.graph.edges n) (λ e. window (place e).start (place e).len pool.cells ≡ on_edge (values j.marks) (edge_at j.compilation.graph.edges e))
         (λ e is. keeps.full e is.0 (entering_full j.compilation.graph.edges j.compilation.placement.offsets j.compilation.placement.height laid j.marks keeps.order n can no_places row_in row_out ports e is.0 is.1)) row_in (enters_each j.compilation.graph.edges n 0 row_in ports.enters)))
@@ -191,12 +189,12 @@ module _ (j : JobView) (p : Parts) (pool : PoolView) (outs left : List (List ℤ
     lengths_by_kind true is =
         let row : map (port_size j.compilation.graph.edges) row_out ≡ [] = keeps.wired.outs n inside ∙ ap (λ b. if b then [] else lens (graph_of j) n) is in
         let more : lengths (map cells_of outs_taken.more) ≡ [] = length-both outs_taken.more ∙ (EachLies-lengths j.compilation.graph.edges j.compilation.placement.offsets pool.block row_out outs_taken.more outs_lie ∙ row) in
-        ap lengths (TakesAll-cells place (record pool { out = taken place row_in pool.out }) row_out (writes_stored which) (list_at p.tokens_out n) out_leases outs_taken)
-        ∙ (ap (λ b. lengths (stored_part b (list_at p.tokens_out n) ++ map cells_of outs_taken.more)) is ∙ (ap (λ l. length (list_at p.tokens_out n) ∷ l) more ∙ sym (parts_here.tokens_out is)))
+        ap lengths (TakesBehind-cells place (record pool { out = taken place row_in pool.out }) row_out (writes_stored which) here.cells f.outputs.items out_leases outs_taken here.outputs.own)
+        ∙ (ap (λ b. lengths (stored_part b here.cells ++ map cells_of outs_taken.more)) is ∙ (ap (λ l. length here.cells ∷ l) more ∙ (ap (λ k. k ∷ []) (here.long is) ∙ sym (written_at_one (graph_of j) n is))))
     lengths_by_kind false is =
         let row : map (port_size j.compilation.graph.edges) row_out ≡ lens (graph_of j) n = keeps.wired.outs n inside ∙ ap (λ b. if b then [] else lens (graph_of j) n) is in
-        ap lengths (TakesAll-cells place (record pool { out = taken place row_in pool.out }) row_out (writes_stored which) (list_at p.tokens_out n) out_leases outs_taken)
-        ∙ (ap (λ b. lengths (stored_part b (list_at p.tokens_out n) ++ map cells_of outs_taken.more)) is ∙ (length-both outs_taken.more ∙ (EachLies-lengths j.compilation.graph.edges j.compilation.placement.offsets pool.block row_out outs_taken.more outs_lie ∙ row)))
+        ap lengths (TakesBehind-cells place (record pool { out = taken place row_in pool.out }) row_out (writes_stored which) here.cells f.outputs.items out_leases outs_taken here.outputs.own)
+        ∙ (ap (λ b. lengths (stored_part b here.cells ++ map cells_of outs_taken.more)) is ∙ (length-both outs_taken.more ∙ (EachLies-lengths j.compilation.graph.edges j.compilation.placement.offsets pool.block row_out outs_taken.more outs_lie ∙ row)))
 
     pub outputs_fit : lengths (map cells_of out_leases) ≡ lens (graph_of j) n
     outputs_fit = lengths_by_kind (writes_stored which) refl
@@ -214,10 +212,6 @@ module _ (j : JobView) (p : Parts) (pool : PoolView) (outs left : List (List ℤ
       outputs = λ e e_in here. LieBehind-at place j.block (writes_stored which) (length (lens (graph_of j) n)) row_out (map lease_place out_leases) (edge_at j.compilation.graph.edges e).tail_port e (outs_long (writes_stored which) refl) lie_right.outputs (ports.tails_at e e_in here);
     }
 
-    -- another node keeps its parts
-    other_list : (lists : List (List ℤ)) (x : List ℤ) (m : ℕ) → m ≢ n → list_at (set lists n x) m ≡ list_at lists m
-    other_list lists x m differs = get_or-set_other lists n m x [] differs
-
     still_given : (m : ℕ) → flow_given (values j.marks m) ≡ flow_given (values (set j.marks n (Claimed places)) m)
     still_given m = ⊎_elim
         (λ (same : m ≡ n). subst (λ u. flow_given (values j.marks u) ≡ flow_given (values (set j.marks n (Claimed places)) u)) (sym same)
@@ -225,32 +219,20 @@ module _ (j : JobView) (p : Parts) (pool : PoolView) (outs left : List (List ℤ
         (λ (differs : m ≡ n → ⊥). ap (λ (k : Mark). flow_given (value_of k)) (sym (mark_elsewhere j.marks n m (Claimed places) differs)))
         (cases_eq m n)
 
-    module _ (in_room out_room : Vec LeaseView Global) (in_empty : IsEmpty in_room) (out_empty : IsEmpty out_room) (a t u : List ℤ) where
+    -- what stays of the node while its frame is out
+    module _ (rest : FrameParts) (blocks : HasBlocks rest) where
       abbrev later_parts : Parts
-      later_parts = record p {
-        in_rooms = set p.in_rooms n in_room;
-        out_rooms = set p.out_rooms n out_room;
-        args = set p.args n a;
-        tokens_in = set p.tokens_in n t;
-        tokens_out = set p.tokens_out n u;
-      }
+      later_parts = record p { frames = set p.frames n rest }
 
       abbrev later_job : JobView
       later_job = record j { marks = set j.marks n (Claimed places) }
 
-      others_free : (m : ℕ) → m < length j.compilation.graph.nodes → phase later_job.marks m ≡ IsFree → HasParts later_job later_parts m
-      others_free m m_in free =
+      others_free : (m : ℕ) (g : FrameParts) → m < length j.compilation.graph.nodes → phase later_job.marks m ≡ IsFree → get_or later_parts.frames m g ≡ g → HasParts later_job later_parts m g
+      others_free m g m_in free at =
           let differs : m ≢ n = λ same.
           let claimed : phase later_job.marks m ≡ IsClaimed = subst (λ v. phase later_job.marks v ≡ IsClaimed) (sym same) (phase_there j.marks n (Claimed places) can.there) in
           let bad : IsClaimed ≡ IsFree = sym claimed ∙ free in absurd (cc) in
-          let old = keeps.free m m_in (ap phase_of (sym (mark_elsewhere j.marks n m (Claimed places) differs)) ∙ free) in
-          record {
-            in_room = λ room is. old.in_room room (sym (get_or-set_other p.in_rooms n m in_room room differs) ∙ is);
-            out_room = λ room is. old.out_room room (sym (get_or-set_other p.out_rooms n m out_room room differs) ∙ is);
-            args = other_list p.args a m differs ∙ old.args;
-            tokens_in = other_list p.tokens_in t m differs ∙ old.tokens_in;
-            tokens_out = λ is. old.tokens_out is ∙ ap (λ l. length l ∷ []) (sym (other_list p.tokens_out u m differs));
-          }
+          keeps.free m g m_in (ap phase_of (sym (mark_elsewhere j.marks n m (Claimed places) differs)) ∙ free) (sym (get_or-set_other p.frames n m rest g differs) ∙ at)
 
       others_lie : (m : ℕ) (where_they_lie : Places) → mark_at later_job.marks m ≡ Claimed where_they_lie → LieRight later_job later_parts m where_they_lie
       others_lie m where_they_lie is = ⊎_elim
@@ -272,13 +254,8 @@ module _ (j : JobView) (p : Parts) (pool : PoolView) (outs left : List (List ℤ
         out = (facts places).after;
         full = claim_keeps_full j.compilation.graph.edges j.compilation.placement.offsets j.compilation.placement.height laid j.marks keeps.order n can places row_in row_out ports pool.cells keeps.full;
         parts = record {
-          in_rooms = length-set p.in_rooms n in_room ∙ keeps.parts.in_rooms;
-          out_rooms = length-set p.out_rooms n out_room ∙ keeps.parts.out_rooms;
-          args = length-set p.args n a ∙ keeps.parts.args;
-          tokens_in = length-set p.tokens_in n t ∙ keeps.parts.tokens_in;
-          tokens_out = length-set p.tokens_out n u ∙ keeps.parts.tokens_out;
-          in_empty = All-set IsEmpty p.in_rooms n in_room in_empty keeps.parts.in_empty;
-          out_empty = All-set IsEmpty p.out_rooms n out_room out_empty keeps.parts.out_empty;
+          one_each = length-set p.frames n rest ∙ keeps.parts.one_each;
+          blocks = All-set HasBlocks p.frames n rest blocks keeps.parts.blocks;
         };
         free = others_free;
         claimed = others_lie;
@@ -289,7 +266,7 @@ module _ (j : JobView) (p : Parts) (pool : PoolView) (outs left : List (List ℤ
 -- ---- what the code took, by the values that it read
 
 abbrev Read : Type 0
-Read = List Edge × (List ℕ × (List (Option ℕ) × (Bool × List ℤ)))
+Read = List Edge × (List ℕ × List (Option ℕ))
 
 module _ (j : JobView) (p : Parts) (pool : PoolView) (outs left : List (List ℤ)) (keeps : Keeps j p pool outs left) (n : ℕ) (enabled : IsEnabled j n) where
   pub record HasRead (edges : List Edge) (offsets : List ℕ) (ins outs_row : List (Option ℕ)) : Type 0 where
@@ -304,45 +281,41 @@ module _ (j : JobView) (p : Parts) (pool : PoolView) (outs left : List (List ℤ
 
     pub can_take_ins : CanTake (buffer_at edges offsets) (length edges) pool.block.len pool.most ins pool.out
     can_take_ins =
-        subst (λ (x : Read). CanTake (buffer_at x.0 x.1.0) (length x.0) pool.block.len pool.most x.1.1.0 pool.out)
-        (sym (λ i. (read.edges_are i, (read.offsets_are i, (read.ins_are i, (true, []))))))
+        subst (λ (x : Read). CanTake (buffer_at x.0 x.1.0) (length x.0) pool.block.len pool.most x.1.1 pool.out)
+        (sym (λ i. (read.edges_are i, (read.offsets_are i, read.ins_are i))))
         both.ins_can
 
     pub can_take_outs : (middle : PoolView) → middle ≡ record pool { out = taken (buffer_at edges offsets) ins pool.out } → CanTake (buffer_at edges offsets) (length edges) middle.block.len middle.most outs_row middle.out
     can_take_outs middle is =
         subst (λ (m : PoolView). CanTake (buffer_at edges offsets) (length edges) m.block.len m.most outs_row m.out) (sym is)
-        (subst (λ (x : Read). CanTake (buffer_at x.0 x.1.0) (length x.0) pool.block.len pool.most outs_row (taken (buffer_at x.0 x.1.0) x.1.1.0 pool.out))
-        (sym (λ i. (read.edges_are i, (read.offsets_are i, (read.ins_are i, (true, []))))))
+        (subst (λ (x : Read). CanTake (buffer_at x.0 x.1.0) (length x.0) pool.block.len pool.most outs_row (taken (buffer_at x.0 x.1.0) x.1.1 pool.out))
+        (sym (λ i. (read.edges_are i, (read.offsets_are i, read.ins_are i))))
         (subst (λ r. CanTake (buffer_at j.compilation.graph.edges j.compilation.placement.offsets) (length j.compilation.graph.edges) pool.block.len pool.most r (taken (buffer_at j.compilation.graph.edges j.compilation.placement.offsets) (row_of p.entering n) pool.out)) (sym read.outs_are) both.outs_can))
 
-    pub record HasTakenAll (b c : Bool) (t u : List ℤ) (in_leases out_leases : List LeaseView) (middle last : PoolView) : Type 0 where
-      pub reads : b ≡ reads_stored (node_at j.compilation.graph.nodes n)
-      pub writes : c ≡ writes_stored (node_at j.compilation.graph.nodes n)
-      pub tokens_in : t ≡ list_at p.tokens_in n
-      pub tokens_out : u ≡ list_at p.tokens_out n
-      pub took_in : TakesAll (buffer_at edges offsets) pool ins b t in_leases
+    pub record HasTaken (f : FrameParts) (in_leases out_leases : List LeaseView) (middle last : PoolView) : Type 0 where
+      pub took_in : TakesBehind (buffer_at edges offsets) pool ins f.inputs.items in_leases
       pub middle_is : middle ≡ record pool { out = taken (buffer_at edges offsets) ins pool.out }
-      pub took_out : TakesAll (buffer_at edges offsets) middle outs_row c u out_leases
+      pub took_out : TakesBehind (buffer_at edges offsets) middle outs_row f.outputs.items out_leases
       pub last_is : last ≡ record middle { out = taken (buffer_at edges offsets) outs_row middle.out }
 
-    module _ (b c : Bool) (t u : List ℤ) (in_leases out_leases : List LeaseView) (middle last : PoolView) (took : HasTakenAll b c t u in_leases out_leases middle last) where
+    module _ (f : FrameParts) (in_leases out_leases : List LeaseView) (middle last : PoolView) (took : HasTaken f in_leases out_leases middle last) where
       abbrev where_placed : Layout
       where_placed = buffer_at j.compilation.graph.edges j.compilation.placement.offsets
 
-      pub ins_taken : TakesAll where_placed pool (row_of p.entering n) (reads_stored (node_at j.compilation.graph.nodes n)) (list_at p.tokens_in n) in_leases
+      pub ins_taken : TakesBehind where_placed pool (row_of p.entering n) f.inputs.items in_leases
       ins_taken =
-          subst (λ (x : Read). TakesAll (buffer_at x.0 x.1.0) pool x.1.1.0 x.1.1.1.0 x.1.1.1.1 in_leases)
-          (λ i. (read.edges_are i, (read.offsets_are i, (read.ins_are i, (took.reads i, took.tokens_in i)))))
+          subst (λ (x : Read). TakesBehind (buffer_at x.0 x.1.0) pool x.1.1 f.inputs.items in_leases)
+          (λ i. (read.edges_are i, (read.offsets_are i, read.ins_are i)))
           took.took_in
 
       middle_canonical : middle ≡ record pool { out = taken where_placed (row_of p.entering n) pool.out }
       middle_canonical = took.middle_is ∙ λ i. record pool { out = taken (buffer_at (read.edges_are i) (read.offsets_are i)) (read.ins_are i) pool.out }
 
-      pub outs_also_taken : TakesAll where_placed (record pool { out = taken where_placed (row_of p.entering n) pool.out }) (row_of p.leaving n) (writes_stored (node_at j.compilation.graph.nodes n)) (list_at p.tokens_out n) out_leases
+      pub outs_also_taken : TakesBehind where_placed (record pool { out = taken where_placed (row_of p.entering n) pool.out }) (row_of p.leaving n) f.outputs.items out_leases
       outs_also_taken =
-          subst (λ m. TakesAll where_placed m (row_of p.leaving n) (writes_stored (node_at j.compilation.graph.nodes n)) (list_at p.tokens_out n) out_leases) middle_canonical
-          (subst (λ (x : Read). TakesAll (buffer_at x.0 x.1.0) middle x.1.1.0 x.1.1.1.0 x.1.1.1.1 out_leases)
-          (λ i. (read.edges_are i, (read.offsets_are i, (read.outs_are i, (took.writes i, took.tokens_out i)))))
+          subst (λ m. TakesBehind where_placed m (row_of p.leaving n) f.outputs.items out_leases) middle_canonical
+          (subst (λ (x : Read). TakesBehind (buffer_at x.0 x.1.0) middle x.1.1 f.outputs.items out_leases)
+          (λ i. (read.edges_are i, (read.offsets_are i, read.outs_are i)))
           took.took_out)
 
       pub last_canonical : last ≡ record pool { out = taken where_placed (row_of p.leaving n) (taken where_placed (row_of p.entering n) pool.out) }

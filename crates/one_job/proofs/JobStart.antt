@@ -1,8 +1,8 @@
 -- A job at its start.
-use Rattle.std.proofs.Common.{◌≡◌, ℕ, suc, ℤ, ◌+◌, ◌<◌, ◌≤◌, ⊎_elim, Bool, true, false, List, [], ◌∷◌, length, map, replicate, get_or, refl, sym, ap, ap₂, ◌∙◌, subst, arith}
-use Rattle.std.specs.Prelude.{◌==◌, ◌&&◌, Option, Some, None, slice_index, slice_index_or, if◌then◌else◌, vec_capacity}
+use Rattle.std.proofs.Common.{◌≡◌, ℕ, suc, ℤ, ◌+◌, ◌<◌, ◌≤◌, ⊎_elim, Bool, true, false, List, [], ◌∷◌, length, replicate, get_or, refl, sym, ap, ap₂, ◌∙◌, subst, arith}
+use Rattle.std.specs.Prelude.{◌==◌, ◌&&◌, Option, Some, None, slice_index, slice_index_or, if◌then◌else◌}
 use Rattle.std.proofs.lemmas.Bool.{cases_lt, false≢true, and_parts, eqb-true}
-use Rattle.std.proofs.lemmas.List.{get_or-map, get_or-replicate, get_or_past, length-replicate}
+use Rattle.std.proofs.lemmas.List.{get_or-replicate, get_or_past, length-replicate}
 use Rattle.cell_pool.specs.View.{PoolView}
 use Rattle.sdf_level.specs.declared.link.Link.{Link}
 use Rattle.sdf_level.specs.declared.node.Node.{Node}
@@ -10,7 +10,7 @@ use Rattle.sdf_level.specs.declared.node.Node.TheVariants as node
 use Rattle.sdf_level.specs.declared.single_rate.Edge.{Edge}
 use Rattle.job_compiler.specs.Compilation.{IsCompiled}
 use Rattle.job_flow.specs.Graphs.{JobGraph, IsJobGraph, node_at}
-use Rattle.job_flow.specs.Frames.{Values, lengths_read, lengths_written, in_lens, arriving_size}
+use Rattle.job_flow.specs.Frames.{Values, lengths_read, in_lens, arriving_size}
 use Rattle.job_flow.specs.Outcomes.{sunk, left_over}
 use Rattle.job_flow.specs.Frames.{given}
 use Rattle.job_flow.specs.Laws.{HavePorts, EdgesHavePorts}
@@ -18,11 +18,13 @@ use Rattle.one_job.specs.Marks.{Mark, Free, Claimed, mark_at, IsFree, IsFinished
 use Rattle.one_job.specs.Places.{edge_at, buffer_at}
 use Rattle.one_job.specs.Live.{IsLent, AreOut}
 use Rattle.one_job.specs.Ports.{reads_stored, writes_stored, row_of, AreWired, port_size}
-use Rattle.one_job.specs.Opening.{stored_in, AreWritten, AreSizes}
-use Rattle.one_job.specs.Rooms.{HaveRoom}
+use Rattle.one_job.specs.Opening.{stored_in, AreMade}
+use Rattle.one_job.specs.Frames.{IsRoom}
+use Rattle.one_job.specs.declared.frames.FrameParts.{FrameParts}
+use Rattle.one_job.specs.declared.opening.Given.{Given}
 use Rattle.one_job.specs.View.{JobView, graph_of, HasGiven, args_at}
 use Rattle.one_job.specs.Kept.{Parts, AreParts, HasParts, IsPoolOf, Keeps}
-use Rattle.one_job.proofs.Wires.{enters_at}
+use Rattle.one_job.proofs.Wires.{enters_at, writes_one}
 
 -- the edge at the first port of a node is there
 pub first_there : (job : JobGraph ℤ) (entering leaving : List (List (Option ℕ))) → AreWired job entering leaving → (n e : ℕ) → get_or (row_of entering n) 0 None ≡ Some e → e < length job.edges
@@ -70,17 +72,6 @@ reads_one g (node.Fork l i) n is = absurd (false≢true is)
 reads_one g (node.Join l i) n is = absurd (false≢true is)
 reads_one g (node.Round l) n is = absurd (false≢true is)
 
-writes_one : (g : JobGraph ℤ) (which : Node) (n : ℕ) → writes_stored which ≡ true → lengths_written g which n ≡ arriving_size g.edges n 0 ∷ []
-writes_one g (node.Source s) n is = absurd (false≢true is)
-writes_one g (node.Init l) n is = absurd (false≢true is)
-writes_one g (node.Firing a k) n is = absurd (false≢true is)
-writes_one g (node.End l) n is = refl
-writes_one g (node.Sink t) n is = refl
-writes_one g (node.Broadcast l) n is = absurd (false≢true is)
-writes_one g (node.Fork l i) n is = absurd (false≢true is)
-writes_one g (node.Join l i) n is = absurd (false≢true is)
-writes_one g (node.Round l) n is = absurd (false≢true is)
-
 module _ (g : JobGraph ℤ) (entering leaving : List (List (Option ℕ))) (wired : AreWired g entering leaving) where
   -- the edges of the rows are there
   pub firsts_there : (n e : ℕ) → get_or (row_of entering n) 0 None ≡ Some e → e < length g.edges
@@ -108,28 +99,25 @@ module _ (j : JobView) (p : Parts) (compiled : IsCompiled j.compilation) (has_gi
   is_graph : IsJobGraph j.compilation.counts j.compilation.order (graph_of j)
   is_graph = record { level_kept = compiled.level_kept; repetition = compiled.repetition; order = compiled.order_is; nodes_are = compiled.expanded.nodes_are; edges_are = compiled.expanded.edges_are; sources_fit = has_given.sources; delays_fit = has_given.stored }
 
-  pub parts_of_free : EdgesHavePorts ℤ → (in_sizes out_sizes : List ℕ) → AreSizes (map reads_stored nodes) p.entering in_sizes → AreSizes (map writes_stored nodes) p.leaving out_sizes
-      → HaveRoom in_sizes p.in_rooms → HaveRoom out_sizes p.out_rooms
-      → p.args ≡ map (args_at j.args) nodes → p.tokens_in ≡ map (stored_in j.sources j.stored) nodes → AreWritten nodes j.compilation.graph.edges p.entering p.tokens_out
-      → (n : ℕ) → n < length nodes → HasParts j p n
-  parts_of_free law in_sizes out_sizes ins outs in_room out_room args tokens_in written n inside = record {
-    in_room = λ room at.
-        let fits = in_room.each n room (omega (arith, inside, in_room.one_each, ins.one_each, wired.rows_in)) at in
-        let size = ins.each n (omega (arith, inside, wired.rows_in)) ∙ ap (λ b. (if b then 1 else 0) + length (row_of p.entering n)) (get_or-map reads_stored nodes n (node.Source 0) false inside) in
-        subst (λ k. k ≤ vec_capacity room) size fits;
-    out_room = λ room at.
-        let fits = out_room.each n room (omega (arith, inside, out_room.one_each, outs.one_each, wired.rows_out)) at in
-        let size = outs.each n (omega (arith, inside, wired.rows_out)) ∙ ap (λ b. (if b then 1 else 0) + length (row_of p.leaving n)) (get_or-map writes_stored nodes n (node.Source 0) false inside) in
-        subst (λ k. k ≤ vec_capacity room) size fits;
-    args = ap (λ xs. get_or xs n []) args ∙ get_or-map (args_at j.args) nodes n (node.Source 0) [] inside;
-    tokens_in = ap (λ xs. get_or xs n []) tokens_in ∙ get_or-map (stored_in j.sources j.stored) nodes n (node.Source 0) [] inside;
-    tokens_out = λ is.
-        writes_one (graph_of j) (node_at nodes n) n is
-        ∙ ap (λ k. k ∷ []) (arrives (graph_of j) p.entering p.leaving wired (law j.compilation.counts j.compilation.order (graph_of j) is_graph) n inside is (get_or (row_of p.entering n) 0 None) refl ∙ sym (written.each n inside is));
-  }
+  -- what was made for a node is what it has
+  pub parts_of_free : EdgesHavePorts ℤ → (given : Given) → given.args ≡ j.args → given.sources ≡ j.sources → given.stored ≡ j.stored
+      → AreMade nodes j.compilation.graph.edges p.entering p.leaving given p.frames
+      → (n : ℕ) (f : FrameParts) → n < length nodes → get_or p.frames n f ≡ f → HasParts j p n f
+  parts_of_free law given args sources stored made n f inside at =
+      let one = made.each n f inside at in
+      record {
+        args_are = one.args_are ∙ ap (λ lists. args_at lists (node_at nodes n)) args;
+        inputs = subst (λ (tokens : List ℤ). IsRoom (reads_stored (node_at nodes n)) tokens (length (row_of p.entering n)) f.inputs) (ap₂ (λ a b. stored_in a b (node_at nodes n)) sources stored) one.inputs;
+        cells = one.cells;
+        outputs = one.outputs;
+        long = λ is.
+            one.long is
+            ∙ sym (ap (λ sizes. slice_index sizes 0) (writes_one (graph_of j) (node_at nodes n) n is)
+            ∙ arrives (graph_of j) p.entering p.leaving wired (law j.compilation.counts j.compilation.order (graph_of j) is_graph) n inside is (get_or (row_of p.entering n) 0 None) refl);
+      }
 
   pub keeps_at_start : (pool : PoolView) (outs left : List (List ℤ)) → j.marks ≡ replicate (length nodes) Free
-      → IsPoolOf j pool → pool.out ≡ [] → AreParts (length nodes) p → ((n : ℕ) → n < length nodes → HasParts j p n)
+      → IsPoolOf j pool → pool.out ≡ [] → AreParts (length nodes) p → ((n : ℕ) (f : FrameParts) → n < length nodes → get_or p.frames n f ≡ f → HasParts j p n f)
       → outs ≡ replicate (length j.compilation.level.sinks) [] → left ≡ replicate (length j.compilation.level.links) []
       → Keeps j p pool outs left
   keeps_at_start pool outs left all_free cells none_out parts free outs_are left_are =
@@ -153,7 +141,7 @@ module _ (j : JobView) (p : Parts) (compiled : IsCompiled j.compilation) (has_gi
         };
         full = λ e inside is. absurd (not_finished (phase j.marks (edge_at j.compilation.graph.edges e).tail) (not_yet (edge_at j.compilation.graph.edges e).tail) is.given);
         parts = parts;
-        free = λ n inside is. free n inside;
+        free = λ n f inside is at. free n f inside at;
         claimed = λ n places is. let bad : Free ≡ Claimed places = sym (free_at n) ∙ is in absurd (cc);
         outs_are = outs_are ∙ sym (sunk_free nodes (values j.marks) 0 j.compilation.level.sinks none_at);
         left_are = left_are ∙ sym (left_free nodes (values j.marks) 0 j.compilation.level.links none_at);

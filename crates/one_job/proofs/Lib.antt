@@ -2,6 +2,7 @@ pub mod TakingSteps
 pub mod Phases
 pub mod Order
 pub mod Cells
+pub mod Blocks
 pub mod Outs
 pub mod Lending
 pub mod Claiming

@@ -1,6 +1,6 @@
 -- What stands at the ports of a job's nodes.
 use Rattle.std.proofs.Common.{◌≡◌, ℕ, zero, suc, ℤ, ◌+◌, ◌<◌, ◌≤◌, Bool, true, false, List, [], ◌∷◌, ◌++◌, length, map, take, get_or, refl, sym, ap, ap₂, ◌∙◌, subst, add-one, arith}
-use Rattle.std.specs.Prelude.{◌==◌, ◌&&◌, Option, Some, None, slice_index_or, slice_get, if◌then◌else◌}
+use Rattle.std.specs.Prelude.{◌==◌, ◌&&◌, Option, Some, None, slice_index, slice_index_or, slice_get, if◌then◌else◌}
 use Rattle.std.proofs.lemmas.Bool.{eqb-true, eq-eqb, and_parts, false≢true}
 use Rattle.std.proofs.lemmas.List.{append-nil, map_more, take_all, get_or-map, length-map}
 use Rattle.std.proofs.lemmas.List.Elements.{All-from_recursion}
@@ -12,11 +12,11 @@ use Rattle.split_block.specs.Places.{window}
 use Rattle.cell_pool.specs.View.{PoolView}
 use Rattle.job_compiler.specs.Compilation.{Compilation, IsCompiled}
 use Rattle.job_flow.specs.Graphs.{JobGraph, node_at}
-use Rattle.job_flow.specs.Frames.{on_edge, on, arriving, arriving_below, ports_in, reads, inputs, Values}
+use Rattle.job_flow.specs.Frames.{on_edge, on, arriving, arriving_below, arriving_size, lengths_written, lens, ports_in, reads, inputs, Values}
 use Rattle.job_flow.specs.Events.{IsDone}
 use Rattle.one_job.specs.Marks.{Mark, Free, Claimed, Finished, Failed, mark_at, IsFinished, phase_of, values, value_of}
 use Rattle.one_job.specs.Places.{no_edge, edge_at, buffer_at}
-use Rattle.one_job.specs.Ports.{reads_stored, row_of, EachEnters, AreWired, EachLies, port_size}
+use Rattle.one_job.specs.Ports.{reads_stored, writes_stored, row_of, EachEnters, AreWired, EachLies, port_size}
 use Rattle.one_job.specs.Taking.{Layout, EachTaken}
 use Rattle.one_job.specs.View.{JobView, IsEnabled, graph_of}
 use Rattle.one_job.specs.Kept.{stored_at}
@@ -228,3 +228,18 @@ EachLies-at place block (Some f ∷ ports) (q ∷ places) zero e each is =
     let same : f ≡ e = cc in ap (λ x. Some x) (each.0 ∙ λ i. record { block = block; start = (place (same i)).start; len = (place (same i)).len })
 EachLies-at place block (None ∷ ports) (q ∷ places) (suc p) e each is = EachLies-at place block ports places p e each.1 is
 EachLies-at place block (Some f ∷ ports) (q ∷ places) (suc p) e each is = EachLies-at place block ports places p e each.1 is
+
+-- an End and a Sink write at one port
+pub writes_one : (g : JobGraph ℤ) (which : Node) (n : ℕ) → writes_stored which ≡ true → lengths_written g which n ≡ arriving_size g.edges n 0 ∷ []
+writes_one g (node.Source s) n is = absurd (false≢true is)
+writes_one g (node.Init l) n is = absurd (false≢true is)
+writes_one g (node.Firing a k) n is = absurd (false≢true is)
+writes_one g (node.End l) n is = refl
+writes_one g (node.Sink t) n is = refl
+writes_one g (node.Broadcast l) n is = absurd (false≢true is)
+writes_one g (node.Fork l i) n is = absurd (false≢true is)
+writes_one g (node.Join l i) n is = absurd (false≢true is)
+writes_one g (node.Round l) n is = absurd (false≢true is)
+
+pub written_at_one : (g : JobGraph ℤ) (n : ℕ) → writes_stored (node_at g.nodes n) ≡ true → lens g n ≡ slice_index (lens g n) 0 ∷ []
+written_at_one g n is = let one = writes_one g (node_at g.nodes n) n is in one ∙ ap (λ sizes. slice_index sizes 0 ∷ []) (sym one)

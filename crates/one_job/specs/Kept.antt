@@ -1,8 +1,6 @@
 -- The fields of a job.
-use Rattle.std.specs.Prelude.{◌≡◌, ℕ, ℤ, ◌+◌, ◌<◌, ◌≤◌, true, All, List, [], ◌∷◌, length, map, slice_index_or, Option, if◌then◌else◌, vec_capacity, Vec}
+use Rattle.std.specs.Prelude.{◌≡◌, ℕ, ℤ, ◌<◌, ◌≤◌, true, All, List, length, map, slice_index, slice_index_or, Option}
 use Rattle.std.specs.Arc.{arc_value}
-use Rattle.std.specs.Global.{Global}
-use Rattle.split_block.specs.View.{LeaseView}
 use Rattle.cell_pool.specs.View.{PoolView}
 use Rattle.kernel_gate.specs.Value.{Places}
 use Rattle.sdf_level.specs.declared.node.Node.{Node}
@@ -15,10 +13,11 @@ use Rattle.one_job.specs.Places.{buffer_at}
 use Rattle.one_job.specs.Live.{InOrder, IsLent, AreOut, HoldFull}
 use Rattle.one_job.specs.Ports.{reads_stored, writes_stored, row_of, AreWired, LieBehind}
 use Rattle.one_job.specs.Opening.{stored_in}
-use Rattle.one_job.specs.Rooms.{IsEmpty}
+use Rattle.one_job.specs.Frames.{HasBlocks, IsMadeOf}
 use Rattle.one_job.specs.View.{JobView, graph_of, HasGiven, args_of}
 use Rattle.one_job.specs.Staged.{mark_of}
 use Rattle.one_job.specs.Ready.{KeepsReady}
+use Rattle.one_job.specs.declared.frames.FrameParts.{FrameParts}
 use Rattle.one_job.specs.declared.job.Job.TheInside.{Inside}
 
 abbrev pub view_of : Inside → JobView
@@ -32,55 +31,33 @@ view_of i = record {
   marks = map mark_of i.stages.items;
 }
 
--- what a node is handed out with, by the node's number
+-- by the node's number, the edges at its ports and what its frame is made of
 pub record Parts : Type 0 where
-  -- the edges at its ports
   pub entering : List (List (Option ℕ))
   pub leaving : List (List (Option ℕ))
-  -- empty lists with room for its leases
-  pub in_rooms : List (Vec LeaseView Global)
-  pub out_rooms : List (Vec LeaseView Global)
-  pub args : List (List ℤ)
-  -- the tokens that it reads or writes beside the buffers
-  pub tokens_in : List (List ℤ)
-  pub tokens_out : List (List ℤ)
+  pub frames : List FrameParts
 
 abbrev pub parts_of : Inside → Parts
 parts_of i = record {
   entering = i.entering;
   leaving = i.leaving;
-  in_rooms = i.in_rooms.items;
-  out_rooms = i.out_rooms.items;
-  args = i.args.items;
-  tokens_in = i.tokens_in.items;
-  tokens_out = i.tokens_out.items;
+  frames = i.frames.items;
 }
-
-abbrev pub list_at : List (List ℤ) → ℕ → List ℤ
-list_at lists n = slice_index_or lists n []
 
 -- the tokens that a Source or an Init reads
 abbrev pub stored_at : JobView → Node → List ℤ
 stored_at j which = stored_in j.sources j.stored which
 
--- one for each node
+-- one for each node; there is no lease of the pool in them
 pub record AreParts (count : ℕ) (p : Parts) : Type 0 where
-  pub in_rooms : length p.in_rooms ≡ count
-  pub out_rooms : length p.out_rooms ≡ count
-  pub args : length p.args ≡ count
-  pub tokens_in : length p.tokens_in ≡ count
-  pub tokens_out : length p.tokens_out ≡ count
-  -- there is no lease in a room
-  pub in_empty : All IsEmpty p.in_rooms
-  pub out_empty : All IsEmpty p.out_rooms
+  pub one_each : length p.frames ≡ count
+  pub blocks : All HasBlocks p.frames
 
--- what a free node needs for its claim
-pub record HasParts (j : JobView) (p : Parts) (n : ℕ) : Type 0 where
-  pub in_room : (room : Vec LeaseView Global) → slice_index_or p.in_rooms n room ≡ room → (if reads_stored (node_at j.compilation.graph.nodes n) then 1 else 0) + length (row_of p.entering n) ≤ vec_capacity room
-  pub out_room : (room : Vec LeaseView Global) → slice_index_or p.out_rooms n room ≡ room → (if writes_stored (node_at j.compilation.graph.nodes n) then 1 else 0) + length (row_of p.leaving n) ≤ vec_capacity room
-  pub args : list_at p.args n ≡ args_of j n
-  pub tokens_in : list_at p.tokens_in n ≡ stored_at j (node_at j.compilation.graph.nodes n)
-  pub tokens_out : writes_stored (node_at j.compilation.graph.nodes n) ≡ true → lens (graph_of j) n ≡ length (list_at p.tokens_out n) ∷ []
+-- what a free node has for its claim: cells for each token of the output that it writes, where that is stored
+abbrev pub HasParts : JobView → Parts → ℕ → FrameParts → Type 0
+HasParts j p n f =
+    IsMadeOf (node_at j.compilation.graph.nodes n) (args_of j n) (stored_at j (node_at j.compilation.graph.nodes n)) (slice_index (lens (graph_of j) n) 0)
+    (length (row_of p.entering n)) (length (row_of p.leaving n)) f
 
 -- the leases of a claimed node
 pub record LieRight (j : JobView) (p : Parts) (n : ℕ) (places : Places) : Type 0 where
@@ -106,7 +83,7 @@ pub record Keeps (j : JobView) (p : Parts) (pool : PoolView) (outs left : List (
   pub out : AreOut (buffer_at j.compilation.graph.edges j.compilation.placement.offsets) (length j.compilation.graph.edges) (IsLent j.compilation.graph.edges j.marks) pool.out
   pub full : HoldFull j.compilation.graph.edges j.compilation.placement.offsets j.marks pool.cells
   pub parts : AreParts (length j.compilation.graph.nodes) p
-  pub free : (n : ℕ) → n < length j.compilation.graph.nodes → phase j.marks n ≡ IsFree → HasParts j p n
+  pub free : (n : ℕ) (f : FrameParts) → n < length j.compilation.graph.nodes → phase j.marks n ≡ IsFree → slice_index_or p.frames n f ≡ f → HasParts j p n f
   pub claimed : (n : ℕ) (places : Places) → mark_at j.marks n ≡ Claimed places → LieRight j p n places
   pub outs_are : outs ≡ (ended (graph_of j) (values j.marks)).outs
   pub left_are : left ≡ (ended (graph_of j) (values j.marks)).left

@@ -13,6 +13,6 @@ pub mod Ready
 pub mod Calls
 pub mod LiveLaws
 pub mod Images
-pub mod Rooms
+pub mod Frames
 pub mod Rows
 pub mod Kept

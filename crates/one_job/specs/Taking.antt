@@ -73,11 +73,3 @@ IsOne leases = (lease : LeaseView) × (leases ≡ lease ∷ []) × IsWhole lease
 abbrev pub IsStored : Bool → List ℤ → List LeaseView → Type 0
 IsStored true tokens own = (lease : LeaseView) × (own ≡ lease ∷ []) × IsWhole lease × (lease.cells ≡ tokens)
 IsStored false tokens own = own ≡ []
-
--- the stored tokens, where there are such, then the leases of the ports
-pub record TakesAll (place : Layout) (pool : PoolView) (ports : List (Option ℕ)) (stored : Bool) (tokens : List ℤ) (leases : List LeaseView) : Type 0 where
-  pub own : List LeaseView
-  pub is_stored : IsStored stored tokens own
-  pub more : List LeaseView
-  pub each : EachTaken place pool ports more
-  pub all : leases ≡ own ++ more

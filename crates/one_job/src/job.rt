@@ -8,10 +8,10 @@ ghost use Rattle.job_flow.specs.Events.{IsQuiet};
 ghost use Rattle.job_flow.specs.Outcomes.{ended};
 
 use crate::choosing::first_head;
-use crate::leases::{return_leases, take_leases};
+use crate::frames::{FrameParts, no_parts, spend_frames, spend_parts};
+use crate::leases::{give_inputs, give_outputs, take_ports};
 use crate::nodes::{is_child, keep_tokens, kind_of, reads_stored, writes_stored};
 use crate::ready::{is_quiet, release, released};
-use crate::rooms::spend_rooms;
 use crate::rows::Rows;
 use crate::stage::{Stage, ended_stage, first_fault};
 use crate::told::told_of;
@@ -21,7 +21,6 @@ use kernel_gate::{Frame, KernelFault, Lent};
 use ready_heap::GroupedHeaps;
 use sdf_level::{List, Node};
 use single_rate::graphs_numbered;
-use split_block::Lease;
 use std::alloc::Global;
 use std::marker::Model;
 use std::mem;
@@ -46,11 +45,8 @@ pub struct Job {
     /// For each node the edges that enter and leave it, port by port.
     pub(crate) entering: Rows,
     pub(crate) leaving: Rows,
-    pub(crate) in_rooms: Vec<Vec<Lease>>,
-    pub(crate) out_rooms: Vec<Vec<Lease>>,
-    pub(crate) args: Vec<List<i64>>,
-    pub(crate) tokens_in: Vec<List<i64>>,
-    pub(crate) tokens_out: Vec<List<i64>>,
+    /// For each node what its frame is made of, until it is claimed and once it is finished.
+    pub(crate) frames: Vec<FrameParts>,
     pub(crate) pool: Pool,
     pub(crate) outs: Vec<List<i64>>,
     pub(crate) left: Vec<List<i64>>,
@@ -171,29 +167,30 @@ impl Job {
         let kind = self.compiled.graph().nodes.items()[n];
         let edges = self.compiled.graph().edges.items();
         let offsets = self.compiled.placement().offsets.items();
-        let inputs = take_leases(
+        let FrameParts {
+            inputs,
+            outputs,
+            args,
+        } = mem::replace(&mut self.frames[n], no_parts(self.alloc));
+        let inputs = take_ports(
             &mut self.pool,
             edges,
             offsets,
             self.entering.row(n),
-            reads_stored(kind),
-            mem::replace(&mut self.tokens_in[n], List::new(Vec::new(self.alloc))),
-            mem::replace(&mut self.in_rooms[n], Vec::new(self.alloc)),
+            inputs,
             self.alloc,
         );
-        let outputs = take_leases(
+        let outputs = take_ports(
             &mut self.pool,
             edges,
             offsets,
             self.leaving.row(n),
-            writes_stored(kind),
-            mem::replace(&mut self.tokens_out[n], List::new(Vec::new(self.alloc))),
-            mem::replace(&mut self.out_rooms[n], Vec::new(self.alloc)),
+            outputs,
             self.alloc,
         );
         let frame = Frame::lend(
             kind_of(kind, self.kinds.items()),
-            mem::replace(&mut self.args[n], List::new(Vec::new(self.alloc))),
+            args,
             List::new(inputs),
             List::new(outputs),
             List::new(Vec::new(self.alloc)),
@@ -216,25 +213,26 @@ impl Job {
         let is_done = answer.is_ok();
         let stage = ended_stage(told_of(&frame), answer);
         let Lent {
-            args: _,
+            args,
             inputs,
             outputs,
             sets: _,
         } = frame.take_back();
         let kind = self.compiled.graph().nodes.items()[n];
-        let _read = return_leases(
-            &mut self.pool,
-            reads_stored(kind),
-            inputs.into_items(),
-            self.alloc,
-        );
-        let kept = return_leases(
+        let inputs = give_inputs(&mut self.pool, reads_stored(kind), inputs.into_items());
+        let (outputs, kept) = give_outputs(
             &mut self.pool,
             writes_stored(kind),
             outputs.into_items(),
             self.alloc,
         );
         keep_tokens(kind, kept, &mut self.left, &mut self.outs);
+        let parts = FrameParts {
+            inputs,
+            outputs,
+            args,
+        };
+        spend_parts(mem::replace(&mut self.frames[n], parts));
         self.stages[n] = stage;
         self.claimed -= 1;
         release(
@@ -295,19 +293,14 @@ impl Job {
             claimed: _,
             entering: _,
             leaving: _,
-            in_rooms,
-            out_rooms,
-            args: _,
-            tokens_in: _,
-            tokens_out: _,
+            frames,
             pool,
             outs,
             left,
             alloc: _,
         } = self;
         drop(pool.close());
-        spend_rooms(in_rooms);
-        spend_rooms(out_rooms);
+        spend_frames(frames);
         (outs, left)
     }
 }

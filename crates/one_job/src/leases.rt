@@ -3,7 +3,7 @@ ghost use Rattle.std.specs.Prelude.{ℤ, List as Seq, ◌≡◌, ◌+◌, ◌<�
 ghost use Rattle.split_block.specs.View.{IsWhole, lease_place};
 ghost use Rattle.split_block.specs.Places.{window};
 ghost use Rattle.one_job.specs.Places.{buffer_at};
-ghost use Rattle.one_job.specs.Taking.{taken, IsOpen, CanTake, TakesBehind, TakesAll, IsDue, AreDue, IsOne, with_lease, with_leases};
+ghost use Rattle.one_job.specs.Taking.{taken, IsOpen, CanTake, TakesBehind, IsDue, AreDue, IsOne, with_lease, with_leases};
 
 use cell_pool::Pool;
 use sdf_level::{Edge, List};
@@ -23,7 +23,7 @@ fn take_buffer(pool: &mut Pool, edges: &[Edge], offsets: &[u32], edge: u32) -> L
 }
 
 /// Takes the cells of each port's edge, or an empty lease where it has none, behind the leases that are there.
-fn take_ports(
+pub(crate) fn take_ports(
     pool: &mut Pool,
     edges: &[Edge],
     offsets: &[u32],
@@ -47,31 +47,6 @@ fn take_ports(
     leases
 }
 
-/// The leases of a node's inputs or outputs: its stored tokens in a block of their own, where it has such, and what its ports
-/// take out of the pool.
-pub(crate) fn take_leases(
-    pool: &mut Pool,
-    edges: &[Edge],
-    offsets: &[u32],
-    ports: &[Option<u32>],
-    stored: bool,
-    tokens: List<i64>,
-    mut room: Vec<Lease>,
-    alloc: Global,
-) -> Vec<Lease>
-    requires placed { length offsets.now ≡ length edges.now }
-    requires can { CanTake (buffer_at edges.now offsets.now) (length edges.now) pool.old.block.len pool.old.most ports.now pool.old.out }
-    requires empty { room.items ≡ [] }
-    requires room { (if stored then 1 else 0) + length ports.now ≤ vec_capacity room }
-    ensures leases { TakesAll (buffer_at edges.now offsets.now) pool.old ports.now stored tokens result.items }
-    ensures pool { pool.new ≡ record pool.old { out = taken (buffer_at edges.now offsets.now) ports.now pool.old.out } }
-{
-    if stored {
-        room.push_reserved(Lease::from_vec(tokens.into_items()));
-    }
-    take_ports(pool, edges, offsets, ports, room, alloc)
-}
-
 /// Takes one lease back.
 fn give_one(pool: &mut Pool, lease: Lease)
     requires { IsDue lease pool.old }
@@ -84,45 +59,58 @@ fn give_one(pool: &mut Pool, lease: Lease)
     }
 }
 
-/// Takes leases back.
-fn give_all(pool: &mut Pool, mut leases: Vec<Lease>)
+/// Takes leases back, which empties their list.
+fn give_all(pool: &mut Pool, mut leases: Vec<Lease>) -> Vec<Lease>
     requires { AreDue leases.items pool.old }
-    ensures { pool.new ≡ with_leases leases.items pool.old }
+    ensures pool { pool.new ≡ with_leases leases.items pool.old }
+    ensures empty { result.items ≡ [] }
 {
     while let Some(lease) = leases.pop() {
         give_one(pool, lease);
     }
-    leases.destroy_empty();
+    leases
 }
 
-/// The tokens of the one lease, which is a block of its own.
-fn only_tokens(mut leases: Vec<Lease>, alloc: Global) -> Vec<i64>
+/// Takes back the leases of a node's inputs. Where these are stored tokens, their lease stays in the list.
+pub(crate) fn give_inputs(pool: &mut Pool, stored: bool, leases: Vec<Lease>) -> Vec<Lease>
+    requires { stored ≡ false → AreDue leases.items pool.old }
+    ensures pool { pool.new ≡ (if stored then pool.old else with_leases leases.items pool.old) }
+    ensures rest { result.items ≡ (if stored then leases.items else []) }
+{
+    if stored {
+        return leases;
+    }
+    give_all(pool, leases)
+}
+
+/// The list without its one lease, which is a block of its own, and the tokens in that.
+fn take_tokens(mut leases: Vec<Lease>, alloc: Global) -> (Vec<Lease>, Vec<i64>)
     requires { IsOne leases.items }
-    ensures { (tokens : Seq ℤ) → map (λ l. l.cells) leases.items ≡ tokens ∷ [] → result.items ≡ tokens }
+    ensures empty { result.0.items ≡ [] }
+    ensures tokens { (tokens : Seq ℤ) → map (λ l. l.cells) leases.items ≡ tokens ∷ [] → result.1.items ≡ tokens }
 {
     let tokens = match leases.pop() {
         Some(lease) => lease.into_vec(),
         None => Vec::new(alloc),
     };
-    leases.destroy_empty();
-    tokens
+    (leases, tokens)
 }
 
-/// Takes back the leases of a node's inputs or outputs. Its stored tokens, where it has such, come back as a list.
-pub(crate) fn return_leases(
+/// Takes back the leases of a node's outputs, which empties their list. Tokens that are stored come back beside it.
+pub(crate) fn give_outputs(
     pool: &mut Pool,
     stored: bool,
     leases: Vec<Lease>,
     alloc: Global,
-) -> Vec<i64>
+) -> (Vec<Lease>, Vec<i64>)
     requires one { stored ≡ true → IsOne leases.items }
     requires due { stored ≡ false → AreDue leases.items pool.old }
     ensures pool { pool.new ≡ (if stored then pool.old else with_leases leases.items pool.old) }
-    ensures tokens { (tokens : Seq ℤ) → stored ≡ true → map (λ l. l.cells) leases.items ≡ tokens ∷ [] → result.items ≡ tokens }
+    ensures empty { result.0.items ≡ [] }
+    ensures tokens { (tokens : Seq ℤ) → stored ≡ true → map (λ l. l.cells) leases.items ≡ tokens ∷ [] → result.1.items ≡ tokens }
 {
     if stored {
-        return only_tokens(leases, alloc);
+        return take_tokens(leases, alloc);
     }
-    give_all(pool, leases);
-    Vec::new(alloc)
+    (give_all(pool, leases), Vec::new(alloc))
 }

@@ -3,13 +3,13 @@
 #![tactic(auto)]
 
 mod choosing;
+mod frames;
 mod job;
 mod laws;
 mod leases;
 mod nodes;
 mod opening;
 mod ready;
-mod rooms;
 mod rows;
 mod stage;
 mod starting;

@@ -1,20 +1,24 @@
 // What a job takes at its start.
-ghost use Rattle.std.specs.Prelude.{ℤ, List as Seq, ◌≡◌, ◌<◌, ◌≤◌, ◌+◌, [], All, Some, None, true, ℕ, length, map, pos, replicate, slice_index_or, IfOk};
+ghost use Rattle.std.specs.Prelude.{ℤ, List as Seq, ◌≡◌, ◌<◌, [], Some, None, true, ℕ, length, map, replicate, slice_index_or, IfOk};
 ghost use Rattle.one_job.specs.Marks.{Free};
-ghost use Rattle.one_job.specs.Ports.{reads_stored as is_read, writes_stored as is_written, port_size};
-ghost use Rattle.one_job.specs.Rooms.{IsEmpty, HaveRoom};
+ghost use Rattle.one_job.specs.Ports.{writes_stored as is_written, port_size};
 ghost use Rattle.one_job.specs.Staged.{mark_of};
-ghost use Rattle.one_job.specs.Opening.{stored_in, AreWritten, AreSizes};
+ghost use Rattle.one_job.specs.Opening.{stored_in};
 ghost use Rattle.one_job.specs.View.{args_at};
 
-use crate::nodes::{reads_stored, writes_stored};
-use crate::rooms::{make_rooms, spend_rooms};
-use crate::rows::Rows;
+use crate::nodes::writes_stored;
 use crate::stage::Stage;
-use cell_pool::Pool;
 use sdf_level::{Edge, List, Node};
-use split_block::Lease;
 use std::alloc::{AllocError, Global};
+
+/// What a job is given beside its graph: the arguments of each actor, the tokens of each source, and those that each link
+/// holds at the start.
+#[derive(Drop)]
+pub(crate) struct Given {
+    pub args: List<List<i64>>,
+    pub sources: List<List<i64>>,
+    pub stored: List<List<i64>>,
+}
 
 /// A copy of the list at a place, empty where there is none.
 fn copy_of(alloc: Global, lists: &[List<i64>], at: u32) -> Result<Vec<i64>, AllocError>
@@ -26,22 +30,8 @@ fn copy_of(alloc: Global, lists: &[List<i64>], at: u32) -> Result<Vec<i64>, Allo
     }
 }
 
-/// The arguments of each node's frame.
-pub(crate) fn node_args(
-    alloc: Global,
-    nodes: &[Node],
-    args: &[List<i64>],
-) -> Result<Vec<List<i64>>, AllocError>
-    ensures { IfOk result (λ v. v.items ≡ map (args_at args.now) nodes.now) }
-{
-    let mut lists = Vec::with_capacity(alloc, nodes.len())?;
-    for node in nodes {
-        lists.push(List::new(args_of(alloc, *node, args)?))?;
-    }
-    Ok(lists)
-}
-
-fn args_of(alloc: Global, node: Node, args: &[List<i64>]) -> Result<Vec<i64>, AllocError>
+/// The arguments of a node's frame.
+pub(crate) fn args_of(alloc: Global, node: Node, args: &[List<i64>]) -> Result<Vec<i64>, AllocError>
     ensures { IfOk result (λ v. v.items ≡ args_at args.now node) }
 {
     match node {
@@ -50,23 +40,8 @@ fn args_of(alloc: Global, node: Node, args: &[List<i64>]) -> Result<Vec<i64>, Al
     }
 }
 
-/// The tokens that each Source and each Init reads.
-pub(crate) fn tokens_read(
-    alloc: Global,
-    nodes: &[Node],
-    sources: &[List<i64>],
-    stored: &[List<i64>],
-) -> Result<Vec<List<i64>>, AllocError>
-    ensures { IfOk result (λ v. v.items ≡ map (stored_in sources.now stored.now) nodes.now) }
-{
-    let mut lists = Vec::with_capacity(alloc, nodes.len())?;
-    for node in nodes {
-        lists.push(List::new(read_by(alloc, *node, sources, stored)?))?;
-    }
-    Ok(lists)
-}
-
-fn read_by(
+/// The tokens that a Source or an Init reads.
+pub(crate) fn read_by(
     alloc: Global,
     node: Node,
     sources: &[List<i64>],
@@ -96,7 +71,7 @@ fn first_size(edges: &[Edge], ports: &[Option<u32>]) -> u32
 }
 
 /// Cells for the tokens that the node writes, if it is an End or a Sink.
-fn written_by(
+pub(crate) fn written_by(
     alloc: Global,
     node: Node,
     edges: &[Edge],
@@ -111,55 +86,6 @@ fn written_by(
         0
     };
     vec![in alloc; 0i64; size as usize]
-}
-
-/// Cells for the tokens that each End and each Sink writes.
-pub(crate) fn tokens_written(
-    alloc: Global,
-    nodes: &[Node],
-    edges: &[Edge],
-    entering: &Rows,
-) -> Result<Vec<List<i64>>, AllocError>
-    requires rows { length entering.now ≡ length nodes.now }
-    requires there { (n e : ℕ) → slice_index_or (slice_index_or entering.now n []) 0 None ≡ Some e → e < length edges.now }
-    ensures { IfOk result (λ v. AreWritten nodes.now edges.now entering.now v.items) }
-{
-    let mut lists = Vec::with_capacity(alloc, nodes.len())?;
-    for n in 0..nodes.len() {
-        lists.push(List::new(written_by(alloc, nodes[n], edges, entering.row(n))?))?;
-    }
-    Ok(lists)
-}
-
-/// Which nodes read stored tokens.
-pub(crate) fn stored_reads(alloc: Global, nodes: &[Node]) -> Result<Vec<bool>, AllocError>
-    ensures { IfOk result (λ v. v.items ≡ map is_read nodes.now) }
-{
-    nodes.iter().map(|node| reads_stored(*node)).collect(alloc)
-}
-
-/// Which nodes write tokens that are stored.
-pub(crate) fn stored_writes(alloc: Global, nodes: &[Node]) -> Result<Vec<bool>, AllocError>
-    ensures { IfOk result (λ v. v.items ≡ map is_written nodes.now) }
-{
-    nodes.iter().map(|node| writes_stored(*node)).collect(alloc)
-}
-
-/// How many leases each node has for these ports, and for stored tokens.
-pub(crate) fn sizes(alloc: Global, own: &[bool], rows: &Rows) -> Result<Vec<usize>, AllocError>
-    requires { length own.now ≡ length rows.now }
-    ensures { IfOk result (λ v. AreSizes own.now rows.now v.items) }
-{
-    let mut sizes = Vec::with_capacity(alloc, rows.len())?;
-    for n in 0..rows.len() {
-        let count = rows.row(n).len();
-        sizes.push(if own[n] {
-            count.saturating_add(1)
-        } else {
-            count
-        })?;
-    }
-    Ok(sizes)
 }
 
 /// So many free nodes.
@@ -182,47 +108,4 @@ pub(crate) fn empty_lists(alloc: Global, count: usize) -> Result<Vec<List<i64>>,
         lists.push(List::new(Vec::new(alloc)))?;
     }
     Ok(lists)
-}
-
-/// Rooms for the leases of all nodes, and the pool.
-pub(crate) struct Space {
-    pub in_rooms: Vec<Vec<Lease>>,
-    pub out_rooms: Vec<Vec<Lease>>,
-    pub pool: Pool,
-}
-
-/// A pool of so many cells, and rooms of these sizes.
-pub(crate) fn make_space(
-    alloc: Global,
-    height: u32,
-    ins: &[usize],
-    outs: &[usize],
-) -> Result<Space, AllocError>
-    ensures in_rooms { IfOk result (λ s. All IsEmpty s.in_rooms.items × HaveRoom ins.now s.in_rooms.items) }
-    ensures out_rooms { IfOk result (λ s. All IsEmpty s.out_rooms.items × HaveRoom outs.now s.out_rooms.items) }
-    ensures cells { IfOk result (λ s. s.pool.cells ≡ replicate height (pos 0)) }
-    ensures block { IfOk result (λ s. (s.pool.block.len ≡ height) × (s.pool.block.pooled ≡ true)) }
-    ensures out { IfOk result (λ s. (s.pool.out ≡ []) × (s.pool.most ≡ 4294967295)) }
-    ensures small { height ≤ 4294967295 }
-{
-    let in_rooms = make_rooms(alloc, ins)?;
-    let out_rooms = match make_rooms(alloc, outs) {
-        Ok(rooms) => rooms,
-        Err(error) => {
-            spend_rooms(in_rooms);
-            return Err(error);
-        }
-    };
-    match Pool::start(alloc, height, u32::MAX) {
-        Ok(pool) => Ok(Space {
-            in_rooms,
-            out_rooms,
-            pool,
-        }),
-        Err(error) => {
-            spend_rooms(in_rooms);
-            spend_rooms(out_rooms);
-            Err(error)
-        }
-    }
 }

@@ -7,14 +7,13 @@ ghost use Rattle.one_job.specs.View.{job_graph};
 ghost use Rattle.one_job.specs.Ports.{AreWired};
 ghost use Rattle.one_job.specs.Wiring.{head_of, AreEndCounts};
 
+use crate::frames::{make_frames, spend_frames};
 use crate::job::Job;
-use crate::opening::{
-    Space, empty_lists, free_stages, make_space, node_args, sizes, stored_reads, stored_writes,
-    tokens_read, tokens_written,
-};
+use crate::opening::{Given, empty_lists, free_stages};
 use crate::ready::start_ready;
 use crate::rows::Rows;
 use crate::wiring::{counts_in, counts_out, end_counts, enter, heads, tails};
+use cell_pool::Pool;
 use job_compiler::Compiled;
 use job_flow::edges_have_ports;
 use sdf_level::List;
@@ -96,37 +95,36 @@ pub fn start(
         leaving,
         into,
     } = wire(alloc, &compiled, sources.items(), stored.items())?;
-    let node_args = node_args(alloc, nodes, args.items())?;
-    let tokens_in = tokens_read(alloc, nodes, sources.items(), stored.items())?;
-    let tokens_out = tokens_written(alloc, nodes, edges, &entering)?;
     let stages = free_stages(alloc, nodes.len())?;
     let outs = empty_lists(alloc, level.sinks.items().len())?;
     let left = empty_lists(alloc, level.links.items().len())?;
-    let in_sizes = sizes(alloc, &stored_reads(alloc, nodes)?, &entering)?;
-    let out_sizes = sizes(alloc, &stored_writes(alloc, nodes)?, &leaving)?;
     let ready = start_ready(alloc, compiled.mapping(), nodes, kinds.items(), &into)?;
-    let Space {
-        in_rooms,
-        out_rooms,
-        pool,
-    } = make_space(alloc, compiled.placement().height, &in_sizes, &out_sizes)?;
+    let given = Given {
+        args,
+        sources,
+        stored,
+    };
+    let frames = make_frames(alloc, nodes, edges, &entering, &leaving, &given)?;
+    let pool = match Pool::start(alloc, compiled.placement().height, u32::MAX) {
+        Ok(pool) => pool,
+        Err(error) => {
+            spend_frames(frames);
+            return Err(error);
+        }
+    };
     Ok(Job {
         compiled,
         kinds,
-        args_given: Snapshot::of(&args),
-        sources: Snapshot::of(&sources),
-        stored: Snapshot::of(&stored),
+        args_given: Snapshot::of(&given.args),
+        sources: Snapshot::of(&given.sources),
+        stored: Snapshot::of(&given.stored),
         stages,
         waiting: into,
         ready,
         claimed: 0,
         entering,
         leaving,
-        in_rooms,
-        out_rooms,
-        args: node_args,
-        tokens_in,
-        tokens_out,
+        frames,
         pool,
         outs,
         left,

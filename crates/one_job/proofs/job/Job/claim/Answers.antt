@@ -1,24 +1,22 @@
 use Rattle.std.proofs.Common.{◌≡◌, ◌+◌, ◌<◌, [], length, map, set, get_or, refl, sym, ap, ◌∙◌, subst, arith}
-use Rattle.std.specs.Global.{Global}
-use Rattle.std.specs.Prelude.{Vec, vec_len}
-use Rattle.std.proofs.lemmas.List.{get_or_read, map-set}
-use Rattle.split_block.specs.View.{lease_place, cells_of, LeaseView}
+use Rattle.std.proofs.lemmas.List.{map-set}
+use Rattle.split_block.specs.View.{lease_place, cells_of}
 use Rattle.cell_pool.specs.View.{PoolView}
 use Rattle.kernel_gate.specs.Value.{FrameView, lengths}
 use Rattle.job_compiler.specs.Compilation.{Compilation}
-use Rattle.job_flow.specs.Graphs.{node_at}
 use Rattle.job_flow.specs.Frames.{inputs, lens}
 use Rattle.one_job.specs.Marks.{Claimed, values}
-use Rattle.one_job.specs.Ports.{reads_stored, writes_stored}
-use Rattle.one_job.specs.Rooms.{IsEmpty}
+use Rattle.one_job.specs.Frames.{HasBlocks}
 use Rattle.one_job.specs.declared.stage.Stage.TheVariants as stage
 use Rattle.one_job.specs.Staged.{mark_of}
 use Rattle.one_job.specs.View.{JobView, IsEnabled, graph_of}
 use Rattle.one_job.specs.Calls.{LieAtBuffers}
-use Rattle.one_job.specs.Kept.{view_of, parts_of, Keeps}
+use Rattle.one_job.specs.Kept.{view_of, parts_of, Keeps, HasParts}
+use Rattle.one_job.specs.declared.frames.FrameParts.{FrameParts}
 use Rattle.one_job.specs.Ready.{KeepsReady}
+use Rattle.one_job.proofs.Blocks.{no_blocks}
 use Rattle.one_job.proofs.ReadySteps.{claim_ready, claims_few}
-use Rattle.one_job.proofs.JobClaim.{HasRead, HasTakenAll, can_take_ins, can_take_outs, ins_taken, outs_also_taken, last_canonical, claim_keeps, inputs_hold, outputs_fit, lie_at_buffers}
+use Rattle.one_job.proofs.JobClaim.{HasRead, HasTaken, parts_here, can_take_ins, can_take_outs, ins_taken, outs_also_taken, last_canonical, claim_keeps, inputs_hold, outputs_fit, lie_at_buffers}
 use Rattle.one_job.proofs.job.Job.claim.Goals as goal
 
 pub overflow_add-self : goal.overflow_add-self
@@ -27,8 +25,8 @@ overflow_add-self c =
     let keeps = c.self.invariant.0 in
     omega (arith, claims_few (view_of i).marks (length (view_of i).marks), c.self.invariant.1.claims_are, keeps.one_each, keeps.compiled.expanded.sound.small.few_nodes)
 
-pub take_leases-inputs-requires-clause-can : goal.take_leases-inputs-requires-clause-can
-take_leases-inputs-requires-clause-can c =
+pub take_ports-inputs-requires-clause-can : goal.take_ports-inputs-requires-clause-can
+take_ports-inputs-requires-clause-can c =
     let i = c.self.inside in
     let n = c.args.node in
     let enabled : IsEnabled (view_of i) n = subst (λ v. IsEnabled v n) (sym c.self.view_is) c.requires in
@@ -42,8 +40,8 @@ take_leases-inputs-requires-clause-can c =
       outs_are = refl;
     })
 
-pub take_leases-outputs-requires-clause-can : goal.take_leases-outputs-requires-clause-can
-take_leases-outputs-requires-clause-can c =
+pub take_ports-outputs-requires-clause-can : goal.take_ports-outputs-requires-clause-can
+take_ports-outputs-requires-clause-can c =
     let i = c.self.inside in
     let n = c.args.node in
     let enabled : IsEnabled (view_of i) n = subst (λ v. IsEnabled v n) (sym c.self.view_is) c.requires in
@@ -57,13 +55,13 @@ take_leases-outputs-requires-clause-can c =
       ins_are = c.row.ensures;
       outs_are = c.row-2.ensures;
     })
-    c.take_leases-inputs.new.pool c.take_leases-inputs.ensures.pool
+    c.take_ports-inputs.new.pool c.take_ports-inputs.ensures.pool
 
 -- the node may be claimed
-enabled_at : (c : goal.After-self-7-1) → IsEnabled (view_of c.self.inside) c.args.node
+enabled_at : (c : goal.After-self-3-1) → IsEnabled (view_of c.self.inside) c.args.node
 enabled_at c = subst (λ v. IsEnabled v c.args.node) (sym c.self.view_is) c.requires
 
-read_at : (c : goal.After-self-7-1) → HasRead (view_of c.self.inside) (parts_of c.self.inside) c.self.inside.pool c.self.inside.outs.items c.self.inside.left.items c.self.invariant.0 c.args.node (enabled_at c)
+read_at : (c : goal.After-self-3-1) → HasRead (view_of c.self.inside) (parts_of c.self.inside) c.self.inside.pool c.self.inside.outs.items c.self.inside.left.items c.self.invariant.0 c.args.node (enabled_at c)
     c.items-edges.result.now c.items-offsets.result.now c.row.result.now c.row-2.result.now
 read_at c =
     let i = c.self.inside in
@@ -77,42 +75,39 @@ read_at c =
       outs_are = c.row-2.ensures;
     }
 
-took_at : (c : goal.After-self-7-1) → HasTakenAll (view_of c.self.inside) (parts_of c.self.inside) c.self.inside.pool c.self.inside.outs.items c.self.inside.left.items c.self.invariant.0 c.args.node (enabled_at c)
-    c.items-edges.result.now c.items-offsets.result.now c.row.result.now c.row-2.result.now (read_at c)
-    c.reads_stored.result c.writes_stored.result c.replace.result c.replace-3.result c.take_leases-inputs.result.items c.take_leases-outputs.result.items c.take_leases-inputs.new.pool c.take_leases-outputs.new.pool
-took_at c =
+-- what the node's frame is made of
+made_at : (c : goal.After-self-3-1) → HasParts (view_of c.self.inside) (parts_of c.self.inside) c.args.node c.replace-inputs.result
+made_at c =
     let i = c.self.inside in
-    let n = c.args.node in
-    let nodes_are = c.items.ensures ∙ (ap (λ g. g.nodes) c.graph.ensures.value ∙ ap (λ (k : Compilation). k.graph.nodes) c.deref.ensures) in
-    let in_inside : n < length i.tokens_in.items = omega (arith, c.self.invariant.0.parts.tokens_in, (enabled_at c).ready.there) in
-    let out_inside : n < length i.tokens_out.items = omega (arith, c.self.invariant.0.parts.tokens_out, (enabled_at c).ready.there) in
-    record {
-      reads = c.reads_stored.ensures ∙ ap (λ ns. reads_stored (node_at ns n)) nodes_are;
-      writes = c.writes_stored.ensures ∙ ap (λ ns. writes_stored (node_at ns n)) nodes_are;
-      tokens_in = c.replace.ensures.value ∙ get_or_read i.tokens_in.items n c.index_mut.result.now in_inside c.index_mut.ensures.value [];
-      tokens_out = c.replace-3.ensures.value ∙ get_or_read i.tokens_out.items n c.index_mut-3.result.now out_inside c.index_mut-3.ensures.value [];
-      took_in = c.take_leases-inputs.ensures.leases;
-      middle_is = c.take_leases-inputs.ensures.pool;
-      took_out = c.take_leases-outputs.ensures.leases;
-      last_is = c.take_leases-outputs.ensures.pool;
-    }
+    parts_here (view_of i) (parts_of i) i.pool i.outs.items i.left.items c.self.invariant.0 c.args.node (enabled_at c) c.replace-inputs.result
+    (subst (λ (f : FrameParts). get_or i.frames.items c.args.node f ≡ f) (sym c.replace-inputs.ensures.value) (sym c.index_mut.ensures.value))
+
+took_at : (c : goal.After-self-3-1) → HasTaken (view_of c.self.inside) (parts_of c.self.inside) c.self.inside.pool c.self.inside.outs.items c.self.inside.left.items c.self.invariant.0 c.args.node (enabled_at c)
+    c.items-edges.result.now c.items-offsets.result.now c.row.result.now c.row-2.result.now (read_at c)
+    c.replace-inputs.result c.take_ports-inputs.result.items c.take_ports-outputs.result.items c.take_ports-inputs.new.pool c.take_ports-outputs.new.pool
+took_at c = record {
+  took_in = c.take_ports-inputs.ensures.leases;
+  middle_is = c.take_ports-inputs.ensures.pool;
+  took_out = c.take_ports-outputs.ensures.leases;
+  last_is = c.take_ports-outputs.ensures.pool;
+}
 
 -- where the frame's leases lie
-places_are : (c : goal.After-self-7-1) → c.lend-frame.result.places ≡ record { inputs = map lease_place c.take_leases-inputs.result.items; outputs = map lease_place c.take_leases-outputs.result.items }
+places_are : (c : goal.After-self-3-1) → c.lend-frame.result.places ≡ record { inputs = map lease_place c.take_ports-inputs.result.items; outputs = map lease_place c.take_ports-outputs.result.items }
 places_are c =
-    let one = c.lend-frame.ensures.inputs.places ∙ ap (map lease_place) c.new-9.ensures in
-    let other = c.lend-frame.ensures.outputs.places ∙ ap (map lease_place) c.new-10.ensures in
+    let one = c.lend-frame.ensures.inputs.places ∙ ap (map lease_place) c.new.ensures in
+    let other = c.lend-frame.ensures.outputs.places ∙ ap (map lease_place) c.new-2.ensures in
     λ k. record { inputs = one k; outputs = other k }
 
-abbrev later : (c : goal.After-self-7-1) → JobView
-later c = record (view_of c.self.inside) { marks = set (view_of c.self.inside).marks c.args.node (Claimed (record { inputs = map lease_place c.take_leases-inputs.result.items; outputs = map lease_place c.take_leases-outputs.result.items })) }
+abbrev later : (c : goal.After-self-3-1) → JobView
+later c = record (view_of c.self.inside) { marks = set (view_of c.self.inside).marks c.args.node (Claimed (record { inputs = map lease_place c.take_ports-inputs.result.items; outputs = map lease_place c.take_ports-outputs.result.items })) }
 
 -- the view of the fields as they are then
-now_is : (c : goal.After-self-7-1) → record (view_of c.self.inside) { block = c.take_leases-outputs.new.pool.block; marks = map mark_of (set c.self.inside.stages.items c.args.node (stage.Claimed c.told_of.result)) } ≡ later c
+now_is : (c : goal.After-self-3-1) → record (view_of c.self.inside) { block = c.take_ports-outputs.new.pool.block; marks = map mark_of (set c.self.inside.stages.items c.args.node (stage.Claimed c.told_of.result)) } ≡ later c
 now_is c =
     let i = c.self.inside in
     let n = c.args.node in
-    let block_is = ap (λ (q : PoolView). q.block) (last_canonical (view_of i) (parts_of i) i.pool i.outs.items i.left.items c.self.invariant.0 n (enabled_at c) _ _ _ _ (read_at c) _ _ _ _ _ _ _ _ (took_at c)) in
+    let block_is = ap (λ (q : PoolView). q.block) (last_canonical (view_of i) (parts_of i) i.pool i.outs.items i.left.items c.self.invariant.0 n (enabled_at c) _ _ _ _ (read_at c) _ _ _ _ _ (took_at c)) in
     let marks_is = map-set mark_of i.stages.items n (stage.Claimed c.told_of.result)
     ∙ ap (λ q. set (map mark_of i.stages.items) n (Claimed q)) (ap (λ (f : FrameView). f.places) c.told_of.ensures ∙ places_are c) in
     λ k. record (view_of i) { block = block_is k; marks = marks_is k }
@@ -121,22 +116,16 @@ pub invariant_of-self : goal.invariant_of-self
 invariant_of-self c =
     let i = c.self.inside in
     let n = c.args.node in
-    let last_is = last_canonical (view_of i) (parts_of i) i.pool i.outs.items i.left.items c.self.invariant.0 n (enabled_at c) _ _ _ _ (read_at c) _ _ _ _ _ _ _ _ (took_at c) in
-    let in_empty : IsEmpty c.replace-2.new.dest = record { items = ap (λ (v : Vec LeaseView Global). v.items) c.replace-2.ensures.after ∙ c.new-3.ensures.items; len = ap (λ (v : Vec LeaseView Global). vec_len v) c.replace-2.ensures.after ∙ c.new-3.ensures.len } in
-    let out_empty : IsEmpty c.replace-4.new.dest = record { items = ap (λ (v : Vec LeaseView Global). v.items) c.replace-4.ensures.after ∙ c.new-6.ensures.items; len = ap (λ (v : Vec LeaseView Global). vec_len v) c.replace-4.ensures.after ∙ c.new-6.ensures.len } in
-    let kept = claim_keeps (view_of i) (parts_of i) i.pool i.outs.items i.left.items c.self.invariant.0 n (enabled_at c) c.take_leases-inputs.result.items c.take_leases-outputs.result.items
-    (ins_taken (view_of i) (parts_of i) i.pool i.outs.items i.left.items c.self.invariant.0 n (enabled_at c) _ _ _ _ (read_at c) _ _ _ _ _ _ _ _ (took_at c))
-    (outs_also_taken (view_of i) (parts_of i) i.pool i.outs.items i.left.items c.self.invariant.0 n (enabled_at c) _ _ _ _ (read_at c) _ _ _ _ _ _ _ _ (took_at c))
-    c.replace-2.new.dest c.replace-4.new.dest in_empty out_empty c.replace-5.new.dest c.replace.new.dest c.replace-3.new.dest in
-    let later_parts = record (parts_of i) {
-      in_rooms = set i.in_rooms.items n c.replace-2.new.dest;
-      out_rooms = set i.out_rooms.items n c.replace-4.new.dest;
-      args = set i.args.items n c.replace-5.new.dest;
-      tokens_in = set i.tokens_in.items n c.replace.new.dest;
-      tokens_out = set i.tokens_out.items n c.replace-3.new.dest;
-    } in
-    let then_ready = claim_ready (view_of i) c.self.invariant.0.one_each i.waiting.items i.claimed i.ready c.self.invariant.1 n (enabled_at c) (record { inputs = map lease_place c.take_leases-inputs.result.items; outputs = map lease_place c.take_leases-outputs.result.items }) in (
-      subst (λ v. Keeps v later_parts c.take_leases-outputs.new.pool i.outs.items i.left.items) (sym (now_is c))
+    let last_is = last_canonical (view_of i) (parts_of i) i.pool i.outs.items i.left.items c.self.invariant.0 n (enabled_at c) _ _ _ _ (read_at c) _ _ _ _ _ (took_at c) in
+    let rest = c.replace-inputs.new.dest in
+    let blocks : HasBlocks rest = subst HasBlocks (sym c.replace-inputs.ensures.after) (no_blocks c.no_parts.result c.no_parts.ensures.inputs c.no_parts.ensures.outputs) in
+    let kept = claim_keeps (view_of i) (parts_of i) i.pool i.outs.items i.left.items c.self.invariant.0 n (enabled_at c) c.replace-inputs.result (made_at c) c.take_ports-inputs.result.items c.take_ports-outputs.result.items
+    (ins_taken (view_of i) (parts_of i) i.pool i.outs.items i.left.items c.self.invariant.0 n (enabled_at c) _ _ _ _ (read_at c) _ _ _ _ _ (took_at c))
+    (outs_also_taken (view_of i) (parts_of i) i.pool i.outs.items i.left.items c.self.invariant.0 n (enabled_at c) _ _ _ _ (read_at c) _ _ _ _ _ (took_at c))
+    rest blocks in
+    let later_parts = record (parts_of i) { frames = set i.frames.items n rest } in
+    let then_ready = claim_ready (view_of i) c.self.invariant.0.one_each i.waiting.items i.claimed i.ready c.self.invariant.1 n (enabled_at c) (record { inputs = map lease_place c.take_ports-inputs.result.items; outputs = map lease_place c.take_ports-outputs.result.items }) in (
+      subst (λ v. Keeps v later_parts c.take_ports-outputs.new.pool i.outs.items i.left.items) (sym (now_is c))
           (subst (λ q. Keeps (later c) later_parts q i.outs.items i.left.items) (sym last_is) kept),
       subst (λ v. KeepsReady v i.waiting.items (i.claimed + 1) c.remove.new.self) (sym (now_is c))
           (subst (λ r. KeepsReady (later c) i.waiting.items (i.claimed + 1) r) (sym c.remove.ensures) then_ready),
@@ -147,20 +136,20 @@ returns-clause-inputs c =
     let i = c.self.inside in
     let n = c.args.node in
     c.lend-frame.ensures.inputs.cells
-    ∙ (ap (map cells_of) c.new-9.ensures
-    ∙ (inputs_hold (view_of i) (parts_of i) i.pool i.outs.items i.left.items c.self.invariant.0 n (enabled_at c) c.take_leases-inputs.result.items c.take_leases-outputs.result.items
-    (ins_taken (view_of i) (parts_of i) i.pool i.outs.items i.left.items c.self.invariant.0 n (enabled_at c) _ _ _ _ (read_at c) _ _ _ _ _ _ _ _ (took_at c))
-    (outs_also_taken (view_of i) (parts_of i) i.pool i.outs.items i.left.items c.self.invariant.0 n (enabled_at c) _ _ _ _ (read_at c) _ _ _ _ _ _ _ _ (took_at c))
+    ∙ (ap (map cells_of) c.new.ensures
+    ∙ (inputs_hold (view_of i) (parts_of i) i.pool i.outs.items i.left.items c.self.invariant.0 n (enabled_at c) c.replace-inputs.result (made_at c) c.take_ports-inputs.result.items c.take_ports-outputs.result.items
+    (ins_taken (view_of i) (parts_of i) i.pool i.outs.items i.left.items c.self.invariant.0 n (enabled_at c) _ _ _ _ (read_at c) _ _ _ _ _ (took_at c))
+    (outs_also_taken (view_of i) (parts_of i) i.pool i.outs.items i.left.items c.self.invariant.0 n (enabled_at c) _ _ _ _ (read_at c) _ _ _ _ _ (took_at c))
     ∙ ap (λ v. inputs (graph_of v) (values v.marks) n) c.self.view_is))
 
 pub returns-clause-outputs : goal.returns-clause-outputs
 returns-clause-outputs c =
     let i = c.self.inside in
     let n = c.args.node in
-    ap lengths (c.lend-frame.ensures.outputs.cells ∙ ap (map cells_of) c.new-10.ensures)
-    ∙ (outputs_fit (view_of i) (parts_of i) i.pool i.outs.items i.left.items c.self.invariant.0 n (enabled_at c) c.take_leases-inputs.result.items c.take_leases-outputs.result.items
-    (ins_taken (view_of i) (parts_of i) i.pool i.outs.items i.left.items c.self.invariant.0 n (enabled_at c) _ _ _ _ (read_at c) _ _ _ _ _ _ _ _ (took_at c))
-    (outs_also_taken (view_of i) (parts_of i) i.pool i.outs.items i.left.items c.self.invariant.0 n (enabled_at c) _ _ _ _ (read_at c) _ _ _ _ _ _ _ _ (took_at c))
+    ap lengths (c.lend-frame.ensures.outputs.cells ∙ ap (map cells_of) c.new-2.ensures)
+    ∙ (outputs_fit (view_of i) (parts_of i) i.pool i.outs.items i.left.items c.self.invariant.0 n (enabled_at c) c.replace-inputs.result (made_at c) c.take_ports-inputs.result.items c.take_ports-outputs.result.items
+    (ins_taken (view_of i) (parts_of i) i.pool i.outs.items i.left.items c.self.invariant.0 n (enabled_at c) _ _ _ _ (read_at c) _ _ _ _ _ (took_at c))
+    (outs_also_taken (view_of i) (parts_of i) i.pool i.outs.items i.left.items c.self.invariant.0 n (enabled_at c) _ _ _ _ (read_at c) _ _ _ _ _ (took_at c))
     ∙ ap (λ v. lens (graph_of v) n) c.self.view_is)
 
 pub returns-clause-leases : goal.returns-clause-leases
@@ -169,9 +158,9 @@ returns-clause-leases c =
     let n = c.args.node in
     subst (λ v. LieAtBuffers v n c.lend-frame.result.places) c.self.view_is
     (subst (LieAtBuffers (view_of i) n) (sym (places_are c))
-    (lie_at_buffers (view_of i) (parts_of i) i.pool i.outs.items i.left.items c.self.invariant.0 n (enabled_at c) c.take_leases-inputs.result.items c.take_leases-outputs.result.items
-    (ins_taken (view_of i) (parts_of i) i.pool i.outs.items i.left.items c.self.invariant.0 n (enabled_at c) _ _ _ _ (read_at c) _ _ _ _ _ _ _ _ (took_at c))
-    (outs_also_taken (view_of i) (parts_of i) i.pool i.outs.items i.left.items c.self.invariant.0 n (enabled_at c) _ _ _ _ (read_at c) _ _ _ _ _ _ _ _ (took_at c))))
+    (lie_at_buffers (view_of i) (parts_of i) i.pool i.outs.items i.left.items c.self.invariant.0 n (enabled_at c) c.replace-inputs.result (made_at c) c.take_ports-inputs.result.items c.take_ports-outputs.result.items
+    (ins_taken (view_of i) (parts_of i) i.pool i.outs.items i.left.items c.self.invariant.0 n (enabled_at c) _ _ _ _ (read_at c) _ _ _ _ _ (took_at c))
+    (outs_also_taken (view_of i) (parts_of i) i.pool i.outs.items i.left.items c.self.invariant.0 n (enabled_at c) _ _ _ _ (read_at c) _ _ _ _ _ (took_at c))))
 
 pub returns-clause-claimed : goal.returns-clause-claimed
 returns-clause-claimed c =
