@@ -26,11 +26,3 @@ failure_step stages n stage inside is sound =
     ap (failure_from v n) more
     ∙ (ap (λ m. failure_or n (value_of m) (failure_from v (n + 1) (length stages - (n + 1)))) (mark_of_at stages n stage inside is)
     ∙ goes_on n stage (failure_from v (n + 1) (length stages - (n + 1))) sound)
-
-pub failure_here : (stages : List Stage) (n code : ℕ) (stage : Stage) → n < length stages → stage ≡ get_or stages n stage → stage ≡ Failed code
-    → failure_from (values (map mark_of stages)) n (length stages - n) ≡ Rattle.std.specs.Prelude.Some (record { node = n; fault = code })
-failure_here stages n code stage inside is failed =
-    let v = values (map mark_of stages) in
-    let more : length stages - n ≡ suc (length stages - (n + 1)) = omega arith in
-    ap (failure_from v n) more
-    ∙ ap (λ m. failure_or n (value_of m) (failure_from v (n + 1) (length stages - (n + 1)))) (mark_of_at stages n stage inside is ∙ ap mark_of failed)

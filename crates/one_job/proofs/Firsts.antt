@@ -17,9 +17,6 @@ first_trans priority n m k one other = ⊎_elim
     other)
     one
 
-pub before_itself : (mapping : Mapping) (worker n : ℕ) → GoesBefore mapping worker n n
-before_itself mapping worker n = inr (refl, inr (refl, omega arith))
-
 pub before_trans : (mapping : Mapping) (worker n m k : ℕ) → GoesBefore mapping worker n m → GoesBefore mapping worker m k → GoesBefore mapping worker n k
 before_trans mapping worker n m k one other = ⊎_elim
     (λ (a : away mapping worker n < away mapping worker m). ⊎_elim

@@ -184,7 +184,6 @@ module _ (j : JobView) (p : Parts) (pool : PoolView) (outs left : List (List ℤ
   -- what is asked when the leases are given back
   pub record CanGiveBoth : Type 0 where
     pub there : n < length j.compilation.graph.nodes
-    pub marked : n < length j.marks
     pub ins_one : reads_stored which ≡ true → IsOne in_leases
     pub ins_due : reads_stored which ≡ false → AreDue in_leases pool
     pub outs_one : writes_stored which ≡ true → IsOne out_leases
@@ -193,7 +192,6 @@ module _ (j : JobView) (p : Parts) (pool : PoolView) (outs left : List (List ℤ
   pub can_give_both : CanGiveBoth
   can_give_both = record {
     there = inside;
-    marked = marked;
     ins_one = stored_one place j.block (reads_stored which) (ports_in (graph_of j) which n) row_in in_leases (keeps.wired.ins n inside) ins_behind;
     ins_due = λ is. due_part (reads_stored which) in_leases pool is facts.ins_due;
     outs_one = stored_one place j.block (writes_stored which) (length (lens (graph_of j) n)) row_out out_leases long_out outs_behind;

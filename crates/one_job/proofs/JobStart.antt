@@ -73,15 +73,6 @@ reads_one g (node.Join l i) n is = absurd (false≢true is)
 reads_one g (node.Round l) n is = absurd (false≢true is)
 
 module _ (g : JobGraph ℤ) (entering leaving : List (List (Option ℕ))) (wired : AreWired g entering leaving) where
-  -- the edges of the rows are there
-  pub firsts_there : (n e : ℕ) → get_or (row_of entering n) 0 None ≡ Some e → e < length g.edges
-  firsts_there n e found = ⊎_elim
-      (λ (inside : n < length g.nodes). (enters_at g.edges n 0 (row_of entering n) 0 e (wired.enters n inside) found).0)
-      (λ (past : length g.nodes ≤ n).
-      let none : row_of entering n ≡ [] = get_or_past entering n [] (omega (arith, past, wired.rows_in)) in
-      let bad : None ≡ Some e = sym (ap (λ row. get_or row 0 None) none) ∙ found in absurd (cc))
-      (cases_lt n (length g.nodes))
-
   -- what arrives at the one port of an End or a Sink
   pub arrives : HavePorts g → (n : ℕ) → n < length g.nodes → writes_stored (node_at g.nodes n) ≡ true → (port : Option ℕ) → get_or (row_of entering n) 0 None ≡ port → arriving_size g.edges n 0 ≡ port_size g.edges port
   arrives have n inside is (Some e) found =

@@ -14,6 +14,7 @@ pub mod JobDone
 pub mod JobEnds
 pub mod FirstFault
 pub mod RowParts
+pub mod RowStarts
 pub mod RowSteps
 pub mod JobWires
 pub mod StartWires

@@ -76,12 +76,6 @@ module _ (ports : List (Option ℕ)) (spans : List (ℕ × ℕ)) (keeps : KeepsR
       other_part k k_below differs ∙ (sym (get_or-map (part_of ports) spans k (0, 0) d k_below) ∙ sym (get_or-set_other (rows_in ports spans) n k new_row d differs)))
       (cases_eq k n))
 
-  pub put_keeps : KeepsRows later spans
-  put_keeps = record {
-    within = λ m m_in. omega (arith, keeps.within m m_in, length-set ports at (Some e));
-    apart = keeps.apart;
-  }
-
 module _ (ports : List (Option ℕ)) (spans : List (ℕ × ℕ)) (keeps : KeepsRows ports spans) (count : ℕ) where
   abbrev more : List (Option ℕ)
   more = ports ++ replicate count None

@@ -1,5 +1,9 @@
 -- Rows of ports that lie in one list.
-use Rattle.std.specs.Prelude.{◌≡◌, ℕ, ◌+◌, ◌<◌, ◌≤◌, List, length, map, take, drop, slice_index_or, Option}
+use Rattle.std.specs.Prelude.{◌≡◌, ℕ, ◌+◌, ◌-◌, ◌<◌, ◌≤◌, ◌==◌, List, [], ◌∷◌, length, map, take, drop, slice_index, slice_index_or, Option, Some, None, if◌then◌else◌}
+
+-- the edge that is known to a port with this number: the greatest number stands for none
+abbrev pub edge_of : ℕ → Option ℕ
+edge_of number = if number == 4294967295 then None else Some number
 
 -- so many ports from a place on
 abbrev pub part_of : List (Option ℕ) → ℕ × ℕ → List (Option ℕ)
@@ -16,3 +20,18 @@ pub record KeepsRows (ports : List (Option ℕ)) (spans : List (ℕ × ℕ)) : T
   pub within : (n : ℕ) → n < length spans → (span_at spans n).0 + (span_at spans n).1 ≤ length ports
   pub apart : (n m k l : ℕ) → n < length spans → m < length spans → k < (span_at spans n).1 → l < (span_at spans m).1
       → (span_at spans n).0 + k ≡ (span_at spans m).0 + l → n ≡ m
+
+-- where rows begin and how many ports they have: the first begins at a place, and each other where the one before ends
+abbrev pub spans_from : ℕ → List ℕ → List (ℕ × ℕ)
+spans_from start [] = []
+spans_from start (end ∷ ends) = (start, end - start) ∷ spans_from end ends
+
+abbrev pub spans_of : List ℕ → List (ℕ × ℕ)
+spans_of [] = []
+spans_of (start ∷ ends) = spans_from start ends
+
+-- where the rows begin, and where the last one ends
+pub record KeepsStarts (ports : List (Option ℕ)) (starts : List ℕ) : Type 0 where
+  pub some : 0 < length starts
+  pub rises : (n : ℕ) → n + 1 < length starts → slice_index starts n ≤ slice_index starts (n + 1)
+  pub rows : KeepsRows ports (spans_of starts)

@@ -8,7 +8,7 @@ ghost use Rattle.one_job.specs.View.{args_at};
 
 use crate::nodes::{reads_stored, writes_stored};
 use crate::opening::{Given, args_of, read_by, written_by};
-use crate::rows::Rows;
+use crate::rows::{Port, Rows};
 use sdf_level::{Edge, List, Node};
 use split_block::Lease;
 use std::alloc::{AllocError, Global};
@@ -71,7 +71,7 @@ fn room_for(
     alloc: Global,
     stored: bool,
     tokens: Vec<i64>,
-    ports: &[Option<u32>],
+    ports: &[Port],
 ) -> Result<Vec<Lease>, AllocError>
     ensures { IfOk result (λ leases. IsRoom stored tokens.items (length ports.now) leases) }
 {
@@ -88,8 +88,8 @@ fn parts_of(
     alloc: Global,
     node: Node,
     edges: &[Edge],
-    ins: &[Option<u32>],
-    outs: &[Option<u32>],
+    ins: &[Port],
+    outs: &[Port],
     given: &Given,
 ) -> Result<FrameParts, AllocError>
     requires { (e : ℕ) → slice_index_or ins.now 0 None ≡ Some e → e < length edges.now }

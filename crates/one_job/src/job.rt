@@ -202,7 +202,8 @@ impl Job {
     }
 
     /// Finishes a claimed node: its frame comes back with what it wrote, or with the code of its kernel. A job of its own
-    /// that was refused is finished with code 0. It takes no memory.
+    /// that was refused is finished with code 0. It takes no memory, and frees none: what the frame was made of goes back to the
+    /// job.
     pub fn finish(&mut self, node: u32, frame: Frame, answer: Result<(), KernelFault>)
         requires claimed { mark_at self.old.marks node ≡ Claimed frame.places }
         requires sound { IsFiring (node_at self.old.compilation.graph.nodes node) ⊎ IsOk answer }
@@ -232,6 +233,7 @@ impl Job {
             outputs,
             args,
         };
+        // While the frame was out, its record was empty: nothing is freed here.
         spend_parts(mem::replace(&mut self.frames[n], parts));
         self.stages[n] = stage;
         self.claimed -= 1;

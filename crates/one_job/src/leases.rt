@@ -5,6 +5,7 @@ ghost use Rattle.split_block.specs.Places.{window};
 ghost use Rattle.one_job.specs.Places.{buffer_at};
 ghost use Rattle.one_job.specs.Taking.{taken, IsOpen, CanTake, TakesBehind, IsDue, AreDue, IsOne, with_lease, with_leases};
 
+use crate::rows::Port;
 use cell_pool::Pool;
 use sdf_level::{Edge, List};
 use split_block::Lease;
@@ -27,7 +28,7 @@ pub(crate) fn take_ports(
     pool: &mut Pool,
     edges: &[Edge],
     offsets: &[u32],
-    ports: &[Option<u32>],
+    ports: &[Port],
     mut leases: Vec<Lease>,
     alloc: Global,
 ) -> Vec<Lease>
@@ -38,8 +39,8 @@ pub(crate) fn take_ports(
     ensures pool { pool.new ≡ record pool.old { out = taken (buffer_at edges.now offsets.now) ports.now pool.old.out } }
 {
     for port in ports {
-        let lease = match port {
-            Some(edge) => take_buffer(pool, edges, offsets, *edge),
+        let lease = match port.edge() {
+            Some(edge) => take_buffer(pool, edges, offsets, edge),
             None => Lease::from_vec(Vec::new(alloc)),
         };
         leases.push_reserved(lease);

@@ -7,6 +7,7 @@ ghost use Rattle.one_job.specs.Opening.{stored_in};
 ghost use Rattle.one_job.specs.View.{args_at};
 
 use crate::nodes::writes_stored;
+use crate::rows::Port;
 use crate::stage::Stage;
 use sdf_level::{Edge, List, Node};
 use std::alloc::{AllocError, Global};
@@ -57,14 +58,14 @@ pub(crate) fn read_by(
 }
 
 /// How many tokens the first port has.
-fn first_size(edges: &[Edge], ports: &[Option<u32>]) -> u32
+fn first_size(edges: &[Edge], ports: &[Port]) -> u32
     requires { (e : ℕ) → slice_index_or ports.now 0 None ≡ Some e → e < length edges.now }
     ensures { result ≡ port_size edges.now (slice_index_or ports.now 0 None) }
 {
     if ports.is_empty() {
         return 0;
     }
-    match ports[0] {
+    match ports[0].edge() {
         Some(edge) => edges[edge as usize].size,
         None => 0,
     }
@@ -75,7 +76,7 @@ pub(crate) fn written_by(
     alloc: Global,
     node: Node,
     edges: &[Edge],
-    ports: &[Option<u32>],
+    ports: &[Port],
 ) -> Result<Vec<i64>, AllocError>
     requires { (e : ℕ) → slice_index_or ports.now 0 None ≡ Some e → e < length edges.now }
     ensures { IfOk result (λ v. is_written node ≡ true → length v.items ≡ port_size edges.now (slice_index_or ports.now 0 None)) }

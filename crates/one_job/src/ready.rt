@@ -6,6 +6,7 @@ ghost use Rattle.one_job.specs.Pick.{is_child_in};
 ghost use Rattle.one_job.specs.Ready.{bit, group_of, AreKeys, AreGroups, Releases, CanRelease, AreStarted};
 
 use crate::nodes::is_child;
+use crate::rows::Port;
 use ready_heap::GroupedHeaps;
 use sdf_level::{Edge, Node};
 use std::alloc::{AllocError, Global};
@@ -125,7 +126,7 @@ pub(crate) fn is_quiet(claimed: usize, ready: &GroupedHeaps) -> bool
 }
 
 /// The ports by which a node that is finished so releases nodes: none where it failed.
-pub(crate) fn released<'a>(is_done: bool, ports: &'a [Option<u32>]) -> &'a [Option<u32>]
+pub(crate) fn released<'a>(is_done: bool, ports: &'a [Port]) -> &'a [Port]
     ensures { result.now ≡ (if is_done then ports.now else []) }
 {
     if is_done { ports } else { &[] }
@@ -134,7 +135,7 @@ pub(crate) fn released<'a>(is_done: bool, ports: &'a [Option<u32>]) -> &'a [Opti
 /// The nodes at the heads of the edges at these ports wait for an edge less, and those that wait for none then are in.
 pub(crate) fn release(
     edges: &[Edge],
-    ports: &[Option<u32>],
+    ports: &[Port],
     waiting: &mut [usize],
     ready: &mut GroupedHeaps,
 )
@@ -142,8 +143,8 @@ pub(crate) fn release(
     ensures { Releases edges.now ports.now [] waiting.old waiting.new ready.old ready.new }
 {
     for port in ports {
-        if let Some(edge) = port {
-            release_one(waiting, ready, edges[*edge as usize].head);
+        if let Some(edge) = port.edge() {
+            release_one(waiting, ready, edges[edge as usize].head);
         }
     }
 }

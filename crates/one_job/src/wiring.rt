@@ -224,7 +224,7 @@ pub(crate) fn enter(
     requires few { length ends.now < 2 ^ 32 }
     ensures { IfOk result (λ r. AreRows counts.now ends.now (length ends.now) r) }
 {
-    let mut rows = Rows::without_edges(alloc, counts)?;
+    let mut rows = Rows::without_edges(alloc, counts, ends.len())?;
     for e in 0..ends.len() {
         let (node, port) = ends[e];
         rows.put(node as usize, port as usize, e as u32);
