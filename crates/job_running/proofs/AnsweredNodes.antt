@@ -1,6 +1,6 @@
 -- A node of a running firing is answered by what it called.
 use Rattle.std.proofs.Common.{◌≡◌, ℕ, zero, suc, ◌<◌, ◌≤◌, ◌^◌, ⊎_elim, ℤ, Bool, true, List, [], ◌∷◌, length, map, set, get_or, slice_get, Option, Some, None, Ok, Err, refl, sym, ap, ap₂, ◌∙◌, subst, arith}
-use Rattle.std.specs.Prelude.{Vec}
+use Rattle.std.specs.Prelude.{Vec, is_none, if◌then◌else◌}
 use Rattle.std.specs.Global.{Global}
 use Rattle.std.specs.declared.snapshot.Snapshot.{Snapshot}
 use Rattle.std.proofs.lemmas.List.{get_or-set_other, get_or-set_same, length-set}
@@ -50,7 +50,7 @@ use Rattle.single_rate.specs.Stages.{FiringsAreAll, FiringsStandInOrder, NodesSt
 use Rattle.job_rules.specs.Words.{answer_of}
 use Rattle.job_preparing.specs.Handing.{SuitsCall, end_of, given_of}
 use Rattle.job_preparing.specs.declared.handing.JobGiven.{JobGiven}
-use Rattle.job_running.specs.Parts.{AreTraces, row_at}
+use Rattle.job_running.specs.Parts.{AreTraces, call_count, row_at}
 use Rattle.job_running.specs.Sizes.{call_lens, child_outs}
 use Rattle.job_running.proofs.CalledNodes.{child_sizes}
 use Rattle.job_running.proofs.ClaimedNodes.{Fires, inside, is_call, item_is, keeps_on, spot, stage, state_kept, view_step}
@@ -78,13 +78,13 @@ kept_at graphs (x ∷ own) (suc a) d inside = kept_at graphs own a d (omega arit
 
 -- ---- traces
 
-module _ (nodes : List Node) (counts : List ℕ) (stages : List Stage) (rows : List (Vec (List TraceRow) Global)) (traces : AreTraces nodes counts stages rows) (once : (m : ℕ) → m < length nodes → place_of nodes (node_at nodes m) ≡ m)
-    (n a k : ℕ) (there : n < length nodes) (at : node_at nodes n ≡ node.Firing a k) (a_in : a < length counts) (k_in : k < slice_index counts a) (long : length stages ≡ length nodes) where
-  pub own_traces : (s : Stage) (trace : List TraceRow) (rows' : List (Vec (List TraceRow) Global)) → trace_in s ≡ trace → lists_of rows' ≡ set (lists_of rows) a (set (row_at rows a) k trace) → AreTraces nodes counts (set stages n s) rows'
+module _ (nodes : List Node) (kinds : List (Option ℕ)) (counts : List ℕ) (stages : List Stage) (rows : List (Vec (List TraceRow) Global)) (traces : AreTraces nodes kinds counts stages rows) (once : (m : ℕ) → m < length nodes → place_of nodes (node_at nodes m) ≡ m)
+    (n a k : ℕ) (there : n < length nodes) (at : node_at nodes n ≡ node.Firing a k) (a_in : a < length counts) (k_in : k < call_count kinds counts a) (long : length stages ≡ length nodes) where
+  pub own_traces : (s : Stage) (trace : List TraceRow) (rows' : List (Vec (List TraceRow) Global)) → trace_in s ≡ trace → lists_of rows' ≡ set (lists_of rows) a (set (row_at rows a) k trace) → AreTraces nodes kinds counts (set stages n s) rows'
   own_traces s trace rows' traced are = record {
     one_each = ap length are ∙ length-set (lists_of rows) a (set (row_at rows a) k trace) ∙ traces.one_each;
     many = λ b. ⊎_elim
-        (λ (same : b ≡ a). ap (λ i. length (row_at rows' i)) same ∙ ap length own_row ∙ length-set (row_at rows a) k trace ∙ traces.many a ∙ ap (slice_index counts) (sym same))
+        (λ (same : b ≡ a). ap (λ i. length (row_at rows' i)) same ∙ ap length own_row ∙ length-set (row_at rows a) k trace ∙ traces.many a ∙ ap (call_count kinds counts) (sym same))
         (λ (other : b ≡ a → ⊥). ap length (other_row b other) ∙ traces.many b)
         (cases_eq b a);
     each = λ m b i m_in is. ⊎_elim
@@ -137,7 +137,7 @@ module _ (f : Fixed) (stages : List Stage) (frames : List (Option FrameView)) (r
   waits = stands.held
 
   pub frame_inside : n < length frames
-  frame_inside = let l = keeps.stand.one_frame in let i = there in omega arith
+  frame_inside = keeps.stand.has_place n there stands.sort
 
   pub claimed : one.mark_at j.marks n ≡ one.Claimed opened.told.frame.places
   claimed = stands.mark_is
@@ -181,8 +181,13 @@ module _ (f : Fixed) (stages : List Stage) (frames : List (Option FrameView)) (r
     pub actor_in : (a k : ℕ) → node_at j.compilation.graph.nodes n ≡ node.Firing a k → a < length (lists_of rows)
     actor_in a k at = let i = (firing_in a k at).actor in let l = keeps.traces.one_each in let c = counts_many in omega arith
 
+    called_turn : (a k : ℕ) → node_at j.compilation.graph.nodes n ≡ node.Firing a k → k < call_count j.kinds f.compilation.counts a
+    called_turn a k at =
+        let calls : is_none (get_or j.kinds a None) ≡ true = ap (is_child_in j.kinds) (sym at) ∙ ap (λ (l : List Node). is_child_in j.kinds (node_at l n)) (nodes_are f stages frames rows j keeps) ∙ stands.sort in
+        subst (λ b. k < (if b then slice_index f.compilation.counts a else 0)) (sym calls) (firing_in a k at).turn
+
     pub turn_in : (a k : ℕ) → node_at j.compilation.graph.nodes n ≡ node.Firing a k → k < length (row_at rows a)
-    turn_in a k at = let i = (firing_in a k at).turn in let l = keeps.traces.many a in omega arith
+    turn_in a k at = let i = called_turn a k at in let l = keeps.traces.many a in omega arith
 
     pub keeps_in : (a k : ℕ) → node_at j.compilation.graph.nodes n ≡ node.Firing a k → a < length f.keeps
     keeps_in a k at = let i = (firing_in a k at).actor in let l = ap (λ (l : List Bool). length l) keeps.parts.keeps_are ∙ length-map (acting (fired f)) (has_state G) in omega arith
@@ -205,8 +210,8 @@ module _ (f : Fixed) (stages : List Stage) (frames : List (Option FrameView)) (r
           stand = step G (fired f) j.kinds (job_in f) stages j.marks frames keeps.stand stays n there (Gave told) (one.Finished frame.outputs) (set frames n None) (ap one.value_of claimed) ready_then
               record { mark_is = ap one.Finished outs_told; held = none_waits; sort = stands.sort; sizes = sizes }
               (length-set frames n None) (λ i other. get_or-set_other frames n i None None other);
-          traces = own_traces (job_in f).nodes f.compilation.counts stages rows keeps.traces (λ m m_in. once (job_in f).level f.compilation.counts f.compilation.order m keeps.set_up.is_job.order m_in) n a k there own
-              (let i = (firing_in a k at).actor in let c = counts_many in omega arith) (firing_in a k at).turn keeps.stand.one_stage (Gave told) given.trace rows' (ap (λ (x : JobGiven). x.trace) told_is) rows_are;
+          traces = own_traces (job_in f).nodes j.kinds f.compilation.counts stages rows keeps.traces (λ m m_in. once (job_in f).level f.compilation.counts f.compilation.order m keeps.set_up.is_job.order m_in) n a k there own
+              (let i = (firing_in a k at).actor in let c = counts_many in omega arith) (called_turn a k at) keeps.stand.one_stage (Gave told) given.trace rows' (ap (λ (x : JobGiven). x.trace) told_is) rows_are;
           parts = keeps.parts;
         }
 

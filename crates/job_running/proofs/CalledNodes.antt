@@ -308,6 +308,12 @@ module _ (f : Fixed) (stages : List Stage) (frames : List (Option FrameView)) (r
     inherits_of (Ok d) v is same = subst (λ (x : RunningView). HasInherited x.graphs.graphs d) is (subst (HasInherited G) (sym same) (inherits offered.job calls))
     inherits_of (Err e) v is same = tt
 
+    child : is_call f stages frames rows j keeps n ≡ true
+    child = sym (sort_of f stages frames rows j keeps (node_at (job_in f).nodes n) read_told (lens (job_in f) n) (Call offered.job) (has_task f stages frames rows j keeps n (Call offered.job) offered.task_is).is)
+
+    pub frame_inside : n < length frames
+    frame_inside = keeps.stand.has_place n ready_now.there child
+
     pub keeps_waiting : (r : Result Firing AllocError) (frame : FrameView) (s : Stage) → IsWaiting r frame s → IfOk r (λ d. d ≡ offered.job) → lengths frame.outputs ≡ lens (leased.graph_of j) n →
         KeepsAll f (set stages n s) (set frames n (Some frame)) rows (record j { marks = set j.marks n (one.Claimed frame.places) })
     keeps_waiting r frame s waits same outs = of_end r waits same
@@ -315,11 +321,8 @@ module _ (f : Fixed) (stages : List Stage) (frames : List (Option FrameView)) (r
         outs_are : lengths frame.outputs ≡ lens (job_in f) n
         outs_are = outs ∙ ap (λ (x : JobGraph ℤ). lens x n) keeps.set_up.graph_is
 
-        child : is_call f stages frames rows j keeps n ≡ true
-        child = sym (sort_of f stages frames rows j keeps (node_at (job_in f).nodes n) read_told (lens (job_in f) n) (Call offered.job) (has_task f stages frames rows j keeps n (Call offered.job) offered.task_is).is)
-
         frame_here : frame_at (set frames n (Some frame)) n ≡ Some frame
-        frame_here = get_or-set_same frames n (Some frame) None (let l = keeps.stand.one_frame in let i = ready_now.there in omega arith)
+        frame_here = get_or-set_same frames n (Some frame) None frame_inside
 
         go : (s : Stage) → Stands G (lens (job_in f) n) (state_kept f stages frames rows j keeps n) (is_call f stages frames rows j keeps n) (Fires f stages frames rows j keeps n) s (one.Claimed frame.places) (frame_at (set frames n (Some frame)) n) → trace_in s ≡ [] →
             KeepsAll f (set stages n s) (set frames n (Some frame)) rows (record j { marks = set j.marks n (one.Claimed frame.places) })

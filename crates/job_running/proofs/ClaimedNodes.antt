@@ -80,7 +80,7 @@ module _ (f : Fixed) (stages : List Stage) (frames : List (Option FrameView)) (r
   keeps_on stays there s m frames' none ready stands long others traced = record {
     set_up = keeps.set_up;
     stand = step f.graphs.graphs (fired f) j.kinds (job_in f) stages j.marks frames keeps.stand stays n there s m frames' none ready stands long others;
-    traces = same_traces (job_in f).nodes f.compilation.counts stages rows keeps.traces n keeps.stand.one_stage s traced;
+    traces = same_traces (job_in f).nodes j.kinds f.compilation.counts stages rows keeps.traces n keeps.stand.one_stage s traced;
     parts = keeps.parts;
   }
 

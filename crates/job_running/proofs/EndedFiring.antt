@@ -1,6 +1,6 @@
 -- A running firing that ends.
 use Rattle.std.proofs.Common.{◌≡◌, ℕ, zero, suc, ◌+◌, ◌<◌, ◌≤◌, ⊎_elim, ℤ, Bool, true, false, List, [], ◌∷◌, ◌++◌, length, get_or, take, drop, All, Option, Some, None, Result, Ok, Err, refl, sym, ap, ap₂, ◌∙◌, subst, arith, append_assoc, append-nil, take_all}
-use Rattle.std.specs.Prelude.{Vec}
+use Rattle.std.specs.Prelude.{Vec, is_none}
 use Rattle.std.specs.Global.{Global}
 use Rattle.std.proofs.lemmas.Bool.{cases_Bool, cases_lt}
 use Rattle.std.proofs.lemmas.List.{get_or_past}
@@ -45,7 +45,7 @@ use Rattle.job_flow.specs.Renamed.{renamed, renamed_failure}
 use Rattle.job_rules.specs.Items.{first_refusal, node_result, refusal_or, trace_of}
 use Rattle.job_rules.specs.Words.{Answer, Gives, Refuses, Schedules}
 use Rattle.job_preparing.specs.Handing.{IsNothingLent, answers, with_traces}
-use Rattle.job_running.specs.Parts.{HaveTraces, HoldClaimed, flat, row_at}
+use Rattle.job_running.specs.Parts.{HaveTraces, HoldClaimed, call_count, flat, row_at}
 use Rattle.job_running.specs.Stages.{refusal_for}
 use Rattle.job_running.specs.View.{traces_of}
 use Rattle.job_running.proofs.ClaimedNodes.{item_is, spot}
@@ -86,7 +86,7 @@ module _ (f : Fixed) (stages : List Stage) (frames : List (Option FrameView)) (r
   hold_claimed nothing = record {
     claimed = λ n frame at. ⊎_elim
         (λ (below : n < length (job_in f).nodes). let s = keeps.stand.each n below in held_so _ (stage_at stages n) (one.mark_at j.marks n) (frame_at frames n) s.mark_is s.held frame at)
-        (λ (past : length (job_in f).nodes ≤ n). absurd (none_held frame (sym (get_or_past frames n None (let l = keeps.stand.one_frame in omega arith)) ∙ at)))
+        (λ (past : length (job_in f).nodes ≤ n). absurd (none_held frame (sym (get_or_past frames n None (let l = keeps.stand.few_frames in omega arith)) ∙ at)))
         (cases_lt n (length (job_in f).nodes));
     waits = λ n places at. ⊎_elim
         (λ (below : n < length (job_in f).nodes). let s = keeps.stand.each n below in waits_so _ (stage_at stages n) (one.mark_at j.marks n) (frame_at frames n) s.mark_is s.held (sym (lent_here stages n) ∙ nothing.each n) places at)
@@ -106,7 +106,7 @@ module _ (f : Fixed) (stages : List Stage) (frames : List (Option FrameView)) (r
             let s = keeps.stand.each n below in
             let claimed = held_so _ (stage_at stages n) (one.mark_at j.marks n) (frame_at frames n) s.mark_is s.held frame at in
             absurd (never_claimed f stages frames rows j keeps quiet n frame.places claimed))
-            (λ (past : length (job_in f).nodes ≤ n). get_or_past frames n None (let l = keeps.stand.one_frame in omega arith))
+            (λ (past : length (job_in f).nodes ≤ n). get_or_past frames n None (let l = keeps.stand.few_frames in omega arith))
             (cases_lt n (length (job_in f).nodes))
 
     pub no_frames : All (λ frame. frame ≡ None) frames
@@ -207,18 +207,30 @@ module _ (f : Fixed) (stages : List Stage) (frames : List (Option FrameView)) (r
   flat_more [] x = append-nil x
   flat_more (y ∷ xs) x = ap (λ l. y ++ l) (flat_more xs x) ∙ sym (append_assoc y (flat xs) x)
 
-  flat_below : (own : ℕ → List TraceRow) (xs : List (List TraceRow)) (n : ℕ) → n ≤ length xs → ((k : ℕ) → k < n → get_or xs k [] ≡ own k) → flat (take n xs) ≡ traces_below own n
-  flat_below own xs zero few same = refl
-  flat_below own xs (suc n) few same =
-      ap flat (take_one xs n [] (omega arith)) ∙ flat_more (take n xs) (get_or xs n [])
-      ∙ ap₂ (λ l m. l ++ m) (flat_below own xs n (omega arith) (λ k below. same k (omega arith))) (same n (omega arith))
+  flat_below : (own : ℕ → List TraceRow) (xs : List (List TraceRow)) (n : ℕ) → ((k : ℕ) → k < n → get_or xs k [] ≡ own k) → flat (take n xs) ≡ traces_below own n
+  flat_below own xs zero same = refl
+  flat_below own xs (suc n) same =
+      let before : flat (take n xs) ≡ traces_below own n = flat_below own xs n (λ k below. same k (omega arith)) in
+      ⊎_elim
+      (λ (inside : n < length xs). ap flat (take_one xs n [] inside) ∙ flat_more (take n xs) (get_or xs n []) ∙ ap₂ (λ l m. l ++ m) before (same n (omega arith)))
+      (λ (past : length xs ≤ n).
+      let none : own n ≡ [] = sym (same n (omega arith)) ∙ get_or_past xs n [] past in
+      ap flat (take_all (suc n) xs (omega arith) ∙ sym (take_all n xs past)) ∙ before ∙ sym (append-nil (traces_below own n)) ∙ ap (λ l. traces_below own n ++ l) (sym none))
+      (cases_lt n (length xs))
+
+  few_calls : (kinds : List (Option ℕ)) (counts : List ℕ) (a : ℕ) → call_count kinds counts a ≤ slice_index counts a
+  few_calls kinds counts a = ⊎_elim
+      (λ (calls : is_none (get_or kinds a None) ≡ true). rw calls (omega arith))
+      (λ (never : is_none (get_or kinds a None) ≡ false). rw never (omega arith))
+      (cases_Bool (is_none (get_or kinds a None)))
 
   module _ (found : NodesAreFound) (firings_there : FiringsAreThere) where
     pub have_traces : HaveTraces f.compilation.counts (traces_of (view_with f stages)) rows
     have_traces b =
         let n = slice_index f.compilation.counts b in
         let many = keeps.traces.many b in
-        ap flat (sym (take_all n (row_at rows b) (omega arith))) ∙ flat_below (traces_of (view_with f stages) b) (row_at rows b) n (omega arith) (λ k below.
+        let few = few_calls j.kinds f.compilation.counts b in
+        ap flat (sym (take_all n (row_at rows b) (omega arith))) ∙ flat_below (traces_of (view_with f stages) b) (row_at rows b) n (λ k below.
         let m : ℕ = place_of (job_in f).nodes (node.Firing b k) in
         let there : m < length (job_in f).nodes = firings_there (job_in f).level f.compilation.counts f.compilation.order b k keeps.set_up.is_job.order below in
         let at : node_at (job_in f).nodes m ≡ node.Firing b k = found (job_in f).nodes (node.Firing b k) there in

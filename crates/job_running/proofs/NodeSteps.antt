@@ -38,7 +38,8 @@ module _ (graphs : List Graph) (g : Graph) (kinds : List (Option ℕ)) (job : Jo
   step s m frames' none ready stands long others = record {
     one_stage = length-set stages n s ∙ stand.one_stage;
     one_mark = length-set marks n m ∙ stand.one_mark;
-    one_frame = long ∙ stand.one_frame;
+    few_frames = let few = stand.few_frames in omega arith;
+    has_place = λ k k_in child. let place = stand.has_place k k_in child in omega arith;
     each = λ k k_in. ⊎_elim
         (λ (same : k ≡ n).
         let stage_is : stage_at (set stages n s) n ≡ s = get_or-set_same stages n s Free (let l = stand.one_stage in omega arith) in
@@ -59,8 +60,8 @@ module _ (graphs : List Graph) (g : Graph) (kinds : List (Option ℕ)) (job : Jo
 
 -- ---- traces
 
-module _ (nodes : List Node) (counts : List ℕ) (stages : List Stage) (rows : List (Vec (List TraceRow) Global)) (traces : AreTraces nodes counts stages rows) (n : ℕ) (long : length stages ≡ length nodes) where
-  pub same_traces : (s : Stage) → trace_in s ≡ trace_in (stage_at stages n) → AreTraces nodes counts (set stages n s) rows
+module _ (nodes : List Node) (kinds : List (Option ℕ)) (counts : List ℕ) (stages : List Stage) (rows : List (Vec (List TraceRow) Global)) (traces : AreTraces nodes kinds counts stages rows) (n : ℕ) (long : length stages ≡ length nodes) where
+  pub same_traces : (s : Stage) → trace_in s ≡ trace_in (stage_at stages n) → AreTraces nodes kinds counts (set stages n s) rows
   same_traces s same = record {
     one_each = traces.one_each;
     many = traces.many;

@@ -1,8 +1,9 @@
 -- A running firing at its start.
-use Rattle.std.proofs.Common.{◌≡◌, ℕ, zero, suc, ◌<◌, ◌≤◌, ⊎_elim, ℤ, List, [], ◌∷◌, length, map, get_or, replicate, slice_get, Option, Some, None, Ok, Vec, Global, refl, sym, ap, ◌∙◌, subst, arith}
-use Rattle.std.specs.Prelude.{slice_index}
-use Rattle.std.proofs.lemmas.Bool.{cases_lt}
-use Rattle.std.proofs.lemmas.List.{get_or-replicate, get_or_past, length-map, length-replicate}
+use Rattle.std.proofs.Common.{◌≡◌, ℕ, zero, suc, ◌+◌, ◌<◌, ◌≤◌, ⊎_elim, ℤ, Bool, true, false, List, [], ◌∷◌, ◌++◌, length, map, get_or, replicate, slice_get, Option, Some, None, Ok, Vec, Global, refl, sym, ap, ◌∙◌, subst, arith}
+use Rattle.std.specs.Prelude.{is_none, if◌then◌else◌, slice_index}
+use Rattle.std.proofs.Math.Seq.{get_or-append_seam}
+use Rattle.std.proofs.lemmas.Bool.{cases_eq, cases_lt}
+use Rattle.std.proofs.lemmas.List.{get_or-replicate, get_or_append_left, get_or_past, length-map, length-replicate, map-append}
 use Rattle.std.proofs.lemmas.Option.{get_or_from_slice_get, slice_get_within}
 use Rattle.kernel_gate.specs.Value.{FrameView, lengths}
 use Rattle.param_resolver.specs.LevelOf.{AreOneEach, level_faults, links_of, sources_of}
@@ -35,7 +36,7 @@ use Rattle.single_rate.specs.Expanded.{edges, nodes}
 use Rattle.job_flow.specs.Frames.{lens}
 use Rattle.job_flow.specs.Graphs.{IsJobGraph, node_at}
 use Rattle.job_rules.specs.Items.{actor_of, graph_of, keeps_state, no_graph}
-use Rattle.one_job.specs.Pick.{is_child_in}
+use Rattle.one_job.specs.Pick.{is_child, is_child_in}
 use Rattle.job_rules.specs.Meant.{IsFit}
 use Rattle.nested_jobs.specs.Marks as mark
 use Rattle.nested_jobs.specs.Marks.{Mark}
@@ -45,7 +46,7 @@ use Rattle.job_rules.specs.Words.{Answer}
 use Rattle.one_job.specs.Marks as one
 use Rattle.one_job.specs.View as leased
 use Rattle.job_preparing.specs.CompileTasks.{IsReadyWith}
-use Rattle.job_running.specs.Parts.{AreParts, Fixed, IsSetUp, KeepsAll, Stands, fired, frame_at, job_in, kind_of_actor, row_at, start_of, values_of}
+use Rattle.job_running.specs.Parts.{AreParts, Fixed, IsSetUp, KeepsAll, Stands, Start, call_count, fired, frame_at, job_in, kind_of_actor, row_at, start_of, values_of}
 use Rattle.job_preparing.specs.Handing.{LeftSuits}
 use Rattle.job_running.specs.Kept.{view_with}
 use Rattle.job_running.specs.Stages.{lents_of, marks_of, stage_at, trace_in}
@@ -61,10 +62,33 @@ any_replicate n i x = ⊎_elim
     (λ (past : n ≤ i). get_or_past (replicate n x) i x (let l = length-replicate n x in omega arith))
     (cases_lt i n)
 
-row_of_empty : (counts : List ℕ) (a : ℕ) → get_or (map (λ (n : ℕ). let none : List (List TraceRow) = replicate n [] in none) counts) a [] ≡ replicate (slice_index counts a) []
-row_of_empty [] a = refl
-row_of_empty (n ∷ counts) zero = refl
-row_of_empty (n ∷ counts) (suc a) = row_of_empty counts a
+-- lists of empty lists, of which there is one more
+module _ (many : ℕ → ℕ) (rows : List (Vec (List TraceRow) Global)) (row : Vec (List TraceRow) Global) (n : ℕ) (long : length rows ≡ n) (row_is : row.items ≡ replicate (many n) []) (each : (a : ℕ) → a < n → row_at rows a ≡ replicate (many a) []) where
+  lists_long : length (lists_of rows) ≡ n
+  lists_long = length-map rows (λ (v : Vec (List TraceRow) Global). v.items) ∙ long
+
+  lists_are : lists_of (rows ++ row ∷ []) ≡ lists_of rows ++ row.items ∷ []
+  lists_are = map-append (λ (v : Vec (List TraceRow) Global). v.items) rows (row ∷ [])
+
+  pub one_more_row : (a : ℕ) → a < n + 1 → row_at (rows ++ row ∷ []) a ≡ replicate (many a) []
+  one_more_row a below = ap (λ l. get_or l a []) lists_are ∙ ⊎_elim
+      (λ (last : a ≡ n). ap (λ i. get_or (lists_of rows ++ row.items ∷ []) i []) (last ∙ sym lists_long) ∙ get_or-append_seam (lists_of rows) row.items [] [] ∙ row_is ∙ ap (λ i. let none : List (List TraceRow) = replicate (many i) [] in none) (sym last))
+      (λ (other : a ≡ n → ⊥). get_or_append_left (lists_of rows) (row.items ∷ []) [] a (let l = lists_long in omega arith) ∙ each a (omega arith))
+      (cases_eq a n)
+
+-- past the last actor there are none
+pub all_rows : (kinds : List (Option ℕ)) (counts : List ℕ) (rows : List (Vec (List TraceRow) Global)) → length rows ≡ length counts → ((a : ℕ) → a < length counts → row_at rows a ≡ replicate (call_count kinds counts a) []) → (a : ℕ) → row_at rows a ≡ replicate (call_count kinds counts a) []
+all_rows kinds counts rows long each a = ⊎_elim
+    (λ (below : a < length counts). each a below)
+    (λ (past : length counts ≤ a).
+    let none : slice_index counts a ≡ 0 = get_or_past counts a 0 past in
+    let never : call_count kinds counts a ≡ 0 = ap (λ (n : ℕ). if is_none (get_or kinds a None) then n else 0) none ∙ no_call (is_none (get_or kinds a None)) in
+    get_or_past (lists_of rows) a [] (let l = length-map rows (λ (v : Vec (List TraceRow) Global). v.items) in omega arith) ∙ ap (λ (n : ℕ). let empty : List (List TraceRow) = replicate n [] in empty) (sym never))
+    (cases_lt a (length counts))
+  where
+    no_call : (b : Bool) → (let n : ℕ = if b then 0 else 0 in n ≡ 0)
+    no_call true = refl
+    no_call false = refl
 
 marks_free : (path : List ℕ) (own : List Actor) (nodes : List Node) → marks_of path own nodes (replicate (length nodes) Free) ≡ replicate (length nodes) mark.Free
 marks_free path own [] = refl
@@ -205,31 +229,32 @@ module _ (f : Fixed) (workers : ℕ) (values : List ℤ) (range : InRange f.grap
 
       -- all nodes are free
       pub keeps_at_start : (j : leased.JobView) → start_of j ≡ record { compilation = f.compilation; kinds = kinds; args = args; sources = sources; stored = stored } → j.kinds ≡ kinds → j.marks ≡ replicate (length f.compilation.graph.nodes) one.Free → (stages : List Stage) → stages ≡ replicate (length f.compilation.graph.nodes) Free →
-          (frames : List (Option FrameView)) → frames ≡ replicate (length f.compilation.graph.nodes) None → (rows : List (Vec (List TraceRow) Global)) → lists_of rows ≡ map (λ (n : ℕ). let none : List (List TraceRow) = replicate n [] in none) f.compilation.counts → AreParts f →
+          (frames : List (Option FrameView)) → frames ≡ replicate (length frames) None → length frames ≤ length j.compilation.graph.nodes → ((n : ℕ) → n < length j.compilation.graph.nodes → is_child j n ≡ true → n < length frames) → (rows : List (Vec (List TraceRow) Global)) → length rows ≡ length f.compilation.counts → ((a : ℕ) → row_at rows a ≡ replicate (call_count j.kinds f.compilation.counts a) []) → AreParts f →
           KeepsAll f stages frames rows j
-      keeps_at_start j started j_kinds marks_are stages stages_are frames frames_are rows rows_are parts = record {
+      keeps_at_start j started j_kinds marks_are stages stages_are frames frames_are few places rows many row_is parts = record {
         set_up = subst (IsSetUp f) (sym started) set_up;
         stand = record {
           one_stage = ap length stages_are ∙ length-replicate (length f.compilation.graph.nodes) Free ∙ ap length nodes_here;
           one_mark = ap length marks_are ∙ length-replicate (length f.compilation.graph.nodes) one.Free ∙ ap length nodes_here;
-          one_frame = ap length frames_are ∙ length-replicate (length f.compilation.graph.nodes) None ∙ ap length nodes_here;
+          few_frames = subst (λ (l : List Node). length frames ≤ length l) nodes_are few;
+          has_place = subst (λ (l : List Node). (n : ℕ) → n < length l → is_child_in j.kinds (node_at l n) ≡ true → n < length frames) nodes_are places;
           each = λ n below.
               let P : Stage → Type 0 = λ s. Stands G (lens (job_in f) n) (keeps_state G (actor_of g (node_at (job_in f).nodes n))) (is_child_in j.kinds (node_at (job_in f).nodes n)) (leased.IsFiring (node_at (job_in f).nodes n)) s (one.mark_at j.marks n) (frame_at frames n) in
               subst P (sym (ap (λ l. stage_at l n) stages_are ∙ any_replicate (length f.compilation.graph.nodes) n Free)) record {
                 mark_is = ap (λ l. one.mark_at l n) marks_are ∙ any_replicate (length f.compilation.graph.nodes) n one.Free;
-                held = ap (λ l. frame_at l n) frames_are ∙ any_replicate (length f.compilation.graph.nodes) n None;
+                held = ap (λ l. frame_at l n) frames_are ∙ any_replicate (length frames) n None;
                 sort = tt;
                 sizes = tt;
               };
           ready = λ n claimed. absurd (claimed (ap (λ l. one.mark_at l n) marks_are ∙ any_replicate (length f.compilation.graph.nodes) n one.Free));
         };
         traces = record {
-          one_each = ap length rows_are ∙ length-map f.compilation.counts _;
-          many = λ a. ap length (row_is a) ∙ length-replicate (slice_index f.compilation.counts a) [];
-          each = λ n a k below is. ap (λ l. get_or l k []) (row_is a) ∙ any_replicate (slice_index f.compilation.counts a) k [] ∙ sym (ap (λ l. trace_in (stage_at l n)) stages_are ∙ ap trace_in (any_replicate (length f.compilation.graph.nodes) n Free));
+          one_each = length-map rows (λ (v : Vec (List TraceRow) Global). v.items) ∙ many;
+          many = λ a. ap length (row_is a) ∙ length-replicate (call_count j.kinds f.compilation.counts a) [];
+          each = λ n a k below is. ap (λ l. get_or l k []) (row_is a) ∙ any_replicate (call_count j.kinds f.compilation.counts a) k [] ∙ sym (ap (λ l. trace_in (stage_at l n)) stages_are ∙ ap trace_in (any_replicate (length f.compilation.graph.nodes) n Free));
         };
         parts = parts;
       }
         where
-          row_is : (a : ℕ) → row_at rows a ≡ replicate (slice_index f.compilation.counts a) []
-          row_is a = ap (λ l. get_or l a []) rows_are ∙ row_of_empty f.compilation.counts a
+          nodes_are : j.compilation.graph.nodes ≡ (job_in f).nodes
+          nodes_are = ap (λ (s : Start). s.compilation.graph.nodes) started ∙ nodes_here

@@ -1,5 +1,5 @@
 -- What a running firing is set up with, and what it keeps for its end.
-use Rattle.std.specs.Prelude.{◌≡◌, ◌≢◌, ℕ, ◌+◌, ◌^◌, ◌<◌, ◌≤◌, ℤ, Bool, List, [], map, length, slice_index, slice_index_or, Option, Some, None, vec_capacity, vec_len, Vec}
+use Rattle.std.specs.Prelude.{◌≡◌, ◌≢◌, ℕ, ◌+◌, ◌^◌, ◌<◌, ◌≤◌, ℤ, Bool, true, List, [], map, length, slice_index, slice_index_or, is_none, if◌then◌else◌, Option, Some, None, vec_capacity, vec_len, Vec}
 use Rattle.std.specs.Global.{Global}
 use Rattle.std.specs.List.{flat_map}
 use Rattle.sdf_level.specs.Lists.{lists_of}
@@ -130,7 +130,9 @@ pub record HoldClaimed (marks : List one.Mark) (frames : List (Option FrameView)
 pub record AllStand (graphs : List Graph) (g : Graph) (kinds : List (Option ℕ)) (job : JobGraph ℤ) (stages : List Stage) (marks : List one.Mark) (frames : List (Option FrameView)) : Type 0 where
   pub one_stage : length stages ≡ length job.nodes
   pub one_mark : length marks ≡ length job.nodes
-  pub one_frame : length frames ≡ length job.nodes
+  -- a node that fires a graph has a place for its frame, and no node is past the end
+  pub few_frames : length frames ≤ length job.nodes
+  pub has_place : (n : ℕ) → n < length job.nodes → is_child_in kinds (node_at job.nodes n) ≡ true → n < length frames
   pub each : (n : ℕ) → n < length job.nodes → Stands graphs (lens job n) (keeps_state graphs (actor_of g (node_at job.nodes n))) (is_child_in kinds (node_at job.nodes n)) (leased.IsFiring (node_at job.nodes n)) (stage_at stages n) (one.mark_at marks n) (frame_at frames n)
   -- a node that isn't free was ready when it was claimed
   pub ready : (n : ℕ) → one.mark_at marks n ≢ one.Free → IsReady job (one.values marks) n
@@ -140,10 +142,14 @@ pub record AllStand (graphs : List Graph) (g : Graph) (kinds : List (Option ℕ)
 abbrev pub row_at : List (Vec (List TraceRow) Global) → ℕ → List (List TraceRow)
 row_at rows a = slice_index_or (lists_of rows) a []
 
--- for each firing of each actor the trace of what it called
-pub record AreTraces (nodes : List Node) (counts : List ℕ) (stages : List Stage) (rows : List (Vec (List TraceRow) Global)) : Type 0 where
+-- how often an actor calls a graph: each time it fires if it has no kernel, else never
+abbrev pub call_count : List (Option ℕ) → List ℕ → ℕ → ℕ
+call_count kinds counts a = if is_none (slice_index_or kinds a None) then slice_index counts a else 0
+
+-- for each firing of each actor that calls graphs the trace of what it called
+pub record AreTraces (nodes : List Node) (kinds : List (Option ℕ)) (counts : List ℕ) (stages : List Stage) (rows : List (Vec (List TraceRow) Global)) : Type 0 where
   pub one_each : length (lists_of rows) ≡ length counts
-  pub many : (a : ℕ) → length (row_at rows a) ≡ slice_index counts a
+  pub many : (a : ℕ) → length (row_at rows a) ≡ call_count kinds counts a
   pub each : (n a k : ℕ) → n < length nodes → node_at nodes n ≡ node.Firing a k → slice_index_or (row_at rows a) k [] ≡ trace_in (stage_at stages n)
 
 -- the rows of these lists, one after the other
@@ -176,5 +182,5 @@ pub record AreParts (f : Fixed) : Type 0 where
 pub record KeepsAll (f : Fixed) (stages : List Stage) (frames : List (Option FrameView)) (rows : List (Vec (List TraceRow) Global)) (job : leased.JobView) : Type 0 where
   pub set_up : IsSetUp f (start_of job)
   pub stand : AllStand f.graphs.graphs (fired f) job.kinds (job_in f) stages job.marks frames
-  pub traces : AreTraces (job_in f).nodes f.compilation.counts stages rows
+  pub traces : AreTraces (job_in f).nodes job.kinds f.compilation.counts stages rows
   pub parts : AreParts f

@@ -1,7 +1,7 @@
 // Traces of what was called, by actor and firing.
-ghost use Rattle.std.specs.Prelude.{◌≡◌, ◌<◌, [], length, map, replicate, slice_set, IfOk};
+ghost use Rattle.std.specs.Prelude.{ℕ, ◌≡◌, ◌<◌, [], length, replicate, slice_set, IfOk};
 ghost use Rattle.sdf_level.specs.Lists.{lists_of};
-ghost use Rattle.job_running.specs.Parts.{row_at};
+ghost use Rattle.job_running.specs.Parts.{call_count, row_at};
 
 use pisdf_meaning::TraceRow;
 use std::alloc::{AllocError, Global};
@@ -18,16 +18,31 @@ fn empty_row(alloc: Global, count: u32) -> Result<Vec<LinkedList<TraceRow>>, All
     Ok(row)
 }
 
-/// No rows for each firing of each actor, which fire so often.
+/// How often an actor calls a graph, where the actors have these kernels and fire so often.
+fn call_count(kinds: &[Option<u32>], counts: &[u32], actor: usize) -> u32
+    requires { actor < length counts.now }
+    ensures { result ≡ call_count kinds.now counts.now actor }
+{
+    match kinds.get(actor) {
+        Some(Some(_)) => 0,
+        _ => counts[actor],
+    }
+}
+
+/// No rows for each firing of each actor that calls graphs, where the actors have these kernels and fire so often.
 pub(crate) fn empty_rows(
     alloc: Global,
+    kinds: &[Option<u32>],
     counts: &[u32],
 ) -> Result<Vec<Vec<LinkedList<TraceRow>>>, AllocError>
-    ensures { IfOk result (λ rows. lists_of rows.items ≡ map (λ n. replicate n []) counts.now) }
+    ensures many { IfOk result (λ rows. length rows.items ≡ length counts.now) }
+    ensures rows { IfOk result (λ rows. (a : ℕ) → row_at rows.items a ≡ replicate (call_count kinds.now counts.now a) []) }
 {
     let mut rows = Vec::with_capacity(alloc, counts.len())?;
-    for count in counts {
-        rows.push(empty_row(alloc, *count)?)?;
+    for actor in 0..counts.len() {
+        let calls = call_count(kinds, counts, actor);
+        let row = empty_row(alloc, calls)?;
+        rows.push(row)?;
     }
     Ok(rows)
 }

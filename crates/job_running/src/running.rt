@@ -54,7 +54,10 @@ pub struct Running {
     // Empty, with room for the state that it leaves.
     pub(crate) state: Vec<List<i64>>,
     pub(crate) stages: Vec<Stage>,
+    // At the number of each node that fires a graph the frame that waits for the call's end: as long as the last such node
+    // asks, and empty where no node fires a graph.
     pub(crate) frames: Vec<Option<Frame>>,
+    // Of each actor that fires graphs a trace for each firing, of another none.
     pub(crate) traces: Vec<Vec<LinkedList<TraceRow>>>,
     pub(crate) job: Job,
     pub(crate) alloc: Global,

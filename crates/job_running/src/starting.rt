@@ -1,10 +1,11 @@
 // A running firing at its start.
-ghost use Rattle.std.specs.Prelude.{ℤ, List as Seq, ◌≡◌, ◌+◌, ◌<◌, ◌≤◌, ◌++◌, [], map, length, replicate, None, Ok, IfOk, OnOk, slice_index, vec_capacity, vec_len};
+ghost use Rattle.std.specs.Prelude.{ℕ, ℤ, true, List as Seq, ◌≡◌, ◌+◌, ◌<◌, ◌≤◌, ◌^◌, ◌++◌, [], map, length, replicate, None, Ok, IfOk, OnOk, slice_index, vec_capacity, vec_len};
 ghost use Rattle.std.specs.Arc.{arc_value};
 ghost use Rattle.sdf_level.specs.Lists.{lists_of};
 ghost use Rattle.sdf_level.specs.LevelRun.{HaveDelays};
 ghost use Rattle.nested_jobs.specs.Marks.{Free};
 ghost use Rattle.one_job.specs.Marks.{Free as Unclaimed};
+ghost use Rattle.one_job.specs.Pick.{is_child};
 ghost use Rattle.param_resolver.specs.Numbering.{acting, acting_places, has_state};
 ghost use Rattle.pisdf_model.specs.Range.{InRange};
 ghost use Rattle.pisdf_model.specs.WellFormed.{WellFormed};
@@ -14,7 +15,7 @@ ghost use Rattle.job_rules.specs.Meant.{IsFit};
 ghost use Rattle.job_preparing.specs.CompileTasks.{IsReadyWith};
 ghost use Rattle.job_preparing.specs.Handing.{LeftSuits};
 ghost use Rattle.job_preparing.specs.View.{IsReady, graph_in, left_by};
-ghost use Rattle.job_running.specs.Parts.{kernel_in, kind_of_actor, prepared_with};
+ghost use Rattle.job_running.specs.Parts.{call_count, kernel_in, kind_of_actor, prepared_with, row_at};
 ghost use Rattle.job_running.specs.View.{nodes_of};
 
 use crate::calling::acting_at;
@@ -284,24 +285,44 @@ fn level_parts(
     })
 }
 
-/// Of each node how far it is, and of each firing of each actor the trace of what it called.
+/// Of each node how far it is, and of each firing of each actor that calls graphs the trace of what it called.
 #[derive(Drop)]
 struct FreeNodes {
     stages: Vec<Stage>,
     traces: Vec<Vec<LinkedList<TraceRow>>>,
 }
 
-/// So many free nodes, where actors fire so often.
-fn free_nodes(alloc: Global, counts: &[u32], nodes: usize) -> Result<FreeNodes, AllocError>
+/// So many free nodes, where the actors have these kernels and fire so often.
+fn free_nodes(
+    alloc: Global,
+    kinds: &[Option<u32>],
+    counts: &[u32],
+    nodes: usize,
+) -> Result<FreeNodes, AllocError>
     ensures stages { IfOk result (λ free. free.stages.items ≡ replicate nodes Stage.Free) }
-    ensures traces { IfOk result (λ free. lists_of free.traces.items ≡ map (λ n. replicate n []) counts.now) }
+    ensures many { IfOk result (λ free. length free.traces.items ≡ length counts.now) }
+    ensures traces { IfOk result (λ free. (a : ℕ) → row_at free.traces.items a ≡ replicate (call_count kinds.now counts.now a) []) }
 {
-    let traces = empty_rows(alloc, counts)?;
+    let traces = empty_rows(alloc, kinds, counts)?;
     let stages = free_stages(alloc, nodes)?;
     Ok(FreeNodes { stages, traces })
 }
 
-/// A job of leases, and a place for the frame of each of its nodes.
+/// How many places hold the frames of all nodes that fire graphs, each at its node's number: none where no node does.
+fn frame_places(job: &Job, nodes: usize) -> usize
+    requires many { nodes ≡ length job.now.compilation.graph.nodes }
+    requires small { nodes < 2 ^ 32 }
+    ensures few { result ≤ nodes }
+    ensures all { (n : ℕ) → n < nodes → is_child job.now n ≡ true → n < result }
+{
+    let mut places = nodes;
+    while places > 0 && !job.is_child((places - 1) as u32) {
+        places -= 1;
+    }
+    places
+}
+
+/// A job of leases, and places for the frames of its nodes that fire graphs.
 struct Started {
     job: Job,
     frames: Vec<Option<Frame>>,
@@ -316,24 +337,27 @@ fn start_job(alloc: Global, compiled: Arc<Compiled>, lists: JobLists) -> Result<
     ensures compilation { IfOk result (λ s. s.job.compilation ≡ arc_value compiled) }
     ensures given { IfOk result (λ s. (s.job.kinds ≡ lists.kinds) × (s.job.args ≡ lists.args) × (s.job.sources ≡ lists.sources) × (s.job.stored ≡ lists.stored)) }
     ensures free { IfOk result (λ s. s.job.marks ≡ replicate (length (arc_value compiled).graph.nodes) Unclaimed) }
-    ensures frames { IfOk result (λ s. s.frames.items ≡ replicate (length (arc_value compiled).graph.nodes) None) }
+    ensures empty { IfOk result (λ s. s.frames.items ≡ replicate (length s.frames.items) None) }
+    ensures few { IfOk result (λ s. length s.frames.items ≤ length s.job.compilation.graph.nodes) }
+    ensures places { IfOk result (λ s. (n : ℕ) → n < length s.job.compilation.graph.nodes → is_child s.job n ≡ true → n < length s.frames.items) }
 {
     let nodes = compiled.graph().nodes.items().len();
-    let frames = Vec::with_capacity(alloc, nodes)?;
-    match start(
+    let job = start(
         alloc,
         compiled,
         lists.kinds,
         lists.args,
         lists.sources,
         lists.stored,
-    ) {
-        Ok(job) => Ok(Started {
+    )?;
+    let places = frame_places(&job, nodes);
+    match Vec::with_capacity(alloc, places) {
+        Ok(frames) => Ok(Started {
             job,
-            frames: no_frames(frames, nodes),
+            frames: no_frames(frames, places),
         }),
         Err(error) => {
-            frames.destroy_empty();
+            job.end();
             Err(error)
         }
     }
@@ -375,6 +399,7 @@ pub fn run(
     let parts = level_parts(alloc, all, graph, set.places.items())?;
     let free = free_nodes(
         alloc,
+        lists.kinds.items(),
         compiled.counts(),
         compiled.graph().nodes.items().len(),
     )?;

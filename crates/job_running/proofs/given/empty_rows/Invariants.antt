@@ -1,7 +1,6 @@
-use Rattle.std.proofs.Common.{◌≡◌, ℕ, List, [], map, replicate, take}
-use Rattle.sdf_level.specs.Lists.{lists_of}
-use Rattle.pisdf_meaning.specs.declared.outcome.TraceRow.{TraceRow}
+use Rattle.std.proofs.Common.{◌≡◌, ◌<◌, ℕ, [], length, replicate}
+use Rattle.job_running.specs.Parts.{call_count, row_at}
 use Rattle.job_running.proofs.given.empty_rows.Given as goal
 
-abbrev pub invariant-loop-count : goal.invariant-loop-count
-invariant-loop-count l = lists_of l.rows.items ≡ map (λ (n : ℕ). let none : List (List TraceRow) = replicate n [] in none) (take l.count-index l.counts)
+abbrev pub invariant-loop-actor : goal.invariant-loop-actor
+invariant-loop-actor l = record { many : length l.rows.items ≡ l.actor; rows : (a : ℕ) → a < l.actor → row_at l.rows.items a ≡ replicate (call_count l.kinds l.counts a) [] }

@@ -1,4 +1,4 @@
-use Rattle.std.proofs.Common.{◌≡◌, ◌+◌, ◌≤◌, ℕ, List, [], length, map, replicate, None, sym, ap, ◌∙◌, subst}
+use Rattle.std.proofs.Common.{◌≡◌, ◌+◌, ◌≤◌, ℕ, List, [], length, map, replicate, None, sym, ap, ap₂, ◌∙◌, subst}
 use Rattle.std.specs.Prelude.{vec_capacity}
 use Rattle.std.specs.Arc.{arc_value}
 use Rattle.job_rules.specs.Items.{graph_of}
@@ -13,11 +13,10 @@ use Rattle.pisdf_meaning.specs.declared.outcome.TraceRow.{TraceRow}
 use Rattle.pisdf_model.specs.declared.actor.Actor.{Actor}
 use Rattle.pisdf_model.specs.declared.graph.Graph.{Graph}
 use Rattle.pisdf_model.specs.declared.graph.Graphs.{Graphs}
-use Rattle.sdf_level.specs.Lists.{lists_of}
 use Rattle.sdf_level.specs.declared.node.Node.{Node}
 use Rattle.sdf_level.specs.declared.single_rate.SingleRate.{SingleRate}
 use Rattle.job_running.specs.Kept.{view_with}
-use Rattle.job_running.specs.Parts.{AreParts, Fixed, KeepsAll, kind_of_actor, start_of, values_of}
+use Rattle.job_running.specs.Parts.{AreParts, Fixed, KeepsAll, call_count, kind_of_actor, row_at, start_of, values_of}
 use Rattle.job_running.specs.View.{nodes_of}
 use Rattle.job_running.specs.declared.stage.Stage.TheVariants.{Free}
 use Rattle.job_running.proofs.StartedFiring.{given_here, graph_is, keeps_at_start, lents_start, marks_start, set_is, sources_asked, stored_asked, suits_here, values_are}
@@ -62,7 +61,7 @@ invariant_of-result c =
     let suits = suits_here gs c.args.preparing.now.graphs c.requires.graphs firing left c.requires.suits in
     let told_is : firing ≡ c.of-told.result.value = sym (c.of-told.ensures ∙ c.firing-firing.ensures) in
     let same : f ≡ made_with c.of-told.result.value c.told_before.result.left (arc_value c.in_ok-shared.shared) = λ k. made_with (told_is k) (sym c.told_before.ensures k) (sym c.in_ok-shared.ensures k) in
-    let nodes_are : c.items-3.result.now ≡ (arc_value c.args.compiled).graph.nodes = c.items-3.ensures ∙ ap (λ (x : SingleRate). x.nodes) (c.graph.ensures.value ∙ ap (λ (x : Compilation). x.graph) c.deref-3.ensures) in
+    let nodes_are : c.items-4.result.now ≡ (arc_value c.args.compiled).graph.nodes = c.items-4.ensures ∙ ap (λ (x : SingleRate). x.nodes) (c.graph.ensures.value ∙ ap (λ (x : Compilation). x.graph) c.deref-3.ensures) in
     let stages_are : c.in_ok-free.free.stages.items ≡ replicate (length (arc_value c.args.compiled).graph.nodes) Free = c.in_ok-free.ensures.stages ∙ ap (λ (l : List Node). replicate (length l) Free) nodes_are in
     let kinds_are : c.in_ok-lists.lists.kinds ≡ map kind_of_actor (acting (graph_of gs.graphs firing)) = c.in_ok-lists.ensures.kinds ∙ (λ k. map kind_of_actor (acting (here k))) in
     let values_same : c.items.result.now ≡ values_of f = c.items.ensures ∙ sym (values_are f (arc_value c.args.compiled).workers c.args.values c.requires.in_range c.requires.well_formed c.requires.fit suits c.requires.compiled) in
@@ -80,11 +79,13 @@ invariant_of-result c =
     } in
     let started : start_of c.in_ok-job.field-0.job ≡ record { compilation = arc_value c.args.compiled; kinds = c.in_ok-lists.lists.kinds; args = c.in_ok-lists.lists.args; sources = c.in_ok-lists.lists.sources; stored = c.in_ok-lists.lists.stored } =
     λ k. record { compilation = c.in_ok-job.ensures.compilation k; kinds = c.in_ok-job.ensures.given.0 k; args = c.in_ok-job.ensures.given.1 k; sources = c.in_ok-job.ensures.given.2 k; stored = c.in_ok-job.ensures.given.3 k } in
-    let rows_are : lists_of c.in_ok-free.free.traces.items ≡ map (λ (n : ℕ). let none : List (List TraceRow) = replicate n [] in none) (arc_value c.args.compiled).counts =
-    c.in_ok-free.ensures.traces ∙ ap (map (λ (n : ℕ). let none : List (List TraceRow) = replicate n [] in none)) (c.counts.ensures.value ∙ ap (λ (x : Compilation). x.counts) c.deref-2.ensures) in
+    let kinds_same : c.items-3.result.now ≡ c.in_ok-job.field-0.job.kinds = c.items-3.ensures ∙ sym c.in_ok-job.ensures.given.0 in
+    let counts_are : c.counts.result.now ≡ (arc_value c.args.compiled).counts = c.counts.ensures.value ∙ ap (λ (x : Compilation). x.counts) c.deref-2.ensures in
+    let rows_are : (a : ℕ) → row_at c.in_ok-free.free.traces.items a ≡ replicate (call_count c.in_ok-job.field-0.job.kinds (arc_value c.args.compiled).counts a) [] =
+    λ a. c.in_ok-free.ensures.traces a ∙ ap₂ (λ kinds counts. let none : List (List TraceRow) = replicate (call_count kinds counts a) [] in none) kinds_same counts_are in
     subst (λ (x : Fixed). KeepsAll x c.in_ok-free.free.stages.items c.in_ok-job.field-0.frames.items c.in_ok-free.free.traces.items c.in_ok-job.field-0.job) same
     (keeps_at_start f (arc_value c.args.compiled).workers c.args.values c.requires.in_range c.requires.well_formed c.requires.fit suits c.requires.compiled c.in_ok-lists.lists.sources c.in_ok-lists.lists.stored given c.in_ok-lists.lists.kinds c.in_ok-lists.lists.args kinds_are c.in_ok-lists.ensures.args
-    c.in_ok-job.field-0.job started c.in_ok-job.ensures.given.0 c.in_ok-job.ensures.free c.in_ok-free.free.stages.items stages_are c.in_ok-job.field-0.frames.items c.in_ok-job.ensures.frames c.in_ok-free.free.traces.items rows_are parts)
+    c.in_ok-job.field-0.job started c.in_ok-job.ensures.given.0 c.in_ok-job.ensures.free c.in_ok-free.free.stages.items stages_are c.in_ok-job.field-0.frames.items c.in_ok-job.ensures.empty c.in_ok-job.ensures.few c.in_ok-job.ensures.places c.in_ok-free.free.traces.items (c.in_ok-free.ensures.many ∙ ap length counts_are) rows_are parts)
 
 pub returns-clause-free : goal.returns-clause-free
 returns-clause-free c =
@@ -96,7 +97,7 @@ returns-clause-free c =
     let suits = suits_here gs c.args.preparing.now.graphs c.requires.graphs firing left c.requires.suits in
     let told_is : firing ≡ c.of-told.result.value = sym (c.of-told.ensures ∙ c.firing-firing.ensures) in
     let same : f ≡ made_with c.of-told.result.value c.told_before.result.left (arc_value c.in_ok-shared.shared) = λ k. made_with (told_is k) (sym c.told_before.ensures k) (sym c.in_ok-shared.ensures k) in
-    let nodes_are : c.items-3.result.now ≡ (arc_value c.args.compiled).graph.nodes = c.items-3.ensures ∙ ap (λ (x : SingleRate). x.nodes) (c.graph.ensures.value ∙ ap (λ (x : Compilation). x.graph) c.deref-3.ensures) in
+    let nodes_are : c.items-4.result.now ≡ (arc_value c.args.compiled).graph.nodes = c.items-4.ensures ∙ ap (λ (x : SingleRate). x.nodes) (c.graph.ensures.value ∙ ap (λ (x : Compilation). x.graph) c.deref-3.ensures) in
     let stages_are : c.in_ok-free.free.stages.items ≡ replicate (length (arc_value c.args.compiled).graph.nodes) Free = c.in_ok-free.ensures.stages ∙ ap (λ (l : List Node). replicate (length l) Free) nodes_are in
     subst (λ (x : Fixed). (view_with x c.in_ok-free.free.stages.items).marks ≡ replicate (length (nodes_of (view_with x c.in_ok-free.free.stages.items))) mark.Free) same
     (marks_start f (arc_value c.args.compiled).workers c.args.values c.requires.in_range c.requires.well_formed c.requires.fit suits c.requires.compiled c.in_ok-free.free.stages.items stages_are)
@@ -111,7 +112,7 @@ returns-clause-nothing c =
     let suits = suits_here gs c.args.preparing.now.graphs c.requires.graphs firing left c.requires.suits in
     let told_is : firing ≡ c.of-told.result.value = sym (c.of-told.ensures ∙ c.firing-firing.ensures) in
     let same : f ≡ made_with c.of-told.result.value c.told_before.result.left (arc_value c.in_ok-shared.shared) = λ k. made_with (told_is k) (sym c.told_before.ensures k) (sym c.in_ok-shared.ensures k) in
-    let nodes_are : c.items-3.result.now ≡ (arc_value c.args.compiled).graph.nodes = c.items-3.ensures ∙ ap (λ (x : SingleRate). x.nodes) (c.graph.ensures.value ∙ ap (λ (x : Compilation). x.graph) c.deref-3.ensures) in
+    let nodes_are : c.items-4.result.now ≡ (arc_value c.args.compiled).graph.nodes = c.items-4.ensures ∙ ap (λ (x : SingleRate). x.nodes) (c.graph.ensures.value ∙ ap (λ (x : Compilation). x.graph) c.deref-3.ensures) in
     let stages_are : c.in_ok-free.free.stages.items ≡ replicate (length (arc_value c.args.compiled).graph.nodes) Free = c.in_ok-free.ensures.stages ∙ ap (λ (l : List Node). replicate (length l) Free) nodes_are in
     subst (λ (x : Fixed). (view_with x c.in_ok-free.free.stages.items).lent ≡ replicate (length (nodes_of (view_with x c.in_ok-free.free.stages.items))) None) same
     (lents_start f (arc_value c.args.compiled).workers c.args.values c.requires.in_range c.requires.well_formed c.requires.fit suits c.requires.compiled c.in_ok-free.free.stages.items stages_are)

@@ -1,4 +1,4 @@
-use Rattle.std.proofs.Common.{List, length, set, Option, Some, sym, ap, ◌∙◌, subst}
+use Rattle.std.proofs.Common.{◌<◌, List, length, set, Option, Some, sym, ap, ◌∙◌, subst}
 use Rattle.std.proofs.lemmas.List.{with_items_is}
 use Rattle.kernel_gate.specs.Value.{FrameView}
 use Rattle.nested_jobs.specs.Rules.{Call}
@@ -7,7 +7,7 @@ use Rattle.one_job.specs.View as leased
 use Rattle.job_running.specs.Kept.{fixed_of}
 use Rattle.job_running.specs.Parts.{KeepsAll, frame_at}
 use Rattle.job_running.specs.View.{IsOfferedCall, RunningView}
-use Rattle.job_running.proofs.CalledNodes.{args_inside, called_ok, caller_so, calls, calls_graph, child_known, few_read, inherits_of, inside_of, keeps_inside, keeps_waiting, numbers, places_are, set_inside, task_of, view_err, view_ok}
+use Rattle.job_running.proofs.CalledNodes.{args_inside, called_ok, caller_so, calls, calls_graph, child_known, few_read, frame_inside, inherits_of, inside_of, keeps_inside, keeps_waiting, numbers, places_are, set_inside, task_of, view_err, view_ok}
 use Rattle.job_running.proofs.ClaimedNodes.{no_frame}
 use Rattle.job_running.proofs.NodeTasks.{enabled}
 use Rattle.job_running.proofs.running.Running.call.Goals as goal
@@ -77,6 +77,12 @@ called-result-requires-clause-few c =
     let i = c.self.inside in
     let offered = subst (λ (v : RunningView). IsOfferedCall v c.args.node) (sym c.self.view_is) c.requires in
     few_read (fixed_of i) i.stages.items i.frames.items i.traces.items i.job c.self.invariant c.args.node c.faults_renamed.ensures.ready c.faults_renamed.ensures.inputs c.ready_stays.ensures.ready offered c.claim-frame.result.inputs c.claim-frame.ensures.inputs
+
+pub put_frame-requires-clause-inside : goal.put_frame-requires-clause-inside
+put_frame-requires-clause-inside c =
+    let i = c.self.inside in
+    let offered = subst (λ (v : RunningView). IsOfferedCall v c.args.node) (sym c.self.view_is) c.requires in
+    subst (λ (l : List (Option FrameView)). c.args.node < length l) (sym c.deref_mut.ensures.value) (frame_inside (fixed_of i) i.stages.items i.frames.items i.traces.items i.job c.self.invariant c.args.node c.faults_renamed.ensures.ready c.faults_renamed.ensures.inputs c.ready_stays.ensures.ready offered)
 
 pub put_frame-requires-clause-none : goal.put_frame-requires-clause-none
 put_frame-requires-clause-none c =
