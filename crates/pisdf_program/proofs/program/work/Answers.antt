@@ -22,8 +22,8 @@ returns-in-Job-clause-works g c =
 pub returns-in-Run-clause-works : goal.returns-in-Run-clause-works
 returns-in-Run-clause-works g c =
     works_as (Some (words.Run c.in-Run.graph.now c.in-Run.tokens.now c.in-Run.iterations c.in-Run.workers)) (command_of (map string_bytes c.args.words.now)) (g.S.Shelf.holds c.args.shelf.now)
-    (g.O.Sink.written c.args.out.now) (g.O.Sink.written c.run_by_workers.new.out) (g.O.Sink.faults c.args.out.now) (g.O.Sink.faults c.run_by_workers.new.out) c.run_by_workers.result
-    (ap (λ (x : Here). Some (seen x)) (sym c.in-Run.is) ∙ c.in-Some.ensures.command) c.run_by_workers.ensures.works
+    (g.O.Sink.written c.args.out.now) (g.O.Sink.written c.run-in-Run.new.out) (g.O.Sink.faults c.args.out.now) (g.O.Sink.faults c.run-in-Run.new.out) c.run-in-Run.result
+    (ap (λ (x : Here). Some (seen x)) (sym c.in-Run.is) ∙ c.in-Some.ensures.command) c.run-in-Run.ensures.works
 
 pub returns-in-Journal-clause-works : goal.returns-in-Journal-clause-works
 returns-in-Journal-clause-works g c =
