@@ -1,6 +1,6 @@
 use Rattle.std.proofs.Common.{◌++◌, arith, ap, sym, ◌∙◌}
 use Rattle.std.proofs.lemmas.List.{append-nil}
-use Rattle.pisdf_program.proofs.Rows.{no_rows}
+use Rattle.quiescent_driver.proofs.Rows.{no_rows}
 use Rattle.quiescent_driver.proofs.texts.push_tokens.Goals as goal
 
 pub returns : goal.returns
