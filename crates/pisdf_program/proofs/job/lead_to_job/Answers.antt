@@ -83,7 +83,7 @@ returns-clause-ends g c =
     let none : run.first_lack 0 (run.top_needs graphs) tokens ≡ None =
     ap (run.first_lack 0 (run.top_needs graphs)) (sym (rest_first (run.top_needs graphs) tokens)) ∙ ap (λ n. run.first_lack 0 n (rest_of 0 n tokens)) (sym c.requires.needs) ∙ sym c.in-None.ensures in
     let at : (s : Stop) → Type 0 = λ s. EndsJob graphs tokens c.args.workers (Err s) ⊎ ((let e : JobEnd = Err s in e) ≡ Err stop.Memory) in
-    subst at (sym c.from.ensures)
+    subst at (sym c.from-in-Err.ensures)
     (unlevelled_ends graphs tokens c.args.workers fault record { top = top.0; top_is = top.1; finds = finds graphs top.0 tokens None c.requires.sound none }
     (as_first graphs tokens c.args.workers (λ i s. IfRefused (TopLevelRefused graphs i s) fault) c.as_slice.result.now c.in-Ok-first_delays.delays.lists ins c.in-Ok-first_delays.ensures c.in-Err.ensures.refused))
 
@@ -99,7 +99,7 @@ returns-clause-only g c =
     let none : run.first_lack 0 (run.top_needs graphs) tokens ≡ None =
     ap (run.first_lack 0 (run.top_needs graphs)) (sym (rest_first (run.top_needs graphs) tokens)) ∙ ap (λ n. run.first_lack 0 n (rest_of 0 n tokens)) (sym c.requires.needs) ∙ sym c.in-None.ensures in
     let at : (s : Stop) → Type 0 = λ s. (end : JobEnd) → EndsJob graphs tokens c.args.workers end → ((let e : JobEnd = Err s in e) ≡ end) ⊎ ((let e : JobEnd = Err s in e) ≡ Err stop.Memory) in
-    subst at (sym c.from.ensures)
+    subst at (sym c.from-in-Err.ensures)
     (unlevelled_alike graphs tokens c.args.workers lead
     (as_first graphs tokens c.args.workers (λ i s. (x : LevelSet) → IsTopLevel graphs i s x → (lead ≡ Ok x) ⊎ (lead ≡ Err plain.Memory)) c.as_slice.result.now c.in-Ok-first_delays.delays.lists ins c.in-Ok-first_delays.ensures c.top_level.ensures.only_level)
     (as_first graphs tokens c.args.workers (λ i s. (r : Refusal) → TopLevelRefused graphs i s r → (lead ≡ Err (plain.Refused r)) ⊎ (lead ≡ Err plain.Memory)) c.as_slice.result.now c.in-Ok-first_delays.delays.lists ins c.in-Ok-first_delays.ensures c.top_level.ensures.only_refused)
