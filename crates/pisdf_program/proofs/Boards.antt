@@ -22,23 +22,24 @@ use Rattle.quiescent_driver.specs.Given.{key_with}
 use Rattle.quiescent_driver.specs.declared.fault.IterationFault.{IterationFault}
 use Rattle.quiescent_driver.specs.declared.fault.IterationFault.TheVariants as by_workers
 use Rattle.pisdf_program.specs.Boards.{IsJournalText, boards, boards_at_end, journal_text, key_at}
-use Rattle.pisdf_program.specs.Calls.{GrowsPartly}
-use Rattle.pisdf_program.specs.Iterated.{Checks, Gives, HaveIterated, IsRefused}
+use Rattle.quiescent_driver.specs.Runs.{GrowsPartly}
+use Rattle.quiescent_driver.specs.Iterated.{Checks, Gives, HaveIterated, IsRefused}
 use Rattle.pisdf_program.specs.Journals.{ClosesWith, EndsBoard, EndsBoards, HasBoards, HasNoBoard, IsDone, PutsJournal, ToldTo}
 use Rattle.pisdf_program.specs.Result.{AreTold, FromFiles, Journals, Outcome, journals_of, short_of, status_of}
-use Rattle.pisdf_program.specs.Stepped.{refused_stop, run_end}
-use Rattle.pisdf_program.specs.Streams.{rest_of}
-use Rattle.pisdf_program.specs.Texts.{line_of}
+use Rattle.quiescent_driver.specs.Stops.{refused_stop, run_end}
+use Rattle.quiescent_driver.specs.Streams.{rest_of}
+use Rattle.pisdf_program.specs.Lines.{line_of}
 use Rattle.pisdf_program.specs.Worked.{Decided, IsThere, ReadsNothing, ReportsBoards, Stopped, Works}
 use Rattle.pisdf_program.specs.Written.{AreTexts, Text, Wrote, WroteFirst, journals}
 use Rattle.pisdf_program.specs.declared.load.Input.{Input}
-use Rattle.pisdf_program.specs.declared.run.RunEnd.{RunEnd}
-use Rattle.pisdf_program.specs.declared.run.RunEnd.TheVariants as end
+use Rattle.quiescent_driver.specs.declared.end.RunEnd.{RunEnd}
+use Rattle.quiescent_driver.specs.declared.end.RunEnd.TheVariants as end
 use Rattle.pisdf_program.specs.declared.status.Status.{Status}
 use Rattle.pisdf_program.specs.declared.status.Status.TheVariants.{Done, RunRefused, WantOfMemory, WriteFault}
-use Rattle.pisdf_program.specs.declared.stop.Stop.{Stop}
-use Rattle.pisdf_program.specs.declared.stop.Stop.TheVariants as stop
-use Rattle.pisdf_program.proofs.Runs.{HasOneEnd, counted, finds, found, grows_none, one_less, one_run, rose_since, run_begins, run_refused, run_short, run_unchecked, then_run, top_there, whole_run}
+use Rattle.quiescent_driver.specs.declared.stop.Stop.{Stop}
+use Rattle.quiescent_driver.specs.declared.stop.Stop.TheVariants as stop
+use Rattle.quiescent_driver.proofs.Runs.{counted, finds, found, grows_none, one_less, rose_since, run_refused, run_short, run_unchecked, then_run, top_there, whole_run}
+use Rattle.pisdf_program.proofs.OneRun.{one_run, run_begins}
 use Rattle.pisdf_program.proofs.Working.{Gives as Reads, comes_from, not_answer, unread_report}
 use Rattle.pisdf_program.proofs.Written.{first_journals, partly_more, wrote_more, wrote_none_more, all_first}
 
@@ -79,34 +80,34 @@ module _ (g : Graphs) (streams : State) (n : ℕ) where
       ap (λ l. l + boards_at_end (early_faults g.graphs g.top []) e) long
 
   -- as many as iterations that are done
-  begun_boards : HasOneEnd → (k : ℕ) (s : State) (its : List Iteration) → k ≤ n → HaveIterated g streams k its s → HasBoards g streams n k
-  begun_boards one k s its le done = λ r is.
+  begun_boards : (k : ℕ) (s : State) (its : List Iteration) → k ≤ n → HaveIterated g streams k its s → HasBoards g streams n k
+  begun_boards k s its le done = λ r is.
       let m : n ≡ k + (n - k) = omega (arith, le) in
-      let begins = run_begins one g streams k (n - k) its s r done (subst (λ q. run.IsRun g streams q r) m is) in
+      let begins = run_begins g streams k (n - k) its s r done (subst (λ q. run.IsRun g streams q r) m is) in
       let long : length r.iterations ≡ length (its ++ begins.0.iterations) = ap (λ (q : run.Run). length q.iterations) begins.2 in
       let e = counted g streams k its s done in
       omega (arith, long, length-append its begins.0.iterations, e)
 
   -- and one more for a refusal
-  refused_boards : HasOneEnd → (k : ℕ) (s : State) (its : List Iteration) (refusal : Refusal) → early_faults g.graphs g.top [] ≡ [] → k < n → HaveIterated g streams k its s
+  refused_boards : (k : ℕ) (s : State) (its : List Iteration) (refusal : Refusal) → early_faults g.graphs g.top [] ≡ [] → k < n → HaveIterated g streams k its s
       → IsRefused g s (rest_of k (run.top_needs g) streams) refusal → run.IsRun g streams n (then_run its (run.ended (run.Refused refusal))) × (boards g (then_run its (run.ended (run.Refused refusal))) ≡ suc k)
-  refused_boards one k s its refusal sound lt done h =
+  refused_boards k s its refusal sound lt done h =
       let rest = subst (λ m. run.RunsFrom g m s (rest_of k (run.top_needs g) streams) (run.ended (run.Refused refusal))) (one_less n k lt) (run_refused g (n - (k + 1)) s (rest_of k (run.top_needs g) streams) refusal h) in
       let last : boards_at_end (early_faults g.graphs g.top []) (run.Refused refusal) ≡ 1 = ap (λ f. boards_at_end f (run.Refused refusal)) sound in
       let count = ended_boards k s its (run.Refused refusal) done in
       (ended_run k s its (run.Refused refusal) (omega (arith, lt)) done rest, omega (arith, count, last))
 
-  same_boards : HasOneEnd → (m : ℕ) (r : run.Run) → run.IsRun g streams n r → boards g r ≡ m → HasBoards g streams n m
-  same_boards one m r is count = λ q other. let e : boards g q ≡ m = ap (boards g) (one_run one g streams n q r other is) ∙ count in omega (arith, e)
+  same_boards : (m : ℕ) (r : run.Run) → run.IsRun g streams n r → boards g r ≡ m → HasBoards g streams n m
+  same_boards m r is count = λ q other. let e : boards g q ≡ m = ap (boards g) (one_run g streams n q r other is) ∙ count in omega (arith, e)
 
-  closed_boards : HasOneEnd → (k : ℕ) (s next : State) (its : List Iteration) (refusal : Option Refusal) → early_faults g.graphs g.top [] ≡ [] → k < n → HaveIterated g streams k its s
+  closed_boards : (k : ℕ) (s next : State) (its : List Iteration) (refusal : Option Refusal) → early_faults g.graphs g.top [] ≡ [] → k < n → HaveIterated g streams k its s
       → ClosesWith g s next (rest_of k (run.top_needs g) streams) refusal → HasBoards g streams n (suc k)
-  closed_boards one k s next its None sound lt done (i, gives) =
+  closed_boards k s next its None sound lt done (i, gives) =
       let more : HaveIterated g streams (suc k) (its ++ i ∷ []) next = (its, s, i, done, gives, refl) in
-      begun_boards one (suc k) next (its ++ i ∷ []) (omega (arith, lt)) more
-  closed_boards one k s next its (Some refusal) sound lt done h =
-      let r = refused_boards one k s its refusal sound lt done h in
-      same_boards one (suc k) (then_run its (run.ended (run.Refused refusal))) r.0 r.1
+      begun_boards (suc k) next (its ++ i ∷ []) (omega (arith, lt)) more
+  closed_boards k s next its (Some refusal) sound lt done h =
+      let r = refused_boards k s its refusal sound lt done h in
+      same_boards (suc k) (then_run its (run.ended (run.Refused refusal))) r.0 r.1
 
 -- ---- the boards so far
 
@@ -148,24 +149,24 @@ module _ (g : Graphs) (streams : State) (workers : ℕ) where
       let all : k ≡ boards g (then_run r.so_far (run.ended e)) = omega (arith, count, none) in
       (then_run r.so_far (run.ended e), ended_run g streams n k s r.so_far e le r.done rest, ends, wrote_as had new k _ all (wrote_none_more had has new (journals g streams workers k) r.written grows))
 
-  pub board_ends : HasOneEnd → (n k : ℕ) (s next : State) (had has new : File) (first before now : ℕ) (e : RunEnd) → early_faults g.graphs g.top [] ≡ [] → k < n → first ≤ before
+  pub board_ends : (n k : ℕ) (s next : State) (had has new : File) (first before now : ℕ) (e : RunEnd) → early_faults g.graphs g.top [] ≡ [] → k < n → first ≤ before
       → BoardsReached k s had has → EndsBoard g streams workers k s next has new before now e → EndsBoards g streams workers n had new first now (Err e)
-  board_ends one n k s next had has new first before now (end.Done left) sound lt le r h = absurd h
-  board_ends one n k s next had has new first before now (end.Short stream held needs) sound lt le r h =
+  board_ends n k s next had has new first before now (end.Done left) sound lt le r h = absurd h
+  board_ends n k s next had has new first before now (end.Short stream held needs) sound lt le r h =
       let lack : run.Lack = record { stream = stream; has = held; needs = needs } in
       without_board n k s had has new (run.Short lack) (λ (x : run.RunEnd). x ≡ run.Short lack) (omega (arith, lt)) refl (short_adds_none (early_faults g.graphs g.top []) lack) r h.1
       (subst (λ m. run.RunsFrom g m s (rest_of k (run.top_needs g) streams) (run.ended (run.Short lack))) (one_less n k lt) (run_short g (n - (k + 1)) s (rest_of k (run.top_needs g) streams) lack h.0))
-  board_ends one n k s next had has new first before now (end.Refused refusal) sound lt le r h =
-      let boards_are = refused_boards g streams n one k s r.so_far refusal sound lt r.done h.0 in
+  board_ends n k s next had has new first before now (end.Refused refusal) sound lt le r h =
+      let boards_are = refused_boards g streams n k s r.so_far refusal sound lt r.done h.0 in
       let text = is_journal k s next r.so_far has new (Grows has new) r.done h.1 in
       let written = wrote_more g streams workers had has new k (journal_text k h.1.0) r.written text h.1.2 in
       (then_run r.so_far (run.ended (run.Refused refusal)), boards_are.0, refl, wrote_as had new (suc k) _ (sym boards_are.1) written)
-  board_ends one n k s next had has new first before now end.WriteFault sound lt le r (rose, refusal, closes, puts) =
+  board_ends n k s next had has new first before now end.WriteFault sound lt le r (rose, refusal, closes, puts) =
       let text = is_journal k s next r.so_far has new (GrowsPartly has new) r.done puts in
       let written = partly_more g streams workers had has new k (journal_text k puts.0) r.written text puts.2 in
-      (rose_since first before now le rose, suc k, closed_boards g streams n one k s next r.so_far refusal sound lt r.done closes, written.0, written.1, written.2)
-  board_ends one n k s next had has new first before now end.Memory sound lt le r h =
-      (k, begun_boards g streams n one k s r.so_far (omega (arith, lt)) r.done, wrote_none_more had has new (journals g streams workers k) r.written h)
+      (rose_since first before now le rose, suc k, closed_boards g streams n k s next r.so_far refusal sound lt r.done closes, written.0, written.1, written.2)
+  board_ends n k s next had has new first before now end.Memory sound lt le r h =
+      (k, begun_boards g streams n k s r.so_far (omega (arith, lt)) r.done, wrote_none_more had has new (journals g streams workers k) r.written h)
 
   -- all iterations are done
   pub boards_done : (n : ℕ) (s : State) (had has : File) → BoardsReached n s had has → ToldTo g streams workers n had has IsDone
@@ -233,12 +234,12 @@ done_status g (run.Done left) h = refl
 done_status g (run.Short lack) h = absurd h
 done_status g (run.Refused refusal) h = absurd h
 
-module _ (one : HasOneEnd) (expected : Outcome → Type 0) (workers n : ℕ) (input : Input) (told : (o : Outcome) → expected o → Journals n workers input o) (had has : File) where
+module _ (expected : Outcome → Type 0) (workers n : ℕ) (input : Input) (told : (o : Outcome) → expected o → Journals n workers input o) (had has : File) where
   abbrev g : Graphs
   g = input.graphs
 
   same_outcome : (r : run.Run) → run.IsRun g input.streams n r → (o : Outcome) → expected o → o ≡ journals_of workers input r
-  same_outcome r is o e = let other = told o e in other.2 ∙ ap (journals_of workers input) (one_run one g input.streams n other.0 r other.1 is)
+  same_outcome r is o e = let other = told o e in other.2 ∙ ap (journals_of workers input) (one_run g input.streams n other.0 r other.1 is)
 
   decided_boards : (Ends : run.RunEnd → Type 0) (s : Status) → ((e : run.RunEnd) → Ends e → status_of g e ≡ s) → ToldTo g input.streams workers n had has Ends → Decided expected had has (line_of s) s
   decided_boards Ends s status (r, is, ends, wrote) = λ o e.

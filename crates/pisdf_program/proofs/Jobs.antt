@@ -20,13 +20,13 @@ use Rattle.pisdf_model.specs.Hold.{initial}
 use Rattle.pisdf_model.specs.declared.graph.Graph.{Graph}
 use Rattle.pisdf_model.specs.declared.graph.Graphs.{Graphs}
 use Rattle.sdf_level.specs.View.{LevelView}
-use Rattle.pisdf_program.specs.Iterated.{Checks}
+use Rattle.quiescent_driver.specs.Iterated.{Checks}
 use Rattle.pisdf_program.specs.Job.{Compiles, EndsJob, FindsLevel, JobEnd, at_top, first_inputs}
 use Rattle.pisdf_program.specs.Uncompiled.{IsLeftTo, schedule_fault}
-use Rattle.pisdf_program.specs.declared.stop.Stop.{Stop}
-use Rattle.pisdf_program.specs.declared.stop.Stop.TheVariants as stop
-use Rattle.pisdf_program.specs.Stepped.{refused_stop}
-use Rattle.pisdf_program.proofs.Runs.{same_top}
+use Rattle.quiescent_driver.specs.declared.stop.Stop.{Stop}
+use Rattle.quiescent_driver.specs.declared.stop.Stop.TheVariants as stop
+use Rattle.quiescent_driver.specs.Stops.{refused_stop}
+use Rattle.pisdf_program.proofs.OneRun.{same_top}
 
 abbrev refused : Stop → JobEnd
 refused end = Err end

@@ -2,7 +2,7 @@ pub mod Numbers
 pub mod KernelsFit
 pub mod Reading
 pub mod Rows
-pub mod Runs
+pub mod OneRun
 pub mod Working
 pub mod NoSoak
 pub mod Jobs
@@ -10,6 +10,5 @@ pub mod Telling
 pub mod SoakFile
 pub mod SoakStreams
 pub mod SoakRuns
-pub mod Making
 pub mod Written
 pub mod Boards

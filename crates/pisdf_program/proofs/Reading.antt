@@ -16,7 +16,8 @@ use Rattle.token_text.specs.Records.{records_of}
 use Rattle.token_text.specs.declared.fault.TokenFault.{TokenFault}
 use Rattle.pisdf_model.specs.declared.graph.Graphs.{Graphs}
 use Rattle.pisdf_program.specs.Result.{graphs_in_json, graphs_in_reading, json_of, read_graphs, read_streams, streams_in}
-use Rattle.pisdf_program.specs.Top.{input_names, top_of}
+use Rattle.quiescent_driver.specs.Top.{top_of}
+use Rattle.pisdf_program.specs.Inputs.{input_names}
 use Rattle.pisdf_program.specs.declared.status.Status.TheVariants.{GraphRefused, TokensRefused}
 use Rattle.pisdf_program.specs.declared.status.GraphCause.TheVariants as graph
 use Rattle.pisdf_program.specs.declared.status.TokenCause.TheVariants as tokens

@@ -7,22 +7,24 @@ use Rattle.pisdf_model.specs.declared.graph.Graphs.{Graphs}
 use Rattle.pisdf_meaning.specs.Run as run
 use Rattle.pisdf_meaning.specs.declared.outcome.Iteration.{Iteration}
 use Rattle.pisdf_meaning.specs.declared.refusal.Refusal.{Refusal}
-use Rattle.pisdf_program.specs.Calls.{EndsRun}
-use Rattle.pisdf_program.specs.Iterated.{Gives, HaveIterated}
+use Rattle.quiescent_driver.specs.Runs.{EndsRun}
+use Rattle.quiescent_driver.specs.Iterated.{Gives, HaveIterated}
 use Rattle.pisdf_program.specs.Soak.{all_tokens, soak_file, soak_iterations, soak_text, soak_streams, sum_of, y_tokens}
 use Rattle.pisdf_program.specs.SoakEnd.{EndsSoak, IsSoakStatus, LacksNothing, SoakEndsBy, SoakIsDone, total_row}
 use Rattle.pisdf_program.specs.Loaded.{is_answer}
 use Rattle.pisdf_program.specs.Result.{Outcome, Soaks, SoaksIn, SoaksOn, soak_ends, read_graphs, refused, told}
-use Rattle.pisdf_program.specs.Making.{StopsOnly}
-use Rattle.pisdf_program.specs.Stepped.{StopsAt, run_end}
-use Rattle.pisdf_program.specs.Streams.{rest_of}
+use Rattle.quiescent_driver.specs.Making.{StopsOnly}
+use Rattle.quiescent_driver.specs.Stepped.{StopsAt}
+use Rattle.quiescent_driver.specs.Stops.{run_end}
+use Rattle.quiescent_driver.specs.Streams.{rest_of}
 use Rattle.pisdf_program.specs.Worked.{IsThere, StopsWith, TellsSoak, Works}
 use Rattle.pisdf_program.specs.declared.soak_totals.Total.{Total}
 use Rattle.pisdf_program.specs.declared.status.Status.{Status}
 use Rattle.pisdf_program.specs.declared.status.Status.TheVariants.{WantOfMemory, WriteFault}
-use Rattle.pisdf_program.specs.declared.stop.Stop.{Stop}
-use Rattle.pisdf_program.specs.declared.stop.Stop.TheVariants as stop
-use Rattle.pisdf_program.proofs.Runs.{HasOneEnd, Reached, ends_at, ends_by, one_run, then_run, whole_run}
+use Rattle.quiescent_driver.specs.declared.stop.Stop.{Stop}
+use Rattle.quiescent_driver.specs.declared.stop.Stop.TheVariants as stop
+use Rattle.quiescent_driver.proofs.Runs.{Reached, ends_at, ends_by, then_run, whole_run}
+use Rattle.pisdf_program.proofs.OneRun.{one_run}
 use Rattle.pisdf_program.proofs.Working.{works_for}
 
 abbrev State : Type 0
@@ -102,7 +104,7 @@ unread_there number s h = λ t a. (refused s, subst (λ r. SoaksIn number r (ref
 told_total : (number : ℕ) (total : Total) (tokens : List ℤ) → total.count ≡ length tokens → total.sum ≡ sum_of tokens → soak_text number tokens ≡ total_row number total
 told_total number total tokens count sum = cc
 
-module _ (one : HasOneEnd) (g : Graphs) (number : ℕ) (is : read_graphs soak_file ≡ Ok g) where
+module _ (g : Graphs) (number : ℕ) (is : read_graphs soak_file ≡ Ok g) where
   soaks_on : (o : Outcome) → Soaks number o → SoaksOn number g o
   soaks_on o h = subst (λ r. SoaksIn number r o) is h
 
@@ -112,7 +114,7 @@ module _ (one : HasOneEnd) (g : Graphs) (number : ℕ) (is : read_graphs soak_fi
   same_end : (end : run.RunEnd) (by : SoakEndsBy g number end) (o : Outcome) → Soaks number o → o ≡ soak_ends number g end by.ran.iterations
   same_end end by o h =
       let on = soaks_on o h in
-      let same : on.0 ≡ by.ran = one_run one g (soak_streams number) (soak_iterations number) on.0 by.ran on.1 by.is_run in
+      let same : on.0 ≡ by.ran = one_run g (soak_streams number) (soak_iterations number) on.0 by.ran on.1 by.is_run in
       on.2 ∙ ap (λ (r : run.Run). soak_ends number g r.end r.iterations) same ∙ ap (λ e. soak_ends number g e by.ran.iterations) by.ends
 
   ended_so : (end : run.RunEnd) (by : SoakEndsBy g number end) → Soaks number (soak_ends number g end by.ran.iterations)

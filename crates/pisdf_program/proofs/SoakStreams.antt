@@ -6,7 +6,7 @@ use Rattle.std.proofs.lemmas.List.FromFn.{length-map-range_with_len, take-map-ra
 use Rattle.kernel_gate.specs.Value.{lengths}
 use Rattle.pisdf_meaning.specs.Run.{first_lack, taken}
 use Rattle.pisdf_program.specs.Soak.{k_token, soak_iterations, soak_part, soak_streams, tokens_from, x_token}
-use Rattle.pisdf_program.specs.Streams.{rest_of}
+use Rattle.quiescent_driver.specs.Streams.{rest_of}
 
 dropped : (token : ℕ → ℤ) (a s m : ℕ) → drop s (tokens_from token a m) ≡ tokens_from token (a + s) (m - s)
 dropped token a zero m = let e : a ≡ a + 0 = omega arith in let n : m ≡ m - 0 = omega arith in ap (λ b. tokens_from token b m) e ∙ ap (tokens_from token (a + 0)) n

@@ -9,12 +9,12 @@ use Rattle.pisdf_model.specs.declared.graph.Graphs.{Graphs}
 use Rattle.pisdf_program.specs.Job.{EndsJob, JobEnd}
 use Rattle.pisdf_program.specs.Loaded.{is_answer}
 use Rattle.pisdf_program.specs.Result.{AreTold, FromFiles, Outcome, TellsEnd, TellsJob, told}
-use Rattle.pisdf_program.specs.Top.{top_of}
+use Rattle.quiescent_driver.specs.Top.{top_of}
 use Rattle.pisdf_program.specs.Worked.{IsThere, Works}
 use Rattle.pisdf_program.specs.declared.load.Input.{Input}
 use Rattle.pisdf_program.specs.declared.status.Status.{Status}
 use Rattle.pisdf_program.specs.declared.status.Status.TheVariants.{WantOfMemory}
-use Rattle.pisdf_program.specs.declared.stop.Stop.TheVariants as stop
+use Rattle.quiescent_driver.specs.declared.stop.Stop.TheVariants as stop
 use Rattle.pisdf_program.proofs.Working.{Gives, comes_from, goes_on, works_for}
 
 abbrev File : Type 0

@@ -10,26 +10,28 @@ use Rattle.pisdf_model.specs.declared.graph.Interface.{Interface}
 use Rattle.pisdf_meaning.specs.Run as run
 use Rattle.pisdf_meaning.specs.declared.outcome.Iteration.{Iteration}
 use Rattle.pisdf_meaning.specs.declared.refusal.Refusal.{Refusal}
-use Rattle.pisdf_program.specs.Calls.{GrowsPartly, EndsRun, RanTo, HasBegun, text_of}
-use Rattle.pisdf_program.specs.Iterated.{HaveIterated}
+use Rattle.quiescent_driver.specs.Runs.{GrowsPartly, EndsRun, RanTo, HasBegun, text_of}
+use Rattle.quiescent_driver.specs.Iterated.{HaveIterated}
 use Rattle.pisdf_program.specs.Loaded.{is_answer, FaultsOnly, NoFault, StopsReading}
 use Rattle.pisdf_program.specs.Result.{Outcome, refused, told, read_graphs, read_streams, outcome_of, short_of, status_of, line_of_end, input_in, ReadsTokens, ReadsFiles, GoesOn, FromFiles, Runs, RunsFile, TellsStop, ComesTo, Upgrades, file_of, latest, upgrade_graphs, AreTold, IsTold, IsToldAfter, Knows}
-use Rattle.pisdf_program.specs.Top.{top_of}
-use Rattle.pisdf_program.specs.Texts.{iteration_text, joined, texts_from, line_of, memory_line, read_line}
+use Rattle.quiescent_driver.specs.Top.{top_of}
+use Rattle.quiescent_driver.specs.Texts.{iteration_text, joined, texts_from}
+use Rattle.pisdf_program.specs.Lines.{line_of, memory_line, read_line}
 use Rattle.pisdf_program.specs.Words.{Command}
 use Rattle.pisdf_program.specs.Written.{Wrote, WroteFirst, WrotePartly, exactly}
 use Rattle.pisdf_program.specs.Worked.{FilesRose, ReadsNothing, StopsWith, file_among, Reports, Decided, Stopped, Works, IsThere, PutsLine, Concludes, CountRose, Completes, MayTell, Ended}
-use Rattle.pisdf_program.specs.declared.run.RunEnd.{RunEnd}
-use Rattle.pisdf_program.specs.declared.run.RunEnd.TheVariants as end
+use Rattle.quiescent_driver.specs.declared.end.RunEnd.{RunEnd}
+use Rattle.quiescent_driver.specs.declared.end.RunEnd.TheVariants as end
 use Rattle.pisdf_program.specs.declared.load.Input.{Input}
-use Rattle.pisdf_program.specs.declared.stop.Stop.{Stop}
-use Rattle.pisdf_program.specs.declared.stop.Stop.TheVariants as stop
+use Rattle.quiescent_driver.specs.declared.stop.Stop.{Stop}
+use Rattle.quiescent_driver.specs.declared.stop.Stop.TheVariants as stop
 use Rattle.pisdf_program.specs.declared.status.Status.{Status}
 use Rattle.pisdf_program.specs.declared.status.Status.TheVariants.{Done, Usage, GraphRefused, TokensRefused, RunRefused, ReadFault, WriteFault, WantOfMemory}
 use Rattle.pisdf_program.specs.declared.status.Which.{Which}
 use Rattle.pisdf_program.specs.declared.status.Which.TheVariants as which_file
 use Rattle.pisdf_program.proofs.Written.{all_first, wrote, wrote_first, wrote_nothing, wrote_partly}
-use Rattle.pisdf_program.proofs.Runs.{HasOneEnd, grows_none, grows_as, grows_partly_as, rose_since, run_begins, one_run, joined-append}
+use Rattle.quiescent_driver.proofs.Runs.{grows_none, grows_as, grows_partly_as, rose_since, joined-append}
+use Rattle.pisdf_program.proofs.OneRun.{run_begins, one_run}
 
 abbrev Expected : Type 1
 Expected = Outcome → Type 0
@@ -178,11 +180,11 @@ texts-append n outputs [] b = (texts_from n outputs b, refl)
 texts-append n outputs (i ∷ a) b = let t = texts-append (n + 1) outputs a b in (t.0, ap (λ x. iteration_text n outputs i ∷ x) t.1)
 
 -- what is known of an outcome's texts, where these iterations are the first of the run
-begun_texts : HasOneEnd → (g : Graphs) (streams : List (List ℤ)) (n k : ℕ) (its : List Iteration) (s : List (List ℤ)) (r : run.Run) → k ≤ n
+begun_texts : (g : Graphs) (streams : List (List ℤ)) (n k : ℕ) (its : List Iteration) (s : List (List ℤ)) (r : run.Run) → k ≤ n
     → HaveIterated g streams k its s → run.IsRun g streams n r → (more : List (List ℕ)) × (texts_of g r.iterations ≡ texts_of g its ++ more)
-begun_texts one g streams n k its s r le h is =
+begun_texts g streams n k its s r le h is =
     let m : n ≡ k + (n - k) = omega (arith, le) in
-    let begins = run_begins one g streams k (n - k) its s r h (subst (λ q. run.IsRun g streams q r) m is) in
+    let begins = run_begins g streams k (n - k) its s r h (subst (λ q. run.IsRun g streams q r) m is) in
     let texts = texts-append 0 (top_of g).outputs its begins.0.iterations in
     (texts.0, ap (λ (q : run.Run). texts_of g q.iterations) begins.2 ∙ texts.1)
 
@@ -199,60 +201,60 @@ part_of had has all first more is partly =
     longer : (text more : List ℕ) → GrowsPartly had has text → GrowsPartly had has (text ++ more)
     longer text more (kept, le, grows) = (kept, omega (arith, le, length-append text more), grows_as had has _ _ (sym (take-append-le kept text more le)) grows)
 
-begun : HasOneEnd → (expected : Expected) (g : Graphs) (streams : List (List ℤ)) (n : ℕ) (had has : File) → Decides expected g streams n
+begun : (expected : Expected) (g : Graphs) (streams : List (List ℤ)) (n : ℕ) (had has : File) → Decides expected g streams n
     → HasBegun g streams n (λ its. Grows had has (text_of g its)) → (o : Outcome) → expected o → WroteFirst had has o.texts
-begun one expected g streams n had has h (k, le, its, s, done, grows) o e =
+begun expected g streams n had has h (k, le, its, s, done, grows) o e =
     let r = h o e in
-    let texts = begun_texts one g streams n k its s r.0 le done r.1 in
+    let texts = begun_texts g streams n k its s r.0 le done r.1 in
     subst (λ (p : Outcome). WroteFirst had has p.texts) (sym r.2) (first_of had has (texts_of g r.0.iterations) (texts_of g its) texts.0 texts.1 grows)
 
-begun_partly : HasOneEnd → (expected : Expected) (g : Graphs) (streams : List (List ℤ)) (n : ℕ) (had has : File) → Decides expected g streams n
+begun_partly : (expected : Expected) (g : Graphs) (streams : List (List ℤ)) (n : ℕ) (had has : File) → Decides expected g streams n
     → HasBegun g streams n (λ its. GrowsPartly had has (text_of g its)) → (o : Outcome) → expected o → WrotePartly had has o.texts
-begun_partly one expected g streams n had has h (k, le, its, s, done, grows) o e =
+begun_partly expected g streams n had has h (k, le, its, s, done, grows) o e =
     let r = h o e in
-    let texts = begun_texts one g streams n k its s r.0 le done r.1 in
+    let texts = begun_texts g streams n k its s r.0 le done r.1 in
     subst (λ (p : Outcome). WrotePartly had has p.texts) (sym r.2) (wrote_partly had has (texts_of g r.0.iterations) (part_of had has (texts_of g r.0.iterations) (texts_of g its) texts.0 texts.1 grows))
 
 -- a run that ended so is the one of each outcome
-same_run : HasOneEnd → (expected : Expected) (g : Graphs) (streams : List (List ℤ)) (n : ℕ) (r : run.Run) → Decides expected g streams n → run.IsRun g streams n r
+same_run : (expected : Expected) (g : Graphs) (streams : List (List ℤ)) (n : ℕ) (r : run.Run) → Decides expected g streams n → run.IsRun g streams n r
     → (o : Outcome) → expected o → o ≡ outcome_of g r
-same_run one expected g streams n r h is o e =
+same_run expected g streams n r h is o e =
     let other = h o e in
-    other.2 ∙ ap (outcome_of g) (one_run one g streams n other.0 r other.1 is)
+    other.2 ∙ ap (outcome_of g) (one_run g streams n other.0 r other.1 is)
 
 starved_run : (expected : Expected) (had has : File) (b n : ℕ) (s : Status) → ((o : Outcome) → expected o → WroteFirst had has o.texts) → s ≡ WantOfMemory → Stopped expected had has b n s
 starved_run expected had has b n s first is = subst (Stopped expected had has b n) (sym is) first
 
-decided_run : HasOneEnd → (expected : Expected) (g : Graphs) (streams : List (List ℤ)) (n : ℕ) (had has : File) (e : run.RunEnd) (line : List ℕ) (s : Status) → Decides expected g streams n
+decided_run : (expected : Expected) (g : Graphs) (streams : List (List ℤ)) (n : ℕ) (had has : File) (e : run.RunEnd) (line : List ℕ) (s : Status) → Decides expected g streams n
     → RanTo g streams n had has e → status_of g e ≡ s → line_of_end g e ≡ line → Decided expected had has line s
-decided_run one expected g streams n had has e line s h (r, is, ends, grows) status text = λ o x.
-    let same = same_run one expected g streams n r h is o x in (
+decided_run expected g streams n had has e line s h (r, is, ends, grows) status text = λ o x.
+    let same = same_run expected g streams n r h is o x in (
       ap (λ (p : Outcome). p.status) same ∙ ap (status_of g) ends ∙ status,
       ap (λ (p : Outcome). p.line) same ∙ ap (line_of_end g) ends ∙ text,
       subst (λ (p : Outcome). Wrote had has p.texts) (sym same) (wrote had has (texts_of g r.iterations) grows),
     )
 
-all_put : HasOneEnd → (expected : Expected) (g : Graphs) (streams : List (List ℤ)) (n : ℕ) (had has : File) (e : run.RunEnd) → Decides expected g streams n → RanTo g streams n had has e
+all_put : (expected : Expected) (g : Graphs) (streams : List (List ℤ)) (n : ℕ) (had has : File) (e : run.RunEnd) → Decides expected g streams n → RanTo g streams n had has e
     → (o : Outcome) → expected o → WroteFirst had has o.texts
-all_put one expected g streams n had has e h (r, is, ends, grows) o x =
-    let same = same_run one expected g streams n r h is o x in
+all_put expected g streams n had has e h (r, is, ends, grows) o x =
+    let same = same_run expected g streams n r h is o x in
     all_first had has o.texts (subst (λ (p : Outcome). Wrote had has p.texts) (sym same) (wrote had has (texts_of g r.iterations) grows))
 
-pub works_run : HasOneEnd → (expected : Expected) (g : Graphs) (streams : List (List ℤ)) (k : ℕ) (had has : File) (b n : ℕ) (e : RunEnd) (result : Result (String Global) Status) → Decides expected g streams k → EndsRun g streams k had has b n e → Reports g e result → Works expected had has b n result
-works_run one expected g streams k had has b n (end.Done left) (Ok text) h ends rep = decided_run one expected g streams k had has _ (string_bytes text) Done h ends refl (sym rep)
-works_run one expected g streams k had has b n (end.Done left) (Err s) h ends rep = starved_run expected had has b n s (all_put one expected g streams k had has _ h ends) rep
-works_run one expected g streams k had has b n (end.Short stream held needs) (Ok text) h ends rep = absurd rep
-works_run one expected g streams k had has b n (end.Short stream held needs) (Err s) h ends (inl is) =
-    subst (Stopped expected had has b n) (sym is) (decided_run one expected g streams k had has _ _ _ h ends refl refl)
-works_run one expected g streams k had has b n (end.Short stream held needs) (Err s) h ends (inr is) = starved_run expected had has b n s (all_put one expected g streams k had has _ h ends) is
-works_run one expected g streams k had has b n (end.Refused refusal) (Ok text) h ends rep = absurd rep
-works_run one expected g streams k had has b n (end.Refused refusal) (Err s) h ends rep =
-    subst (Stopped expected had has b n) (sym rep) (decided_run one expected g streams k had has _ _ _ h ends refl refl)
-works_run one expected g streams k had has b n end.WriteFault (Ok text) h ends rep = absurd rep
-works_run one expected g streams k had has b n end.WriteFault (Err s) h (rose, begins) rep =
-    subst (Stopped expected had has b n) (sym rep) (rose, begun_partly one expected g streams k had has h begins)
-works_run one expected g streams k had has b n end.Memory (Ok text) h ends rep = absurd rep
-works_run one expected g streams k had has b n end.Memory (Err s) h ends rep = starved_run expected had has b n s (begun one expected g streams k had has h ends) rep
+pub works_run : (expected : Expected) (g : Graphs) (streams : List (List ℤ)) (k : ℕ) (had has : File) (b n : ℕ) (e : RunEnd) (result : Result (String Global) Status) → Decides expected g streams k → EndsRun g streams k had has b n e → Reports g e result → Works expected had has b n result
+works_run expected g streams k had has b n (end.Done left) (Ok text) h ends rep = decided_run expected g streams k had has _ (string_bytes text) Done h ends refl (sym rep)
+works_run expected g streams k had has b n (end.Done left) (Err s) h ends rep = starved_run expected had has b n s (all_put expected g streams k had has _ h ends) rep
+works_run expected g streams k had has b n (end.Short stream held needs) (Ok text) h ends rep = absurd rep
+works_run expected g streams k had has b n (end.Short stream held needs) (Err s) h ends (inl is) =
+    subst (Stopped expected had has b n) (sym is) (decided_run expected g streams k had has _ _ _ h ends refl refl)
+works_run expected g streams k had has b n (end.Short stream held needs) (Err s) h ends (inr is) = starved_run expected had has b n s (all_put expected g streams k had has _ h ends) is
+works_run expected g streams k had has b n (end.Refused refusal) (Ok text) h ends rep = absurd rep
+works_run expected g streams k had has b n (end.Refused refusal) (Err s) h ends rep =
+    subst (Stopped expected had has b n) (sym rep) (decided_run expected g streams k had has _ _ _ h ends refl refl)
+works_run expected g streams k had has b n end.WriteFault (Ok text) h ends rep = absurd rep
+works_run expected g streams k had has b n end.WriteFault (Err s) h (rose, begins) rep =
+    subst (Stopped expected had has b n) (sym rep) (rose, begun_partly expected g streams k had has h begins)
+works_run expected g streams k had has b n end.Memory (Ok text) h ends rep = absurd rep
+works_run expected g streams k had has b n end.Memory (Err s) h ends rep = starved_run expected had has b n s (begun expected g streams k had has h ends) rep
 
 -- ---- statuses that tell nothing of reading files
 

@@ -5,10 +5,10 @@ use Rattle.std.proofs.Math.Seq.{take-length, take-append_seam}
 use Rattle.outer_world.specs.Sink.{Grows}
 use Rattle.pisdf_model.specs.declared.graph.Graphs.{Graphs}
 use Rattle.pisdf_program.specs.Boards.{IsJournalText}
-use Rattle.pisdf_program.specs.Calls.{GrowsPartly}
-use Rattle.pisdf_program.specs.Texts.{joined}
+use Rattle.quiescent_driver.specs.Runs.{GrowsPartly}
+use Rattle.quiescent_driver.specs.Texts.{joined}
 use Rattle.pisdf_program.specs.Written.{AreTexts, Exactly, IsText, JournalOf, Text, Wrote, WroteFirst, WrotePartly, exactly, journals}
-use Rattle.pisdf_program.proofs.Runs.{grows_as, grows_on, grows_partly_as, joined-append, partly_after}
+use Rattle.quiescent_driver.proofs.Runs.{grows_as, grows_on, grows_partly_as, joined-append, partly_after}
 
 abbrev File : Type 0
 File = Option (List ℕ)

@@ -12,9 +12,9 @@ use Rattle.board_rules.specs.declared.entry.Entry.TheVariants.{Claim, Finish}
 use Rattle.board_rules.specs.declared.entry.Item.TheVariants.{Configure, Compile, Node}
 use Rattle.quiescent_driver.specs.Endings.{IsWhole}
 use Rattle.quiescent_driver.specs.Given.{key_with}
-use Rattle.pisdf_program.specs.Iterated.{HaveIterated}
-use Rattle.pisdf_program.specs.Streams.{rest_of}
-use Rattle.pisdf_program.specs.Texts.{joined}
+use Rattle.quiescent_driver.specs.Iterated.{HaveIterated}
+use Rattle.quiescent_driver.specs.Streams.{rest_of}
+use Rattle.quiescent_driver.specs.Texts.{joined}
 
 -- ---- the text of a journal
 

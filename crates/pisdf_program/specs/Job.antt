@@ -14,9 +14,9 @@ use Rattle.pisdf_meaning.specs.TopLevel.{IsTopLevel, TopLevelRefused}
 use Rattle.pisdf_meaning.specs.declared.refusal.Cause.{Cause}
 use Rattle.pisdf_meaning.specs.declared.refusal.Refusal.{Refusal}
 use Rattle.sdf_level.specs.View.{LevelView}
-use Rattle.pisdf_program.specs.Iterated.{Checks}
-use Rattle.pisdf_program.specs.declared.stop.Stop.{Stop}
-use Rattle.pisdf_program.specs.declared.stop.Stop.TheVariants.{Short, Refused, Memory}
+use Rattle.quiescent_driver.specs.Iterated.{Checks}
+use Rattle.quiescent_driver.specs.declared.stop.Stop.{Stop}
+use Rattle.quiescent_driver.specs.declared.stop.Stop.TheVariants.{Short, Refused, Memory}
 
 -- the job, or why there is none
 abbrev pub JobEnd : Type 0

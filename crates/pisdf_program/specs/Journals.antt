@@ -9,15 +9,15 @@ use Rattle.pisdf_meaning.specs.declared.refusal.Refusal.{Refusal}
 use Rattle.board_rules.specs.declared.entry.Entry.{Entry}
 use Rattle.quiescent_driver.specs.Endings.{IsWhole}
 use Rattle.pisdf_program.specs.Boards.{boards, journal_text, key_at}
-use Rattle.pisdf_program.specs.Calls.{GrowsPartly}
-use Rattle.pisdf_program.specs.Iterated.{Checks, Gives, IsRefused}
-use Rattle.pisdf_program.specs.Streams.{rest_of}
-use Rattle.pisdf_program.specs.Texts.{joined}
+use Rattle.quiescent_driver.specs.Runs.{GrowsPartly}
+use Rattle.quiescent_driver.specs.Iterated.{Checks, Gives, IsRefused}
+use Rattle.quiescent_driver.specs.Streams.{rest_of}
+use Rattle.quiescent_driver.specs.Texts.{joined}
 use Rattle.pisdf_program.specs.Written.{AreTexts, Wrote, journals}
-use Rattle.pisdf_program.specs.declared.run.RunEnd.{RunEnd}
-use Rattle.pisdf_program.specs.declared.run.RunEnd.TheVariants as here
-use Rattle.pisdf_program.specs.declared.stop.Stop.{Stop}
-use Rattle.pisdf_program.specs.declared.stop.Stop.TheVariants as stop
+use Rattle.quiescent_driver.specs.declared.end.RunEnd.{RunEnd}
+use Rattle.quiescent_driver.specs.declared.end.RunEnd.TheVariants as here
+use Rattle.quiescent_driver.specs.declared.stop.Stop.{Stop}
+use Rattle.quiescent_driver.specs.declared.stop.Stop.TheVariants as stop
 
 -- ---- one board
 

@@ -23,12 +23,14 @@ use Rattle.job_report.specs.declared.text.JobText.{JobText}
 use Rattle.pisdf_program.specs.Boards.{boards}
 use Rattle.pisdf_program.specs.Job.{EndsJob, JobEnd}
 use Rattle.pisdf_program.specs.Soak.{all_tokens, soak_file, soak_iterations, soak_text, soak_streams}
-use Rattle.pisdf_program.specs.Top.{input_names, top_of}
+use Rattle.quiescent_driver.specs.Top.{top_of}
+use Rattle.pisdf_program.specs.Inputs.{input_names}
 use Rattle.pisdf_program.specs.Words.{Command, command_of, Run, Plain, Job, Journal, Soak, Upgrade}
-use Rattle.pisdf_program.specs.Texts.{texts_from, left_lines, line_of}
+use Rattle.quiescent_driver.specs.Texts.{texts_from}
+use Rattle.pisdf_program.specs.Lines.{left_lines, line_of}
 use Rattle.pisdf_program.specs.Written.{Text, Exactly, exactly, journals}
-use Rattle.pisdf_program.specs.declared.stop.Stop.{Stop}
-use Rattle.pisdf_program.specs.declared.stop.Stop.TheVariants as stop
+use Rattle.quiescent_driver.specs.declared.stop.Stop.{Stop}
+use Rattle.quiescent_driver.specs.declared.stop.Stop.TheVariants as stop
 use Rattle.pisdf_program.specs.declared.load.Input.{Input}
 use Rattle.pisdf_program.specs.declared.status.Status.{Status}
 use Rattle.pisdf_program.specs.declared.status.Status.TheVariants.{Done, Usage, GraphRefused, TokensRefused, RunRefused}

@@ -6,8 +6,8 @@ use Rattle.pisdf_program.specs.Soak.{all_tokens, soak_iterations, soak_streams, 
 use Rattle.pisdf_program.specs.declared.soak_totals.Total.{Total}
 use Rattle.pisdf_program.specs.declared.status.Status.{Status}
 use Rattle.pisdf_program.specs.declared.status.Status.TheVariants as status
-use Rattle.pisdf_program.specs.declared.stop.Stop.{Stop}
-use Rattle.pisdf_program.specs.declared.stop.Stop.TheVariants.{Short, Refused, Memory}
+use Rattle.quiescent_driver.specs.declared.stop.Stop.{Stop}
+use Rattle.quiescent_driver.specs.declared.stop.Stop.TheVariants.{Short, Refused, Memory}
 
 abbrev pub total_row : ℕ → Total → List ℕ
 total_row number total = soak_row number (soak_iterations number) total.count total.sum

@@ -8,8 +8,8 @@ use Rattle.param_resolver.specs.Numbering.{acting}
 use Rattle.pisdf_meaning.specs.Causes.{schedule_cause}
 use Rattle.pisdf_model.specs.declared.graph.Graph.{Graph}
 use Rattle.pisdf_program.specs.Job.{at_top}
-use Rattle.pisdf_program.specs.declared.stop.Stop.{Stop}
-use Rattle.pisdf_program.specs.declared.stop.Stop.TheVariants.{Refused, Memory}
+use Rattle.quiescent_driver.specs.declared.stop.Stop.{Stop}
+use Rattle.quiescent_driver.specs.declared.stop.Stop.TheVariants.{Refused, Memory}
 
 -- the fault of a schedule that a fault of compiling is
 abbrev pub schedule_fault : CompileFault → Unscheduled

@@ -3,7 +3,7 @@ use Rattle.std.specs.Prelude.{ℕ, ◌≤◌}
 use Rattle.pisdf_program.specs.declared.words.Command.{Command}
 use Rattle.pisdf_program.specs.declared.words.Command.TheVariants as here
 use Rattle.pisdf_program.specs.Words as words
-use Rattle.pisdf_program.specs.Words.{greatest_number, most_iterations, most_workers}
+use Rattle.pisdf_program.specs.Words.{greatest_number, most_workers}
 
 abbrev pub seen : Command → words.Command
 seen (here.Run graph tokens iterations workers) = words.Run graph.now tokens.now iterations workers
@@ -16,11 +16,11 @@ seen (here.Upgrade graph) = words.Upgrade graph.now
 abbrev pub AreSome : ℕ → Type 0
 AreSome workers = (1 ≤ workers) × (workers ≤ most_workers)
 
--- a run has no more iterations than the most and 1 to the most workers, and a soak run no greater number than the greatest
+-- a run has 1 to the most workers, and a soak run no greater number than the greatest
 abbrev pub IsWithin : Command → Type 0
-IsWithin (here.Run graph tokens iterations workers) = (iterations ≤ most_iterations) × AreSome workers
-IsWithin (here.Plain graph tokens iterations) = iterations ≤ most_iterations
+IsWithin (here.Run graph tokens iterations workers) = AreSome workers
+IsWithin (here.Plain graph tokens iterations) = Unit {0}
 IsWithin (here.Job what graph tokens workers) = AreSome workers
-IsWithin (here.Journal graph tokens iterations workers) = (iterations ≤ most_iterations) × AreSome workers
+IsWithin (here.Journal graph tokens iterations workers) = AreSome workers
 IsWithin (here.Soak number workers) = (number ≤ greatest_number) × AreSome workers
 IsWithin (here.Upgrade graph) = Unit {0}

@@ -4,19 +4,19 @@ use Rattle.std.specs.declared.alloc.Global.{Global}
 use Rattle.outer_world.specs.Faults.{Rose}
 use Rattle.outer_world.specs.Sink.{Grows}
 use Rattle.pisdf_model.specs.declared.graph.Graphs.{Graphs}
-use Rattle.pisdf_program.specs.Calls.{GrowsPartly}
+use Rattle.quiescent_driver.specs.Runs.{GrowsPartly}
 use Rattle.pisdf_program.specs.Loaded.{is_answer}
 use Rattle.pisdf_program.specs.SoakEnd.{total_row}
 use Rattle.pisdf_program.specs.Result.{Outcome, TellsStop, short_of, told}
-use Rattle.pisdf_program.specs.Top.{top_of}
-use Rattle.pisdf_program.specs.Texts.{left_lines, line_of, memory_line, read_line}
+use Rattle.quiescent_driver.specs.Top.{top_of}
+use Rattle.pisdf_program.specs.Lines.{left_lines, line_of, memory_line, read_line}
 use Rattle.pisdf_program.specs.Written.{Wrote, WroteFirst, WrotePartly}
 use Rattle.pisdf_program.specs.Words.{Command, Run, Plain, Job, Journal, Soak, Upgrade}
 use Rattle.pisdf_program.specs.declared.soak_totals.Total.{Total}
-use Rattle.pisdf_program.specs.declared.stop.Stop.{Stop}
-use Rattle.pisdf_program.specs.declared.stop.Stop.TheVariants as stop
-use Rattle.pisdf_program.specs.declared.run.RunEnd.{RunEnd}
-use Rattle.pisdf_program.specs.declared.run.RunEnd.TheVariants as end
+use Rattle.quiescent_driver.specs.declared.stop.Stop.{Stop}
+use Rattle.quiescent_driver.specs.declared.stop.Stop.TheVariants as stop
+use Rattle.quiescent_driver.specs.declared.end.RunEnd.{RunEnd}
+use Rattle.quiescent_driver.specs.declared.end.RunEnd.TheVariants as end
 use Rattle.pisdf_program.specs.declared.status.Status.{Status}
 use Rattle.pisdf_program.specs.declared.status.Status.TheVariants.{Done, Usage, GraphRefused, TokensRefused, RunRefused, ReadFault, WriteFault, WantOfMemory}
 use Rattle.pisdf_program.specs.declared.status.Which.{Which}

@@ -3,8 +3,8 @@ use Rattle.std.specs.Prelude.{◌≡◌, ℕ, zero, suc, ℤ, List, [], ◌∷�
 use Rattle.outer_world.specs.Sink.{Grows}
 use Rattle.pisdf_model.specs.declared.graph.Graphs.{Graphs}
 use Rattle.pisdf_program.specs.Boards.{IsJournalText}
-use Rattle.pisdf_program.specs.Calls.{GrowsPartly}
-use Rattle.pisdf_program.specs.Texts.{joined}
+use Rattle.quiescent_driver.specs.Runs.{GrowsPartly}
+use Rattle.quiescent_driver.specs.Texts.{joined}
 
 -- these bytes, or the text of a journal of iteration `number` of a run by so many workers, whose steps may come in many orders
 pub data Text : Type 0 where

@@ -6,17 +6,15 @@ ghost use Rattle.pisdf_meaning.specs.Run.{top_needs};
 ghost use Rattle.pisdf_program.specs.Job.{Compiles, EndsJob, JobEnd, at_top};
 ghost use Rattle.pisdf_program.specs.Uncompiled.{IsLeftTo};
 ghost use Rattle.pisdf_program.specs.Loaded.{AreGood};
-ghost use Rattle.pisdf_program.specs.Top.{top_of};
+ghost use Rattle.quiescent_driver.specs.Top.{top_of};
 
 use crate::load::Input;
-use crate::run::top_of;
-use crate::stop::{Stop, refused, short};
-use crate::streams::Streams;
 use job_compiler::{CompileFault, Compiled, compile};
 use kernel_gate::Gate;
 use level_schedule::Unscheduled;
 use pisdf_meaning::{Cause, Path, Refusal, first_delays, schedule_cause, top_level, top_needs};
 use pisdf_model::{Graph, Graphs};
+use quiescent_driver::{Stop, Streams, top_of};
 use sdf_level::Level;
 use std::alloc::Global;
 
@@ -80,7 +78,7 @@ fn lead_to_job<K: Gate>(
     ensures only { (end : JobEnd) → EndsJob graphs.now streams.now.tokens.now workers end → (result ≡ end) ⊎ (result ≡ Err Stop.Memory) }
 {
     match streams.first_lack(0) {
-        Some(lack) => return Err(short(lack)),
+        Some(lack) => return Err(Stop::from(lack)),
         None => {}
     }
     let Ok(ins) = streams.taken(alloc, 0) else {
@@ -91,7 +89,7 @@ fn lead_to_job<K: Gate>(
     };
     match top_level(alloc, graphs, &delays, ins.as_slice(), gate) {
         Ok(set) => compile_level(alloc, top_of(graphs), &set.level, workers),
-        Err(fault) => Err(refused(fault)),
+        Err(fault) => Err(Stop::from(fault)),
     }
 }
 
@@ -113,7 +111,7 @@ pub(crate) fn first_job<K: Gate>(
     let graphs = &input.graphs;
     let needs = match top_needs(alloc, graphs) {
         Ok(needs) => needs,
-        Err(fault) => return Err(refused(fault)),
+        Err(fault) => return Err(Stop::from(fault)),
     };
     let streams = Streams {
         needs: needs.items(),

@@ -6,15 +6,14 @@ ghost use Rattle.pisdf_program.specs.Worked.{FilesRose, IsThere, ReadsNothing, W
 
 use crate::job::first_job;
 use crate::load::load_input;
-use crate::put::put_text;
-use crate::run::top_of;
 use crate::status::Status;
-use crate::stop::{Stop, stop_status};
+use crate::stop::stop_status;
 use job_compiler::Compiled;
 use job_report::{JobText, job_text};
 use kernel_gate::Gate;
 use outer_world::{Shelf, Sink};
 use pisdf_model::Graphs;
+use quiescent_driver::{Stop, put_text, top_of};
 use std::alloc::Global;
 
 /// Puts what is told of a job, in one put.

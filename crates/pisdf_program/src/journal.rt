@@ -8,9 +8,8 @@ ghost use Rattle.pisdf_program.specs.Boards.{key_at};
 ghost use Rattle.pisdf_program.specs.Journals.{ClosesWith, EndsBoards, HasNoBoard, StepsBoard};
 ghost use Rattle.pisdf_program.specs.Loaded.{AreGood};
 ghost use Rattle.pisdf_program.specs.Result.{AreTold, FromFiles, Journals};
-ghost use Rattle.pisdf_program.specs.Streams.{rest_of};
-ghost use Rattle.pisdf_program.specs.Top.{top_of};
-ghost use Rattle.pisdf_program.specs.Words.{most_iterations};
+ghost use Rattle.quiescent_driver.specs.Streams.{rest_of};
+ghost use Rattle.quiescent_driver.specs.Top.{top_of};
 ghost use Rattle.pisdf_program.specs.Worked.{FilesRose, IsThere, ReportsBoards, Works};
 ghost use Rattle.quiescent_driver.specs.Endings.{IsWhole};
 ghost use Rattle.quiescent_driver.specs.Given.{IsTopState};
@@ -18,18 +17,14 @@ ghost use Rattle.quiescent_driver.specs.Given.{IsTopState};
 use crate::journal_text::journal_text;
 use crate::load::load_input;
 use crate::program::report;
-use crate::put::put_text;
-use crate::run::{RunEnd, stopped};
 use crate::status::Status;
-use crate::stop::{Stop, refused, short};
-use crate::streams::Streams;
 use board_journal::Journal;
 use job_compiler::{Kept, kept};
 use kernel_gate::{Gate, lengths_given};
 use outer_world::{Shelf, Sink};
-use pisdf_meaning::{Delays, Refusal, first_delays, one_meaning, top_needs};
+use pisdf_meaning::{Delays, Refusal, first_delays, top_needs};
 use pisdf_model::Graphs;
-use quiescent_driver::{IterationFault, run_iteration};
+use quiescent_driver::{IterationFault, RunEnd, Stop, Streams, put_text, run_iteration};
 use sdf_level::List;
 use std::alloc::Global;
 use std::sync::{Arc, Wait};
@@ -56,7 +51,6 @@ fn next_board<K: Gate + Sync, R: Threads + Wait + Sync>(
 ) -> Result<Closed, Stop>
     requires good { AreGood (arc_value graphs.now) }
     requires kernels { K.kernels gate.now ≡ the_signatures }
-    requires few { number ≤ most_iterations }
     requires needs { streams.now.needs.now ≡ top_needs (arc_value graphs.now) }
     requires fit { length streams.now.needs.now ≡ length streams.now.tokens.now }
     requires sound { early_faults (arc_value graphs.now).graphs (arc_value graphs.now).top [] ≡ [] }
@@ -70,7 +64,7 @@ fn next_board<K: Gate + Sync, R: Threads + Wait + Sync>(
 {
     lengths_given();
     match streams.first_lack(number) {
-        Some(lack) => return Err(short(lack)),
+        Some(lack) => return Err(Stop::from(lack)),
         None => {}
     }
     let Ok(ins) = streams.taken(alloc, number) else {
@@ -113,7 +107,6 @@ fn step_board<O: Sink, K: Gate + Sync, R: Threads + Wait + Sync>(
 ) -> Result<(), RunEnd>
     requires good { AreGood (arc_value graphs.now) }
     requires kernels { K.kernels gate.now ≡ the_signatures }
-    requires few { number ≤ most_iterations }
     requires needs { streams.now.needs.now ≡ top_needs (arc_value graphs.now) }
     requires fit { length streams.now.needs.now ≡ length streams.now.tokens.now }
     requires sound { early_faults (arc_value graphs.now).graphs (arc_value graphs.now).top [] ≡ [] }
@@ -128,7 +121,7 @@ fn step_board<O: Sink, K: Gate + Sync, R: Threads + Wait + Sync>(
         rt, alloc, graphs, streams, number, workers, kept, delays, gate,
     ) {
         Ok(closed) => closed,
-        Err(stop) => return Err(stopped(stop)),
+        Err(stop) => return Err(RunEnd::from(stop)),
     };
     let Closed { journal, refusal } = closed;
     let Ok(text) = journal_text(alloc, number, &journal) else {
@@ -158,7 +151,6 @@ fn run_boards<O: Sink, K: Gate + Sync, R: Threads + Wait + Sync>(
 ) -> Result<(), RunEnd>
     requires good { AreGood (arc_value graphs.now) }
     requires kernels { K.kernels gate.now ≡ the_signatures }
-    requires few { iterations ≤ most_iterations }
     requires needs { streams.now.needs.now ≡ top_needs (arc_value graphs.now) }
     requires fit { length streams.now.needs.now ≡ length streams.now.tokens.now }
     requires sound { early_faults (arc_value graphs.now).graphs (arc_value graphs.now).top [] ≡ [] }
@@ -167,7 +159,6 @@ fn run_boards<O: Sink, K: Gate + Sync, R: Threads + Wait + Sync>(
     ensures ends { EndsBoards (arc_value graphs.now) streams.now.tokens.now workers iterations (O.written out.old) (O.written out.new) (O.faults out.old) (O.faults out.new) result }
     ensures never_falls { O.faults out.old ≤ O.faults out.new }
 {
-    one_meaning();
     let Ok(mut delays) = first_delays(alloc, graphs) else {
         return Err(RunEnd::Memory);
     };
@@ -205,7 +196,6 @@ fn run_journals<O: Sink, K: Gate + Sync, R: Threads + Wait + Sync>(
 ) -> Result<(), RunEnd>
     requires good { AreGood (arc_value graphs.now) }
     requires kernels { K.kernels gate.now ≡ the_signatures }
-    requires few { iterations ≤ most_iterations }
     requires fit { length streams.now ≡ length (top_of (arc_value graphs.now)).inputs }
     requires some { 0 < workers }
     requires most { workers ≤ 16 }
@@ -217,7 +207,10 @@ fn run_journals<O: Sink, K: Gate + Sync, R: Threads + Wait + Sync>(
     }
     let needs = match top_needs(alloc, graphs) {
         Ok(needs) => needs,
-        Err(fault) => return Err(stopped(refused(fault))),
+        Err(fault) => {
+            let stop = Stop::from(fault);
+            return Err(RunEnd::from(stop));
+        }
     };
     let Ok(kept) = kept(alloc) else {
         return Err(RunEnd::Memory);
@@ -257,7 +250,6 @@ pub(crate) fn tell_journals<S: Shelf, O: Sink, K: Gate + Sync, R: Threads + Wait
     gate: &K,
 ) -> Result<String, Status>
     requires kernels { K.kernels gate.now ≡ the_signatures }
-    requires few { iterations ≤ most_iterations }
     requires some { 0 < workers }
     requires most { workers ≤ 16 }
     ensures works { Works (FromFiles (Journals iterations workers) (S.holds shelf.old graph.now) (S.holds shelf.old tokens.now)) (O.written out.old) (O.written out.new) (O.faults out.old) (O.faults out.new) result }
@@ -265,7 +257,6 @@ pub(crate) fn tell_journals<S: Shelf, O: Sink, K: Gate + Sync, R: Threads + Wait
     ensures read { IfErr result (FilesRose graph.now tokens.now (S.faults shelf.old) (S.faults shelf.new)) }
     ensures usage { result ≢ Err Status.Usage }
 {
-    one_meaning();
     let input = match load_input(alloc, shelf, graph, tokens, gate.signatures()) {
         Ok(input) => input,
         Err(status) => return Err(status),

@@ -10,18 +10,13 @@ mod journal_text;
 mod limits;
 mod line;
 mod load;
-mod maker;
 mod number;
 mod program;
-mod put;
-mod run;
 mod soak;
 mod soak_tokens;
 mod soak_totals;
 mod status;
 mod stop;
-mod streams;
-mod texts;
 mod upgrade;
 mod words;
 

@@ -1,7 +1,7 @@
 // The lines that a status puts to standard error.
 ghost use Rattle.std.specs.Prelude.{◌≡◌, ◌==◌, ◌++◌, [], codes, if◌then◌else◌, IfOk, OnOk, IsOk, string_bytes};
 ghost use Rattle.pisdf_program.specs.LineSeen.{line_text};
-ghost use Rattle.pisdf_program.specs.Texts.{cause_words, graph_fault_line, graph_line, left_line, left_lines, left_words, line_of, named_line, range_words, read_line, refusal_line, tokens_line, what_word, why_words};
+ghost use Rattle.pisdf_program.specs.Lines.{cause_words, graph_fault_line, graph_line, left_line, left_lines, left_words, line_of, named_line, range_words, read_line, refusal_line, tokens_line, what_word, why_words};
 
 use crate::status::{GraphCause, Status, TokenCause, Which};
 use graph_format::GraphFault;

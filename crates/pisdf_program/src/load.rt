@@ -3,7 +3,8 @@ ghost use Rattle.std.specs.Prelude.{◌≡◌, ◌<◌, ◌≤◌, ◌↔◌, �
 ghost use Rattle.token_text.specs.Streams.{read_of};
 ghost use Rattle.pisdf_program.specs.Loaded.{AreGood, FaultsOnly, NoFault, Settles, StopsReading};
 ghost use Rattle.pisdf_program.specs.Result.{ReadsFiles, graphs_in_json, json_of, read_graphs, read_streams, streams_in};
-ghost use Rattle.pisdf_program.specs.Top.{input_names, top_of};
+ghost use Rattle.quiescent_driver.specs.Top.{top_of};
+ghost use Rattle.pisdf_program.specs.Inputs.{input_names};
 ghost use Rattle.pisdf_program.specs.Worked.{FilesRose};
 ghost use Rattle.pisdf_program.specs.declared.load.Input.{Input as Files};
 ghost use Rattle.pisdf_program.specs.declared.status.Status.{Status as Answer};
@@ -11,7 +12,6 @@ ghost use Rattle.kernel_gate.specs.Signed.{signature_view};
 ghost use Rattle.kernel_gate.specs.Table.{the_signatures};
 
 use crate::limits;
-use crate::run::top_of;
 use crate::status::{GraphCause, Status, TokenCause, Which};
 use graph_format::GraphFault;
 use graph_reader::read;
@@ -19,6 +19,7 @@ use kernel_gate::Signature;
 use outer_world::{LoadFault, Shelf};
 use param_expr::Name;
 use pisdf_model::{Graphs, Interface};
+use quiescent_driver::top_of;
 use sdf_level::List;
 use std::alloc::{AllocError, Global};
 use token_text::{TokenFault, read_tokens};
@@ -68,7 +69,7 @@ pub(crate) fn graphs_in(
     parse_graphs(alloc, bytes, signatures)
 }
 
-/// SoakRuns a graph file, and reads the graphs in it.
+/// Loads a graph file, and reads the graphs in it.
 pub(crate) fn load_graphs<S: Shelf>(
     alloc: Global,
     shelf: &mut S,
@@ -118,7 +119,7 @@ fn parse_streams(alloc: Global, bytes: &[u8], graphs: &Graphs) -> Result<List<Li
     }
 }
 
-/// SoakRuns the token file, and reads it.
+/// Loads the token file, and reads it.
 pub(crate) fn load_streams<S: Shelf>(
     alloc: Global,
     shelf: &mut S,
@@ -148,7 +149,7 @@ pub(crate) struct Input {
     pub(crate) streams: List<List<i64>>,
 }
 
-/// SoakRuns the graph file, and then the token file, and reads them.
+/// Loads the graph file, and then the token file, and reads them.
 pub(crate) fn load_input<S: Shelf>(
     alloc: Global,
     shelf: &mut S,

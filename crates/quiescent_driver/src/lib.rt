@@ -1,10 +1,22 @@
 //! What runs the iterations of a graph by many workers: each iteration is a firing of the top graph, which a crew of workers runs
-//! on a board, and which gives what one thread gets of it.
+//! on a board, and which gives what one thread gets of it. Beside it the run over the iterations, by workers or by one thread.
 #![tactic(auto)]
 
 mod driving;
+mod end;
 mod fault;
 mod iteration;
+mod maker;
+mod put;
+mod run;
+mod stop;
+mod streams;
+mod texts;
 
+pub use end::RunEnd;
 pub use fault::IterationFault;
 pub use iteration::run_iteration;
+pub use put::put_text;
+pub use run::{plain_run, run_all, top_of};
+pub use stop::Stop;
+pub use streams::{Lack, Streams};

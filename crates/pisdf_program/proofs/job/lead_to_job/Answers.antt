@@ -6,13 +6,13 @@ use Rattle.pisdf_meaning.specs.TopLevel.{IsTopLevel, TopLevelRefused}
 use Rattle.pisdf_meaning.specs.declared.refusal.PlainFault.TheVariants as plain
 use Rattle.pisdf_meaning.specs.declared.refusal.Refusal.{Refusal}
 use Rattle.pisdf_model.specs.declared.graph.Graph.{Graph}
-use Rattle.pisdf_program.specs.Iterated.{Checks}
+use Rattle.quiescent_driver.specs.Iterated.{Checks}
 use Rattle.pisdf_program.specs.Job.{Compiles, EndsJob, FindsLevel, JobEnd, first_inputs}
-use Rattle.pisdf_program.specs.Streams.{rest_of}
-use Rattle.pisdf_program.specs.declared.stop.Stop.{Stop}
-use Rattle.pisdf_program.specs.declared.stop.Stop.TheVariants as stop
+use Rattle.quiescent_driver.specs.Streams.{rest_of}
+use Rattle.quiescent_driver.specs.declared.stop.Stop.{Stop}
+use Rattle.quiescent_driver.specs.declared.stop.Stop.TheVariants as stop
 use Rattle.pisdf_program.proofs.Jobs.{as_first, level_ends, level_only, short_only, unlevelled_alike, unlevelled_ends}
-use Rattle.pisdf_program.proofs.Runs.{finds, lacks, rest_first, top_is, top_there}
+use Rattle.quiescent_driver.proofs.Runs.{finds, lacks, rest_first, top_is, top_there}
 use Rattle.pisdf_program.proofs.job.lead_to_job.Goals as goal
 
 pub returns-in-Some-clause-ends : goal.returns-in-Some-clause-ends
@@ -22,7 +22,7 @@ returns-in-Some-clause-ends g c =
     let lack : run.Lack = record { stream = c.in-Some.lack.stream; has = c.in-Some.lack.has; needs = c.in-Some.lack.needs } in
     let lacking : Checks graphs tokens (Ok (Some lack)) = subst (λ s. Checks graphs s (Ok (Some lack))) (rest_first (run.top_needs graphs) tokens)
     (lacks graphs tokens c.args.streams.now.needs.now 0 lack c.requires.good.in_range.top c.requires.needs c.requires.sound c.in-Some.ensures) in
-    inl (subst (λ (s : Stop). EndsJob graphs tokens c.args.workers (Err s)) (sym c.short.ensures) lacking)
+    inl (subst (λ (s : Stop). EndsJob graphs tokens c.args.workers (Err s)) (sym c.from.ensures) lacking)
 
 pub returns-in-Some-clause-only : goal.returns-in-Some-clause-only
 returns-in-Some-clause-only g c =
@@ -31,7 +31,7 @@ returns-in-Some-clause-only g c =
     let lack : run.Lack = record { stream = c.in-Some.lack.stream; has = c.in-Some.lack.has; needs = c.in-Some.lack.needs } in
     let lacking : Checks graphs tokens (Ok (Some lack)) = subst (λ s. Checks graphs s (Ok (Some lack))) (rest_first (run.top_needs graphs) tokens)
     (lacks graphs tokens c.args.streams.now.needs.now 0 lack c.requires.good.in_range.top c.requires.needs c.requires.sound c.in-Some.ensures) in
-    λ end h. inl (ap (λ (s : Stop). let e : JobEnd = Err s in e) c.short.ensures ∙ short_only graphs tokens c.args.workers lack lacking end h)
+    λ end h. inl (ap (λ (s : Stop). let e : JobEnd = Err s in e) c.from.ensures ∙ short_only graphs tokens c.args.workers lack lacking end h)
 
 pub returns-in-Ok-top_level-clause-ends : goal.returns-in-Ok-top_level-clause-ends
 returns-in-Ok-top_level-clause-ends g c =
@@ -83,7 +83,7 @@ returns-clause-ends g c =
     let none : run.first_lack 0 (run.top_needs graphs) tokens ≡ None =
     ap (run.first_lack 0 (run.top_needs graphs)) (sym (rest_first (run.top_needs graphs) tokens)) ∙ ap (λ n. run.first_lack 0 n (rest_of 0 n tokens)) (sym c.requires.needs) ∙ sym c.in-None.ensures in
     let at : (s : Stop) → Type 0 = λ s. EndsJob graphs tokens c.args.workers (Err s) ⊎ ((let e : JobEnd = Err s in e) ≡ Err stop.Memory) in
-    subst at (sym c.refused.ensures)
+    subst at (sym c.from-in-Err.ensures)
     (unlevelled_ends graphs tokens c.args.workers fault record { top = top.0; top_is = top.1; finds = finds graphs top.0 tokens None c.requires.sound none }
     (as_first graphs tokens c.args.workers (λ i s. IfRefused (TopLevelRefused graphs i s) fault) c.as_slice.result.now c.in-Ok-first_delays.delays.lists ins c.in-Ok-first_delays.ensures c.in-Err.ensures.refused))
 
@@ -99,7 +99,7 @@ returns-clause-only g c =
     let none : run.first_lack 0 (run.top_needs graphs) tokens ≡ None =
     ap (run.first_lack 0 (run.top_needs graphs)) (sym (rest_first (run.top_needs graphs) tokens)) ∙ ap (λ n. run.first_lack 0 n (rest_of 0 n tokens)) (sym c.requires.needs) ∙ sym c.in-None.ensures in
     let at : (s : Stop) → Type 0 = λ s. (end : JobEnd) → EndsJob graphs tokens c.args.workers end → ((let e : JobEnd = Err s in e) ≡ end) ⊎ ((let e : JobEnd = Err s in e) ≡ Err stop.Memory) in
-    subst at (sym c.refused.ensures)
+    subst at (sym c.from-in-Err.ensures)
     (unlevelled_alike graphs tokens c.args.workers lead
     (as_first graphs tokens c.args.workers (λ i s. (x : LevelSet) → IsTopLevel graphs i s x → (lead ≡ Ok x) ⊎ (lead ≡ Err plain.Memory)) c.as_slice.result.now c.in-Ok-first_delays.delays.lists ins c.in-Ok-first_delays.ensures c.top_level.ensures.only_level)
     (as_first graphs tokens c.args.workers (λ i s. (r : Refusal) → TopLevelRefused graphs i s r → (lead ≡ Err (plain.Refused r)) ⊎ (lead ≡ Err plain.Memory)) c.as_slice.result.now c.in-Ok-first_delays.delays.lists ins c.in-Ok-first_delays.ensures c.top_level.ensures.only_refused)

@@ -4,8 +4,8 @@ use Rattle.job_report.specs.Told.{Tells}
 use Rattle.job_report.specs.declared.names.JobNames.{JobNames}
 use Rattle.pisdf_model.specs.declared.graph.Graph.{Graph}
 use Rattle.pisdf_program.specs.Result.{TellsEnd, told}
-use Rattle.pisdf_program.specs.Top.{top_of}
-use Rattle.pisdf_program.proofs.Runs.{grows_as, grows_partly_as}
+use Rattle.quiescent_driver.specs.Top.{top_of}
+use Rattle.quiescent_driver.proofs.Runs.{grows_as, grows_partly_as}
 use Rattle.pisdf_program.proofs.Telling.{same_told}
 use Rattle.pisdf_program.proofs.Working.{told_partly, told_whole}
 use Rattle.pisdf_program.proofs.job_command.put_job.Goals as goal

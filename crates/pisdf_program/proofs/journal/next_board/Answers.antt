@@ -2,17 +2,17 @@ use Rattle.std.proofs.Common.{sym, subst, ◌∙◌}
 use Rattle.std.specs.Arc.{arc_value}
 use Rattle.pisdf_meaning.specs.Run as run
 use Rattle.pisdf_program.specs.Journals.{HasNoBoard}
-use Rattle.pisdf_program.specs.Streams.{rest_of}
+use Rattle.quiescent_driver.specs.Streams.{rest_of}
 use Rattle.pisdf_program.proofs.Boards.{refused_whole, whole_at}
-use Rattle.pisdf_program.proofs.Making.{taken_lengths}
-use Rattle.pisdf_program.proofs.Runs.{lacks}
+use Rattle.quiescent_driver.proofs.Making.{taken_lengths}
+use Rattle.quiescent_driver.proofs.Runs.{lacks}
 use Rattle.pisdf_program.proofs.journal.next_board.Goals as goal
 
 pub returns-in-Some-clause-none : goal.returns-in-Some-clause-none
 returns-in-Some-clause-none g c =
     let graphs = arc_value c.args.graphs.now in
     let lack : run.Lack = record { stream = c.in-Some.lack.stream; has = c.in-Some.lack.has; needs = c.in-Some.lack.needs } in
-    subst (HasNoBoard graphs (rest_of c.args.number (run.top_needs graphs) c.args.streams.now.tokens.now)) (sym c.short.ensures)
+    subst (HasNoBoard graphs (rest_of c.args.number (run.top_needs graphs) c.args.streams.now.tokens.now)) (sym c.from.ensures)
     (lacks graphs c.args.streams.now.tokens.now c.args.streams.now.needs.now c.args.number lack c.requires.good.in_range.top c.requires.needs c.requires.sound c.in-Some.ensures)
 
 pub run_iteration-requires-clause-inputs : goal.run_iteration-requires-clause-inputs

@@ -29,7 +29,7 @@ loop-number-preserved g c =
 
 pub returns-in-Err-clause-ends : goal.returns-in-Err-clause-ends
 returns-in-Err-clause-ends g c =
-    board_ends (arc_value c.args.graphs.now) c.args.streams.now.tokens.now c.args.workers c.one_meaning.ensures.firings c.args.iterations c.loop-number.number
+    board_ends (arc_value c.args.graphs.now) c.args.streams.now.tokens.now c.args.workers c.args.iterations c.loop-number.number
     c.loop-number.delays.lists c.step_board.new.delays.lists
     (g.O.Sink.written c.args.out.now) (g.O.Sink.written c.loop-number.out) (g.O.Sink.written c.step_board.new.out)
     (g.O.Sink.faults c.args.out.now) (g.O.Sink.faults c.loop-number.out) (g.O.Sink.faults c.step_board.new.out) c.in-Err.end

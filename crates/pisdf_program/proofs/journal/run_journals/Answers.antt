@@ -3,9 +3,9 @@ use Rattle.std.specs.Arc.{arc_value}
 use Rattle.pisdf_model.specs.declared.graph.Graph.{Graph}
 use Rattle.pisdf_model.specs.declared.graph.Interface.{Interface}
 use Rattle.pisdf_program.specs.Journals.{EndsBoards}
-use Rattle.pisdf_program.specs.Stepped.{run_end}
+use Rattle.quiescent_driver.specs.Stops.{run_end}
 use Rattle.pisdf_program.proofs.Boards.{no_boards, unchecked_boards}
-use Rattle.pisdf_program.proofs.Runs.{top_is, top_there}
+use Rattle.quiescent_driver.proofs.Runs.{top_is, top_there}
 use Rattle.pisdf_program.proofs.journal.run_journals.Goals as goal
 
 pub returns-then-iterations-eq0-clause-ends : goal.returns-then-iterations-eq0-clause-ends
@@ -17,7 +17,7 @@ returns-in-Err-clause-ends g c =
     let graphs = arc_value c.args.graphs.now in
     let had = g.O.Sink.written c.args.out.now in
     let faults = g.O.Sink.faults c.args.out.now in
-    subst (λ e. EndsBoards graphs c.args.streams.now c.args.workers c.args.iterations had had faults faults (Err e)) (sym (c.stopped.ensures ∙ ap run_end c.refused.ensures))
+    subst (λ e. EndsBoards graphs c.args.streams.now c.args.workers c.args.iterations had had faults faults (Err e)) (sym (c.from.ensures ∙ ap run_end c.from-stop.ensures))
     (unchecked_boards graphs c.args.streams.now c.args.workers c.args.iterations had faults faults c.in-Err.fault (omega (arith, c.if-iterations-eq0.false)) c.requires.good.in_range.top (rw c.deref.ensures at c.in-Err.ensures.refused))
 
 pub run_boards-requires-clause-fit : goal.run_boards-requires-clause-fit

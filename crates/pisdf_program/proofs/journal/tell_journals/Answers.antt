@@ -29,7 +29,7 @@ returns-clause-works g c =
     let files = g.S.Shelf.holds c.args.shelf.now in
     let input = c.in-Ok.input in
     let reports = subst (λ (x : Graphs). ReportsBoards x c.run_journals-end.result c.report_boards.result) (c.deref.ensures ∙ c.in-Ok-new.ensures.ok) c.report_boards.ensures in
-    works_boards c.one_meaning.ensures.firings (FromFiles (Journals c.args.iterations c.args.workers) (files c.args.graph.now) (files c.args.tokens.now)) c.args.workers c.args.iterations input
+    works_boards (FromFiles (Journals c.args.iterations c.args.workers) (files c.args.graph.now) (files c.args.tokens.now)) c.args.workers c.args.iterations input
     (goes_on (Journals c.args.iterations c.args.workers) (files c.args.graph.now) (files c.args.tokens.now) input c.in-Ok.ensures.settles)
     (g.O.Sink.written c.args.out.now) (g.O.Sink.written c.run_journals-end.new.out) (g.O.Sink.faults c.args.out.now) (g.O.Sink.faults c.run_journals-end.new.out) c.run_journals-end.result c.report_boards.result
     (rw (c.in-Ok-new.ensures.ok, c.items-streams.ensures) at c.run_journals-end.ensures.ends) reports

@@ -1,5 +1,5 @@
 use Rattle.std.proofs.Common.{◌≡◌, ◌++◌, drop, string_bytes}
-use Rattle.pisdf_program.specs.Texts.{left_lines}
+use Rattle.pisdf_program.specs.Lines.{left_lines}
 use Rattle.pisdf_program.proofs.line.left_lines.Given as goal
 
 -- the lines so far, and those of the streams that are left, are all

@@ -1,5 +1,5 @@
 use Rattle.std.proofs.Common.{◌≡◌, ◌++◌, drop, string_bytes}
-use Rattle.pisdf_program.specs.Texts.{left_words}
+use Rattle.pisdf_program.specs.Lines.{left_words}
 use Rattle.pisdf_program.proofs.line.push_left_over.Given as goal
 
 -- what was written so far, and the words of the actors that are left, is all

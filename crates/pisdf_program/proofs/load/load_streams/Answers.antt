@@ -3,7 +3,7 @@ use Rattle.token_text.specs.Streams.{read_of}
 use Rattle.pisdf_program.specs.declared.status.Status.{Status}
 use Rattle.pisdf_program.specs.Loaded.{Settles}
 use Rattle.pisdf_program.specs.Result.{streams_in}
-use Rattle.pisdf_program.specs.Top.{input_names}
+use Rattle.pisdf_program.specs.Inputs.{input_names}
 use Rattle.pisdf_program.proofs.Reading.{read_streams_short, read_streams_long}
 use Rattle.pisdf_program.proofs.load.load_streams.Goals as goal
 

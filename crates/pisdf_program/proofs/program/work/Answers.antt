@@ -10,8 +10,8 @@ use Rattle.pisdf_program.proofs.program.work.Goals as goal
 pub returns-in-Plain-clause-works : goal.returns-in-Plain-clause-works
 returns-in-Plain-clause-works g c =
     works_as (Some (words.Plain c.in-Plain.graph.now c.in-Plain.tokens.now c.in-Plain.iterations)) (command_of (map string_bytes c.args.words.now)) (g.S.Shelf.holds c.args.shelf.now)
-    (g.O.Sink.written c.args.out.now) (g.O.Sink.written c.run.new.out) (g.O.Sink.faults c.args.out.now) (g.O.Sink.faults c.run.new.out) c.run.result
-    (ap (λ (x : Here). Some (seen x)) (sym c.in-Plain.is) ∙ c.in-Some.ensures.command) c.run.ensures.works
+    (g.O.Sink.written c.args.out.now) (g.O.Sink.written c.run-in-Plain.new.out) (g.O.Sink.faults c.args.out.now) (g.O.Sink.faults c.run-in-Plain.new.out) c.run-in-Plain.result
+    (ap (λ (x : Here). Some (seen x)) (sym c.in-Plain.is) ∙ c.in-Some.ensures.command) c.run-in-Plain.ensures.works
 
 pub returns-in-Job-clause-works : goal.returns-in-Job-clause-works
 returns-in-Job-clause-works g c =
@@ -22,8 +22,8 @@ returns-in-Job-clause-works g c =
 pub returns-in-Run-clause-works : goal.returns-in-Run-clause-works
 returns-in-Run-clause-works g c =
     works_as (Some (words.Run c.in-Run.graph.now c.in-Run.tokens.now c.in-Run.iterations c.in-Run.workers)) (command_of (map string_bytes c.args.words.now)) (g.S.Shelf.holds c.args.shelf.now)
-    (g.O.Sink.written c.args.out.now) (g.O.Sink.written c.run_by_workers.new.out) (g.O.Sink.faults c.args.out.now) (g.O.Sink.faults c.run_by_workers.new.out) c.run_by_workers.result
-    (ap (λ (x : Here). Some (seen x)) (sym c.in-Run.is) ∙ c.in-Some.ensures.command) c.run_by_workers.ensures.works
+    (g.O.Sink.written c.args.out.now) (g.O.Sink.written c.run.new.out) (g.O.Sink.faults c.args.out.now) (g.O.Sink.faults c.run.new.out) c.run.result
+    (ap (λ (x : Here). Some (seen x)) (sym c.in-Run.is) ∙ c.in-Some.ensures.command) c.run.ensures.works
 
 pub returns-in-Journal-clause-works : goal.returns-in-Journal-clause-works
 returns-in-Journal-clause-works g c =

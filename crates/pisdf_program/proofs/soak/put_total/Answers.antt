@@ -1,7 +1,7 @@
 use Rattle.std.proofs.Common.{◌≡◌, string_bytes, ◌∙◌}
 use Rattle.pisdf_program.specs.SoakEnd.{total_row}
 use Rattle.pisdf_program.specs.Result.{told}
-use Rattle.pisdf_program.proofs.Runs.{grows_as, grows_partly_as}
+use Rattle.quiescent_driver.proofs.Runs.{grows_as, grows_partly_as}
 use Rattle.pisdf_program.proofs.Working.{told_partly, told_whole}
 use Rattle.pisdf_program.proofs.soak.put_total.Goals as goal
 

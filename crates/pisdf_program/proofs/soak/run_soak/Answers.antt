@@ -14,7 +14,6 @@ loop-place-init g c =
     record {
       reached = soak_starts (arc_value c.args.graphs.now) c.args.number c.in-Ok.delays.lists first;
       state = ap lengths first;
-      ready = c.requires.ready;
     }
 
 pub loop-place-preserved : goal.loop-place-preserved
@@ -26,7 +25,6 @@ loop-place-preserved g c =
           (c.in-Some.ensures.count ∙ ap (λ (t : List ℤ). total.count + length t) c.y_tokens.ensures)
           (c.in-Some.ensures.sum ∙ ap (λ (t : List ℤ). fold (λ sum token. sum +ℤ token) total.sum t) c.y_tokens.ensures);
       state = c.in-Ok-soak_iteration.ensures.state;
-      ready = c.soak_iteration.ensures.ready;
     }
 
 pub returns-in-Err-clause-ends : goal.returns-in-Err-clause-ends

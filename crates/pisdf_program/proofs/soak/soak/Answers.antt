@@ -20,13 +20,13 @@ returns-clause-works g c =
     let has = g.O.Sink.written c.tell_soak.new.out in
     let before = g.O.Sink.faults c.args.out.now in
     let now = g.O.Sink.faults c.tell_soak.new.out in
-    soak_works c.one_meaning.ensures.firings c.in-Ok.graphs c.args.number c.in-Ok.ensures.settles c.run_soak-end.result had has before now c.tell_soak.result
+    soak_works c.in-Ok.graphs c.args.number c.in-Ok.ensures.settles c.run_soak-end.result had has before now c.tell_soak.result
     (rw c.in-Ok-new.ensures.ok at c.run_soak-end.ensures.ends)
     (subst (λ (x : Graphs). Works (TellsSoak x c.args.number c.run_soak-end.result) had has before now c.tell_soak.result) (c.deref.ensures ∙ c.in-Ok-new.ensures.ok) c.tell_soak.ensures.works)
 
 pub returns-clause-there : goal.returns-clause-there
 returns-clause-there g c =
-    soak_there c.one_meaning.ensures.firings c.in-Ok.graphs c.args.number c.in-Ok.ensures.settles c.run_soak-end.result c.tell_soak.result
+    soak_there c.in-Ok.graphs c.args.number c.in-Ok.ensures.settles c.run_soak-end.result c.tell_soak.result
     (rw c.in-Ok-new.ensures.ok at c.run_soak-end.ensures.ends) c.tell_soak.ensures.memory
 
 pub returns-in-Err-clause-there : goal.returns-in-Err-clause-there

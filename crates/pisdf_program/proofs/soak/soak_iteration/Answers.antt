@@ -1,27 +1,42 @@
-use Rattle.std.proofs.Common.{◌∷◌, [], ap, sym, ◌∙◌}
+use Rattle.std.proofs.Common.{List, ◌∷◌, [], Err, ap, sym, subst, ◌∙◌}
 use Rattle.std.specs.Arc.{arc_value}
+use Rattle.kernel_gate.specs.Signed.{SignatureView, unnamed}
 use Rattle.kernel_gate.specs.Value.{lengths}
+use Rattle.pisdf_meaning.specs.Run.{top_needs}
+use Rattle.pisdf_meaning.specs.Sizes.{GiveLengths}
+use Rattle.quiescent_driver.specs.Stepped.{StopsAt}
+use Rattle.quiescent_driver.specs.Stops.{workers_stop}
+use Rattle.quiescent_driver.specs.Streams.{rest_of}
+use Rattle.quiescent_driver.proofs.Making.{stops_by_workers, stops_next}
+use Rattle.quiescent_driver.proofs.Runs.{gives}
 use Rattle.pisdf_program.specs.Soak.{soak_streams}
+use Rattle.pisdf_program.specs.SoakEnd.{LacksNothing}
 use Rattle.pisdf_program.proofs.SoakStreams.{none_lacks, part_lengths, part_taken}
 use Rattle.pisdf_program.proofs.SoakRuns.{made_lacks}
-use Rattle.pisdf_program.proofs.Making.{gives_next, stops_next}
 use Rattle.pisdf_program.proofs.soak.soak_iteration.Goals as goal
 
-pub returns-clause-gives : goal.returns-clause-gives
-returns-clause-gives g c =
-    gives_next (arc_value c.args.graphs.now) c.args.delays.now.lists c.iteration.new.delays.lists (soak_streams c.args.number) c.as_slice.result.now (1 ∷ 64 ∷ []) c.args.iteration
+pub returns-in-Ok-run_iteration-clause-gives : goal.returns-in-Ok-run_iteration-clause-gives
+returns-in-Ok-run_iteration-clause-gives g c =
+    gives (arc_value c.args.graphs.now) c.args.delays.now.lists c.run_iteration.new.delays.lists (soak_streams c.args.number) c.as_slice.result.now (1 ∷ 64 ∷ []) c.args.iteration c.in-Ok-run_iteration.iteration
     (sym c.requires.needs) c.requires.sound (sym (none_lacks c.args.number c.args.iteration c.requires.iteration))
-    (c.as_slice.ensures.value ∙ c.in-Ok.ensures ∙ sym (part_taken c.args.number c.args.iteration c.requires.iteration)) c.iteration.result c.iteration.ensures.gives
+    (c.as_slice.ensures.value ∙ c.in-Ok.ensures ∙ sym (part_taken c.args.number c.args.iteration c.requires.iteration)) c.in-Ok-run_iteration.ensures.gives
 
 pub returns-clause-stops : goal.returns-clause-stops
 returns-clause-stops g c =
-    stops_next (arc_value c.args.graphs.now) c.args.delays.now.lists c.iteration.new.delays.lists (soak_streams c.args.number) c.as_slice.result.now (1 ∷ 64 ∷ []) c.args.iteration
+    let graphs = arc_value c.args.graphs.now in
+    subst (StopsAt graphs c.args.delays.now.lists (rest_of c.args.iteration (top_needs graphs) (soak_streams c.args.number))) (sym c.from.ensures)
+    (stops_next graphs c.args.delays.now.lists c.run_iteration.new.delays.lists (soak_streams c.args.number) c.as_slice.result.now (1 ∷ 64 ∷ []) c.args.iteration
     (sym c.requires.needs) c.requires.sound (sym (none_lacks c.args.number c.args.iteration c.requires.iteration))
-    (c.as_slice.ensures.value ∙ c.in-Ok.ensures ∙ sym (part_taken c.args.number c.args.iteration c.requires.iteration)) c.iteration.result c.iteration.ensures.stops
+    (c.as_slice.ensures.value ∙ c.in-Ok.ensures ∙ sym (part_taken c.args.number c.args.iteration c.requires.iteration))
+    (Err (workers_stop c.in-Err.fault)) (stops_by_workers _ c.in-Err.fault c.in-Err.ensures.refused))
 
 pub returns-clause-enough : goal.returns-clause-enough
-returns-clause-enough g c = made_lacks _ c.iteration.result c.iteration.ensures.stops
+returns-clause-enough g c =
+    subst LacksNothing (sym c.from.ensures) (made_lacks _ (Err (workers_stop c.in-Err.fault)) (stops_by_workers _ c.in-Err.fault c.in-Err.ensures.refused))
 
-pub iteration-requires-clause-inputs : goal.iteration-requires-clause-inputs
-iteration-requires-clause-inputs g c = λ lives within.
+pub run_iteration-requires-clause-inputs : goal.run_iteration-requires-clause-inputs
+run_iteration-requires-clause-inputs g c = λ lives within.
     ap lengths (c.as_slice.ensures.value ∙ c.in-Ok.ensures) ∙ part_lengths c.args.number c.args.iteration ∙ sym c.requires.needs
+
+pub run_iteration-requires-clause-lengths : goal.run_iteration-requires-clause-lengths
+run_iteration-requires-clause-lengths g c = λ lives within. subst (λ (kernels : List SignatureView). GiveLengths (unnamed kernels)) (sym c.requires.kernels) c.lengths_given.ensures

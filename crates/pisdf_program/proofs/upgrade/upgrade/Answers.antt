@@ -1,6 +1,6 @@
 use Rattle.std.proofs.Common.{Err, Ok, string_bytes}
 use Rattle.pisdf_program.specs.Result.{Upgrades}
-use Rattle.pisdf_program.proofs.Runs.{grows_as, grows_partly_as}
+use Rattle.quiescent_driver.proofs.Runs.{grows_as, grows_partly_as}
 use Rattle.pisdf_program.proofs.Working.{told_partly, told_whole, upgrade_there, upgrade_told}
 use Rattle.pisdf_program.proofs.upgrade.upgrade.Goals as goal
 

@@ -1,0 +1,287 @@
+// A run over its iterations.
+ghost use Rattle.std.specs.Prelude.{◌≡◌, ◌<◌, ◌≤◌, [], length, map, IfErr, IfOk, OnOk};
+ghost use Rattle.std.specs.Arc.{arc_value};
+ghost use Rattle.kernel_gate.specs.Signed.{unnamed};
+ghost use Rattle.param_resolver.specs.EarlyCheck.{early_faults};
+ghost use Rattle.pisdf_model.specs.Range.{InRange};
+ghost use Rattle.pisdf_model.specs.WellFormed.{WellFormed};
+ghost use Rattle.pisdf_meaning.specs.Run.{IsRun, Run, top_needs};
+ghost use Rattle.pisdf_meaning.specs.Sizes.{GiveLengths};
+ghost use Rattle.pisdf_meaning.specs.Sound.{KernelsFit};
+ghost use Rattle.quiescent_driver.specs.Given.{IsTopState};
+ghost use Rattle.quiescent_driver.specs.Iterated.{Gives};
+ghost use Rattle.quiescent_driver.specs.Making.{IsReady};
+ghost use Rattle.quiescent_driver.specs.Runs.{EndsLike, EndsRun};
+ghost use Rattle.quiescent_driver.specs.Stepped.{Steps, StopsAt};
+ghost use Rattle.quiescent_driver.specs.Streams.{rest_of};
+ghost use Rattle.quiescent_driver.specs.Top.{top_of};
+
+use crate::end::RunEnd;
+use crate::maker::Maker;
+use crate::put::put_text;
+use crate::stop::Stop;
+use crate::streams::Streams;
+use crate::texts::iteration_text;
+use job_compiler::kept;
+use kernel_gate::Gate;
+use outer_world::Sink;
+use pisdf_meaning::{Delays, Iteration, first_delays, one_meaning, top_needs};
+use pisdf_model::{Graph, Graphs};
+use sdf_level::List;
+use std::alloc::{AllocError, Global};
+use std::sync::{Arc, Wait};
+use std::thread::Threads;
+
+/// The top graph.
+pub fn top_of(graphs: &Graphs) -> &Graph
+    requires { graphs.now.top < length graphs.now.graphs }
+    ensures { result.now ≡ top_of graphs.now }
+{
+    &graphs.graphs.items()[graphs.top as usize]
+}
+
+/// Makes one iteration, which leaves its state for the next, or answers why it isn't done.
+fn next_iteration<K: Gate + Sync, R: Threads + Wait + Sync>(
+    rt: &R,
+    alloc: Global,
+    graphs: &Arc<Graphs>,
+    streams: &Streams<'_>,
+    number: u32,
+    maker: &mut Maker,
+    delays: &mut Delays,
+    gate: &K,
+) -> Result<Iteration, Stop>
+    requires in_range { InRange (arc_value graphs.now) }
+    requires well_formed { WellFormed (arc_value graphs.now) }
+    requires kernels { KernelsFit (unnamed (K.kernels gate.now)) (arc_value graphs.now).graphs }
+    requires lengths { GiveLengths (unnamed (K.kernels gate.now)) }
+    requires needs { streams.now.needs.now ≡ top_needs (arc_value graphs.now) }
+    requires fit { length streams.now.needs.now ≡ length streams.now.tokens.now }
+    requires sound { early_faults (arc_value graphs.now).graphs (arc_value graphs.now).top [] ≡ [] }
+    requires state { IsTopState (arc_value graphs.now) delays.old.lists }
+    requires ready { IsReady maker.old }
+    ensures gives { IfOk result (λ i. Gives (arc_value graphs.now) delays.old.lists (rest_of number (top_needs (arc_value graphs.now)) streams.now.tokens.now) i delays.new.lists) }
+    ensures stops { IfErr result (StopsAt (arc_value graphs.now) delays.old.lists (rest_of number (top_needs (arc_value graphs.now)) streams.now.tokens.now)) }
+    ensures state { OnOk result (IsTopState (arc_value graphs.now) delays.new.lists) }
+    ensures ready { IsReady maker.new }
+{
+    match streams.first_lack(number) {
+        Some(lack) => return Err(Stop::from(lack)),
+        None => {}
+    }
+    let Ok(ins) = streams.taken(alloc, number) else {
+        return Err(Stop::Memory);
+    };
+    maker.iteration(rt, alloc, graphs, delays, ins.as_slice(), gate)
+}
+
+/// Makes and puts one iteration, which leaves its state for the next, or answers how the run ends with it.
+fn step<O: Sink, K: Gate + Sync, R: Threads + Wait + Sync>(
+    rt: &R,
+    alloc: Global,
+    graphs: &Arc<Graphs>,
+    streams: &Streams<'_>,
+    number: u32,
+    maker: &mut Maker,
+    delays: &mut Delays,
+    gate: &K,
+    out: &mut O,
+) -> Result<(), RunEnd>
+    requires in_range { InRange (arc_value graphs.now) }
+    requires well_formed { WellFormed (arc_value graphs.now) }
+    requires kernels { KernelsFit (unnamed (K.kernels gate.now)) (arc_value graphs.now).graphs }
+    requires lengths { GiveLengths (unnamed (K.kernels gate.now)) }
+    requires needs { streams.now.needs.now ≡ top_needs (arc_value graphs.now) }
+    requires fit { length streams.now.needs.now ≡ length streams.now.tokens.now }
+    requires sound { early_faults (arc_value graphs.now).graphs (arc_value graphs.now).top [] ≡ [] }
+    requires state { IsTopState (arc_value graphs.now) delays.old.lists }
+    requires ready { IsReady maker.old }
+    ensures steps { Steps (arc_value graphs.now) number delays.old.lists delays.new.lists (rest_of number (top_needs (arc_value graphs.now)) streams.now.tokens.now) (O.written out.old) (O.written out.new) (O.faults out.old) (O.faults out.new) result }
+    ensures never_falls { O.faults out.old ≤ O.faults out.new }
+    ensures state { OnOk result (IsTopState (arc_value graphs.now) delays.new.lists) }
+    ensures ready { IsReady maker.new }
+{
+    let iteration = match next_iteration(rt, alloc, graphs, streams, number, maker, delays, gate) {
+        Ok(iteration) => iteration,
+        Err(stop) => return Err(RunEnd::from(stop)),
+    };
+    let top = top_of(graphs);
+    let Ok(text) = iteration_text(alloc, number, top.outputs.items(), &iteration) else {
+        return Err(RunEnd::Memory);
+    };
+    match put_text(out, text.as_slice()) {
+        Ok(()) => Ok(()),
+        Err(_) => Err(RunEnd::WriteFault),
+    }
+}
+
+/// Runs so many iterations, at least one, on streams from which each takes what the top graph needs.
+fn run_some<O: Sink, K: Gate + Sync, R: Threads + Wait + Sync>(
+    rt: &R,
+    alloc: Global,
+    graphs: &Arc<Graphs>,
+    streams: &Streams<'_>,
+    iterations: u32,
+    maker: &mut Maker,
+    gate: &K,
+    out: &mut O,
+) -> RunEnd
+    requires in_range { InRange (arc_value graphs.now) }
+    requires well_formed { WellFormed (arc_value graphs.now) }
+    requires kernels { KernelsFit (unnamed (K.kernels gate.now)) (arc_value graphs.now).graphs }
+    requires lengths { GiveLengths (unnamed (K.kernels gate.now)) }
+    requires needs { streams.now.needs.now ≡ top_needs (arc_value graphs.now) }
+    requires fit { length streams.now.needs.now ≡ length streams.now.tokens.now }
+    requires sound { early_faults (arc_value graphs.now).graphs (arc_value graphs.now).top [] ≡ [] }
+    requires ready { IsReady maker.old }
+    ensures ends { EndsRun (arc_value graphs.now) streams.now.tokens.now iterations (O.written out.old) (O.written out.new) (O.faults out.old) (O.faults out.new) result }
+    ensures never_falls { O.faults out.old ≤ O.faults out.new }
+{
+    let Ok(mut delays) = first_delays(alloc, graphs) else {
+        return RunEnd::Memory;
+    };
+    for number in 0..iterations {
+        match step(
+            rt,
+            alloc,
+            graphs,
+            streams,
+            number,
+            maker,
+            &mut delays,
+            gate,
+            out,
+        ) {
+            Ok(()) => {}
+            Err(end) => return end,
+        }
+    }
+    match streams.left(alloc, iterations) {
+        Ok(left) => RunEnd::Done { left },
+        Err(_) => RunEnd::Memory,
+    }
+}
+
+/// How many tokens each stream holds.
+fn lengths(alloc: Global, streams: &[List<i64>]) -> Result<List<u64>, AllocError>
+    ensures { IfOk result (λ l. l ≡ map (λ t. length t) streams.now) }
+{
+    let counts: Vec<u64> = streams
+        .iter()
+        .map(|tokens| tokens.items().len() as u64)
+        .collect(alloc)?;
+    Ok(List::new(counts))
+}
+
+/// Runs so many iterations, each made by `maker`.
+fn run_by<O: Sink, K: Gate + Sync, R: Threads + Wait + Sync>(
+    rt: &R,
+    alloc: Global,
+    graphs: &Arc<Graphs>,
+    streams: &[List<i64>],
+    iterations: u32,
+    maker: &mut Maker,
+    gate: &K,
+    out: &mut O,
+) -> RunEnd
+    requires in_range { InRange (arc_value graphs.now) }
+    requires well_formed { WellFormed (arc_value graphs.now) }
+    requires kernels { KernelsFit (unnamed (K.kernels gate.now)) (arc_value graphs.now).graphs }
+    requires lengths { GiveLengths (unnamed (K.kernels gate.now)) }
+    requires fit { length streams.now ≡ length (top_of (arc_value graphs.now)).inputs }
+    requires ready { IsReady maker.old }
+    ensures ends { EndsRun (arc_value graphs.now) streams.now iterations (O.written out.old) (O.written out.new) (O.faults out.old) (O.faults out.new) result }
+    ensures never_falls { O.faults out.old ≤ O.faults out.new }
+{
+    if iterations == 0 {
+        return match lengths(alloc, streams) {
+            Ok(left) => RunEnd::Done { left },
+            Err(_) => RunEnd::Memory,
+        };
+    }
+    let needs = match top_needs(alloc, graphs) {
+        Ok(needs) => needs,
+        Err(fault) => {
+            let stop = Stop::from(fault);
+            return RunEnd::from(stop);
+        }
+    };
+    let feed = Streams {
+        needs: needs.items(),
+        tokens: streams,
+    };
+    run_some(rt, alloc, graphs, &feed, iterations, maker, gate, out)
+}
+
+/// Runs so many iterations, each by 1 to 16 workers in threads, with a stream of tokens for each input of the top graph, whose
+/// delays hold at first what the graph says. Each iteration's text is put once, whole, when it is done: a row for each parameter
+/// that was chosen, and then a row of tokens for each output. It ends as a run by one thread does, whatever the order of the
+/// workers' steps. The 64 compilations of jobs that were used last are kept from one iteration to the next. Without an iteration
+/// nothing is checked. It may wait.
+pub fn run_all<O: Sink, K: Gate + Sync, R: Threads + Wait + Sync>(
+    rt: &R,
+    alloc: Global,
+    graphs: &Arc<Graphs>,
+    streams: &[List<i64>],
+    iterations: u32,
+    workers: u32,
+    gate: &K,
+    out: &mut O,
+) -> RunEnd
+    requires in_range { InRange (arc_value graphs.now) }
+    requires well_formed { WellFormed (arc_value graphs.now) }
+    requires kernels { KernelsFit (unnamed (K.kernels gate.now)) (arc_value graphs.now).graphs }
+    requires lengths { GiveLengths (unnamed (K.kernels gate.now)) }
+    requires fit { length streams.now ≡ length (top_of (arc_value graphs.now)).inputs }
+    requires some { 0 < workers }
+    requires few { workers ≤ 16 }
+    ensures ends { EndsRun (arc_value graphs.now) streams.now iterations (O.written out.old) (O.written out.new) (O.faults out.old) (O.faults out.new) result }
+
+    // The end is that of each run by one thread, whose texts were put, unless there was no memory or a put failed.
+    ensures only { (r : Run) → IsRun (arc_value graphs.now) streams.now iterations r → EndsLike (arc_value graphs.now) r (O.written out.old) (O.written out.new) (O.faults out.old) (O.faults out.new) result }
+    ensures never_falls { O.faults out.old ≤ O.faults out.new }
+{
+    one_meaning();
+    let Ok(kept) = kept(alloc) else {
+        return RunEnd::Memory;
+    };
+    let mut maker = Maker::Workers {
+        count: workers,
+        kept: Some(kept),
+    };
+    run_by(
+        rt, alloc, graphs, streams, iterations, &mut maker, gate, out,
+    )
+}
+
+/// As `run_all`, by one thread that fires over queues in place of workers.
+pub fn plain_run<O: Sink, K: Gate + Sync, R: Threads + Wait + Sync>(
+    rt: &R,
+    alloc: Global,
+    graphs: &Arc<Graphs>,
+    streams: &[List<i64>],
+    iterations: u32,
+    gate: &K,
+    out: &mut O,
+) -> RunEnd
+    requires in_range { InRange (arc_value graphs.now) }
+    requires well_formed { WellFormed (arc_value graphs.now) }
+    requires kernels { KernelsFit (unnamed (K.kernels gate.now)) (arc_value graphs.now).graphs }
+    requires lengths { GiveLengths (unnamed (K.kernels gate.now)) }
+    requires fit { length streams.now ≡ length (top_of (arc_value graphs.now)).inputs }
+    ensures ends { EndsRun (arc_value graphs.now) streams.now iterations (O.written out.old) (O.written out.new) (O.faults out.old) (O.faults out.new) result }
+    ensures only { (r : Run) → IsRun (arc_value graphs.now) streams.now iterations r → EndsLike (arc_value graphs.now) r (O.written out.old) (O.written out.new) (O.faults out.old) (O.faults out.new) result }
+    ensures never_falls { O.faults out.old ≤ O.faults out.new }
+{
+    one_meaning();
+    run_by(
+        rt,
+        alloc,
+        graphs,
+        streams,
+        iterations,
+        &mut Maker::Queues,
+        gate,
+        out,
+    )
+}
