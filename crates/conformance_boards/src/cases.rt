@@ -13,7 +13,8 @@ use pisdf_model::Graphs;
 use sdf_level::List;
 use serde_json::Value;
 use std::alloc::Global;
-use std::sync::Arc;
+use std::sync::{Arc, Wait};
+use std::thread::Threads;
 
 /// How many steps are drawn, where a case has a seed.
 const DRAWN: u32 = 20_000;
@@ -96,8 +97,8 @@ fn answer_of(alloc: Global, case: &Value, tells: Tells, told: &Told) -> Result<V
     Ok(Value::from(texts))
 }
 
-/// How a case runs: so many `iterations` by so many `workers`, 1 to 16 of them, who step in the `order` of a list, then, where
-/// there is a `seed`, as drawn.
+/// How a case runs: so many `iterations` by so many `workers`, 1 to 16 of them, each in a thread where the case has the member
+/// `threads`, else simulated: they step in the `order` of a list, then, where there is a `seed`, as drawn.
 fn plan_of<'a>(case: &Value, order: &'a [u32]) -> Result<Plan<'a>, Trouble>
     ensures { IfOk result (λ plan. (1 ≤ plan.workers) × (plan.workers ≤ 16)) }
 {
@@ -109,6 +110,7 @@ fn plan_of<'a>(case: &Value, order: &'a [u32]) -> Result<Plan<'a>, Trouble>
     Ok(Plan {
         iterations: small(case, "iterations")?,
         workers,
+        threads: case.get("threads").is_some(),
         order,
         drawn,
         seed: u64::from(small_or(case, "seed", 0)?),
@@ -116,7 +118,8 @@ fn plan_of<'a>(case: &Value, order: &'a [u32]) -> Result<Plan<'a>, Trouble>
 }
 
 /// What becomes of a case, which makes one list of kept compilations for its boards where it has the member `kept`.
-fn outcome_of(
+fn outcome_of<R: Threads + Wait + Sync>(
+    rt: &R,
     alloc: Global,
     graphs: &Arc<Graphs>,
     streams: &[List<i64>],
@@ -132,7 +135,7 @@ fn outcome_of(
         None => None,
     };
     let mut told = Told::new(alloc, tells == Tells::Steps);
-    run(alloc, graphs, streams, &plan, &mut kept, &mut told)?;
+    run(rt, alloc, graphs, streams, &plan, &mut kept, &mut told)?;
     let answer = answer_of(alloc, case, tells, &told)?;
     let wanted = member(case, "want")?;
     if *wanted == answer {
@@ -143,7 +146,11 @@ fn outcome_of(
 
 /// What becomes of the `cases` of a line, which run the graphs of its `file`, in which `'` stands for `"`, on the `tokens` of a
 /// token file.
-pub fn outcomes(alloc: Global, line: &str) -> Result<Vec<Outcome>, Trouble> {
+pub fn outcomes<R: Threads + Wait + Sync>(
+    rt: &R,
+    alloc: Global,
+    line: &str,
+) -> Result<Vec<Outcome>, Trouble> {
     let Ok(row) = Value::from_str(alloc, line) else {
         return Err(Trouble::Member("the line"));
     };
@@ -151,7 +158,7 @@ pub fn outcomes(alloc: Global, line: &str) -> Result<Vec<Outcome>, Trouble> {
     let streams = streams_of(alloc, word(&row, "tokens")?, &graphs)?;
     let mut outcomes = Vec::new(alloc);
     for case in items(&row, "cases")? {
-        outcomes.push(outcome_of(alloc, &graphs, streams.items(), case)?)?;
+        outcomes.push(outcome_of(rt, alloc, &graphs, streams.items(), case)?)?;
     }
     Ok(outcomes)
 }

@@ -21,6 +21,7 @@ use crate::texts::{push_iteration, push_journal, push_refusal};
 use crate::told::Told;
 use crate::trouble::Trouble;
 use crate::turns::Turns;
+use board_lock::NotMade;
 use firing_board::{Board, BoardEnd};
 use job_compiler::Kept;
 use kernel_gate::{Gate, lengths_given};
@@ -30,17 +31,20 @@ use pisdf_model::Graphs;
 use sdf_level::List;
 use std::alloc::{AllocError, Global};
 use std::mem;
-use std::sync::Arc;
-use worker_crew::board_laws;
+use std::sync::{Arc, Wait};
+use std::thread::Threads;
+use worker_crew::{board_laws, run_crew};
 
 /// A board that has taken so many steps is given up.
 const MOST_STEPS: u32 = 4_000_000;
 
-/// How a run is simulated.
+/// How a run goes.
 #[derive(Clone, Copy)]
 pub(crate) struct Plan<'a> {
     pub(crate) iterations: u32,
     pub(crate) workers: u32,
+    /// Whether each worker is a thread. Else it is simulated, and then the others tell who steps when.
+    pub(crate) threads: bool,
     /// Who steps first on each board.
     pub(crate) order: &'a [u32],
     /// How many steps are drawn after these, and the number with which this begins.
@@ -151,6 +155,33 @@ fn end_of(
     outcome_of(alloc, board, ended)
 }
 
+/// Runs a board by a crew of threads to its end, with the compilations that are kept, and those that are made after it.
+fn crew_end_of<R: Threads + Wait + Sync>(
+    rt: &R,
+    alloc: Global,
+    mut board: Board,
+    workers: u32,
+    kept: &mut Option<Kept>,
+) -> Result<BoardEnd, Trouble>
+    requires kernels { HasOurKernels board }
+    requires idle { AreAllIdle board }
+    requires workers { workers ≡ board.key.workers }
+    ensures { IfOk result (EndsWith board.key) }
+{
+    lend_kept(&mut board, kept);
+    match run_crew(rt, alloc, board, workers, &Library) {
+        Ok(mut board) => {
+            *kept = board.take_kept();
+            Ok(board.outcome(alloc)?)
+        }
+        Err(NotMade { state: mut board }) => {
+            *kept = board.take_kept();
+            board.end();
+            Err(Trouble::Memory)
+        }
+    }
+}
+
 /// Tells the end of a board; whether another iteration may come.
 fn see_board(
     graphs: &Graphs,
@@ -215,8 +246,9 @@ fn start_board(
     )
 }
 
-/// Plays the board of an iteration; whether another iteration may come.
-fn iterate(
+/// Runs the board of an iteration; whether another iteration may come.
+fn iterate<R: Threads + Wait + Sync>(
+    rt: &R,
     alloc: Global,
     graphs: &Arc<Graphs>,
     ins: &[List<i64>],
@@ -238,14 +270,19 @@ fn iterate(
     lengths_given();
     sizes_kept();
     let board = start_board(alloc, graphs, delays, ins, plan.workers)?;
-    let seed = plan.seed.wrapping_add(u64::from(number));
-    let mut turns = Turns::new(plan.order, plan.drawn, seed, plan.workers);
-    let end = end_of(alloc, board, kept, &mut turns, told)?;
+    let end = if plan.threads {
+        crew_end_of(rt, alloc, board, plan.workers, kept)?
+    } else {
+        let seed = plan.seed.wrapping_add(u64::from(number));
+        let mut turns = Turns::new(plan.order, plan.drawn, seed, plan.workers);
+        end_of(alloc, board, kept, &mut turns, told)?
+    };
     see_board(graphs, number, delays, end, told)
 }
 
 /// Runs the iterations of a plan, until one is refused or finds too few tokens.
-pub(crate) fn run(
+pub(crate) fn run<R: Threads + Wait + Sync>(
+    rt: &R,
     alloc: Global,
     graphs: &Arc<Graphs>,
     streams: &[List<i64>],
@@ -268,7 +305,17 @@ pub(crate) fn run(
         match take_ins(alloc, inputs, streams, needs.items(), number)? {
             Taken::All(ins) => {
                 let ins = ins.as_slice();
-                if !iterate(alloc, graphs, ins, plan, number, &mut delays, kept, told)? {
+                if !iterate(
+                    rt,
+                    alloc,
+                    graphs,
+                    ins,
+                    plan,
+                    number,
+                    &mut delays,
+                    kept,
+                    told,
+                )? {
                     return Ok(());
                 }
             }

@@ -1,6 +1,6 @@
-//! Runs graphs on boards by simulated workers, whose steps come in orders that tables tell: each line of a table, a file of
-//! `data/`, is a JSON object with a graph, its tokens, and cases, each with an order and the answer that is wanted. It prints
-//! each answer that is another, and at the end the number of cases of each table.
+//! Runs graphs on boards, by simulated workers, whose steps come in orders that tables tell, and by crews of threads: each line
+//! of a table, a file of `data/`, is a JSON object with a graph, its tokens, and cases, each with the answer that is wanted. It
+//! prints each answer that is another, and at the end the number of cases of each table.
 #![tactic(auto)]
 
 mod cases;
@@ -21,13 +21,14 @@ use crate::table::run_table;
 use std::io;
 
 /// The tables, in the order of their lines in the output.
-const TABLES: [&str; 6] = [
+const TABLES: [&str; 7] = [
     "calls.jsonl",
     "journals.jsonl",
     "orders.jsonl",
     "kept.jsonl",
     "limits.jsonl",
     "graphs.jsonl",
+    "crews.jsonl",
 ];
 
 fn main(rt: HostRuntime) -> io::Result<()> {

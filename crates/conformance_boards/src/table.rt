@@ -2,6 +2,8 @@
 use crate::cases::{Outcome, outcomes};
 use crate::trouble::Trouble;
 use std::rt::Files;
+use std::sync::Wait;
+use std::thread::Threads;
 use std::{fs, io};
 
 /// How many cases there are, and how many of them gave another answer than the wanted one.
@@ -33,14 +35,14 @@ fn print_outcomes<R: Print + AllocGlobal>(
 }
 
 /// Runs the cases of a line.
-fn run_line<R: Print + AllocGlobal>(
+fn run_line<R: Print + AllocGlobal + Threads + Wait + Sync>(
     rt: &R,
     file: &str,
     number: u32,
     line: &str,
     counts: &mut Counts,
 ) -> io::Result<()> {
-    match outcomes(rt.alloc(), line) {
+    match outcomes(rt, rt.alloc(), line) {
         Ok(outcomes) => return print_outcomes(rt, file, number, outcomes.as_slice(), counts),
         Err(Trouble::Member(name)) => println!(rt; "{file}, line {number}: {name} is wrong")?,
         Err(Trouble::Memory) => println!(rt; "{file}, line {number}: no memory")?,
@@ -50,7 +52,10 @@ fn run_line<R: Print + AllocGlobal>(
 }
 
 /// Runs the cases of a table, and prints how many there are.
-pub fn run_table<R: Files + Print + AllocGlobal>(rt: &R, file: &str) -> io::Result<()> {
+pub fn run_table<R: Files + Print + AllocGlobal + Threads + Wait + Sync>(
+    rt: &R,
+    file: &str,
+) -> io::Result<()> {
     let text = fs::read_to_string(rt, file)?;
     let mut counts = Counts {
         cases: 0,
