@@ -53,7 +53,7 @@ pub record AreParts (count : ℕ) (p : Parts) : Type 0 where
   pub one_each : length p.frames ≡ count
   pub blocks : All HasBlocks p.frames
 
--- what a free node has for its claim: cells for each token of the output that it writes, where that is stored
+-- what the frame of a free node is made of: where what the node writes is stored, there are as many cells as it writes tokens
 abbrev pub HasParts : JobView → Parts → ℕ → FrameParts → Type 0
 HasParts j p n f =
     IsMadeOf (node_at j.compilation.graph.nodes n) (args_of j n) (stored_at j (node_at j.compilation.graph.nodes n)) (slice_index (lens (graph_of j) n) 0)

@@ -13,15 +13,15 @@ use sdf_level::{Edge, List, Node};
 use split_block::Lease;
 use std::alloc::{AllocError, Global};
 
-/// What a node's frame is made of. In the lists of leases there is that of its stored tokens, where it has such, and room for
-/// those of its ports, until it is claimed.
+/// What a node's frame is made of. Until the node is claimed, each list has the lease of its stored tokens, where it has such,
+/// and room for those of its ports.
 pub(crate) struct FrameParts {
     pub inputs: Vec<Lease>,
     pub outputs: Vec<Lease>,
     pub args: List<i64>,
 }
 
-/// What stays of a node whose frame is out.
+/// What stays in the job while a frame is out: lists with nothing in them.
 pub(crate) fn no_parts(alloc: Global) -> FrameParts
     ensures inputs { result.inputs.items ≡ [] }
     ensures outputs { result.outputs.items ≡ [] }
