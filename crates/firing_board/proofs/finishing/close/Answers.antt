@@ -1,13 +1,15 @@
-use Rattle.std.proofs.Common.{◌≡◌, ap, sym, ◌∙◌, subst, refl}
+use Rattle.std.proofs.Common.{None, refl, sym, subst}
+use Rattle.open_job.specs.View.{IsQuiet}
 use Rattle.job_table.proofs.CloseSteps.{stops}
 use Rattle.firing_board.proofs.finishing.close.Goals as goal
 
+-- a job that isn't quiet stays open, and so do all round it
 pub returns-then-not-quiet-clause-closed : goal.returns-then-not-quiet-clause-closed
 returns-then-not-quiet-clause-closed c =
-    let job = c.job.ensures in
+    let here = c.job.ensures in
     record {
       end = None;
-      closes = stops (λ key is. c.rules_are_lawful.ensures key.graphs is.in_range is.well_formed) c.boards_keep.ensures.stop c.args.core.now.table c.args.row job.0 job.1.0
-        (λ quiet. let f = c.if-not-quiet.true in let b = c.quiet.ensures.1 (subst IsQuiet (sym job.1.1) quiet) in cc);
+      closes = stops (λ key is. c.rules_are_lawful.ensures key.graphs is.in_range is.well_formed) c.boards_keep.ensures.stop c.args.core.now.table c.args.row here.0 here.1
+          (λ quiet. let told = c.quiet.ensures.1 (subst IsQuiet (sym here.2) quiet) in let not = c.if-not-quiet.true in cc);
       end_is = refl;
     }
