@@ -1,11 +1,10 @@
 -- A run is the only one, and begins with the iterations that are done.
-use Rattle.std.proofs.Common.{◌≡◌, ℕ, suc, zero, ◌+◌, ℤ, List, Option, Some, None, slice_get, Result, Ok, sym, ap, ◌∙◌, subst, arith}
+use Rattle.std.proofs.Common.{◌≡◌, ℕ, suc, zero, ◌+◌, ℤ, List, Some, None, slice_get, Ok, sym, ap, ◌∙◌, subst, arith}
 use Rattle.pisdf_model.specs.Hold.{initial}
 use Rattle.pisdf_model.specs.declared.graph.Graph.{Graph}
 use Rattle.pisdf_model.specs.declared.graph.Graphs.{Graphs}
 use Rattle.pisdf_meaning.specs.Run as run
 use Rattle.pisdf_meaning.specs.declared.outcome.Iteration.{Iteration}
-use Rattle.pisdf_meaning.specs.declared.refusal.Refusal.{Refusal}
 use Rattle.pisdf_meaning.proofs.OneRun.{iteration_once, run_once}
 use Rattle.quiescent_driver.specs.Iterated.{Gives, HaveIterated}
 use Rattle.quiescent_driver.specs.Streams.{rest_of}

@@ -1,5 +1,5 @@
 -- Lines of what is left of streams, and of journals.
-use Rattle.std.proofs.Common.{◌≡◌, ℕ, zero, suc, ◌+◌, ◌≤◌, ℤ, List, [], ◌∷◌, length, drop, min, slice_get, Some, refl, ap, ◌∙◌, inl, inr, arith}
+use Rattle.std.proofs.Common.{◌≡◌, ℕ, zero, suc, ◌+◌, ◌≤◌, List, [], ◌∷◌, length, drop, min, slice_get, Some, refl, ap, ◌∙◌, inl, inr, arith}
 use Rattle.std.proofs.Math.ListN.{drop_of_length-le}
 use Rattle.pisdf_model.specs.declared.graph.Interface.{Interface}
 use Rattle.quiescent_driver.proofs.Rows.{shorter}

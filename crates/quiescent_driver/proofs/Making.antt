@@ -5,11 +5,8 @@ use Rattle.std.proofs.lemmas.Bool.Decides.{nat_tests}
 use Rattle.kernel_gate.specs.Value.{lengths}
 use Rattle.param_resolver.specs.EarlyCheck.{early_faults}
 use Rattle.pisdf_model.specs.declared.graph.Graphs.{Graphs}
-use Rattle.pisdf_meaning.specs.Endings.{IfRefused}
 use Rattle.pisdf_meaning.specs.Run as run
 use Rattle.pisdf_meaning.specs.declared.outcome.Iteration.{Iteration}
-use Rattle.pisdf_meaning.specs.declared.refusal.PlainFault.{PlainFault}
-use Rattle.pisdf_meaning.specs.declared.refusal.PlainFault.TheVariants as plain
 use Rattle.pisdf_meaning.specs.declared.refusal.Refusal.{Refusal}
 use Rattle.quiescent_driver.specs.Endings as driver
 use Rattle.quiescent_driver.specs.declared.fault.IterationFault.{IterationFault}
@@ -17,7 +14,7 @@ use Rattle.quiescent_driver.specs.declared.fault.IterationFault.TheVariants as w
 use Rattle.quiescent_driver.specs.Iterated.{Gives}
 use Rattle.quiescent_driver.specs.Making.{StopsOnly}
 use Rattle.quiescent_driver.specs.Stepped.{StopsAt}
-use Rattle.quiescent_driver.specs.Stops.{refused_stop, workers_stop}
+use Rattle.quiescent_driver.specs.Stops.{workers_stop}
 use Rattle.quiescent_driver.specs.Streams.{rest_of}
 use Rattle.quiescent_driver.specs.declared.stop.Stop.{Stop}
 use Rattle.quiescent_driver.specs.declared.stop.Stop.TheVariants as stop
@@ -52,10 +49,6 @@ taken_lengths done needs wanted streams ins fit none is same =
     ap lengths is ∙ taken_fit needs (rest_of done needs streams) 0 (rest_fit done needs streams fit) none ∙ same
 
 -- ---- how an iteration ends
-
-pub stops_by_queues : (P : Refusal → Type 0) (fault : PlainFault) → IfRefused P fault → StopsOnly P (refused_stop fault)
-stops_by_queues P (plain.Refused refusal) h = h
-stops_by_queues P plain.Memory h = tt
 
 pub stops_by_workers : (P : Refusal → Type 0) (fault : IterationFault) → driver.IfRefused P fault → StopsOnly P (workers_stop fault)
 stops_by_workers P (workers.Refused refusal journal) h = h

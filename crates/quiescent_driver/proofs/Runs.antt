@@ -17,7 +17,7 @@ use Rattle.pisdf_meaning.specs.Laws.{HasOneRun}
 use Rattle.pisdf_meaning.specs.Run as run
 use Rattle.pisdf_meaning.specs.declared.outcome.Iteration.{Iteration}
 use Rattle.pisdf_meaning.specs.declared.refusal.Refusal.{Refusal}
-use Rattle.quiescent_driver.specs.Runs.{EndsLike, GrowsPartly, EndsRun, RanTo, HasBegun, answer_of, text_of}
+use Rattle.quiescent_driver.specs.Runs.{EndsLike, GrowsPartly, EndsRun, RanTo, answer_of, text_of}
 use Rattle.quiescent_driver.specs.Iterated.{Checks, Gives, IsRefused, HaveIterated}
 use Rattle.job_rules.specs.Items.{no_graph}
 use Rattle.quiescent_driver.specs.Top.{top_of}
@@ -246,10 +246,6 @@ all_written g streams n k s had has new e le r none rest =
 
 pub one_less : (n k : ℕ) → k < n → suc (n - (k + 1)) ≡ n - k
 one_less n k lt = omega arith
-
-pub first_written : (g : Graphs) (streams : State) (n k : ℕ) (s : State) (had has : Option (List ℕ)) → k ≤ n → Reached g streams k s had has
-    → HasBegun g streams n (λ its. Grows had has (text_of g its))
-first_written g streams n k s had has le r = (k, le, r.so_far, s, r.done, r.written)
 
 pub ends_at : (g : Graphs) (streams : State) (n k : ℕ) (s : State) (had has new : Option (List ℕ)) (first before now : ℕ) (e : RunEnd) → k < n → first ≤ before
     → Reached g streams k s had has → EndsAt g k s (rest_of k (run.top_needs g) streams) has new before now e → EndsRun g streams n had new first now e
