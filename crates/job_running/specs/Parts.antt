@@ -130,7 +130,7 @@ pub record HoldClaimed (marks : List one.Mark) (frames : List (Option FrameView)
 pub record AllStand (graphs : List Graph) (g : Graph) (kinds : List (Option ℕ)) (job : JobGraph ℤ) (stages : List Stage) (marks : List one.Mark) (frames : List (Option FrameView)) : Type 0 where
   pub one_stage : length stages ≡ length job.nodes
   pub one_mark : length marks ≡ length job.nodes
-  -- a node that fires a graph has a place for its frame, and no node is past the end
+  -- there are at most as many places for frames as nodes, and each node that fires a graph has one
   pub few_frames : length frames ≤ length job.nodes
   pub has_place : (n : ℕ) → n < length job.nodes → is_child_in kinds (node_at job.nodes n) ≡ true → n < length frames
   pub each : (n : ℕ) → n < length job.nodes → Stands graphs (lens job n) (keeps_state graphs (actor_of g (node_at job.nodes n))) (is_child_in kinds (node_at job.nodes n)) (leased.IsFiring (node_at job.nodes n)) (stage_at stages n) (one.mark_at marks n) (frame_at frames n)
