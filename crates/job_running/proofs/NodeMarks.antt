@@ -62,7 +62,7 @@ free_stage spot (Open job told) is = absurd (cc)
 free_stage spot (Fired told) is = absurd (cc)
 free_stage spot (Failed code) is = absurd (cc)
 free_stage spot (Gave told) is = absurd (cc)
-free_stage spot (Refused refusal) is = absurd (cc)
+free_stage spot (Refused told) is = absurd (cc)
 
 pub free_job : (keeps : Bool) (spot : Option Spot) (s : Stage) → job_mark keeps s ≡ one.Free → mark_of spot s ≡ mark.Free
 free_job keeps spot Free is = refl
@@ -72,7 +72,7 @@ free_job keeps spot (Open job told) is = absurd (cc)
 free_job keeps spot (Fired told) is = absurd (cc)
 free_job keeps spot (Failed code) is = absurd (cc)
 free_job keeps spot (Gave told) is = absurd (cc)
-free_job keeps spot (Refused refusal) is = absurd (cc)
+free_job keeps spot (Refused told) is = absurd (cc)
 
 -- what a stage with a lent frame is
 pub record IsBusy (s : Stage) (places : Places) : Type 0 where
@@ -88,7 +88,7 @@ lent_busy (Open job told) places is = absurd (cc)
 lent_busy (Fired told) places is = absurd (cc)
 lent_busy (Failed code) places is = absurd (cc)
 lent_busy (Gave told) places is = absurd (cc)
-lent_busy (Refused refusal) places is = absurd (cc)
+lent_busy (Refused told) places is = absurd (cc)
 
 pub record IsOpen (s : Stage) (job : Firing) : Type 0 where
   pub own : Snapshot Firing
@@ -104,7 +104,7 @@ open_stage spot (Open own told) job is = record { own = own; told = told; stage_
 open_stage spot (Fired told) job is = absurd (cc)
 open_stage spot (Failed code) job is = absurd (cc)
 open_stage spot (Gave told) job is = absurd (cc)
-open_stage spot (Refused refusal) job is = absurd (cc)
+open_stage spot (Refused told) job is = absurd (cc)
 
 -- ---- what a node is finished with, in the words of refusals and in those of codes
 
@@ -125,9 +125,9 @@ value_tie keeps child fires spot (Open job told) sort none = refl
 value_tie keeps child fires spot (Fired told) sort none = fired_tie keeps spot told.frame (none sort)
 value_tie keeps child fires spot (Failed code) sort none = failed_tie keeps spot code
 value_tie keeps child fires spot (Gave told) sort none = refl
-value_tie keeps child fires spot (Refused refusal) sort none = refl
+value_tie keeps child fires spot (Refused told) sort none = refl
 
--- ---- stages of nodes whose frames came back
+-- ---- stages of nodes whose held came back
 
 pub record IsFiredWith (s : Stage) (frame : FrameView) : Type 0 where
   pub told : Told
@@ -142,7 +142,7 @@ fired_stage (Open job told) frame is = absurd is
 fired_stage (Fired told) frame is = record { told = told; stage_is = refl; frame_is = is }
 fired_stage (Failed code) frame is = absurd is
 fired_stage (Gave told) frame is = absurd is
-fired_stage (Refused refusal) frame is = absurd is
+fired_stage (Refused told) frame is = absurd is
 
 pub record IsOpenedWith (s : Stage) (job : Firing) (frame : FrameView) : Type 0 where
   pub own : Snapshot Firing
@@ -159,7 +159,7 @@ opened_stage (Open own told) job frame is = record { own = own; told = told; sta
 opened_stage (Fired told) job frame is = absurd is
 opened_stage (Failed code) job frame is = absurd is
 opened_stage (Gave told) job frame is = absurd is
-opened_stage (Refused refusal) job frame is = absurd is
+opened_stage (Refused told) job frame is = absurd is
 
 pub record IsLostWith (s : Stage) (frame : FrameView) : Type 0 where
   pub told : Told
@@ -174,4 +174,4 @@ lost_stage (Open own told) frame is = absurd is
 lost_stage (Fired told) frame is = absurd is
 lost_stage (Failed code) frame is = absurd is
 lost_stage (Gave told) frame is = absurd is
-lost_stage (Refused refusal) frame is = absurd is
+lost_stage (Refused told) frame is = absurd is

@@ -4,7 +4,6 @@ use Rattle.std.specs.Prelude.{is_none}
 use Rattle.std.specs.Option.{option_map}
 use Rattle.std.proofs.lemmas.Bool.{cases_lt}
 use Rattle.std.proofs.lemmas.List.{get_or_past}
-use Rattle.kernel_gate.specs.Value.{FrameView}
 use Rattle.nested_jobs.specs.Marks as mark
 use Rattle.param_resolver.specs.Numbering.{acting, state_size}
 use Rattle.pisdf_model.specs.declared.actor.Actor.{Actor}
@@ -30,6 +29,7 @@ use Rattle.job_running.specs.Stages.{job_mark, mark_of, marks_of, refusal_for, s
 use Rattle.job_running.specs.View.{results}
 use Rattle.job_running.specs.declared.stage.Stage.{Stage}
 use Rattle.job_running.specs.declared.stage.Stage.TheVariants.{Free}
+use Rattle.job_running.specs.declared.frames.Held.{Held}
 use Rattle.job_running.proofs.NodeMarks.{free_job, free_stage, mark_here, value_tie}
 
 -- ---- nodes that fire graphs
@@ -59,8 +59,8 @@ stateless graphs g kinds are (node.Round l) is = refl
 
 -- ---- what nodes are finished with
 
-module _ (graphs : List Graph) (g : Graph) (path : List ℕ) (kinds : List (Option ℕ)) (kinds_are : kinds ≡ map kind_of_actor (acting g)) (job : JobGraph ℤ) (stages : List Stage) (marks : List one.Mark) (frames : List (Option FrameView))
-    (stand : AllStand graphs g kinds job stages marks frames) where
+module _ (graphs : List Graph) (g : Graph) (path : List ℕ) (kinds : List (Option ℕ)) (kinds_are : kinds ≡ map kind_of_actor (acting g)) (job : JobGraph ℤ) (stages : List Stage) (marks : List one.Mark) (held : List Held)
+    (stand : AllStand graphs g kinds job stages marks held) where
   abbrev pub items : ItemMarks
   items = marks_of path (acting g) job.nodes stages
 
