@@ -5,7 +5,6 @@ use Rattle.std.specs.Global.{Global}
 use Rattle.std.proofs.lemmas.List.{get_or-set_other, get_or-set_same, length-set}
 use Rattle.kernel_gate.specs.Value.{FrameView, lengths}
 use Rattle.nested_jobs.specs.Marks as mark
-use Rattle.nested_jobs.specs.Marks.{Mark}
 use Rattle.nested_jobs.specs.Rules.{Call}
 use Rattle.param_resolver.specs.Numbering.{acting, has_state}
 use Rattle.pisdf_model.specs.declared.actor.Actor.{Actor}

@@ -21,7 +21,7 @@ use Rattle.job_flow.specs.Events.{IsReady}
 use Rattle.job_flow.specs.Laws.{InputsInAnyWords, ReadyInAnyWords, ReadyStays}
 use Rattle.job_rules.specs.Items.{actor_of, keeps_state}
 use Rattle.job_rules.specs.Words as words
-use Rattle.job_rules.specs.Words.{Answer, Spot, given_outs}
+use Rattle.job_rules.specs.Words.{Spot}
 use Rattle.one_job.specs.Marks as one
 use Rattle.one_job.specs.Pick.{is_child_in}
 use Rattle.one_job.specs.View as leased

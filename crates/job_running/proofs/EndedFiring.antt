@@ -1,5 +1,5 @@
 -- A running firing that ends.
-use Rattle.std.proofs.Common.{◌≡◌, ℕ, zero, suc, ◌+◌, ◌<◌, ◌≤◌, ⊎_elim, ℤ, Bool, true, false, List, [], ◌∷◌, ◌++◌, length, get_or, take, drop, All, Option, Some, None, Result, Ok, Err, refl, sym, ap, ap₂, ◌∙◌, subst, arith, append_assoc, append-nil, take_all}
+use Rattle.std.proofs.Common.{◌≡◌, ℕ, zero, suc, ◌+◌, ◌<◌, ◌≤◌, ⊎_elim, ℤ, Bool, true, false, List, [], ◌∷◌, ◌++◌, length, get_or, take, drop, Option, Some, None, Result, Ok, Err, refl, sym, ap, ap₂, ◌∙◌, subst, arith, append_assoc, append-nil, take_all}
 use Rattle.std.specs.Prelude.{Vec, is_none}
 use Rattle.std.specs.Global.{Global}
 use Rattle.std.proofs.lemmas.Bool.{cases_Bool, cases_lt}
@@ -15,23 +15,21 @@ use Rattle.pisdf_meaning.specs.declared.refusal.Refusal.{Refusal}
 use Rattle.sdf_level.specs.declared.node.Node.{Node}
 use Rattle.sdf_level.specs.declared.node.Node.TheVariants as node
 use Rattle.job_flow.specs.Frames as flow
-use Rattle.job_flow.specs.Frames.{inputs, lens}
 use Rattle.job_flow.specs.Graphs.{JobGraph, node_at}
 use Rattle.job_rules.specs.Words.{Answer, Spot}
 use Rattle.one_job.specs.Marks as one
 use Rattle.one_job.specs.View as leased
 use Rattle.one_job.specs.View.{IsFiring}
 use Rattle.job_running.specs.Kept.{view_with}
-use Rattle.job_running.specs.Parts.{Fixed, KeepsAll, fired, held_at, job_in}
+use Rattle.job_running.specs.Parts.{Fixed, KeepsAll, NoneWaits, fired, held_at, job_in}
 use Rattle.job_running.specs.Stages.{FitsSort, held_by, job_mark, lent_of, mark_of, stage_at, trace_in}
 use Rattle.job_running.specs.declared.stage.Stage.{Stage}
 use Rattle.job_running.specs.declared.stage.Stage.TheVariants.{Free, Busy, Lost, Open, Fired, Failed, Gave, Refused}
-use Rattle.job_running.proofs.NodeMarks.{lent_here}
+use Rattle.job_running.proofs.NodeMarks.{lent_here, refusal_for}
 use Rattle.job_running.proofs.NodeTasks.{nodes_are, results}
 use Rattle.std.specs.Prelude.{slice_index}
 use Rattle.std.specs.List.{filter}
 use Rattle.std.specs.Option.{option_map}
-use Rattle.std.proofs.lemmas.List.{get_or_default}
 use Rattle.param_resolver.specs.Numbering.{is_kept}
 use Rattle.pisdf_model.specs.InterfaceWires.{is_configuration}
 use Rattle.pisdf_meaning.specs.Running.{actor_states, fifo_states, state_after, state_of_first, traces_below}
@@ -46,7 +44,6 @@ use Rattle.job_rules.specs.Items.{first_refusal, node_result, refusal_or, trace_
 use Rattle.job_rules.specs.Words.{Answer, Gives, Refuses, Schedules}
 use Rattle.job_preparing.specs.Handing.{IsNothingLent, answers, with_traces}
 use Rattle.job_running.specs.Parts.{HaveTraces, HoldClaimed, call_count, flat, row_at}
-use Rattle.job_running.specs.Stages.{refusal_for}
 use Rattle.job_running.specs.View.{traces_of}
 use Rattle.job_running.proofs.ClaimedNodes.{item_is, spot}
 use Rattle.job_running.proofs.NodeTies.{values_are, words as told_words}
@@ -57,7 +54,7 @@ use Rattle.job_running.specs.declared.frames.Held.{Held}
 use Rattle.job_running.specs.declared.frames.Held.TheVariants.{Nothing, Waits}
 use Rattle.pisdf_meaning.specs.States.{tokens_at}
 
--- ---- held
+-- ---- what is held
 
 none_waits : (frame : FrameView) → Nothing ≡ Waits frame → ⊥
 none_waits frame is = absurd (cc)
@@ -195,7 +192,7 @@ module _ (f : Fixed) (stages : List Stage) (held : List Held) (rows : List (Vec 
   traced (Some sp) (Fired _) = refl
   traced sp (Failed code) = refl
   traced sp (Gave _) = refl
-  traced sp (Refused told) = refl
+  traced sp (Refused _) = refl
 
   flat_more : (xs : List (List TraceRow)) (x : List TraceRow) → flat (xs ++ x ∷ []) ≡ flat xs ++ x
   flat_more [] x = append-nil x

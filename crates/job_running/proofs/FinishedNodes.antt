@@ -5,7 +5,6 @@ use Rattle.std.specs.Global.{Global}
 use Rattle.kernel_gate.specs.Value.{FrameView, lengths}
 use Rattle.kernel_gate.specs.declared.fault.KernelFault.{KernelFault}
 use Rattle.nested_jobs.specs.Marks as mark
-use Rattle.nested_jobs.specs.Marks.{Mark}
 use Rattle.nested_jobs.specs.Rules.{Task, Work}
 use Rattle.param_resolver.specs.Numbering.{acting}
 use Rattle.pisdf_model.specs.declared.actor.Actor.{Actor}
@@ -22,7 +21,7 @@ use Rattle.job_flow.specs.Events.{IsReady}
 use Rattle.job_flow.specs.Laws.{InputsInAnyWords, ReadyInAnyWords, ReadyStays}
 use Rattle.job_rules.specs.Items.{actor_task, firing_task, node_task}
 use Rattle.job_rules.specs.Words as words
-use Rattle.job_rules.specs.Words.{Answer, Spot, given_outs}
+use Rattle.job_rules.specs.Words.{Spot, given_outs}
 use Rattle.one_job.specs.Calls.{finished_with}
 use Rattle.one_job.specs.Marks as one
 use Rattle.one_job.specs.Pick.{is_child_in}

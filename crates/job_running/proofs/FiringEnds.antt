@@ -8,7 +8,6 @@ use Rattle.pisdf_model.specs.declared.actor.Actor.{Actor}
 use Rattle.pisdf_model.specs.declared.graph.Graph.{Graph}
 use Rattle.pisdf_meaning.specs.declared.outcome.TraceRow.{TraceRow}
 use Rattle.pisdf_meaning.specs.declared.refusal.Refusal.{Refusal}
-use Rattle.job_rules.specs.Words.{Spot}
 use Rattle.sdf_level.specs.declared.node.Node.{Node}
 use Rattle.job_flow.specs.Graphs.{node_at}
 use Rattle.one_job.specs.Marks as one
@@ -18,7 +17,6 @@ use Rattle.job_running.specs.Kept.{view_with}
 use Rattle.job_running.specs.Parts.{Fixed, KeepsAll, fired, held_at, job_in, refusal_in}
 use Rattle.job_running.specs.Stages.{held_by, refusal_at, spot_of, stage_at}
 use Rattle.job_running.specs.declared.stage.Stage.{Stage}
-use Rattle.job_running.specs.declared.stage.Stage.TheVariants.{Free, Busy, Lost, Open, Fired, Failed, Gave, Refused}
 use Rattle.job_running.proofs.NodeTasks.{nodes_are}
 use Rattle.pisdf_meaning.specs.Running.{child_rows, state_after}
 use Rattle.pisdf_meaning.specs.declared.firing.Configured.{Configured}
@@ -28,7 +26,7 @@ use Rattle.sdf_level.specs.LevelRun.{Ended}
 use Rattle.one_job.specs.Calls.{end_with as leased_end}
 use Rattle.one_job.specs.declared.job.JobEnd.TheVariants.{Done as EndDone, Fault as EndFault}
 use Rattle.job_preparing.specs.Handing.{end_of, with_traces}
-use Rattle.job_running.specs.Stages.{refusal_for}
+use Rattle.job_running.proofs.NodeMarks.{refusal_for}
 use Rattle.job_running.specs.View.{end_with, outcome_of, traces_of}
 use Rattle.job_running.proofs.ClaimedNodes.{spot}
 use Rattle.job_running.specs.declared.frames.Held.{Held}
@@ -53,17 +51,6 @@ pub record EndsFailed (o : Option (Failure ℕ)) (node code : ℕ) : Type 0 wher
 pub ends_failed : (o : Option (Failure ℕ)) (end : Ended ℤ) (node code : ℕ) → EndFault node code ≡ leased_end o end → EndsFailed o node code
 ends_failed None end node code is = absurd (cc)
 ends_failed (Some first) end node code is = record { first = first; is = refl; node_is = cc; code_is = cc }
-
--- the refusal that is held, or else that of the node's kernel
-held_refusal : (sp : Option Spot) (s : Stage) (code : ℕ) → unwrap_or (refusal_in (held_by s)) (refusal_at sp code) ≡ refusal_for sp s code
-held_refusal sp Free code = refl
-held_refusal sp (Busy told) code = refl
-held_refusal sp (Lost told) code = refl
-held_refusal sp (Open job told) code = refl
-held_refusal sp (Fired told) code = refl
-held_refusal sp (Failed own) code = refl
-held_refusal sp (Gave told) code = refl
-held_refusal sp (Refused told) code = refl
 
 module _ (f : Fixed) (stages : List Stage) (held : List Held) (rows : List (Vec (List TraceRow) Global)) (j : leased.JobView) (keeps : KeepsAll f stages held rows j) (failure_words : FailureInOtherWords ℤ ℕ Refusal) (ended_words : EndedInAnyWords ℤ ℕ Refusal) where
   abbrev G : List Graph
@@ -102,7 +89,7 @@ module _ (f : Fixed) (stages : List Stage) (held : List Held) (rows : List (Vec 
       let r : called ≡ refusal_in (held_by (stage_at stages e.first.node)) = called_is ∙ ap (λ (m : ℕ). refusal_in (held_at held m)) (sym e.node_is) ∙ ap refusal_in (keeps.stand.each e.first.node there).held in
       let p : f.path ≡ f.firing.path = keeps.parts.path_is in
       let c : code ≡ e.first.fault = sym e.code_is in
-      refused_end e.first e.is refusal (told (acting (fired f)) keeps.parts.names_are ∙ (λ k. unwrap_or (r k) (refusal_at (spot_of (p k) (acting (fired f)) (w k)) (c k))) ∙ held_refusal (spot f stages held rows j keeps e.first.node) (stage_at stages e.first.node) e.first.fault)
+      refused_end e.first e.is refusal (told (acting (fired f)) keeps.parts.names_are ∙ (λ k. unwrap_or (r k) (refusal_at (spot_of (p k) (acting (fired f)) (w k)) (c k))))
 
   -- a node that failed is one of the job, and a firing
   pub failed_there : (n code : ℕ) → EndFault n code ≡ leased_end (failure (leased.graph_of j) (one.values j.marks)) (ended (leased.graph_of j) (one.values j.marks)) → n < length j.compilation.graph.nodes

@@ -1,13 +1,13 @@
 -- Frames that wait for the end of calls.
-use Rattle.std.proofs.Common.{◌≡◌, ◌≢◌, ℕ, ◌+◌, ◌<◌, ◌≤◌, ⊎_elim, List, [], ◌∷◌, ◌++◌, length, map, set, Option, Some, None, refl, sym, ap, ◌∙◌, arith}
-use Rattle.std.proofs.lemmas.Bool.{cases_eq, cases_lt}
-use Rattle.std.proofs.lemmas.List.{get_or-append-add, get_or_append_left, get_or-set_other, get_or-set_same, get_or_past, length-append, length-set}
+use Rattle.std.proofs.Common.{◌≡◌, ◌≢◌, ℕ, ◌+◌, ◌<◌, ◌≤◌, ⊎_elim, List, [], ◌∷◌, ◌++◌, length, map, set, Some, None, refl, sym, ap, ◌∙◌, arith}
+use Rattle.std.proofs.lemmas.Bool.{cases_lt}
+use Rattle.std.proofs.lemmas.List.{get_or-append-add, get_or_append_left, get_or-set_other, get_or-set_same, get_or_past, length-append}
 use Rattle.kernel_gate.specs.Value.{FrameView, Places, lengths}
 use Rattle.split_block.specs.View.{LeasePlace, LeaseView, cells_of, lease_place}
 use Rattle.one_job.specs.Marks.{Mark, Free, Claimed, Finished, Failed, IsClaimed, mark_at, phase, phase_of}
 use Rattle.job_running.specs.declared.frames.Held.{Held}
-use Rattle.job_running.specs.declared.frames.Held.TheVariants.{Nothing, Waits}
-use Rattle.job_running.specs.Parts.{HoldClaimed, NoneWaits, held_at}
+use Rattle.job_running.specs.declared.frames.Held.TheVariants.{Nothing, Waits, Refuses}
+use Rattle.job_running.specs.Parts.{HoldClaimed, NoneWaits, frame_in, held_at}
 
 pub leases_long : (leases : List LeaseView) → lengths (map cells_of leases) ≡ map (λ (p : LeasePlace). p.len) (map lease_place leases)
 leases_long [] = refl
@@ -73,11 +73,25 @@ claimed_at (Failed code) is = absurd (cc)
 
 -- where no frame waits, no node is claimed
 pub none_claimed : (marks : List Mark) (held : List Held) → HoldClaimed marks held → length held ≡ 0 → (n : ℕ) → phase marks n ≢ IsClaimed
-none_claimed marks held held none n is =
+none_claimed marks held holds none n is =
     let c = claimed_at (mark_at marks n) is in
-    let w = held.waits n c.0 c.1 in
+    let w = holds.waits n c.0 c.1 in
     let i = inside_of held n w.0 w.1 in
     absurd (omega arith)
+
+-- what is held is the frame that waits
+pub waits_in : (held : Held) (frame : FrameView) → frame_in held ≡ Some frame → held ≡ Waits frame
+waits_in Nothing frame is = absurd (cc)
+waits_in (Waits own) frame is = let same : own ≡ frame = cc in ap Waits same
+waits_in (Refuses refusal) frame is = absurd (cc)
+
+pub none_in : (held : Held) → frame_in held ≡ None → (frame : FrameView) → held ≢ Waits frame
+none_in held none frame is = let e : None ≡ Some frame = sym none ∙ ap frame_in is in absurd (cc)
+
+pub in_none : (held : Held) → ((frame : FrameView) → held ≢ Waits frame) → frame_in held ≡ None
+in_none Nothing none = refl
+in_none (Waits frame) none = absurd (none frame refl)
+in_none (Refuses refusal) none = refl
 
 -- ---- where no frame waits
 
@@ -87,13 +101,3 @@ module _ (rest : List Held) (last : Held) (none : NoneWaits (rest ++ last ∷ []
 
   pub rest_none : NoneWaits rest
   rest_none n frame is = none n frame (get_or_append_left rest (last ∷ []) Nothing n (inside_of rest n frame is) ∙ is)
-
--- nothing is held for a node in place of what was
-pub none_set : (held : List Held) (k : ℕ) → NoneWaits held → NoneWaits (set held k Nothing)
-none_set held k none n frame is = ⊎_elim
-    (λ (same : n ≡ k).
-    let inside : n < length held = let i = inside_of (set held k Nothing) n frame is in let l = length-set held k Nothing in omega arith in
-    let e : Nothing ≡ Waits frame = sym (get_or-set_same held k Nothing Nothing (let s = same in omega arith)) ∙ ap (held_at (set held k Nothing)) (sym same) ∙ is in
-    absurd (cc))
-    (λ (other : n ≡ k → ⊥). none n frame (sym (get_or-set_other held k n Nothing Nothing other) ∙ is))
-    (cases_eq n k)

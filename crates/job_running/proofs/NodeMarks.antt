@@ -1,14 +1,14 @@
 -- The marks of nodes by their stages.
 use Rattle.std.proofs.Common.{◌≡◌, ℕ, zero, suc, ℤ, Bool, false, List, [], ◌∷◌, length, map, set, replicate, Option, Some, None, Ok, refl, ap, arith}
-use Rattle.std.specs.Option.{option_map}
+use Rattle.std.specs.Option.{option_map, unwrap_or}
 use Rattle.std.proofs.lemmas.List.{append-nil}
 use Rattle.std.specs.declared.snapshot.Snapshot.{Snapshot}
 use Rattle.job_running.specs.declared.told.Told.{Told}
 use Rattle.kernel_gate.specs.Value.{FrameView, Places}
 use Rattle.nested_jobs.specs.Marks as mark
-use Rattle.nested_jobs.specs.Marks.{Mark}
 use Rattle.pisdf_model.specs.declared.actor.Actor.{Actor}
 use Rattle.pisdf_meaning.specs.declared.firing.Firing.{Firing}
+use Rattle.pisdf_meaning.specs.declared.refusal.Refusal.{Refusal}
 use Rattle.sdf_level.specs.declared.node.Node.{Node}
 use Rattle.job_flow.specs.Graphs.{node_at}
 use Rattle.job_flow.specs.Renamed.{renamed_answer}
@@ -16,7 +16,8 @@ use Rattle.job_rules.specs.Items.{node_result}
 use Rattle.job_rules.specs.Words.{Spot}
 use Rattle.one_job.specs.Marks as one
 use Rattle.job_preparing.specs.Handing.{ItemMarks, lent_at, mark_at}
-use Rattle.job_running.specs.Stages.{FitsSort, IsFired, IsLost, IsOpened, fired_in, job_mark, lent_of, mark_of, marks_of, refusal_for, spot_of, stage_at}
+use Rattle.job_running.specs.Parts.{refusal_in}
+use Rattle.job_running.specs.Stages.{FitsSort, IsFired, IsLost, IsOpened, fired_in, job_mark, lent_of, held_by, mark_of, marks_of, refusal_at, spot_of, stage_at}
 use Rattle.job_running.specs.declared.stage.Stage.{Stage}
 use Rattle.job_running.specs.declared.stage.Stage.TheVariants.{Free, Busy, Lost, Open, Fired, Failed, Gave, Refused}
 
@@ -108,6 +109,10 @@ open_stage spot (Refused told) job is = absurd (cc)
 
 -- ---- what a node is finished with, in the words of refusals and in those of codes
 
+-- the refusal for which the job of leases has this code: that which is held for the node, or else that of its kernel
+abbrev pub refusal_for : Option Spot → Stage → ℕ → Refusal
+refusal_for spot s code = unwrap_or (refusal_in (held_by s)) (refusal_at spot code)
+
 fired_tie : (keeps : Bool) (spot : Option Spot) (frame : FrameView) → keeps ≡ false → Some (node_result keeps (fired_in spot frame)) ≡ Some (Ok frame.outputs)
 fired_tie keeps None frame none = rw none (ap (λ (l : List (List ℤ)). Some (Ok l)) (append-nil frame.outputs))
 fired_tie keeps (Some spot) frame none = rw none (ap (λ (l : List (List ℤ)). Some (Ok l)) (append-nil frame.outputs))
@@ -127,7 +132,7 @@ value_tie keeps child fires spot (Failed code) sort none = failed_tie keeps spot
 value_tie keeps child fires spot (Gave told) sort none = refl
 value_tie keeps child fires spot (Refused told) sort none = refl
 
--- ---- stages of nodes whose held came back
+-- ---- stages of nodes whose frames came back
 
 pub record IsFiredWith (s : Stage) (frame : FrameView) : Type 0 where
   pub told : Told

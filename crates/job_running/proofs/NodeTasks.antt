@@ -19,7 +19,7 @@ use Rattle.pisdf_meaning.specs.declared.refusal.Refusal.{Refusal}
 use Rattle.sdf_level.specs.declared.node.Node.{Node}
 use Rattle.sdf_level.specs.declared.node.Node.TheVariants as node
 use Rattle.job_flow.specs.Frames as flow
-use Rattle.job_flow.specs.Frames.{inputs, lens, lengths_written, output_rates}
+use Rattle.job_flow.specs.Frames.{inputs, lens, lengths_written}
 use Rattle.job_flow.specs.Graphs.{JobGraph, node_at}
 use Rattle.job_flow.specs.Events.{IsReady}
 use Rattle.job_flow.specs.Laws.{InputsInAnyWords, ReadyInAnyWords}
@@ -41,7 +41,7 @@ use Rattle.job_running.proofs.NodeTies.{free_item, free_mark, inputs_are, ready_
 use Rattle.job_running.specs.declared.frames.Held.{Held}
 use Rattle.job_running.proofs.OutputRates.{own_rate, written}
 
--- what holds of held that are handed out
+-- what holds of frames that are handed out
 pub record HasFrame (kind : ℕ) (args : List ℤ) (read : List (List ℤ)) (lens_are : List ℕ) (frame : FrameView) : Type 0 where
   pub kind_is : frame.kind ≡ kind
   pub args_are : frame.args ≡ args

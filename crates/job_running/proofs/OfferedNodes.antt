@@ -18,11 +18,10 @@ use Rattle.job_flow.specs.Events.{IsReady}
 use Rattle.job_flow.specs.Laws.{InputsInAnyWords, ReadyInAnyWords}
 use Rattle.job_rules.specs.Items.{actor_task, node_task}
 use Rattle.job_rules.specs.Words as words
-use Rattle.job_rules.specs.Words.{Answer, Spot, given_outs}
+use Rattle.job_rules.specs.Words.{Spot}
 use Rattle.one_job.specs.Marks as one
 use Rattle.one_job.specs.Pick.{is_child_in}
 use Rattle.one_job.specs.View as leased
-use Rattle.one_job.specs.View.{IsFiring}
 use Rattle.job_preparing.specs.Handing.{mark_at}
 use Rattle.job_running.specs.Kept.{view_with}
 use Rattle.job_running.specs.Parts.{Fixed, KeepsAll, fired, job_in, values_of}

@@ -1,5 +1,5 @@
 -- What a running firing gives suits the call.
-use Rattle.std.proofs.Common.{◌≡◌, ℕ, ◌<◌, ◌≤◌, ℤ, Bool, List, length, map, Option, Some, None, Ok, sym, ap, ◌∙◌, subst, arith}
+use Rattle.std.proofs.Common.{◌≡◌, ℕ, ◌<◌, ◌≤◌, ℤ, Bool, List, length, map, Some, None, Ok, sym, ap, ◌∙◌, subst, arith}
 use Rattle.std.specs.Prelude.{Vec}
 use Rattle.std.specs.Global.{Global}
 use Rattle.std.proofs.lemmas.List.{get_or_past}
@@ -7,11 +7,10 @@ use Rattle.kernel_gate.specs.Value.{lengths}
 use Rattle.pisdf_model.specs.declared.graph.Graph.{Graph}
 use Rattle.pisdf_meaning.specs.declared.outcome.TraceRow.{TraceRow}
 use Rattle.job_flow.specs.Frames as flow
-use Rattle.job_flow.specs.Frames.{inputs, lens}
+use Rattle.job_flow.specs.Frames.{lens}
 use Rattle.job_flow.specs.Graphs.{JobGraph}
 use Rattle.one_job.specs.Marks as one
 use Rattle.one_job.specs.View as leased
-use Rattle.one_job.specs.View.{IsFiring}
 use Rattle.job_running.specs.Parts.{Fixed, KeepsAll, fired, job_in, values_of}
 use Rattle.job_running.specs.Sizes.{child_outs}
 use Rattle.job_running.specs.Stages.{FitsLens, job_mark, stage_at}

@@ -128,6 +128,12 @@ held_at held n = slice_index_or held n Nothing
 abbrev pub NoneWaits : List Held → Type 0
 NoneWaits held = (n : ℕ) (frame : FrameView) → held_at held n ≢ Waits frame
 
+-- the frame that waits
+abbrev pub frame_in : Held → Option FrameView
+frame_in Nothing = None
+frame_in (Waits frame) = Some frame
+frame_in (Refuses refusal) = None
+
 -- the refusal that is held
 abbrev pub refusal_in : Held → Option Refusal
 refusal_in Nothing = None

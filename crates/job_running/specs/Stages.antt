@@ -94,17 +94,6 @@ job_mark keeps (Failed code) = one.Failed code
 job_mark keeps (Gave told) = one.Finished (child_outs keeps told.value.outs told.value.state)
 job_mark keeps (Refused told) = one.Failed 0
 
--- the refusal for which the job of leases has this code
-abbrev pub refusal_for : Option Spot → Stage → ℕ → Refusal
-refusal_for spot Free code = refusal_at spot code
-refusal_for spot (Busy told) code = refusal_at spot code
-refusal_for spot (Lost told) code = refusal_at spot code
-refusal_for spot (Open job told) code = refusal_at spot code
-refusal_for spot (Fired told) code = refusal_at spot code
-refusal_for spot (Failed own) code = refusal_at spot code
-refusal_for spot (Gave told) code = refusal_at spot code
-refusal_for spot (Refused told) code = told.value
-
 -- the trace of what it called
 abbrev pub trace_in : Stage → List TraceRow
 trace_in Free = []

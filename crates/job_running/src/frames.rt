@@ -1,9 +1,9 @@
 // What is held for nodes that fire graphs: frames that wait for the end of a call, and refusals.
-ghost use Rattle.std.specs.Prelude.{◌≡◌, ◌≢◌, ◌<◌, ◌^◌, ℕ, length, slice_set, replicate, vec_len, vec_capacity, ◌≤◌, []};
+ghost use Rattle.std.specs.Prelude.{◌≡◌, ◌≢◌, ◌<◌, ◌^◌, ℕ, length, slice_set, replicate, vec_len, vec_capacity, ◌≤◌, [], None};
 ghost use Rattle.kernel_gate.specs.Value.{FrameView, lengths};
 ghost use Rattle.job_running.specs.Sizes.{place_lens};
 ghost use Rattle.one_job.specs.Marks.{IsClaimed, phase};
-ghost use Rattle.job_running.specs.Parts.{HoldClaimed, NoneWaits, held_at, refusal_in};
+ghost use Rattle.job_running.specs.Parts.{HoldClaimed, NoneWaits, frame_in, held_at, refusal_in};
 
 use kernel_gate::{Frame, Lent};
 use one_job::Job;
@@ -42,7 +42,8 @@ pub(crate) fn put_frame(all: &mut [Held], node: usize, frame: Frame)
 {
     match mem::replace(&mut all[node], Held::Waits(frame)) {
         Held::Nothing => {}
-        Held::Waits(_) | Held::Refuses(_) => unreachable!(),
+        Held::Waits(_frame) => unreachable!(),
+        Held::Refuses(_refusal) => unreachable!(),
     }
 }
 
@@ -55,7 +56,8 @@ pub(crate) fn take_frame(all: &mut [Held], node: usize, held: Held) -> Frame
 {
     match mem::replace(&mut all[node], held) {
         Held::Waits(frame) => frame,
-        Held::Nothing | Held::Refuses(_) => unreachable!(),
+        Held::Nothing => unreachable!(),
+        Held::Refuses(_refusal) => unreachable!(),
     }
 }
 
@@ -72,16 +74,35 @@ pub(crate) fn nothing_held(mut all: Vec<Held>, count: usize) -> Vec<Held>
     all
 }
 
+/// The frame that waits, if what is held is one.
+fn waiting_frame(held: Held) -> Option<Frame>
+    ensures { result ≡ frame_in held }
+{
+    match held {
+        Held::Waits(frame) => Some(frame),
+        Held::Nothing => None,
+        Held::Refuses(_refusal) => None,
+    }
+}
+
+/// The refusal, if what is held is one. It is no frame.
+fn told_refusal(held: Held) -> Option<Refusal>
+    requires { frame_in held ≡ None }
+    ensures { result ≡ refusal_in held }
+{
+    match held {
+        Held::Refuses(refusal) => Some(refusal),
+        Held::Nothing => None,
+        Held::Waits(_frame) => unreachable!(),
+    }
+}
+
 /// Gives up what is held, where no frame waits.
 pub(crate) fn spend_held(mut all: Vec<Held>)
     requires { NoneWaits all.items }
 {
     while let Some(held) = all.pop() {
-        match held {
-            Held::Nothing => {}
-            Held::Refuses(_refusal) => {}
-            Held::Waits(_) => unreachable!(),
-        }
+        told_refusal(held);
     }
     all.destroy_empty();
 }
@@ -92,11 +113,7 @@ pub(crate) fn take_refusal(mut all: Vec<Held>, node: usize) -> Option<Refusal>
     ensures { result ≡ refusal_in (held_at all.items node) }
 {
     let refusal = if node < all.len() {
-        match mem::replace(&mut all[node], Held::Nothing) {
-            Held::Nothing => None,
-            Held::Refuses(refusal) => Some(refusal),
-            Held::Waits(_) => unreachable!(),
-        }
+        told_refusal(mem::replace(&mut all[node], Held::Nothing))
     } else {
         None
     };
@@ -111,13 +128,12 @@ pub(crate) fn end_frames(mut job: Job, mut all: Vec<Held>) -> Job
     ensures { (n : ℕ) → phase result.marks n ≢ IsClaimed }
 {
     while let Some(held) = all.pop() {
-        match held {
-            Held::Waits(frame) => {
+        match waiting_frame(held) {
+            Some(frame) => {
                 let node = all.len() as u32;
                 job.finish(node, frame, Ok(()));
             }
-            Held::Nothing => {}
-            Held::Refuses(_refusal) => {}
+            None => {}
         }
     }
     all.destroy_empty();

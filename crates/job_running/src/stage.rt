@@ -24,7 +24,7 @@ pub(crate) enum Stage {
     Failed(u8),
     /// What it called gave this.
     Gave(Snapshot<JobGiven>),
-    /// What it called was refused, and the refusal stands at its place.
+    /// What it called was refused, and the refusal is held for it.
     Refused(Snapshot<Refusal>),
 }
 

@@ -1,4 +1,4 @@
-use Rattle.std.proofs.Common.{◌<◌, List, length, set, Option, Some, sym, ap, ◌∙◌, subst}
+use Rattle.std.proofs.Common.{◌<◌, List, length, set, sym, ap, ◌∙◌, subst}
 use Rattle.std.proofs.lemmas.List.{with_items_is}
 use Rattle.nested_jobs.specs.Rules.{Call}
 use Rattle.pisdf_model.specs.declared.graph.Graphs.{Graphs}

@@ -1,4 +1,4 @@
-use Rattle.std.proofs.Common.{◌≡◌, ◌<◌, ◌^◌, ℤ, inl, List, length, set, take, drop, ◌++◌, Option, Some, None, Result, sym, ap, ◌∙◌, subst, arith}
+use Rattle.std.proofs.Common.{◌≡◌, ◌<◌, ◌^◌, ℤ, inl, List, length, set, take, drop, ◌++◌, Result, sym, ap, ◌∙◌, subst, arith}
 use Rattle.std.specs.Prelude.{Vec, vec_len}
 use Rattle.std.specs.Global.{Global}
 use Rattle.std.proofs.lemmas.List.{length-map, with_items_is}
@@ -94,7 +94,7 @@ put_trace-requires-clause-actor c =
     let at : node_at i.job.compilation.graph.nodes c.args.node ≡ node.Firing c.firing_of-actor.result.0 c.firing_of-actor.result.1 = sym c.node-which.ensures ∙ c.firing_of-actor.ensures in
     let l : length (lists_of i.traces.items) ≡ length i.traces.items = length-map i.traces.items (λ (v : Vec (List TraceRow) Global). v.items) in
     let k = actor_in (fixed_of i) i.stages.items i.held.items i.traces.items i.job c.self.invariant c.args.node r.job r.open_is c.graphs_numbered.ensures.all c.graphs_numbered.ensures.in_order c.graphs_numbered.ensures.once c.ready_stays.ensures.ready c.firing_of-actor.result.0 c.firing_of-actor.result.1 at in
-    let v = ap length c.deref_mut-2.ensures.value in
+    let v = ap length c.deref_mut-in-Ok.ensures.value in
     omega arith
 
 pub put_trace-requires-clause-turn : goal.put_trace-requires-clause-turn
@@ -102,7 +102,7 @@ put_trace-requires-clause-turn c =
     let i = c.self.inside in
     let r = subst (λ (v : RunningView). IsEndOfCall v c.args.node c.args.end) (sym c.self.view_is) c.requires in
     let at : node_at i.job.compilation.graph.nodes c.args.node ≡ node.Firing c.firing_of-actor.result.0 c.firing_of-actor.result.1 = sym c.node-which.ensures ∙ c.firing_of-actor.ensures in
-    subst (λ (l : List (Vec (List TraceRow) Global)). c.firing_of-actor.result.1 < length (row_at l c.firing_of-actor.result.0)) (sym c.deref_mut-2.ensures.value) (turn_in (fixed_of i) i.stages.items i.held.items i.traces.items i.job c.self.invariant c.args.node r.job r.open_is c.graphs_numbered.ensures.all c.graphs_numbered.ensures.in_order c.graphs_numbered.ensures.once c.ready_stays.ensures.ready c.firing_of-actor.result.0 c.firing_of-actor.result.1 at)
+    subst (λ (l : List (Vec (List TraceRow) Global)). c.firing_of-actor.result.1 < length (row_at l c.firing_of-actor.result.0)) (sym c.deref_mut-in-Ok.ensures.value) (turn_in (fixed_of i) i.stages.items i.held.items i.traces.items i.job c.self.invariant c.args.node r.job r.open_is c.graphs_numbered.ensures.all c.graphs_numbered.ensures.in_order c.graphs_numbered.ensures.once c.ready_stays.ensures.ready c.firing_of-actor.result.0 c.firing_of-actor.result.1 at)
 
 pub finish-requires-clause-claimed : goal.finish-requires-clause-claimed
 finish-requires-clause-claimed c =
@@ -125,12 +125,21 @@ invariant_of-self c =
     let outs_are = c.items.ensures in
     let states_are = c.items-in-Ok.ensures in
     let written = ap (λ (x : FrameView). x.outputs) c.write_child.ensures ∙ (λ k. child_outs (kept k) (outs_are k) (states_are k)) in
-    let rows_are = with_items_is i.traces c.put_trace.new.rows (c.put_trace.auto.rows ∙ (ap length c.deref_mut-2.ensures.value ∙ sym i.traces.ok.0)) in
-    let put = c.put_trace.ensures ∙ ap (λ (l : List (Vec (List TraceRow) Global)). set (lists_of l) c.firing_of-actor.result.0 (set (row_at l c.firing_of-actor.result.0) c.firing_of-actor.result.1 c.in-Ok.given.trace)) c.deref_mut-2.ensures.value in
+    let rows_are = with_items_is i.traces c.put_trace.new.rows (c.put_trace.auto.rows ∙ (ap length c.deref_mut-in-Ok.ensures.value ∙ sym i.traces.ok.0)) in
+    let put = c.put_trace.ensures ∙ ap (λ (l : List (Vec (List TraceRow) Global)). set (lists_of l) c.firing_of-actor.result.0 (set (row_at l c.firing_of-actor.result.0) c.firing_of-actor.result.1 c.in-Ok.given.trace)) c.deref_mut-in-Ok.ensures.value in
     subst (λ (l : List Held). KeepsAll (fixed_of i) (set i.stages.items c.args.node (stage.Gave c.of.result)) l (take i.traces.len (c.put_trace.new.rows ++ drop (length c.put_trace.new.rows) i.traces.items)) c.finish.new.self) (sym held_are)
     (subst (λ (l : List (Vec (List TraceRow) Global)). KeepsAll (fixed_of i) (set i.stages.items c.args.node (stage.Gave c.of.result)) (set i.held.items c.args.node Nothing) l c.finish.new.self) (sym rows_are)
     (subst (λ (j : leased.JobView). KeepsAll (fixed_of i) (set i.stages.items c.args.node (stage.Gave c.of.result)) (set i.held.items c.args.node Nothing) c.put_trace.new.rows j) (sym c.finish.ensures)
     (keeps_gave (fixed_of i) i.stages.items i.held.items i.traces.items i.job c.self.invariant c.args.node r.job r.open_is c.graphs_numbered.ensures.all c.graphs_numbered.ensures.in_order c.graphs_numbered.ensures.once c.ready_stays.ensures.ready c.firing_of-actor.result.0 c.firing_of-actor.result.1 c.of.result c.in-Ok.given c.write_child.new.frame c.put_trace.new.rows at c.of.ensures suits written put)))
+
+pub index_mut-requires-in-Err : goal.index_mut-requires-in-Err
+index_mut-requires-in-Err c =
+    let i = c.self.inside in
+    let r = subst (λ (v : RunningView). IsEndOfCall v c.args.node c.args.end) (sym c.self.view_is) c.requires in
+    let inside = there (fixed_of i) i.stages.items i.held.items i.traces.items i.job c.self.invariant c.args.node r.job r.open_is in
+    let many = c.self.invariant.stand.one_stage in
+    let l : vec_len i.stages ≡ length i.stages.items = i.stages.ok.0 in
+    omega arith
 
 pub finish-requires-in-Err-clause-claimed : goal.finish-requires-in-Err-clause-claimed
 finish-requires-in-Err-clause-claimed c =
