@@ -21,14 +21,13 @@ use Rattle.job_flow.specs.Events.{IsReady}
 use Rattle.job_flow.specs.Laws.{ReadyStays}
 use Rattle.job_rules.specs.Items.{actor_of, keeps_state}
 use Rattle.job_rules.specs.Words as words
-use Rattle.job_rules.specs.Words.{Answer, Spot, given_outs}
 use Rattle.one_job.specs.Marks as one
 use Rattle.one_job.specs.Pick.{is_child_in}
 use Rattle.one_job.specs.View as leased
 use Rattle.one_job.specs.View.{IsFiring}
 use Rattle.job_preparing.specs.Handing.{lent_at, mark_at}
 use Rattle.job_running.specs.Kept.{view_with}
-use Rattle.job_running.specs.Parts.{Fixed, KeepsAll, Stands, fired, frame_at, job_in}
+use Rattle.job_running.specs.Parts.{Fixed, KeepsAll, Stands, fired, held_at, job_in}
 use Rattle.job_running.specs.Stages.{lent_of, mark_of, stage_at, trace_in}
 use Rattle.job_running.specs.declared.stage.Stage.{Stage}
 use Rattle.job_running.specs.declared.stage.Stage.TheVariants.{Free, Open, Gave, Refused}
@@ -56,6 +55,8 @@ use Rattle.job_running.proofs.CalledNodes.{child_sizes}
 use Rattle.job_running.proofs.ClaimedNodes.{Fires, inside, is_call, item_is, keeps_on, spot, stage, state_kept, view_step}
 use Rattle.job_running.proofs.NodeMarks.{IsOpen, open_stage}
 use Rattle.job_running.proofs.NodeSteps.{step}
+use Rattle.job_running.specs.declared.frames.Held.{Held}
+use Rattle.job_running.specs.declared.frames.Held.TheVariants.{Nothing, Waits, Refuses}
 use Rattle.job_running.proofs.OfferedNodes.{IsInside, firing_inside}
 
 -- a node that fires a graph is a firing
@@ -117,41 +118,41 @@ module _ (nodes : List Node) (kinds : List (Option ℕ)) (counts : List ℕ) (st
 
 -- ---- the answer
 
-module _ (f : Fixed) (stages : List Stage) (frames : List (Option FrameView)) (rows : List (Vec (List TraceRow) Global)) (j : leased.JobView) (keeps : KeepsAll f stages frames rows j) (n : ℕ) (d : Firing) (open_is : mark_at (view_with f stages).marks n ≡ mark.Open d) where
+module _ (f : Fixed) (stages : List Stage) (held : List Held) (rows : List (Vec (List TraceRow) Global)) (j : leased.JobView) (keeps : KeepsAll f stages held rows j) (n : ℕ) (d : Firing) (open_is : mark_at (view_with f stages).marks n ≡ mark.Open d) where
   abbrev G : List Graph
   G = f.graphs.graphs
 
-  pub opened : IsOpen (stage f stages frames rows j keeps n) d
-  opened = open_stage (spot f stages frames rows j keeps n) (stage f stages frames rows j keeps n) d (sym (item_is f stages frames rows j keeps n) ∙ open_is)
+  pub opened : IsOpen (stage f stages held rows j keeps n) d
+  opened = open_stage (spot f stages held rows j keeps n) (stage f stages held rows j keeps n) d (sym (item_is f stages held rows j keeps n) ∙ open_is)
 
   pub there : n < length (job_in f).nodes
-  there = inside f stages frames rows j keeps n (λ free. let e : Free ≡ Open opened.own opened.told = sym free ∙ opened.stage_is in absurd (cc))
+  there = inside f stages held rows j keeps n (λ free. let e : Free ≡ Open opened.own opened.told = sym free ∙ opened.stage_is in absurd (cc))
 
-  abbrev StandsSo : Stage → one.Mark → Option FrameView → Type 0
-  StandsSo s m o = Stands G (lens (job_in f) n) (state_kept f stages frames rows j keeps n) (is_call f stages frames rows j keeps n) (Fires f stages frames rows j keeps n) s m o
+  abbrev StandsSo : Stage → one.Mark → Held → Type 0
+  StandsSo s m o = Stands G (lens (job_in f) n) (state_kept f stages held rows j keeps n) (is_call f stages held rows j keeps n) (Fires f stages held rows j keeps n) s m o
 
-  stands : StandsSo (Open opened.own opened.told) (one.mark_at j.marks n) (frame_at frames n)
-  stands = subst (λ x. StandsSo x (one.mark_at j.marks n) (frame_at frames n)) opened.stage_is (keeps.stand.each n there)
+  stands : StandsSo (Open opened.own opened.told) (one.mark_at j.marks n) (held_at held n)
+  stands = subst (λ x. StandsSo x (one.mark_at j.marks n) (held_at held n)) opened.stage_is (keeps.stand.each n there)
 
-  pub waits : frame_at frames n ≡ Some opened.told.frame
+  pub waits : held_at held n ≡ Waits opened.told.frame
   waits = stands.held
 
-  pub frame_inside : n < length frames
-  frame_inside = keeps.stand.has_place n there stands.sort
+  pub inside_held : n < length held
+  inside_held = keeps.stand.has_room n there stands.sort
 
   pub claimed : one.mark_at j.marks n ≡ one.Claimed opened.told.frame.places
   claimed = stands.mark_is
 
   pub firing : IsFiring (node_at j.compilation.graph.nodes n)
-  firing = subst (λ (l : List Node). IsFiring (node_at l n)) (sym (nodes_are f stages frames rows j keeps)) (is_firing j.kinds (node_at (job_in f).nodes n) stands.sort)
+  firing = subst (λ (l : List Node). IsFiring (node_at l n)) (sym (nodes_are f stages held rows j keeps)) (is_firing j.kinds (node_at (job_in f).nodes n) stands.sort)
 
-  pub lens_are : call_lens G (state_kept f stages frames rows j keeps n) d ≡ lens (job_in f) n
-  lens_are = ap (call_lens G (state_kept f stages frames rows j keeps n)) (sym opened.job_is) ∙ stands.sizes.1
+  pub lens_are : call_lens G (state_kept f stages held rows j keeps n) d ≡ lens (job_in f) n
+  lens_are = ap (call_lens G (state_kept f stages held rows j keeps n)) (sym opened.job_is) ∙ stands.sizes.1
 
   -- what suits the call fits the frame
-  pub fits_frame : (given : JobGiven) → SuitsCall G d (given_of given) → (frame : FrameView) → frame ≡ opened.told.frame → lengths frame.outputs ≡ lengths (child_outs (state_kept f stages frames rows j keeps n) given.outs given.state)
+  pub fits_frame : (given : JobGiven) → SuitsCall G d (given_of given) → (frame : FrameView) → frame ≡ opened.told.frame → lengths frame.outputs ≡ lengths (child_outs (state_kept f stages held rows j keeps n) given.outs given.state)
   fits_frame given suits frame same =
-      ap (λ (x : FrameView). lengths x.outputs) same ∙ stands.sizes.0 ∙ sym (child_sizes G (state_kept f stages frames rows j keeps n) d given.outs given.state suits.outs suits.state ∙ lens_are)
+      ap (λ (x : FrameView). lengths x.outputs) same ∙ stands.sizes.0 ∙ sym (child_sizes G (state_kept f stages held rows j keeps n) d given.outs given.state suits.outs suits.state ∙ lens_are)
 
   -- there are few outputs
   pub few_outs : (given : JobGiven) → SuitsCall G d (given_of given) → length given.outs < 2 ^ 32
@@ -168,12 +169,12 @@ module _ (f : Fixed) (stages : List Stage) (frames : List (Option FrameView)) (r
   ready_then : IsReady (job_in f) (one.values j.marks) n
   ready_then = keeps.stand.ready n (λ free. let e : one.Free ≡ one.Claimed opened.told.frame.places = sym free ∙ claimed in absurd (cc))
 
-  none_waits : frame_at (set frames n None) n ≡ None
-  none_waits = get_or-set_same frames n None None frame_inside
+  none_waits : held_at (set held n Nothing) n ≡ Nothing
+  none_waits = get_or-set_same held n Nothing Nothing inside_held
 
   module _ (all : FiringsAreAll) (in_order : FiringsStandInOrder) (once : NodesStandOnce) (stays : ReadyStays ℤ ℕ) where
-    pub firing_in : (a k : ℕ) → node_at j.compilation.graph.nodes n ≡ node.Firing a k → IsInside f stages frames rows j keeps all in_order a k
-    firing_in a k at = firing_inside f stages frames rows j keeps all in_order n a k (ap (λ (l : List Node). node_at l n) (sym (nodes_are f stages frames rows j keeps)) ∙ at)
+    pub firing_in : (a k : ℕ) → node_at j.compilation.graph.nodes n ≡ node.Firing a k → IsInside f stages held rows j keeps all in_order a k
+    firing_in a k at = firing_inside f stages held rows j keeps all in_order n a k (ap (λ (l : List Node). node_at l n) (sym (nodes_are f stages held rows j keeps)) ∙ at)
 
     counts_many : length f.compilation.counts ≡ length (acting (fired f))
     counts_many = keeps.set_up.is_job.repetition.multiplied.one_each
@@ -183,7 +184,7 @@ module _ (f : Fixed) (stages : List Stage) (frames : List (Option FrameView)) (r
 
     called_turn : (a k : ℕ) → node_at j.compilation.graph.nodes n ≡ node.Firing a k → k < call_count j.kinds f.compilation.counts a
     called_turn a k at =
-        let calls : is_none (get_or j.kinds a None) ≡ true = ap (is_child_in j.kinds) (sym at) ∙ ap (λ (l : List Node). is_child_in j.kinds (node_at l n)) (nodes_are f stages frames rows j keeps) ∙ stands.sort in
+        let calls : is_none (get_or j.kinds a None) ≡ true = ap (is_child_in j.kinds) (sym at) ∙ ap (λ (l : List Node). is_child_in j.kinds (node_at l n)) (nodes_are f stages held rows j keeps) ∙ stands.sort in
         subst (λ b. k < (if b then slice_index f.compilation.counts a else 0)) (sym calls) (firing_in a k at).turn
 
     pub turn_in : (a k : ℕ) → node_at j.compilation.graph.nodes n ≡ node.Firing a k → k < length (row_at rows a)
@@ -192,34 +193,34 @@ module _ (f : Fixed) (stages : List Stage) (frames : List (Option FrameView)) (r
     pub keeps_in : (a k : ℕ) → node_at j.compilation.graph.nodes n ≡ node.Firing a k → a < length f.keeps
     keeps_in a k at = let i = (firing_in a k at).actor in let l = ap (λ (l : List Bool). length l) keeps.parts.keeps_are ∙ length-map (acting (fired f)) (has_state G) in omega arith
 
-    pub kept_is : (a k : ℕ) (b : Bool) → node_at j.compilation.graph.nodes n ≡ node.Firing a k → get_or f.keeps a b ≡ state_kept f stages frames rows j keeps n
+    pub kept_is : (a k : ℕ) (b : Bool) → node_at j.compilation.graph.nodes n ≡ node.Firing a k → get_or f.keeps a b ≡ state_kept f stages held rows j keeps n
     kept_is a k b at =
-        let own : node_at (job_in f).nodes n ≡ node.Firing a k = ap (λ (l : List Node). node_at l n) (sym (nodes_are f stages frames rows j keeps)) ∙ at in
+        let own : node_at (job_in f).nodes n ≡ node.Firing a k = ap (λ (l : List Node). node_at l n) (sym (nodes_are f stages held rows j keeps)) ∙ at in
         ap (λ (l : List Bool). get_or l a b) keeps.parts.keeps_are ∙ kept_at G (acting (fired f)) a b (firing_in a k at).actor ∙ ap (λ x. keeps_state G (actor_of (fired f) x)) (sym own)
 
     pub keeps_gave : (a k : ℕ) (told : Snapshot JobGiven) (given : JobGiven) (frame : FrameView) (rows' : List (Vec (List TraceRow) Global)) → node_at j.compilation.graph.nodes n ≡ node.Firing a k → told.value ≡ given → SuitsCall G d (given_of given) →
-        frame.outputs ≡ child_outs (state_kept f stages frames rows j keeps n) given.outs given.state → lists_of rows' ≡ set (lists_of rows) a (set (row_at rows a) k given.trace) →
-        KeepsAll f (set stages n (Gave told)) (set frames n None) rows' (record j { marks = set j.marks n (one.Finished frame.outputs) })
+        frame.outputs ≡ child_outs (state_kept f stages held rows j keeps n) given.outs given.state → lists_of rows' ≡ set (lists_of rows) a (set (row_at rows a) k given.trace) →
+        KeepsAll f (set stages n (Gave told)) (set held n Nothing) rows' (record j { marks = set j.marks n (one.Finished frame.outputs) })
     keeps_gave a k told given frame rows' at told_is suits outs_are rows_are =
-        let keep = state_kept f stages frames rows j keeps n in
-        let own : node_at (job_in f).nodes n ≡ node.Firing a k = ap (λ (l : List Node). node_at l n) (sym (nodes_are f stages frames rows j keeps)) ∙ at in
+        let keep = state_kept f stages held rows j keeps n in
+        let own : node_at (job_in f).nodes n ≡ node.Firing a k = ap (λ (l : List Node). node_at l n) (sym (nodes_are f stages held rows j keeps)) ∙ at in
         let outs_told : frame.outputs ≡ child_outs keep told.value.outs told.value.state = outs_are ∙ ap (λ (x : JobGiven). child_outs keep x.outs x.state) (sym told_is) in
         let sizes : lengths (child_outs keep told.value.outs told.value.state) ≡ lens (job_in f) n = ap (λ (x : JobGiven). lengths (child_outs keep x.outs x.state)) told_is ∙ child_sizes G keep d given.outs given.state suits.outs suits.state ∙ lens_are in
         record {
           set_up = keeps.set_up;
-          stand = step G (fired f) j.kinds (job_in f) stages j.marks frames keeps.stand stays n there (Gave told) (one.Finished frame.outputs) (set frames n None) (ap one.value_of claimed) ready_then
+          stand = step G (fired f) j.kinds (job_in f) stages j.marks held keeps.stand stays n there (Gave told) (one.Finished frame.outputs) (set held n Nothing) (ap one.value_of claimed) ready_then
               record { mark_is = ap one.Finished outs_told; held = none_waits; sort = stands.sort; sizes = sizes }
-              (length-set frames n None) (λ i other. get_or-set_other frames n i None None other);
+              (length-set held n Nothing) (λ i other. get_or-set_other held n i Nothing Nothing other);
           traces = own_traces (job_in f).nodes j.kinds f.compilation.counts stages rows keeps.traces (λ m m_in. once (job_in f).level f.compilation.counts f.compilation.order m keeps.set_up.is_job.order m_in) n a k there own
               (let i = (firing_in a k at).actor in let c = counts_many in omega arith) (called_turn a k at) keeps.stand.one_stage (Gave told) given.trace rows' (ap (λ (x : JobGiven). x.trace) told_is) rows_are;
           parts = keeps.parts;
         }
 
-    pub keeps_refused : (refusal : Refusal) → KeepsAll f (set stages n (Refused refusal)) (set frames n None) rows (record j { marks = set j.marks n (one.Failed 0) })
-    keeps_refused refusal =
-        keeps_on f stages frames rows j keeps n stays there (Refused refusal) (one.Failed 0) (set frames n None) (ap one.value_of claimed) ready_then
-        record { mark_is = refl; held = none_waits; sort = stands.sort; sizes = tt }
-        (length-set frames n None) (λ i other. get_or-set_other frames n i None None other) (sym (ap trace_in opened.stage_is))
+    pub keeps_refused : (told : Snapshot Refusal) (refusal : Refusal) → told.value ≡ refusal → KeepsAll f (set stages n (Refused told)) (set held n (Refuses refusal)) rows (record j { marks = set j.marks n (one.Failed 0) })
+    keeps_refused told refusal told_is =
+        keeps_on f stages held rows j keeps n stays there (Refused told) (one.Failed 0) (set held n (Refuses refusal)) (ap one.value_of claimed) ready_then
+        record { mark_is = refl; held = get_or-set_same held n (Refuses refusal) Nothing inside_held ∙ ap Refuses (sym told_is); sort = stands.sort; sizes = tt }
+        (length-set held n (Refuses refusal)) (λ i other. get_or-set_other held n i (Refuses refusal) Nothing other) (sym (ap trace_in opened.stage_is))
 
     lent_same : set (view_with f stages).lent n None ≡ (view_with f stages).lent
     lent_same =
@@ -228,11 +229,11 @@ module _ (f : Fixed) (stages : List Stage) (frames : List (Option FrameView)) (r
 
     pub view_gave : (told : Snapshot JobGiven) (given : JobGiven) → told.value ≡ given → view_with f (set stages n (Gave told)) ≡ record (view_with f stages) { marks = set (view_with f stages).marks n (mark.Done (answer_of (end_of (Ok given)))) }
     view_gave told given told_is =
-        let m : mark_of (spot f stages frames rows j keeps n) (Gave told) ≡ mark.Done (answer_of (end_of (Ok given))) = ap (λ (x : JobGiven). mark.Done (words.Gives (given_of x))) told_is in
+        let m : mark_of (spot f stages held rows j keeps n) (Gave told) ≡ mark.Done (answer_of (end_of (Ok given))) = ap (λ (x : JobGiven). mark.Done (words.Gives (given_of x))) told_is in
         let l = lent_same in
         view_step f stages n (Gave told) ∙ (λ i. record (view_with f stages) { marks = set (view_with f stages).marks n (m i); lent = l i })
 
-    pub view_refused : (refusal : Refusal) → view_with f (set stages n (Refused refusal)) ≡ record (view_with f stages) { marks = set (view_with f stages).marks n (mark.Done (answer_of (end_of (Err refusal)))) }
-    view_refused refusal =
+    pub view_refused : (told : Snapshot Refusal) (refusal : Refusal) → told.value ≡ refusal → view_with f (set stages n (Refused told)) ≡ record (view_with f stages) { marks = set (view_with f stages).marks n (mark.Done (answer_of (end_of (Err refusal)))) }
+    view_refused told refusal told_is =
         let l = lent_same in
-        view_step f stages n (Refused refusal) ∙ (λ i. record (view_with f stages) { marks = set (view_with f stages).marks n (mark.Done (words.Refuses refusal)); lent = l i })
+        view_step f stages n (Refused told) ∙ (λ i. record (view_with f stages) { marks = set (view_with f stages).marks n (mark.Done (words.Refuses (told_is i))); lent = l i })

@@ -5,7 +5,6 @@ use Rattle.std.specs.Global.{Global}
 use Rattle.std.proofs.lemmas.List.{get_or-set_other, get_or-set_same, length-set}
 use Rattle.kernel_gate.specs.Value.{FrameView, lengths}
 use Rattle.nested_jobs.specs.Marks as mark
-use Rattle.nested_jobs.specs.Marks.{Mark}
 use Rattle.nested_jobs.specs.Rules.{Call}
 use Rattle.param_resolver.specs.Numbering.{acting, has_state}
 use Rattle.pisdf_model.specs.declared.actor.Actor.{Actor}
@@ -33,7 +32,7 @@ use Rattle.one_job.specs.View as leased
 use Rattle.one_job.specs.View.{IsFiring}
 use Rattle.job_preparing.specs.Handing.{lent_at}
 use Rattle.job_running.specs.Kept.{view_with}
-use Rattle.job_running.specs.Parts.{Fixed, KeepsAll, Stands, fired, frame_at, job_in, values_of}
+use Rattle.job_running.specs.Parts.{Fixed, KeepsAll, Stands, fired, held_at, job_in, values_of}
 use Rattle.job_running.specs.Stages.{lent_of, mark_of, trace_in}
 use Rattle.job_running.specs.View.{RunningView, task}
 use Rattle.job_running.specs.declared.stage.Stage.{Stage}
@@ -69,6 +68,8 @@ use Rattle.job_running.proofs.ActingPlaces.{EachPlaced, OneEach}
 use Rattle.job_running.proofs.ClaimedNodes.{Fires, is_call, keeps_on, no_trace, no_value, spot, state_kept, view_step, was_free, was_ready}
 use Rattle.job_running.proofs.NodeMarks.{lost_stage, opened_stage}
 use Rattle.job_running.proofs.NodeTasks.{here, lens_written}
+use Rattle.job_running.specs.declared.frames.Held.{Held}
+use Rattle.job_running.specs.declared.frames.Held.TheVariants.{Nothing, Waits}
 use Rattle.job_running.proofs.OutputRates.{own_rate}
 
 own_if : (b : Bool) (size : ℕ) → own_rate b size ≡ (if b then size ∷ [] else [])
@@ -101,7 +102,7 @@ many_within : (test : Link → Bool) (links : List Link) → how_many test links
 many_within test [] = omega arith
 many_within test (link ∷ links) = let i = many_within test links in let b = one_or_none (test link) in omega arith
 
-module _ (f : Fixed) (stages : List Stage) (frames : List (Option FrameView)) (rows : List (Vec (List TraceRow) Global)) (j : leased.JobView) (keeps : KeepsAll f stages frames rows j) (n : ℕ) where
+module _ (f : Fixed) (stages : List Stage) (held : List Held) (rows : List (Vec (List TraceRow) Global)) (j : leased.JobView) (keeps : KeepsAll f stages held rows j) (n : ℕ) where
   abbrev G : List Graph
   G = f.graphs.graphs
 
@@ -109,7 +110,7 @@ module _ (f : Fixed) (stages : List Stage) (frames : List (Option FrameView)) (r
   g = fired f
 
   abbrev read_told : List (List ℤ)
-  read_told = inputs (job_in f) (results f stages frames rows j keeps) n
+  read_told = inputs (job_in f) (results f stages held rows j keeps) n
 
   -- ---- which firing is called
 
@@ -151,7 +152,7 @@ module _ (f : Fixed) (stages : List Stage) (frames : List (Option FrameView)) (r
     pub args_are : tokens_at (level_args g (values_of f)) c.a ≡ arg_values (values_of f) c.exprs
     args_are = args_at (values_of f) g.actors c.a c.actor c.own ∙ ap (body_args (values_of f)) c.body_is
 
-    pub kept_is : state_kept f stages frames rows j keeps n ≡ has_state G c.actor
+    pub kept_is : state_kept f stages held rows j keeps n ≡ has_state G c.actor
     kept_is = ap (λ x. keeps_state G (actor_of g x)) c.at ∙ ap (keeps_state G) c.own
 
     graph_is : d.graph ≡ c.place
@@ -160,18 +161,18 @@ module _ (f : Fixed) (stages : List Stage) (frames : List (Option FrameView)) (r
     inherited_is : d.inherited ≡ arg_values (values_of f) c.exprs
     inherited_is = ap (λ (x : Firing). x.inherited) c.job_is ∙ args_are
 
-    pub call_written : call_lens G (state_kept f stages frames rows j keeps n) d ≡ lens (job_in f) n
+    pub call_written : call_lens G (state_kept f stages held rows j keeps n) d ≡ lens (job_in f) n
     call_written =
         let size : state_size G c.actor.body ≡ length (in_line (initial G d.graph)) = ap (state_size G) c.body_is ∙ ap (λ p. length (in_line (initial G p))) (sym graph_is) in
         let rates : out_rates G (values_of f) c.actor.body ≡ (early_of G d.graph d.inherited).outputs = ap (out_rates G (values_of f)) c.body_is ∙ ap₂ (λ p (l : List ℤ). (early_of G p l).outputs) (sym graph_is) (sym inherited_is) in
         ap (λ b. call_lens G b d) kept_is
-        ∙ sym (lens_written f stages frames rows j keeps n c.a c.k c.actor c.at c.own ∙ ap₂ (λ (l : List ℕ) m. l ++ own_rate (has_state G c.actor) m) rates size ∙ ap (λ (l : List ℕ). (early_of G d.graph d.inherited).outputs ++ l) (own_if (has_state G c.actor) (length (in_line (initial G d.graph)))))
+        ∙ sym (lens_written f stages held rows j keeps n c.a c.k c.actor c.at c.own ∙ ap₂ (λ (l : List ℕ) m. l ++ own_rate (has_state G c.actor) m) rates size ∙ ap (λ (l : List ℕ). (early_of G d.graph d.inherited).outputs ++ l) (own_if (has_state G c.actor) (length (in_line (initial G d.graph)))))
 
     -- each inherited parameter of the graph that it calls has a value
     pub inherits : HasInherited G d
     inherits =
         let at = placed g.actors c.a c.actor c.own in
-        let inside_g : f.firing.graph < length G = slice_get_within G f.firing.graph g (here f stages frames rows j keeps) in
+        let inside_g : f.firing.graph < length G = slice_get_within G f.firing.graph g (here f stages held rows j keeps) in
         let there : at.place < length (get_or G f.firing.graph no_graph).actors = slice_get_within g.actors at.place c.actor at.is in
         let fits = actor_fits f.graphs keeps.set_up.range keeps.set_up.well f.firing.graph no_graph inside_g at.place no_actor there in
         let same : get_or g.actors at.place no_actor ≡ c.actor = get_or_from_slice_get g.actors at.place c.actor no_actor at.is in
@@ -183,13 +184,13 @@ module _ (f : Fixed) (stages : List Stage) (frames : List (Option FrameView)) (r
 
   module _ (ready_words : ReadyInAnyWords ℤ ℕ Refusal) (input_words : InputsInAnyWords ℤ ℕ Refusal) (stays : ReadyStays ℤ ℕ) (offered : IsOfferedCall (view_with f stages) n) where
     pub calls : CallsSo offered.job
-    calls = let t = has_task f stages frames rows j keeps n (Call offered.job) offered.task_is in node_calls offered.job (node_at (job_in f).nodes n) (lens (job_in f) n) refl t.is
+    calls = let t = has_task f stages held rows j keeps n (Call offered.job) offered.task_is in node_calls offered.job (node_at (job_in f).nodes n) (lens (job_in f) n) refl t.is
 
     abbrev ready_now : IsReady (job_in f) (one.values j.marks) n
-    ready_now = was_ready f stages frames rows j keeps n ready_words input_words stays offered.free (Call offered.job) offered.task_is
+    ready_now = was_ready f stages held rows j keeps n ready_words input_words stays offered.free (Call offered.job) offered.task_is
 
     pub node_is : node_at j.compilation.graph.nodes n ≡ node.Firing calls.a calls.k
-    node_is = ap (λ (l : List Node). node_at l n) (nodes_are f stages frames rows j keeps) ∙ calls.at
+    node_is = ap (λ (l : List Node). node_at l n) (nodes_are f stages held rows j keeps) ∙ calls.at
 
     -- ---- what it calls with
 
@@ -220,11 +221,11 @@ module _ (f : Fixed) (stages : List Stage) (frames : List (Option FrameView)) (r
 
     pub fired_is : (graphs : List Graph) (h : Graph) → graphs ≡ G → slice_get graphs f.place ≡ Some h → h ≡ g
     fired_is graphs h are at =
-        let e : Some h ≡ Some g = sym at ∙ ap₂ (λ (l : List Graph) p. slice_get l p) are keeps.parts.place_is ∙ here f stages frames rows j keeps in
+        let e : Some h ≡ Some g = sym at ∙ ap₂ (λ (l : List Graph) p. slice_get l p) are keeps.parts.place_is ∙ here f stages held rows j keeps in
         cc
 
     pub place_inside : (graphs : List Graph) → graphs ≡ G → f.place < length graphs
-    place_inside graphs are = slice_get_within graphs f.place g (ap₂ (λ (l : List Graph) p. slice_get l p) are keeps.parts.place_is ∙ here f stages frames rows j keeps)
+    place_inside graphs are = slice_get_within graphs f.place g (ap₂ (λ (l : List Graph) p. slice_get l p) are keeps.parts.place_is ∙ here f stages held rows j keeps)
 
     pub places_are : (graphs : List Graph) (h : Graph) → graphs ≡ G → slice_get graphs f.place ≡ Some h → f.set.places ≡ acting_places h
     places_are graphs h are at = keeps.parts.set_is.places ∙ ap acting_places (sym (fired_is graphs h are at))
@@ -246,7 +247,7 @@ module _ (f : Fixed) (stages : List Stage) (frames : List (Option FrameView)) (r
     )
 
     pub caller_is : (graphs : List Graph) (caller : Actor) (a : ℕ) → graphs ≡ G → a ≡ calls.a → ((h : Graph) → slice_get graphs f.place ≡ Some h → slice_get (acting h) a ≡ Some caller) → slice_get (acting g) a ≡ Some caller
-    caller_is graphs caller a are same at = at g (ap₂ (λ (l : List Graph) p. slice_get l p) are keeps.parts.place_is ∙ here f stages frames rows j keeps)
+    caller_is graphs caller a are same at = at g (ap₂ (λ (l : List Graph) p. slice_get l p) are keeps.parts.place_is ∙ here f stages held rows j keeps)
 
     pub calls_graph : (caller : Actor) (a : ℕ) → a ≡ calls.a → slice_get (acting g) a ≡ Some caller → caller.body ≡ Child calls.place calls.exprs
     calls_graph caller a same at =
@@ -280,7 +281,7 @@ module _ (f : Fixed) (stages : List Stage) (frames : List (Option FrameView)) (r
       set_is = places.1;
       number_is = numbered.0 ∙ (numbers which a k at is).0;
       turn_is = numbered.1 ∙ (numbers which a k at is).1;
-      found = ap (slice_get (acting g)) numbered.0 ∙ actor_at g (ap₂ (λ (l : List Graph) p. slice_get l p) items_are keeps.parts.place_is ∙ here f stages frames rows j keeps);
+      found = ap (slice_get (acting g)) numbered.0 ∙ actor_at g (ap₂ (λ (l : List Graph) p. slice_get l p) items_are keeps.parts.place_is ∙ here f stages held rows j keeps);
       kept_at = ap₂ (λ (l : List Bool) x. slice_get l x) (sym kept_are) numbered.0 ∙ kept_at;
     }
 
@@ -291,7 +292,7 @@ module _ (f : Fixed) (stages : List Stage) (frames : List (Option FrameView)) (r
     called_is d caller number turn kept args graphs read graphs_are own number_is turn_is kept_at args_are' reads is =
         let actor_is : caller ≡ calls.actor = let e : Some caller ≡ Some calls.actor = sym own ∙ ap (slice_get (acting g)) number_is ∙ calls.own in cc in
         let kept_is' : kept ≡ has_state G calls.actor = keeps_at G (acting g) number calls.actor kept (ap (slice_get (acting g)) number_is ∙ calls.own) (ap (λ (l : List Bool). slice_get l number) (sym keeps.parts.keeps_are) ∙ kept_at) in
-        let reads' : read ≡ read_told = reads ∙ ap (λ (x : JobGraph ℤ). inputs x (one.values j.marks) n) keeps.set_up.graph_is ∙ sym (same_inputs f stages frames rows j keeps ready_words input_words n) in
+        let reads' : read ≡ read_told = reads ∙ ap (λ (x : JobGraph ℤ). inputs x (one.values j.marks) n) keeps.set_up.graph_is ∙ sym (same_inputs f stages held rows j keeps ready_words input_words n) in
         is ∙ rw (graphs_are, actor_is, turn_is, number_is, kept_is', args_are', reads') (sym calls.job_is)
 
     pub called_ok : (r : Result Firing AllocError) (graphs : List Graph) (own : LevelSet) (caller : Actor) (number turn : ℕ) (kept : Bool) (read : List (List ℤ)) → IsCaller graphs own caller number turn kept → read ≡ inputs (leased.graph_of j) (one.values j.marks) n →
@@ -308,63 +309,63 @@ module _ (f : Fixed) (stages : List Stage) (frames : List (Option FrameView)) (r
     inherits_of (Ok d) v is same = subst (λ (x : RunningView). HasInherited x.graphs.graphs d) is (subst (HasInherited G) (sym same) (inherits offered.job calls))
     inherits_of (Err e) v is same = tt
 
-    child : is_call f stages frames rows j keeps n ≡ true
-    child = sym (sort_of f stages frames rows j keeps (node_at (job_in f).nodes n) read_told (lens (job_in f) n) (Call offered.job) (has_task f stages frames rows j keeps n (Call offered.job) offered.task_is).is)
+    child : is_call f stages held rows j keeps n ≡ true
+    child = sym (sort_of f stages held rows j keeps (node_at (job_in f).nodes n) read_told (lens (job_in f) n) (Call offered.job) (has_task f stages held rows j keeps n (Call offered.job) offered.task_is).is)
 
-    pub frame_inside : n < length frames
-    frame_inside = keeps.stand.has_place n ready_now.there child
+    pub inside_held : n < length held
+    inside_held = keeps.stand.has_room n ready_now.there child
 
     pub keeps_waiting : (r : Result Firing AllocError) (frame : FrameView) (s : Stage) → IsWaiting r frame s → IfOk r (λ d. d ≡ offered.job) → lengths frame.outputs ≡ lens (leased.graph_of j) n →
-        KeepsAll f (set stages n s) (set frames n (Some frame)) rows (record j { marks = set j.marks n (one.Claimed frame.places) })
+        KeepsAll f (set stages n s) (set held n (Waits frame)) rows (record j { marks = set j.marks n (one.Claimed frame.places) })
     keeps_waiting r frame s waits same outs = of_end r waits same
       where
         outs_are : lengths frame.outputs ≡ lens (job_in f) n
         outs_are = outs ∙ ap (λ (x : JobGraph ℤ). lens x n) keeps.set_up.graph_is
 
-        frame_here : frame_at (set frames n (Some frame)) n ≡ Some frame
-        frame_here = get_or-set_same frames n (Some frame) None frame_inside
+        frame_here : held_at (set held n (Waits frame)) n ≡ Waits frame
+        frame_here = get_or-set_same held n (Waits frame) Nothing inside_held
 
-        go : (s : Stage) → Stands G (lens (job_in f) n) (state_kept f stages frames rows j keeps n) (is_call f stages frames rows j keeps n) (Fires f stages frames rows j keeps n) s (one.Claimed frame.places) (frame_at (set frames n (Some frame)) n) → trace_in s ≡ [] →
-            KeepsAll f (set stages n s) (set frames n (Some frame)) rows (record j { marks = set j.marks n (one.Claimed frame.places) })
-        go s stands traced = keeps_on f stages frames rows j keeps n stays ready_now.there s (one.Claimed frame.places) (set frames n (Some frame)) (no_value f stages frames rows j keeps n ready_words input_words stays offered.free (Call offered.job) offered.task_is) ready_now
-            stands (length-set frames n (Some frame)) (λ k other. get_or-set_other frames n k (Some frame) None other) (traced ∙ sym (no_trace f stages frames rows j keeps n ready_words input_words stays offered.free (Call offered.job) offered.task_is))
+        go : (s : Stage) → Stands G (lens (job_in f) n) (state_kept f stages held rows j keeps n) (is_call f stages held rows j keeps n) (Fires f stages held rows j keeps n) s (one.Claimed frame.places) (held_at (set held n (Waits frame)) n) → trace_in s ≡ [] →
+            KeepsAll f (set stages n s) (set held n (Waits frame)) rows (record j { marks = set j.marks n (one.Claimed frame.places) })
+        go s stands traced = keeps_on f stages held rows j keeps n stays ready_now.there s (one.Claimed frame.places) (set held n (Waits frame)) (no_value f stages held rows j keeps n ready_words input_words stays offered.free (Call offered.job) offered.task_is) ready_now
+            stands (length-set held n (Waits frame)) (λ k other. get_or-set_other held n k (Waits frame) Nothing other) (traced ∙ sym (no_trace f stages held rows j keeps n ready_words input_words stays offered.free (Call offered.job) offered.task_is))
 
-        of_end : (r : Result Firing AllocError) → IsWaiting r frame s → IfOk r (λ d. d ≡ offered.job) → KeepsAll f (set stages n s) (set frames n (Some frame)) rows (record j { marks = set j.marks n (one.Claimed frame.places) })
+        of_end : (r : Result Firing AllocError) → IsWaiting r frame s → IfOk r (λ d. d ≡ offered.job) → KeepsAll f (set stages n s) (set held n (Waits frame)) rows (record j { marks = set j.marks n (one.Claimed frame.places) })
         of_end (Ok d) waits same =
             let o = opened_stage s d frame waits in
-            let P : Stage → Type 0 = λ x. KeepsAll f (set stages n x) (set frames n (Some frame)) rows (record j { marks = set j.marks n (one.Claimed frame.places) }) in
+            let P : Stage → Type 0 = λ x. KeepsAll f (set stages n x) (set held n (Waits frame)) rows (record j { marks = set j.marks n (one.Claimed frame.places) }) in
             subst P (sym o.stage_is) (go (Open o.own o.told) record {
               mark_is = ap (λ (x : FrameView). one.Claimed x.places) (sym o.frame_is);
-              held = frame_here ∙ ap Some (sym o.frame_is);
+              held = frame_here ∙ ap Waits (sym o.frame_is);
               sort = child;
-              sizes = (ap (λ (x : FrameView). lengths x.outputs) o.frame_is ∙ outs_are, ap (call_lens G (state_kept f stages frames rows j keeps n)) (o.job_is ∙ same) ∙ call_written offered.job calls);
+              sizes = (ap (λ (x : FrameView). lengths x.outputs) o.frame_is ∙ outs_are, ap (call_lens G (state_kept f stages held rows j keeps n)) (o.job_is ∙ same) ∙ call_written offered.job calls);
             } refl)
         of_end (Err e) waits same =
             let o = lost_stage s frame waits in
-            let P : Stage → Type 0 = λ x. KeepsAll f (set stages n x) (set frames n (Some frame)) rows (record j { marks = set j.marks n (one.Claimed frame.places) }) in
+            let P : Stage → Type 0 = λ x. KeepsAll f (set stages n x) (set held n (Waits frame)) rows (record j { marks = set j.marks n (one.Claimed frame.places) }) in
             subst P (sym o.stage_is) (go (Lost o.told) record {
               mark_is = ap (λ (x : FrameView). one.Claimed x.places) (sym o.frame_is);
-              held = frame_here ∙ ap Some (sym o.frame_is);
+              held = frame_here ∙ ap Waits (sym o.frame_is);
               sort = child;
               sizes = ap (λ (x : FrameView). lengths x.outputs) o.frame_is ∙ outs_are;
             } refl)
 
     lent_same : set (view_with f stages).lent n None ≡ (view_with f stages).lent
     lent_same =
-        let free : lent_at (view_with f stages).lent n ≡ None = lent_here stages n ∙ ap lent_of (was_free f stages frames rows j keeps n ready_words input_words stays offered.free (Call offered.job) offered.task_is) in
+        let free : lent_at (view_with f stages).lent n ≡ None = lent_here stages n ∙ ap lent_of (was_free f stages held rows j keeps n ready_words input_words stays offered.free (Call offered.job) offered.task_is) in
         ap (set (view_with f stages).lent n) (sym free) ∙ set-get_or (view_with f stages).lent n None
 
     pub view_opened : (d : Firing) (frame : FrameView) (s : Stage) → IsOpened d frame s → view_with f (set stages n s) ≡ record (view_with f stages) { marks = set (view_with f stages).marks n (mark.Open d) }
     view_opened d frame s is =
         let o = opened_stage s d frame is in
-        let m : mark_of (spot f stages frames rows j keeps n) s ≡ mark.Open d = ap (mark_of (spot f stages frames rows j keeps n)) o.stage_is ∙ ap mark.Open o.job_is in
+        let m : mark_of (spot f stages held rows j keeps n) s ≡ mark.Open d = ap (mark_of (spot f stages held rows j keeps n)) o.stage_is ∙ ap mark.Open o.job_is in
         let l : set (view_with f stages).lent n (lent_of s) ≡ (view_with f stages).lent = ap (λ x. set (view_with f stages).lent n (lent_of x)) o.stage_is ∙ lent_same in
         view_step f stages n s ∙ (λ i. record (view_with f stages) { marks = set (view_with f stages).marks n (m i); lent = l i })
 
     pub view_lost : (frame : FrameView) (s : Stage) → IsLost frame s → view_with f (set stages n s) ≡ record (view_with f stages) { marks = set (view_with f stages).marks n mark.Busy }
     view_lost frame s is =
         let o = lost_stage s frame is in
-        let m : mark_of (spot f stages frames rows j keeps n) s ≡ mark.Busy = ap (mark_of (spot f stages frames rows j keeps n)) o.stage_is in
+        let m : mark_of (spot f stages held rows j keeps n) s ≡ mark.Busy = ap (mark_of (spot f stages held rows j keeps n)) o.stage_is in
         let l : set (view_with f stages).lent n (lent_of s) ≡ (view_with f stages).lent = ap (λ x. set (view_with f stages).lent n (lent_of x)) o.stage_is ∙ lent_same in
         view_step f stages n s ∙ (λ i. record (view_with f stages) { marks = set (view_with f stages).marks n (m i); lent = l i })
 

@@ -21,7 +21,7 @@ use Rattle.job_flow.specs.Events.{IsReady}
 use Rattle.job_flow.specs.Laws.{InputsInAnyWords, ReadyInAnyWords, ReadyStays}
 use Rattle.job_rules.specs.Items.{actor_of, keeps_state}
 use Rattle.job_rules.specs.Words as words
-use Rattle.job_rules.specs.Words.{Answer, Spot, given_outs}
+use Rattle.job_rules.specs.Words.{Spot}
 use Rattle.one_job.specs.Marks as one
 use Rattle.one_job.specs.Pick.{is_child_in}
 use Rattle.one_job.specs.View as leased
@@ -29,7 +29,7 @@ use Rattle.one_job.specs.View.{IsFiring}
 use Rattle.job_preparing.specs.Handing.{mark_at}
 use Rattle.job_running.specs.Calls.{IsHanded, frame_of, handed_out}
 use Rattle.job_running.specs.Kept.{view_with}
-use Rattle.job_running.specs.Parts.{Fixed, KeepsAll, Stands, fired, frame_at, job_in}
+use Rattle.job_running.specs.Parts.{Fixed, KeepsAll, Stands, fired, held_at, job_in}
 use Rattle.job_running.specs.Sizes.{place_lens}
 use Rattle.job_running.specs.Stages.{held_by, lent_of, mark_of, spot_of, stage_at, trace_in}
 use Rattle.job_running.specs.View.{IsOfferedWork, task}
@@ -37,6 +37,8 @@ use Rattle.job_running.specs.declared.stage.Stage.{Stage}
 use Rattle.job_running.specs.declared.stage.Stage.TheVariants.{Free, Busy}
 use Rattle.job_running.proofs.NodeMarks.{free_stage, mark_here, marks_set}
 use Rattle.job_running.proofs.NodeSteps.{same_traces, step}
+use Rattle.job_running.specs.declared.frames.Held.{Held}
+use Rattle.job_running.specs.declared.frames.Held.TheVariants.{Nothing}
 use Rattle.job_running.proofs.NodeTasks.{HasFrame, free_job, handed_so, has_task, kernel_lens, nodes_are, own_ready, results, same_inputs, sort_of}
 
 -- the view after one node steps on
@@ -47,7 +49,7 @@ view_step f stages n s =
     let lents_are = map-set lent_of stages n s in
     λ k. record (view_with f stages) { marks = marks_are k; lent = lents_are k }
 
-module _ (f : Fixed) (stages : List Stage) (frames : List (Option FrameView)) (rows : List (Vec (List TraceRow) Global)) (j : leased.JobView) (keeps : KeepsAll f stages frames rows j) (n : ℕ) where
+module _ (f : Fixed) (stages : List Stage) (held : List Held) (rows : List (Vec (List TraceRow) Global)) (j : leased.JobView) (keeps : KeepsAll f stages held rows j) (n : ℕ) where
   abbrev pub stage : Stage
   stage = stage_at stages n
 
@@ -74,12 +76,12 @@ module _ (f : Fixed) (stages : List Stage) (frames : List (Option FrameView)) (r
       (cases_lt n (length (job_in f).nodes))
 
   -- all that is kept once the node steps on
-  pub keeps_on : (stays : ReadyStays ℤ ℕ) (there : n < length (job_in f).nodes) (s : Stage) (m : one.Mark) (frames' : List (Option FrameView)) → one.value_of (one.mark_at j.marks n) ≡ None → IsReady (job_in f) (one.values j.marks) n →
-      Stands f.graphs.graphs (lens (job_in f) n) state_kept is_call Fires s m (frame_at frames' n) → length frames' ≡ length frames → ((k : ℕ) → k ≢ n → frame_at frames' k ≡ frame_at frames k) → trace_in s ≡ trace_in stage →
-      KeepsAll f (set stages n s) frames' rows (record j { marks = set j.marks n m })
-  keeps_on stays there s m frames' none ready stands long others traced = record {
+  pub keeps_on : (stays : ReadyStays ℤ ℕ) (there : n < length (job_in f).nodes) (s : Stage) (m : one.Mark) (held' : List Held) → one.value_of (one.mark_at j.marks n) ≡ None → IsReady (job_in f) (one.values j.marks) n →
+      Stands f.graphs.graphs (lens (job_in f) n) state_kept is_call Fires s m (held_at held' n) → length held' ≡ length held → ((k : ℕ) → k ≢ n → held_at held' k ≡ held_at held k) → trace_in s ≡ trace_in stage →
+      KeepsAll f (set stages n s) held' rows (record j { marks = set j.marks n m })
+  keeps_on stays there s m held' none ready stands long others traced = record {
     set_up = keeps.set_up;
-    stand = step f.graphs.graphs (fired f) j.kinds (job_in f) stages j.marks frames keeps.stand stays n there s m frames' none ready stands long others;
+    stand = step f.graphs.graphs (fired f) j.kinds (job_in f) stages j.marks held keeps.stand stays n there s m held' none ready stands long others;
     traces = same_traces (job_in f).nodes j.kinds f.compilation.counts stages rows keeps.traces n keeps.stand.one_stage s traced;
     parts = keeps.parts;
   }
@@ -92,13 +94,13 @@ module _ (f : Fixed) (stages : List Stage) (frames : List (Option FrameView)) (r
       was_free = free_stage spot stage (sym item_is ∙ free)
 
       pub job_was_free : one.mark_at j.marks n ≡ one.Free
-      job_was_free = free_job f stages frames rows j keeps ready_words input_words n free
+      job_was_free = free_job f stages held rows j keeps ready_words input_words n free
 
       pub was_ready : IsReady (job_in f) (one.values j.marks) n
-      was_ready = own_ready f stages frames rows j keeps ready_words input_words n (has_task f stages frames rows j keeps n t task_is).ready
+      was_ready = own_ready f stages held rows j keeps ready_words input_words n (has_task f stages held rows j keeps n t task_is).ready
 
-      pub no_frame : frame_at frames n ≡ None
-      no_frame = (keeps.stand.each n was_ready.there).held ∙ ap held_by was_free
+      pub nothing_held : held_at held n ≡ Nothing
+      nothing_held = (keeps.stand.each n was_ready.there).held ∙ ap held_by was_free
 
       pub no_value : one.value_of (one.mark_at j.marks n) ≡ None
       no_value = ap one.value_of job_was_free
@@ -114,31 +116,31 @@ module _ (f : Fixed) (stages : List Stage) (frames : List (Option FrameView)) (r
       node_here = node_at (job_in f).nodes n
 
       same_node : node_at j.compilation.graph.nodes n ≡ node_here
-      same_node = ap (λ (l : List Node). node_at l n) (nodes_are f stages frames rows j keeps)
+      same_node = ap (λ (l : List Node). node_at l n) (nodes_are f stages held rows j keeps)
 
-      has_frame : HasFrame (leased.kind_at j.kinds node_here) (leased.args_at j.args node_here) (inputs (job_in f) (results f stages frames rows j keeps) n) (lens (job_in f) n) frame
+      has_frame : HasFrame (leased.kind_at j.kinds node_here) (leased.args_at j.args node_here) (inputs (job_in f) (results f stages held rows j keeps) n) (lens (job_in f) n) frame
       has_frame = record {
         kind_is = kinds.0 ∙ ap (leased.kind_at j.kinds) same_node;
         args_are = kinds.1 ∙ ap (leased.args_at j.args) same_node;
-        reads = reads ∙ ap (λ (x : JobGraph ℤ). inputs x (one.values j.marks) n) keeps.set_up.graph_is ∙ sym (same_inputs f stages frames rows j keeps ready_words input_words n);
+        reads = reads ∙ ap (λ (x : JobGraph ℤ). inputs x (one.values j.marks) n) keeps.set_up.graph_is ∙ sym (same_inputs f stages held rows j keeps ready_words input_words n);
         outs = outs ∙ ap (λ (x : JobGraph ℤ). lens x n) keeps.set_up.graph_is;
         sets = kinds.2;
       }
 
       pub handed : IsHanded (task (view_with f stages) n) (handed_out (node_at j.compilation.graph.nodes n) frame)
       handed =
-          let t = has_task f stages frames rows j keeps n (Work offered.work) offered.task_is in
-          let so = handed_so f stages frames rows j keeps node_here _ (lens (job_in f) n) offered.work frame t.is (λ a k at actor own none. kernel_lens f stages frames rows j keeps n a k actor at own none) has_frame in
+          let t = has_task f stages held rows j keeps n (Work offered.work) offered.task_is in
+          let so = handed_so f stages held rows j keeps node_here _ (lens (job_in f) n) offered.work frame t.is (λ a k at actor own none. kernel_lens f stages held rows j keeps n a k actor at own none) has_frame in
           subst (λ o. IsHanded o (handed_out (node_at j.compilation.graph.nodes n) frame)) (sym offered.task_is) (subst (λ nd. IsHanded (Some (Work offered.work)) (handed_out nd frame)) (sym same_node) so)
 
-      pub keeps_claimed : (told : Told) → told.frame ≡ frame → lengths frame.outputs ≡ place_lens frame.places → KeepsAll f (set stages n (Busy told)) frames rows (record j { marks = set j.marks n (one.Claimed frame.places) })
+      pub keeps_claimed : (told : Told) → told.frame ≡ frame → lengths frame.outputs ≡ place_lens frame.places → KeepsAll f (set stages n (Busy told)) held rows (record j { marks = set j.marks n (one.Claimed frame.places) })
       keeps_claimed told told_is measured =
-          let t = has_task f stages frames rows j keeps n (Work offered.work) offered.task_is in
-          keeps_on stays (was_ready offered.free (Work offered.work) offered.task_is).there (Busy told) (one.Claimed frame.places) frames (no_value offered.free (Work offered.work) offered.task_is) (was_ready offered.free (Work offered.work) offered.task_is)
+          let t = has_task f stages held rows j keeps n (Work offered.work) offered.task_is in
+          keeps_on stays (was_ready offered.free (Work offered.work) offered.task_is).there (Busy told) (one.Claimed frame.places) held (no_value offered.free (Work offered.work) offered.task_is) (was_ready offered.free (Work offered.work) offered.task_is)
           record {
             mark_is = ap (λ (x : FrameView). one.Claimed x.places) (sym told_is);
-            held = no_frame offered.free (Work offered.work) offered.task_is;
-            sort = sym (sort_of f stages frames rows j keeps node_here _ (lens (job_in f) n) (Work offered.work) t.is);
+            held = nothing_held offered.free (Work offered.work) offered.task_is;
+            sort = sym (sort_of f stages held rows j keeps node_here _ (lens (job_in f) n) (Work offered.work) t.is);
             sizes = ap (λ (x : FrameView). place_lens x.places) told_is ∙ sym measured ∙ has_frame.outs;
           }
           refl (λ k other. refl) (sym (no_trace offered.free (Work offered.work) offered.task_is))

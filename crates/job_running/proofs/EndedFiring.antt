@@ -1,5 +1,5 @@
 -- A running firing that ends.
-use Rattle.std.proofs.Common.{◌≡◌, ℕ, zero, suc, ◌+◌, ◌<◌, ◌≤◌, ⊎_elim, ℤ, Bool, true, false, List, [], ◌∷◌, ◌++◌, length, get_or, take, drop, All, Option, Some, None, Result, Ok, Err, refl, sym, ap, ap₂, ◌∙◌, subst, arith, append_assoc, append-nil, take_all}
+use Rattle.std.proofs.Common.{◌≡◌, ℕ, zero, suc, ◌+◌, ◌<◌, ◌≤◌, ⊎_elim, ℤ, Bool, true, false, List, [], ◌∷◌, ◌++◌, length, get_or, take, drop, Option, Some, None, Result, Ok, Err, refl, sym, ap, ap₂, ◌∙◌, subst, arith, append_assoc, append-nil, take_all}
 use Rattle.std.specs.Prelude.{Vec, is_none}
 use Rattle.std.specs.Global.{Global}
 use Rattle.std.proofs.lemmas.Bool.{cases_Bool, cases_lt}
@@ -15,23 +15,21 @@ use Rattle.pisdf_meaning.specs.declared.refusal.Refusal.{Refusal}
 use Rattle.sdf_level.specs.declared.node.Node.{Node}
 use Rattle.sdf_level.specs.declared.node.Node.TheVariants as node
 use Rattle.job_flow.specs.Frames as flow
-use Rattle.job_flow.specs.Frames.{inputs, lens}
 use Rattle.job_flow.specs.Graphs.{JobGraph, node_at}
 use Rattle.job_rules.specs.Words.{Answer, Spot}
 use Rattle.one_job.specs.Marks as one
 use Rattle.one_job.specs.View as leased
 use Rattle.one_job.specs.View.{IsFiring}
 use Rattle.job_running.specs.Kept.{view_with}
-use Rattle.job_running.specs.Parts.{Fixed, KeepsAll, fired, frame_at, job_in}
+use Rattle.job_running.specs.Parts.{Fixed, KeepsAll, NoneWaits, fired, held_at, job_in}
 use Rattle.job_running.specs.Stages.{FitsSort, held_by, job_mark, lent_of, mark_of, stage_at, trace_in}
 use Rattle.job_running.specs.declared.stage.Stage.{Stage}
 use Rattle.job_running.specs.declared.stage.Stage.TheVariants.{Free, Busy, Lost, Open, Fired, Failed, Gave, Refused}
-use Rattle.job_running.proofs.NodeMarks.{lent_here}
+use Rattle.job_running.proofs.NodeMarks.{lent_here, refusal_for}
 use Rattle.job_running.proofs.NodeTasks.{nodes_are, results}
 use Rattle.std.specs.Prelude.{slice_index}
 use Rattle.std.specs.List.{filter}
 use Rattle.std.specs.Option.{option_map}
-use Rattle.std.proofs.lemmas.List.{get_or_default}
 use Rattle.param_resolver.specs.Numbering.{is_kept}
 use Rattle.pisdf_model.specs.InterfaceWires.{is_configuration}
 use Rattle.pisdf_meaning.specs.Running.{actor_states, fifo_states, state_after, state_of_first, traces_below}
@@ -46,32 +44,33 @@ use Rattle.job_rules.specs.Items.{first_refusal, node_result, refusal_or, trace_
 use Rattle.job_rules.specs.Words.{Answer, Gives, Refuses, Schedules}
 use Rattle.job_preparing.specs.Handing.{IsNothingLent, answers, with_traces}
 use Rattle.job_running.specs.Parts.{HaveTraces, HoldClaimed, call_count, flat, row_at}
-use Rattle.job_running.specs.Stages.{refusal_for}
 use Rattle.job_running.specs.View.{traces_of}
 use Rattle.job_running.proofs.ClaimedNodes.{item_is, spot}
 use Rattle.job_running.proofs.NodeTies.{values_are, words as told_words}
 use Rattle.job_running.proofs.OfferedNodes.{never_claimed}
 use Rattle.job_running.proofs.AnsweredNodes.{is_firing}
 use Rattle.job_running.proofs.WrittenOuts.{take_one}
+use Rattle.job_running.specs.declared.frames.Held.{Held}
+use Rattle.job_running.specs.declared.frames.Held.TheVariants.{Nothing, Waits}
 use Rattle.pisdf_meaning.specs.States.{tokens_at}
 
--- ---- frames
+-- ---- what is held
 
-none_held : {X : Type 0} (x : X) → None ≡ Some x → ⊥
-none_held x is = absurd (cc)
+none_waits : (frame : FrameView) → Nothing ≡ Waits frame → ⊥
+none_waits frame is = absurd (cc)
 
-module _ (f : Fixed) (stages : List Stage) (frames : List (Option FrameView)) (rows : List (Vec (List TraceRow) Global)) (j : leased.JobView) (keeps : KeepsAll f stages frames rows j) where
-  held_so : (keep : Bool) (s : Stage) (m : one.Mark) (o : Option FrameView) → m ≡ job_mark keep s → o ≡ held_by s → (frame : FrameView) → o ≡ Some frame → m ≡ one.Claimed frame.places
-  held_so keep Free m o is held frame at = absurd (none_held frame (sym held ∙ at))
-  held_so keep (Busy told) m o is held frame at = absurd (none_held frame (sym held ∙ at))
-  held_so keep (Lost told) m o is held frame at = let e : Some told.frame ≡ Some frame = sym held ∙ at in let same : told.frame ≡ frame = cc in is ∙ ap (λ (x : FrameView). one.Claimed x.places) same
-  held_so keep (Open job told) m o is held frame at = let e : Some told.frame ≡ Some frame = sym held ∙ at in let same : told.frame ≡ frame = cc in is ∙ ap (λ (x : FrameView). one.Claimed x.places) same
-  held_so keep (Fired told) m o is held frame at = absurd (none_held frame (sym held ∙ at))
-  held_so keep (Failed code) m o is held frame at = absurd (none_held frame (sym held ∙ at))
-  held_so keep (Gave told) m o is held frame at = absurd (none_held frame (sym held ∙ at))
-  held_so keep (Refused refusal) m o is held frame at = absurd (none_held frame (sym held ∙ at))
+module _ (f : Fixed) (stages : List Stage) (held : List Held) (rows : List (Vec (List TraceRow) Global)) (j : leased.JobView) (keeps : KeepsAll f stages held rows j) where
+  held_so : (keep : Bool) (s : Stage) (m : one.Mark) (o : Held) → m ≡ job_mark keep s → o ≡ held_by s → (frame : FrameView) → o ≡ Waits frame → m ≡ one.Claimed frame.places
+  held_so keep Free m o is held frame at = absurd (none_waits frame (sym held ∙ at))
+  held_so keep (Busy told) m o is held frame at = absurd (none_waits frame (sym held ∙ at))
+  held_so keep (Lost told) m o is held frame at = let e : Waits told.frame ≡ Waits frame = sym held ∙ at in let same : told.frame ≡ frame = cc in is ∙ ap (λ (x : FrameView). one.Claimed x.places) same
+  held_so keep (Open job told) m o is held frame at = let e : Waits told.frame ≡ Waits frame = sym held ∙ at in let same : told.frame ≡ frame = cc in is ∙ ap (λ (x : FrameView). one.Claimed x.places) same
+  held_so keep (Fired told) m o is held frame at = absurd (none_waits frame (sym held ∙ at))
+  held_so keep (Failed code) m o is held frame at = absurd (none_waits frame (sym held ∙ at))
+  held_so keep (Gave told) m o is held frame at = absurd (none_waits frame (sym held ∙ at))
+  held_so keep (Refused told) m o is held frame at = absurd (let e = sym held ∙ at in cc)
 
-  waits_so : (keep : Bool) (s : Stage) (m : one.Mark) (o : Option FrameView) → m ≡ job_mark keep s → o ≡ held_by s → lent_of s ≡ None → (places : Places) → m ≡ one.Claimed places → (frame : FrameView) × (o ≡ Some frame)
+  waits_so : (keep : Bool) (s : Stage) (m : one.Mark) (o : Held) → m ≡ job_mark keep s → o ≡ held_by s → lent_of s ≡ None → (places : Places) → m ≡ one.Claimed places → (frame : FrameView) × (o ≡ Waits frame)
   waits_so keep Free m o is held none places at = absurd (let e : one.Free ≡ one.Claimed places = sym is ∙ at in cc)
   waits_so keep (Busy told) m o is held none places at = absurd (cc)
   waits_so keep (Lost told) m o is held none places at = (told.frame, held)
@@ -79,38 +78,30 @@ module _ (f : Fixed) (stages : List Stage) (frames : List (Option FrameView)) (r
   waits_so keep (Fired told) m o is held none places at = absurd (let e : one.Finished told.frame.outputs ≡ one.Claimed places = sym is ∙ at in cc)
   waits_so keep (Failed code) m o is held none places at = absurd (let e : one.Failed code ≡ one.Claimed places = sym is ∙ at in cc)
   waits_so keep (Gave told) m o is held none places at = absurd (let e = sym is ∙ at in cc)
-  waits_so keep (Refused refusal) m o is held none places at = absurd (let e : one.Failed 0 ≡ one.Claimed places = sym is ∙ at in cc)
+  waits_so keep (Refused told) m o is held none places at = absurd (let e : one.Failed 0 ≡ one.Claimed places = sym is ∙ at in cc)
 
   -- where no frame is out, those of all claimed nodes wait
-  pub hold_claimed : IsNothingLent (view_with f stages).lent → HoldClaimed j.marks frames
+  pub hold_claimed : IsNothingLent (view_with f stages).lent → HoldClaimed j.marks held
   hold_claimed nothing = record {
     claimed = λ n frame at. ⊎_elim
-        (λ (below : n < length (job_in f).nodes). let s = keeps.stand.each n below in held_so _ (stage_at stages n) (one.mark_at j.marks n) (frame_at frames n) s.mark_is s.held frame at)
-        (λ (past : length (job_in f).nodes ≤ n). absurd (none_held frame (sym (get_or_past frames n None (let l = keeps.stand.few_frames in omega arith)) ∙ at)))
+        (λ (below : n < length (job_in f).nodes). let s = keeps.stand.each n below in held_so _ (stage_at stages n) (one.mark_at j.marks n) (held_at held n) s.mark_is s.held frame at)
+        (λ (past : length (job_in f).nodes ≤ n). absurd (none_waits frame (sym (get_or_past held n Nothing (let l = keeps.stand.few_held in omega arith)) ∙ at)))
         (cases_lt n (length (job_in f).nodes));
     waits = λ n places at. ⊎_elim
-        (λ (below : n < length (job_in f).nodes). let s = keeps.stand.each n below in waits_so _ (stage_at stages n) (one.mark_at j.marks n) (frame_at frames n) s.mark_is s.held (sym (lent_here stages n) ∙ nothing.each n) places at)
+        (λ (below : n < length (job_in f).nodes). let s = keeps.stand.each n below in waits_so _ (stage_at stages n) (one.mark_at j.marks n) (held_at held n) s.mark_is s.held (sym (lent_here stages n) ∙ nothing.each n) places at)
         (λ (past : length (job_in f).nodes ≤ n). absurd (let e : one.Free ≡ one.Claimed places = sym (get_or_past j.marks n one.Free (let l = keeps.stand.one_mark in omega arith)) ∙ at in cc))
         (cases_lt n (length (job_in f).nodes));
   }
 
   -- in a quiet firing no frame waits
   module _ (quiet : IsQuiet (leased.graph_of j) (one.values j.marks)) where
-    none_waits : (n : ℕ) → frame_at frames n ≡ None
-    none_waits n = go (frame_at frames n) refl
-      where
-        go : (o : Option FrameView) → frame_at frames n ≡ o → frame_at frames n ≡ None
-        go None at = at
-        go (Some frame) at = ⊎_elim
-            (λ (below : n < length (job_in f).nodes).
-            let s = keeps.stand.each n below in
-            let claimed = held_so _ (stage_at stages n) (one.mark_at j.marks n) (frame_at frames n) s.mark_is s.held frame at in
-            absurd (never_claimed f stages frames rows j keeps quiet n frame.places claimed))
-            (λ (past : length (job_in f).nodes ≤ n). get_or_past frames n None (let l = keeps.stand.few_frames in omega arith))
-            (cases_lt n (length (job_in f).nodes))
-
-    pub no_frames : All (λ frame. frame ≡ None) frames
-    no_frames n d below = get_or_default frames n d None below ∙ none_waits n
+    pub none_held : NoneWaits held
+    none_held n frame at = ⊎_elim
+        (λ (below : n < length (job_in f).nodes).
+        let s = keeps.stand.each n below in
+        never_claimed f stages held rows j keeps quiet n frame.places (held_so _ (stage_at stages n) (one.mark_at j.marks n) (held_at held n) s.mark_is s.held frame at))
+        (λ (past : length (job_in f).nodes ≤ n). none_waits frame (sym (get_or_past held n Nothing (let l = keeps.stand.few_held in omega arith)) ∙ at))
+        (cases_lt n (length (job_in f).nodes))
 
   -- ---- the first refusal
 
@@ -125,17 +116,17 @@ module _ (f : Fixed) (stages : List Stage) (frames : List (Option FrameView)) (r
   one_refusal keep i (Some (Refuses refusal)) later = refl
 
   abbrev told : flow.Values ℤ Refusal
-  told = results f stages frames rows j keeps
+  told = results f stages held rows j keeps
 
   refusals : (i m : ℕ) → first_refusal (answers (view_with f stages).marks) i m ≡ fault_of (failure_from told i m)
   refusals i zero = refl
   refusals i (suc m) = ap (refusal_or (answers (view_with f stages).marks i)) (refusals (i + 1) m) ∙ one_refusal _ i (answers (view_with f stages).marks i) (failure_from told (i + 1) m)
 
   abbrev renames : ℕ → ℕ → Refusal
-  renames = told_words f.graphs.graphs (fired f) f.firing.path j.kinds keeps.set_up.kinds (job_in f) stages j.marks frames keeps.stand
+  renames = told_words f.graphs.graphs (fired f) f.firing.path j.kinds keeps.set_up.kinds (job_in f) stages j.marks held keeps.stand
 
   told_is : told ≡ renamed renames (one.values j.marks)
-  told_is = values_are f.graphs.graphs (fired f) f.firing.path j.kinds keeps.set_up.kinds (job_in f) stages j.marks frames keeps.stand
+  told_is = values_are f.graphs.graphs (fired f) f.firing.path j.kinds keeps.set_up.kinds (job_in f) stages j.marks held keeps.stand
 
   module _ (failure_words : FailureInOtherWords ℤ ℕ Refusal) (ended_words : EndedInAnyWords ℤ ℕ Refusal) where
     first_is : first_refusal (answers (view_with f stages).marks) 0 (length (job_in f).nodes) ≡ fault_of (renamed_failure renames (failure (leased.graph_of j) (one.values j.marks)))
@@ -144,7 +135,7 @@ module _ (f : Fixed) (stages : List Stage) (frames : List (Option FrameView)) (r
         ∙ ap fault_of (failure_words (job_in f) renames (one.values j.marks)) ∙ ap (λ (x : JobGraph ℤ). fault_of (renamed_failure renames (failure x (one.values j.marks)))) (sym keeps.set_up.graph_is)
 
     pub refusal_is : (first : Failure ℕ) → failure (leased.graph_of j) (one.values j.marks) ≡ Some first →
-        first_refusal (answers (view_with f stages).marks) 0 (length (job_in f).nodes) ≡ Some (refusal_for (spot f stages frames rows j keeps first.node) (stage_at stages first.node) first.fault)
+        first_refusal (answers (view_with f stages).marks) 0 (length (job_in f).nodes) ≡ Some (refusal_for (spot f stages held rows j keeps first.node) (stage_at stages first.node) first.fault)
     refusal_is first is = first_is ∙ ap (λ o. fault_of (renamed_failure renames o)) is
 
     pub no_refusal : failure (leased.graph_of j) (one.values j.marks) ≡ None → first_refusal (answers (view_with f stages).marks) 0 (length (job_in f).nodes) ≡ None
@@ -180,7 +171,7 @@ module _ (f : Fixed) (stages : List Stage) (frames : List (Option FrameView)) (r
   fails_so keep child F (Fired told) nd fault sort is own called = absurd (cc)
   fails_so keep child F (Failed code) nd fault sort is own called = own sort.1
   fails_so keep child F (Gave told) nd fault sort is own called = absurd (cc)
-  fails_so keep child F (Refused refusal) nd fault sort is own called = called sort
+  fails_so keep child F (Refused told) nd fault sort is own called = called sort
 
   pub failed_at : (first : Failure ℕ) → failure (leased.graph_of j) (one.values j.marks) ≡ Some first → FailedAt first
   failed_at first is =
@@ -188,7 +179,7 @@ module _ (f : Fixed) (stages : List Stage) (frames : List (Option FrameView)) (r
       let below : first.node < length (job_in f).nodes = let l = at.0 in omega arith in
       let s = keeps.stand.each first.node below in
       let own = fails_so _ _ _ (stage_at stages first.node) (node_at (job_in f).nodes first.node) first.fault s.sort (ap one.value_of (sym s.mark_is) ∙ at.1) (λ x. x) (is_firing j.kinds (node_at (job_in f).nodes first.node)) in
-      record { there = below; fires = subst (λ (l : List Node). IsFiring (node_at l first.node)) (sym (nodes_are f stages frames rows j keeps)) own }
+      record { there = below; fires = subst (λ (l : List Node). IsFiring (node_at l first.node)) (sym (nodes_are f stages held rows j keeps)) own }
 
   -- ---- traces
 
@@ -201,7 +192,7 @@ module _ (f : Fixed) (stages : List Stage) (frames : List (Option FrameView)) (r
   traced (Some sp) (Fired _) = refl
   traced sp (Failed code) = refl
   traced sp (Gave _) = refl
-  traced sp (Refused refusal) = refl
+  traced sp (Refused _) = refl
 
   flat_more : (xs : List (List TraceRow)) (x : List TraceRow) → flat (xs ++ x ∷ []) ≡ flat xs ++ x
   flat_more [] x = append-nil x
@@ -234,7 +225,7 @@ module _ (f : Fixed) (stages : List Stage) (frames : List (Option FrameView)) (r
         let m : ℕ = place_of (job_in f).nodes (node.Firing b k) in
         let there : m < length (job_in f).nodes = firings_there (job_in f).level f.compilation.counts f.compilation.order b k keeps.set_up.is_job.order below in
         let at : node_at (job_in f).nodes m ≡ node.Firing b k = found (job_in f).nodes (node.Firing b k) there in
-        keeps.traces.each m b k there at ∙ sym (ap (λ x. trace_of (mark.answer_of x)) (item_is f stages frames rows j keeps m) ∙ traced (spot f stages frames rows j keeps m) (stage_at stages m)))
+        keeps.traces.each m b k there at ∙ sym (ap (λ x. trace_of (mark.answer_of x)) (item_is f stages held rows j keeps m) ∙ traced (spot f stages held rows j keeps m) (stage_at stages m)))
 
 -- ---- states don't depend on traces
 

@@ -5,7 +5,6 @@ use Rattle.std.specs.Global.{Global}
 use Rattle.kernel_gate.specs.Value.{FrameView, lengths}
 use Rattle.kernel_gate.specs.declared.fault.KernelFault.{KernelFault}
 use Rattle.nested_jobs.specs.Marks as mark
-use Rattle.nested_jobs.specs.Marks.{Mark}
 use Rattle.nested_jobs.specs.Rules.{Task, Work}
 use Rattle.param_resolver.specs.Numbering.{acting}
 use Rattle.pisdf_model.specs.declared.actor.Actor.{Actor}
@@ -22,7 +21,7 @@ use Rattle.job_flow.specs.Events.{IsReady}
 use Rattle.job_flow.specs.Laws.{InputsInAnyWords, ReadyInAnyWords, ReadyStays}
 use Rattle.job_rules.specs.Items.{actor_task, firing_task, node_task}
 use Rattle.job_rules.specs.Words as words
-use Rattle.job_rules.specs.Words.{Answer, Spot, given_outs}
+use Rattle.job_rules.specs.Words.{Spot, given_outs}
 use Rattle.one_job.specs.Calls.{finished_with}
 use Rattle.one_job.specs.Marks as one
 use Rattle.one_job.specs.Pick.{is_child_in}
@@ -32,7 +31,7 @@ use Rattle.job_preparing.specs.Handing.{answer_with, fired_with, lent_at}
 use Rattle.pisdf_meaning.specs.States.{tokens_at}
 use Rattle.param_resolver.specs.LevelOf.{level_args, out_rates}
 use Rattle.job_running.specs.Kept.{view_with}
-use Rattle.job_running.specs.Parts.{Fixed, KeepsAll, Stands, fired, frame_at, job_in, kernel_in, kind_of_actor, values_of}
+use Rattle.job_running.specs.Parts.{Fixed, KeepsAll, Stands, fired, held_at, job_in, kernel_in, kind_of_actor, values_of}
 use Rattle.job_running.specs.Sizes.{place_lens}
 use Rattle.job_running.specs.Stages.{IsEnded, fired_in, lent_of, name_in, mark_of, spot_of, trace_in}
 use Rattle.job_running.specs.View.{nodes_of, task}
@@ -40,6 +39,7 @@ use Rattle.job_running.specs.declared.stage.Stage.{Stage}
 use Rattle.job_running.specs.declared.stage.Stage.TheVariants.{Free, Busy}
 use Rattle.job_running.proofs.NodeMarks.{IsBusy, fired_stage, lent_busy, lent_here}
 use Rattle.job_running.proofs.NodeTasks.{nodes_are, ready_task, results, told_ready}
+use Rattle.job_running.specs.declared.frames.Held.{Held}
 use Rattle.job_running.proofs.ClaimedNodes.{Fires, inside, is_call, keeps_on, spot, stage, state_kept, view_step}
 
 -- an actor of the level with a kernel
@@ -58,7 +58,7 @@ has_kernel [] a is = absurd (cc)
 has_kernel (x ∷ own) zero is = let k = kernel_of (kernel_in x.body) is in record { actor = x; is = refl; kernel = k.0; has = k.1 }
 has_kernel (x ∷ own) (suc a) is = let again = has_kernel own a is in record { actor = again.actor; is = again.is; kernel = again.kernel; has = again.has }
 
-module _ (f : Fixed) (stages : List Stage) (frames : List (Option FrameView)) (rows : List (Vec (List TraceRow) Global)) (j : leased.JobView) (keeps : KeepsAll f stages frames rows j) (n : ℕ) where
+module _ (f : Fixed) (stages : List Stage) (held : List Held) (rows : List (Vec (List TraceRow) Global)) (j : leased.JobView) (keeps : KeepsAll f stages held rows j) (n : ℕ) where
   abbrev path : List ℕ
   path = f.firing.path
 
@@ -116,29 +116,29 @@ module _ (f : Fixed) (stages : List Stage) (frames : List (Option FrameView)) (r
   -- ---- a frame that was lent
 
   module _ (frame : FrameView) (lent : lent_at (view_with f stages).lent n ≡ Some frame.places) where
-    pub busy : IsBusy (stage f stages frames rows j keeps n) frame.places
-    busy = lent_busy (stage f stages frames rows j keeps n) frame.places (sym (lent_here stages n) ∙ lent)
+    pub busy : IsBusy (stage f stages held rows j keeps n) frame.places
+    busy = lent_busy (stage f stages held rows j keeps n) frame.places (sym (lent_here stages n) ∙ lent)
 
     pub there : n < length (job_in f).nodes
-    there = inside f stages frames rows j keeps n (λ free. let e : Free ≡ Busy busy.told = sym free ∙ busy.stage_is in absurd (cc))
+    there = inside f stages held rows j keeps n (λ free. let e : Free ≡ Busy busy.told = sym free ∙ busy.stage_is in absurd (cc))
 
-    stands : Stands f.graphs.graphs (lens (job_in f) n) (state_kept f stages frames rows j keeps n) (is_call f stages frames rows j keeps n) (Fires f stages frames rows j keeps n) (Busy busy.told) (one.mark_at j.marks n) (frame_at frames n)
-    stands = subst (λ x. Stands f.graphs.graphs (lens (job_in f) n) (state_kept f stages frames rows j keeps n) (is_call f stages frames rows j keeps n) (Fires f stages frames rows j keeps n) x (one.mark_at j.marks n) (frame_at frames n)) busy.stage_is (keeps.stand.each n there)
+    stands : Stands f.graphs.graphs (lens (job_in f) n) (state_kept f stages held rows j keeps n) (is_call f stages held rows j keeps n) (Fires f stages held rows j keeps n) (Busy busy.told) (one.mark_at j.marks n) (held_at held n)
+    stands = subst (λ x. Stands f.graphs.graphs (lens (job_in f) n) (state_kept f stages held rows j keeps n) (is_call f stages held rows j keeps n) (Fires f stages held rows j keeps n) x (one.mark_at j.marks n) (held_at held n)) busy.stage_is (keeps.stand.each n there)
 
     pub claimed : one.mark_at j.marks n ≡ one.Claimed frame.places
     claimed = stands.mark_is ∙ ap one.Claimed busy.places_are
 
     pub node_sound : (answer : Result (Unit {0}) KernelFault) → IsFiring (node_at (nodes_of (view_with f stages)) n) ⊎ IsOk answer → IsFiring (node_at j.compilation.graph.nodes n) ⊎ IsOk answer
-    node_sound answer sound = subst (λ (l : List Node). IsFiring (node_at l n) ⊎ IsOk answer) (sym (nodes_are f stages frames rows j keeps)) sound
+    node_sound answer sound = subst (λ (l : List Node). IsFiring (node_at l n) ⊎ IsOk answer) (sym (nodes_are f stages held rows j keeps)) sound
 
     was_ready : IsReady (job_in f) (one.values j.marks) n
     was_ready = keeps.stand.ready n (λ free. let e : one.Free ≡ one.Claimed frame.places = sym free ∙ claimed in absurd (cc))
 
     ended_sizes : (answer : Result (Unit {0}) KernelFault) (s : Stage) → IsEnded frame answer s → IsFiring (node_at (job_in f).nodes n) ⊎ IsOk answer → lengths frame.outputs ≡ place_lens frame.places →
-        Stands f.graphs.graphs (lens (job_in f) n) (state_kept f stages frames rows j keeps n) (is_call f stages frames rows j keeps n) (Fires f stages frames rows j keeps n) s (finished_with frame answer) (frame_at frames n) × (trace_in s ≡ [])
+        Stands f.graphs.graphs (lens (job_in f) n) (state_kept f stages held rows j keeps n) (is_call f stages held rows j keeps n) (Fires f stages held rows j keeps n) s (finished_with frame answer) (held_at held n) × (trace_in s ≡ [])
     ended_sizes (Ok done) s is sound measured =
         let e = fired_stage s frame is in
-        let P : Stage → Type 0 = λ x. Stands f.graphs.graphs (lens (job_in f) n) (state_kept f stages frames rows j keeps n) (is_call f stages frames rows j keeps n) (Fires f stages frames rows j keeps n) x (one.Finished frame.outputs) (frame_at frames n) × (trace_in x ≡ []) in
+        let P : Stage → Type 0 = λ x. Stands f.graphs.graphs (lens (job_in f) n) (state_kept f stages held rows j keeps n) (is_call f stages held rows j keeps n) (Fires f stages held rows j keeps n) x (one.Finished frame.outputs) (held_at held n) × (trace_in x ≡ []) in
         subst P (sym e.stage_is) (
           record {
             mark_is = ap (λ (x : FrameView). one.Finished x.outputs) (sym e.frame_is);
@@ -149,14 +149,14 @@ module _ (f : Fixed) (stages : List Stage) (frames : List (Option FrameView)) (r
           refl,
         )
     ended_sizes (Err fault) s is sound measured =
-        let P : Stage → Type 0 = λ x. Stands f.graphs.graphs (lens (job_in f) n) (state_kept f stages frames rows j keeps n) (is_call f stages frames rows j keeps n) (Fires f stages frames rows j keeps n) x (one.Failed fault.code) (frame_at frames n) × (trace_in x ≡ []) in
+        let P : Stage → Type 0 = λ x. Stands f.graphs.graphs (lens (job_in f) n) (state_kept f stages held rows j keeps n) (is_call f stages held rows j keeps n) (Fires f stages held rows j keeps n) x (one.Failed fault.code) (held_at held n) × (trace_in x ≡ []) in
         subst P (sym is) (record { mark_is = refl; held = stands.held; sort = (stands.sort, ⊎_elim (λ (fires : IsFiring (node_at (job_in f).nodes n)). fires) (λ (ok : IsOk {T = Unit {0}} {E = KernelFault} (Err fault)). absurd (let e : false ≡ true = ok in cc)) sound); sizes = tt }, refl)
 
     module _ (ready_words : ReadyInAnyWords ℤ ℕ Refusal) (input_words : InputsInAnyWords ℤ ℕ Refusal) (stays : ReadyStays ℤ ℕ) (answer : Result (Unit {0}) KernelFault) (s : Stage) (ended : IsEnded frame answer s) where
-      pub keeps_finished : IsFiring (node_at (nodes_of (view_with f stages)) n) ⊎ IsOk answer → lengths frame.outputs ≡ place_lens frame.places → KeepsAll f (set stages n s) frames rows (record j { marks = set j.marks n (finished_with frame answer) })
+      pub keeps_finished : IsFiring (node_at (nodes_of (view_with f stages)) n) ⊎ IsOk answer → lengths frame.outputs ≡ place_lens frame.places → KeepsAll f (set stages n s) held rows (record j { marks = set j.marks n (finished_with frame answer) })
       keeps_finished sound measured =
           let so = ended_sizes answer s ended sound measured in
-          keeps_on f stages frames rows j keeps n stays there s (finished_with frame answer) frames (ap one.value_of claimed) was_ready so.0 refl (λ k other. refl) (so.1 ∙ sym (ap trace_in busy.stage_is))
+          keeps_on f stages held rows j keeps n stays there s (finished_with frame answer) held (ap one.value_of claimed) was_ready so.0 refl (λ k other. refl) (so.1 ∙ sym (ap trace_in busy.stage_is))
 
       no_lease : (a : Result (Unit {0}) KernelFault) → IsEnded frame a s → lent_of s ≡ None
       no_lease (Ok done) is = ap lent_of (fired_stage s frame is).stage_is
@@ -165,9 +165,9 @@ module _ (f : Fixed) (stages : List Stage) (frames : List (Option FrameView)) (r
       pub view_finished : IsFiring (node_at (nodes_of (view_with f stages)) n) ⊎ IsOk answer →
           view_with f (set stages n s) ≡ record (view_with f stages) { marks = set (view_with f stages).marks n (mark.Done (answer_with (task (view_with f stages) n) frame answer)); lent = set (view_with f stages).lent n None }
       view_finished sound =
-          let told = told_ready f stages frames rows j keeps ready_words input_words n was_ready in
-          let t = ready_task f stages frames rows j keeps n told in
-          let so = answers_so (inputs (job_in f) (results f stages frames rows j keeps) n) (lens (job_in f) n) frame answer s ended (node_at (job_in f).nodes n) stands.sort sound in
-          let m : mark_of (spot f stages frames rows j keeps n) s ≡ mark.Done (answer_with (task (view_with f stages) n) frame answer) = so ∙ ap (λ o. mark.Done (answer_with o frame answer)) (sym t) in
+          let told = told_ready f stages held rows j keeps ready_words input_words n was_ready in
+          let t = ready_task f stages held rows j keeps n told in
+          let so = answers_so (inputs (job_in f) (results f stages held rows j keeps) n) (lens (job_in f) n) frame answer s ended (node_at (job_in f).nodes n) stands.sort sound in
+          let m : mark_of (spot f stages held rows j keeps n) s ≡ mark.Done (answer_with (task (view_with f stages) n) frame answer) = so ∙ ap (λ o. mark.Done (answer_with o frame answer)) (sym t) in
           let l = no_lease answer ended in
           view_step f stages n s ∙ (λ k. record (view_with f stages) { marks = set (view_with f stages).marks n (m k); lent = set (view_with f stages).lent n (l k) })

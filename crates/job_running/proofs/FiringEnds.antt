@@ -1,8 +1,8 @@
 -- How a running firing ends, in the words of its rules.
 use Rattle.std.proofs.Common.{◌≡◌, ℕ, ◌<◌, ℤ, List, ◌++◌, length, map, Option, Some, None, Ok, Err, refl, sym, ap, ap₂, ◌∙◌, subst, arith}
 use Rattle.std.specs.Prelude.{Vec}
+use Rattle.std.specs.Option.{unwrap_or}
 use Rattle.std.specs.Global.{Global}
-use Rattle.kernel_gate.specs.Value.{FrameView}
 use Rattle.param_resolver.specs.Numbering.{acting}
 use Rattle.pisdf_model.specs.declared.actor.Actor.{Actor}
 use Rattle.pisdf_model.specs.declared.graph.Graph.{Graph}
@@ -14,8 +14,8 @@ use Rattle.one_job.specs.Marks as one
 use Rattle.one_job.specs.View as leased
 use Rattle.one_job.specs.View.{IsFiring}
 use Rattle.job_running.specs.Kept.{view_with}
-use Rattle.job_running.specs.Parts.{Fixed, KeepsAll, fired, job_in}
-use Rattle.job_running.specs.Stages.{spot_of, stage_at}
+use Rattle.job_running.specs.Parts.{Fixed, KeepsAll, fired, held_at, job_in, refusal_in}
+use Rattle.job_running.specs.Stages.{held_by, refusal_at, spot_of, stage_at}
 use Rattle.job_running.specs.declared.stage.Stage.{Stage}
 use Rattle.job_running.proofs.NodeTasks.{nodes_are}
 use Rattle.pisdf_meaning.specs.Running.{child_rows, state_after}
@@ -26,9 +26,10 @@ use Rattle.sdf_level.specs.LevelRun.{Ended}
 use Rattle.one_job.specs.Calls.{end_with as leased_end}
 use Rattle.one_job.specs.declared.job.JobEnd.TheVariants.{Done as EndDone, Fault as EndFault}
 use Rattle.job_preparing.specs.Handing.{end_of, with_traces}
-use Rattle.job_running.specs.Stages.{refusal_for}
+use Rattle.job_running.proofs.NodeMarks.{refusal_for}
 use Rattle.job_running.specs.View.{end_with, outcome_of, traces_of}
 use Rattle.job_running.proofs.ClaimedNodes.{spot}
+use Rattle.job_running.specs.declared.frames.Held.{Held}
 use Rattle.job_running.proofs.EndedFiring.{ended_is, failed_at, no_refusal, refusal_is, state_same}
 
 -- what a job of leases that ended so tells of its first failure
@@ -51,17 +52,17 @@ pub ends_failed : (o : Option (Failure ℕ)) (end : Ended ℤ) (node code : ℕ)
 ends_failed None end node code is = absurd (cc)
 ends_failed (Some first) end node code is = record { first = first; is = refl; node_is = cc; code_is = cc }
 
-module _ (f : Fixed) (stages : List Stage) (frames : List (Option FrameView)) (rows : List (Vec (List TraceRow) Global)) (j : leased.JobView) (keeps : KeepsAll f stages frames rows j) (failure_words : FailureInOtherWords ℤ ℕ Refusal) (ended_words : EndedInAnyWords ℤ ℕ Refusal) where
+module _ (f : Fixed) (stages : List Stage) (held : List Held) (rows : List (Vec (List TraceRow) Global)) (j : leased.JobView) (keeps : KeepsAll f stages held rows j) (failure_words : FailureInOtherWords ℤ ℕ Refusal) (ended_words : EndedInAnyWords ℤ ℕ Refusal) where
   abbrev G : List Graph
   G = f.graphs.graphs
 
   abbrev g : Graph
   g = fired f
 
-  pub refused_end : (first : Failure ℕ) → failure (leased.graph_of j) (one.values j.marks) ≡ Some first → (refusal : Refusal) → refusal ≡ refusal_for (spot f stages frames rows j keeps first.node) (stage_at stages first.node) first.fault →
+  pub refused_end : (first : Failure ℕ) → failure (leased.graph_of j) (one.values j.marks) ≡ Some first → (refusal : Refusal) → refusal ≡ refusal_for (spot f stages held rows j keeps first.node) (stage_at stages first.node) first.fault →
       end_of (Err refusal) ≡ outcome_of (view_with f stages)
   refused_end first is refusal refusal_is' =
-      let o = refusal_is f stages frames rows j keeps failure_words ended_words first is in
+      let o = refusal_is f stages held rows j keeps failure_words ended_words first is in
       ap Err refusal_is' ∙ sym (ap (end_with (view_with f stages)) o)
 
   pub given_end : failure (leased.graph_of j) (one.values j.marks) ≡ None → (outs stored : List (List ℤ)) → outs ≡ (ended (leased.graph_of j) (one.values j.marks)).outs → stored ≡ (ended (leased.graph_of j) (one.values j.marks)).left →
@@ -69,8 +70,8 @@ module _ (f : Fixed) (stages : List Stage) (frames : List (Option FrameView)) (r
       (trace : List TraceRow) → trace ≡ f.rows ++ child_rows f.compilation.counts (traces_of (view_with f stages)) 0 g.actors (with_traces configured traces) → (exports : List ℤ) → exports ≡ f.exports →
       end_of (Ok record { outs = outs; state = state; trace = trace; exports = exports }) ≡ outcome_of (view_with f stages)
   given_end none outs stored outs_are stored_are configured traces left_is state state_is trace trace_is exports exports_are =
-      let o = no_refusal f stages frames rows j keeps failure_words ended_words none in
-      let end = ended_is f stages frames rows j keeps failure_words ended_words in
+      let o = no_refusal f stages held rows j keeps failure_words ended_words none in
+      let end = ended_is f stages held rows j keeps failure_words ended_words in
       let outs' = outs_are ∙ ap (λ (e : Ended ℤ). e.outs) (sym end) in
       let state' = state_is ∙ sym (state_same G g configured traces stored) ∙ ap₂ (λ l s. state_after G g l s) left_is (stored_are ∙ ap (λ (e : Ended ℤ). e.left) (sym end)) in
       let trace' = trace_is ∙ ap₂ (λ a l. a ++ child_rows f.compilation.counts (traces_of (view_with f stages)) 0 g.actors l) keeps.parts.rows_are left_is in
@@ -79,22 +80,23 @@ module _ (f : Fixed) (stages : List Stage) (frames : List (Option FrameView)) (r
 
   -- the refusal of the node with this number
   pub refused_here : (n code : ℕ) → EndFault n code ≡ leased_end (failure (leased.graph_of j) (one.values j.marks)) (ended (leased.graph_of j) (one.values j.marks)) →
-      (which : Node) (st : Stage) (refusal : Refusal) → which ≡ node_at j.compilation.graph.nodes n → st ≡ stage_at stages n → ((own : List Actor) → f.names ≡ map (λ (a : Actor). a.name) own → refusal ≡ refusal_for (spot_of f.path own which) st code) →
+      (which : Node) (called : Option Refusal) (refusal : Refusal) → which ≡ node_at j.compilation.graph.nodes n → called ≡ refusal_in (held_at held n) → ((own : List Actor) → f.names ≡ map (λ (a : Actor). a.name) own → refusal ≡ unwrap_or called (refusal_at (spot_of f.path own which) code)) →
       end_of (Err refusal) ≡ outcome_of (view_with f stages)
-  refused_here n code is which st refusal which_is st_is told =
+  refused_here n code is which called refusal which_is called_is told =
       let e = ends_failed (failure (leased.graph_of j) (one.values j.marks)) (ended (leased.graph_of j) (one.values j.marks)) n code is in
-      let w : which ≡ node_at (job_in f).nodes e.first.node = which_is ∙ ap₂ (λ l m. node_at l m) (nodes_are f stages frames rows j keeps) (sym e.node_is) in
-      let s : st ≡ stage_at stages e.first.node = st_is ∙ ap (λ (m : ℕ). stage_at stages m) (sym e.node_is) in
+      let w : which ≡ node_at (job_in f).nodes e.first.node = which_is ∙ ap₂ (λ l m. node_at l m) (nodes_are f stages held rows j keeps) (sym e.node_is) in
+      let there = (failed_at f stages held rows j keeps e.first e.is).there in
+      let r : called ≡ refusal_in (held_by (stage_at stages e.first.node)) = called_is ∙ ap (λ (m : ℕ). refusal_in (held_at held m)) (sym e.node_is) ∙ ap refusal_in (keeps.stand.each e.first.node there).held in
       let p : f.path ≡ f.firing.path = keeps.parts.path_is in
       let c : code ≡ e.first.fault = sym e.code_is in
-      refused_end e.first e.is refusal (told (acting (fired f)) keeps.parts.names_are ∙ (λ k. refusal_for (spot_of (p k) (acting (fired f)) (w k)) (s k) (c k)))
+      refused_end e.first e.is refusal (told (acting (fired f)) keeps.parts.names_are ∙ (λ k. unwrap_or (r k) (refusal_at (spot_of (p k) (acting (fired f)) (w k)) (c k))))
 
   -- a node that failed is one of the job, and a firing
   pub failed_there : (n code : ℕ) → EndFault n code ≡ leased_end (failure (leased.graph_of j) (one.values j.marks)) (ended (leased.graph_of j) (one.values j.marks)) → n < length j.compilation.graph.nodes
   failed_there n code is =
       let e = ends_failed (failure (leased.graph_of j) (one.values j.marks)) (ended (leased.graph_of j) (one.values j.marks)) n code is in
-      let at = failed_at f stages frames rows j keeps e.first e.is in
-      let l = ap length (nodes_are f stages frames rows j keeps) in
+      let at = failed_at f stages held rows j keeps e.first e.is in
+      let l = ap length (nodes_are f stages held rows j keeps) in
       let same = e.node_is in
       let below = at.there in
       omega arith
@@ -102,4 +104,4 @@ module _ (f : Fixed) (stages : List Stage) (frames : List (Option FrameView)) (r
   pub failed_fires : (n code : ℕ) → EndFault n code ≡ leased_end (failure (leased.graph_of j) (one.values j.marks)) (ended (leased.graph_of j) (one.values j.marks)) → IsFiring (node_at j.compilation.graph.nodes n)
   failed_fires n code is =
       let e = ends_failed (failure (leased.graph_of j) (one.values j.marks)) (ended (leased.graph_of j) (one.values j.marks)) n code is in
-      subst (λ (m : ℕ). IsFiring (node_at j.compilation.graph.nodes m)) e.node_is (failed_at f stages frames rows j keeps e.first e.is).fires
+      subst (λ (m : ℕ). IsFiring (node_at j.compilation.graph.nodes m)) e.node_is (failed_at f stages held rows j keeps e.first e.is).fires

@@ -1,14 +1,14 @@
 -- The marks of nodes by their stages.
 use Rattle.std.proofs.Common.{◌≡◌, ℕ, zero, suc, ℤ, Bool, false, List, [], ◌∷◌, length, map, set, replicate, Option, Some, None, Ok, refl, ap, arith}
-use Rattle.std.specs.Option.{option_map}
+use Rattle.std.specs.Option.{option_map, unwrap_or}
 use Rattle.std.proofs.lemmas.List.{append-nil}
 use Rattle.std.specs.declared.snapshot.Snapshot.{Snapshot}
 use Rattle.job_running.specs.declared.told.Told.{Told}
 use Rattle.kernel_gate.specs.Value.{FrameView, Places}
 use Rattle.nested_jobs.specs.Marks as mark
-use Rattle.nested_jobs.specs.Marks.{Mark}
 use Rattle.pisdf_model.specs.declared.actor.Actor.{Actor}
 use Rattle.pisdf_meaning.specs.declared.firing.Firing.{Firing}
+use Rattle.pisdf_meaning.specs.declared.refusal.Refusal.{Refusal}
 use Rattle.sdf_level.specs.declared.node.Node.{Node}
 use Rattle.job_flow.specs.Graphs.{node_at}
 use Rattle.job_flow.specs.Renamed.{renamed_answer}
@@ -16,7 +16,8 @@ use Rattle.job_rules.specs.Items.{node_result}
 use Rattle.job_rules.specs.Words.{Spot}
 use Rattle.one_job.specs.Marks as one
 use Rattle.job_preparing.specs.Handing.{ItemMarks, lent_at, mark_at}
-use Rattle.job_running.specs.Stages.{FitsSort, IsFired, IsLost, IsOpened, fired_in, job_mark, lent_of, mark_of, marks_of, refusal_for, spot_of, stage_at}
+use Rattle.job_running.specs.Parts.{refusal_in}
+use Rattle.job_running.specs.Stages.{FitsSort, IsFired, IsLost, IsOpened, fired_in, job_mark, lent_of, held_by, mark_of, marks_of, refusal_at, spot_of, stage_at}
 use Rattle.job_running.specs.declared.stage.Stage.{Stage}
 use Rattle.job_running.specs.declared.stage.Stage.TheVariants.{Free, Busy, Lost, Open, Fired, Failed, Gave, Refused}
 
@@ -62,7 +63,7 @@ free_stage spot (Open job told) is = absurd (cc)
 free_stage spot (Fired told) is = absurd (cc)
 free_stage spot (Failed code) is = absurd (cc)
 free_stage spot (Gave told) is = absurd (cc)
-free_stage spot (Refused refusal) is = absurd (cc)
+free_stage spot (Refused told) is = absurd (cc)
 
 pub free_job : (keeps : Bool) (spot : Option Spot) (s : Stage) → job_mark keeps s ≡ one.Free → mark_of spot s ≡ mark.Free
 free_job keeps spot Free is = refl
@@ -72,7 +73,7 @@ free_job keeps spot (Open job told) is = absurd (cc)
 free_job keeps spot (Fired told) is = absurd (cc)
 free_job keeps spot (Failed code) is = absurd (cc)
 free_job keeps spot (Gave told) is = absurd (cc)
-free_job keeps spot (Refused refusal) is = absurd (cc)
+free_job keeps spot (Refused told) is = absurd (cc)
 
 -- what a stage with a lent frame is
 pub record IsBusy (s : Stage) (places : Places) : Type 0 where
@@ -88,7 +89,7 @@ lent_busy (Open job told) places is = absurd (cc)
 lent_busy (Fired told) places is = absurd (cc)
 lent_busy (Failed code) places is = absurd (cc)
 lent_busy (Gave told) places is = absurd (cc)
-lent_busy (Refused refusal) places is = absurd (cc)
+lent_busy (Refused told) places is = absurd (cc)
 
 pub record IsOpen (s : Stage) (job : Firing) : Type 0 where
   pub own : Snapshot Firing
@@ -104,9 +105,13 @@ open_stage spot (Open own told) job is = record { own = own; told = told; stage_
 open_stage spot (Fired told) job is = absurd (cc)
 open_stage spot (Failed code) job is = absurd (cc)
 open_stage spot (Gave told) job is = absurd (cc)
-open_stage spot (Refused refusal) job is = absurd (cc)
+open_stage spot (Refused told) job is = absurd (cc)
 
 -- ---- what a node is finished with, in the words of refusals and in those of codes
+
+-- the refusal for which the job of leases has this code: that which is held for the node, or else that of its kernel
+abbrev pub refusal_for : Option Spot → Stage → ℕ → Refusal
+refusal_for spot s code = unwrap_or (refusal_in (held_by s)) (refusal_at spot code)
 
 fired_tie : (keeps : Bool) (spot : Option Spot) (frame : FrameView) → keeps ≡ false → Some (node_result keeps (fired_in spot frame)) ≡ Some (Ok frame.outputs)
 fired_tie keeps None frame none = rw none (ap (λ (l : List (List ℤ)). Some (Ok l)) (append-nil frame.outputs))
@@ -125,7 +130,7 @@ value_tie keeps child fires spot (Open job told) sort none = refl
 value_tie keeps child fires spot (Fired told) sort none = fired_tie keeps spot told.frame (none sort)
 value_tie keeps child fires spot (Failed code) sort none = failed_tie keeps spot code
 value_tie keeps child fires spot (Gave told) sort none = refl
-value_tie keeps child fires spot (Refused refusal) sort none = refl
+value_tie keeps child fires spot (Refused told) sort none = refl
 
 -- ---- stages of nodes whose frames came back
 
@@ -142,7 +147,7 @@ fired_stage (Open job told) frame is = absurd is
 fired_stage (Fired told) frame is = record { told = told; stage_is = refl; frame_is = is }
 fired_stage (Failed code) frame is = absurd is
 fired_stage (Gave told) frame is = absurd is
-fired_stage (Refused refusal) frame is = absurd is
+fired_stage (Refused told) frame is = absurd is
 
 pub record IsOpenedWith (s : Stage) (job : Firing) (frame : FrameView) : Type 0 where
   pub own : Snapshot Firing
@@ -159,7 +164,7 @@ opened_stage (Open own told) job frame is = record { own = own; told = told; sta
 opened_stage (Fired told) job frame is = absurd is
 opened_stage (Failed code) job frame is = absurd is
 opened_stage (Gave told) job frame is = absurd is
-opened_stage (Refused refusal) job frame is = absurd is
+opened_stage (Refused told) job frame is = absurd is
 
 pub record IsLostWith (s : Stage) (frame : FrameView) : Type 0 where
   pub told : Told
@@ -174,4 +179,4 @@ lost_stage (Open own told) frame is = absurd is
 lost_stage (Fired told) frame is = absurd is
 lost_stage (Failed code) frame is = absurd is
 lost_stage (Gave told) frame is = absurd is
-lost_stage (Refused refusal) frame is = absurd is
+lost_stage (Refused told) frame is = absurd is

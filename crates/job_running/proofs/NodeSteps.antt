@@ -4,7 +4,6 @@ use Rattle.std.specs.Prelude.{Vec}
 use Rattle.std.specs.Global.{Global}
 use Rattle.std.proofs.lemmas.Bool.{cases_eq}
 use Rattle.std.proofs.lemmas.List.{get_or-set_other, get_or-set_same, length-set}
-use Rattle.kernel_gate.specs.Value.{FrameView}
 use Rattle.pisdf_model.specs.declared.graph.Graph.{Graph}
 use Rattle.pisdf_meaning.specs.declared.outcome.TraceRow.{TraceRow}
 use Rattle.sdf_level.specs.declared.node.Node.{Node}
@@ -16,9 +15,10 @@ use Rattle.job_rules.specs.Items.{actor_of, keeps_state}
 use Rattle.one_job.specs.Marks as one
 use Rattle.one_job.specs.Pick.{is_child_in}
 use Rattle.one_job.specs.View.{IsFiring}
-use Rattle.job_running.specs.Parts.{AllStand, AreTraces, Stands, frame_at}
+use Rattle.job_running.specs.Parts.{AllStand, AreTraces, Stands, held_at}
 use Rattle.job_running.specs.Stages.{stage_at, trace_in}
 use Rattle.job_running.specs.declared.stage.Stage.{Stage}
+use Rattle.job_running.specs.declared.frames.Held.{Held}
 use Rattle.job_running.specs.declared.stage.Stage.TheVariants.{Free}
 
 -- the values after a node that had none is marked
@@ -28,29 +28,29 @@ values_grow marks n m none k answer is = ⊎_elim
     (λ (other : k ≡ n → ⊥). ap one.value_of (get_or-set_other marks n k m one.Free other) ∙ is)
     (cases_eq k n)
 
-module _ (graphs : List Graph) (g : Graph) (kinds : List (Option ℕ)) (job : JobGraph ℤ) (stages : List Stage) (marks : List one.Mark) (frames : List (Option FrameView))
-    (stand : AllStand graphs g kinds job stages marks frames) (stays : ReadyStays ℤ ℕ) (n : ℕ) (inside : n < length job.nodes) where
-  abbrev StandsSo : Stage → one.Mark → Option FrameView → Type 0
+module _ (graphs : List Graph) (g : Graph) (kinds : List (Option ℕ)) (job : JobGraph ℤ) (stages : List Stage) (marks : List one.Mark) (held : List Held)
+    (stand : AllStand graphs g kinds job stages marks held) (stays : ReadyStays ℤ ℕ) (n : ℕ) (inside : n < length job.nodes) where
+  abbrev StandsSo : Stage → one.Mark → Held → Type 0
   StandsSo s m f = Stands graphs (lens job n) (keeps_state graphs (actor_of g (node_at job.nodes n))) (is_child_in kinds (node_at job.nodes n)) (IsFiring (node_at job.nodes n)) s m f
 
-  pub step : (s : Stage) (m : one.Mark) (frames' : List (Option FrameView)) → one.value_of (one.mark_at marks n) ≡ None → IsReady job (one.values marks) n → StandsSo s m (frame_at frames' n) →
-      length frames' ≡ length frames → ((k : ℕ) → k ≢ n → frame_at frames' k ≡ frame_at frames k) → AllStand graphs g kinds job (set stages n s) (set marks n m) frames'
-  step s m frames' none ready stands long others = record {
+  pub step : (s : Stage) (m : one.Mark) (held' : List Held) → one.value_of (one.mark_at marks n) ≡ None → IsReady job (one.values marks) n → StandsSo s m (held_at held' n) →
+      length held' ≡ length held → ((k : ℕ) → k ≢ n → held_at held' k ≡ held_at held k) → AllStand graphs g kinds job (set stages n s) (set marks n m) held'
+  step s m held' none ready stands long others = record {
     one_stage = length-set stages n s ∙ stand.one_stage;
     one_mark = length-set marks n m ∙ stand.one_mark;
-    few_frames = let few = stand.few_frames in omega arith;
-    has_place = λ k k_in child. let place = stand.has_place k k_in child in omega arith;
+    few_held = let few = stand.few_held in omega arith;
+    has_room = λ k k_in child. let place = stand.has_room k k_in child in omega arith;
     each = λ k k_in. ⊎_elim
         (λ (same : k ≡ n).
         let stage_is : stage_at (set stages n s) n ≡ s = get_or-set_same stages n s Free (let l = stand.one_stage in omega arith) in
         let mark_is : one.mark_at (set marks n m) n ≡ m = get_or-set_same marks n m one.Free (let l = stand.one_mark in omega arith) in
-        let P : ℕ → Type 0 = λ i. Stands graphs (lens job i) (keeps_state graphs (actor_of g (node_at job.nodes i))) (is_child_in kinds (node_at job.nodes i)) (IsFiring (node_at job.nodes i)) (stage_at (set stages n s) i) (one.mark_at (set marks n m) i) (frame_at frames' i) in
-        subst P (sym same) (subst (λ x. StandsSo x (one.mark_at (set marks n m) n) (frame_at frames' n)) (sym stage_is) (subst (λ x. StandsSo s x (frame_at frames' n)) (sym mark_is) stands)))
+        let P : ℕ → Type 0 = λ i. Stands graphs (lens job i) (keeps_state graphs (actor_of g (node_at job.nodes i))) (is_child_in kinds (node_at job.nodes i)) (IsFiring (node_at job.nodes i)) (stage_at (set stages n s) i) (one.mark_at (set marks n m) i) (held_at held' i) in
+        subst P (sym same) (subst (λ x. StandsSo x (one.mark_at (set marks n m) n) (held_at held' n)) (sym stage_is) (subst (λ x. StandsSo s x (held_at held' n)) (sym mark_is) stands)))
         (λ (other : k ≡ n → ⊥).
         let stage_is : stage_at (set stages n s) k ≡ stage_at stages k = get_or-set_other stages n k s Free other in
         let mark_is : one.mark_at (set marks n m) k ≡ one.mark_at marks k = get_or-set_other marks n k m one.Free other in
-        let S : Stage → one.Mark → Option FrameView → Type 0 = λ x y z. Stands graphs (lens job k) (keeps_state graphs (actor_of g (node_at job.nodes k))) (is_child_in kinds (node_at job.nodes k)) (IsFiring (node_at job.nodes k)) x y z in
-        subst (λ x. S x (one.mark_at (set marks n m) k) (frame_at frames' k)) (sym stage_is) (subst (λ x. S (stage_at stages k) x (frame_at frames' k)) (sym mark_is) (subst (λ x. S (stage_at stages k) (one.mark_at marks k) x) (sym (others k other)) (stand.each k k_in))))
+        let S : Stage → one.Mark → Held → Type 0 = λ x y z. Stands graphs (lens job k) (keeps_state graphs (actor_of g (node_at job.nodes k))) (is_child_in kinds (node_at job.nodes k)) (IsFiring (node_at job.nodes k)) x y z in
+        subst (λ x. S x (one.mark_at (set marks n m) k) (held_at held' k)) (sym stage_is) (subst (λ x. S (stage_at stages k) x (held_at held' k)) (sym mark_is) (subst (λ x. S (stage_at stages k) (one.mark_at marks k) x) (sym (others k other)) (stand.each k k_in))))
         (cases_eq k n);
     ready = λ k claimed. stays job (one.values marks) (one.values (set marks n m)) k (values_grow marks n m none) (⊎_elim
         (λ (same : k ≡ n). subst (λ i. IsReady job (one.values marks) i) (sym same) ready)

@@ -19,7 +19,7 @@ use Rattle.pisdf_meaning.specs.declared.refusal.Refusal.{Refusal}
 use Rattle.sdf_level.specs.declared.node.Node.{Node}
 use Rattle.sdf_level.specs.declared.node.Node.TheVariants as node
 use Rattle.job_flow.specs.Frames as flow
-use Rattle.job_flow.specs.Frames.{inputs, lens, lengths_written, output_rates}
+use Rattle.job_flow.specs.Frames.{inputs, lens, lengths_written}
 use Rattle.job_flow.specs.Graphs.{JobGraph, node_at}
 use Rattle.job_flow.specs.Events.{IsReady}
 use Rattle.job_flow.specs.Laws.{InputsInAnyWords, ReadyInAnyWords}
@@ -38,6 +38,7 @@ use Rattle.job_running.specs.View.{RunningView, task}
 use Rattle.job_running.specs.declared.stage.Stage.{Stage}
 use Rattle.job_running.specs.declared.handed.Handed.TheVariants.{Copy, Fire}
 use Rattle.job_running.proofs.NodeTies.{free_item, free_mark, inputs_are, ready_own, ready_told, told}
+use Rattle.job_running.specs.declared.frames.Held.{Held}
 use Rattle.job_running.proofs.OutputRates.{own_rate, written}
 
 -- what holds of frames that are handed out
@@ -53,7 +54,7 @@ kind_found [] a actor is = absurd (cc)
 kind_found (x ∷ own) zero actor is = let same : x ≡ actor = cc in ap kind_of_actor same
 kind_found (x ∷ own) (suc a) actor is = kind_found own a actor is
 
-module _ (f : Fixed) (stages : List Stage) (frames : List (Option FrameView)) (rows : List (Vec (List TraceRow) Global)) (j : leased.JobView) (keeps : KeepsAll f stages frames rows j) where
+module _ (f : Fixed) (stages : List Stage) (held : List Held) (rows : List (Vec (List TraceRow) Global)) (j : leased.JobView) (keeps : KeepsAll f stages held rows j) where
   abbrev pub G : List Graph
   G = f.graphs.graphs
 
@@ -70,7 +71,7 @@ module _ (f : Fixed) (stages : List Stage) (frames : List (Option FrameView)) (r
   values = values_of f
 
   abbrev pub results : flow.Values ℤ Refusal
-  results = told G g f.firing.path j.kinds keeps.set_up.kinds job stages j.marks frames keeps.stand
+  results = told G g f.firing.path j.kinds keeps.set_up.kinds job stages j.marks held keeps.stand
 
   pub nodes_are : j.compilation.graph.nodes ≡ job.nodes
   nodes_are = ap (λ (x : JobGraph ℤ). x.nodes) keeps.set_up.graph_is
@@ -123,13 +124,13 @@ module _ (f : Fixed) (stages : List Stage) (frames : List (Option FrameView)) (r
 
   module _ (ready_words : ReadyInAnyWords ℤ ℕ Refusal) (input_words : InputsInAnyWords ℤ ℕ Refusal) where
     pub own_ready : (n : ℕ) → IsReady job results n → IsReady job (one.values j.marks) n
-    own_ready n ready = ready_own G g f.firing.path j.kinds keeps.set_up.kinds job stages j.marks frames keeps.stand ready_words input_words n ready
+    own_ready n ready = ready_own G g f.firing.path j.kinds keeps.set_up.kinds job stages j.marks held keeps.stand ready_words input_words n ready
 
     pub told_ready : (n : ℕ) → IsReady job (one.values j.marks) n → IsReady job results n
-    told_ready n ready = ready_told G g f.firing.path j.kinds keeps.set_up.kinds job stages j.marks frames keeps.stand ready_words input_words n ready
+    told_ready n ready = ready_told G g f.firing.path j.kinds keeps.set_up.kinds job stages j.marks held keeps.stand ready_words input_words n ready
 
     pub same_inputs : (n : ℕ) → inputs job results n ≡ inputs job (one.values j.marks) n
-    same_inputs n = inputs_are G g f.firing.path j.kinds keeps.set_up.kinds job stages j.marks frames keeps.stand ready_words input_words n
+    same_inputs n = inputs_are G g f.firing.path j.kinds keeps.set_up.kinds job stages j.marks held keeps.stand ready_words input_words n
 
     pub leased_ready : (n : ℕ) → IsReady job (one.values j.marks) n → IsReady (leased.graph_of j) (one.values j.marks) n
     leased_ready n ready = subst (λ (x : JobGraph ℤ). IsReady x (one.values j.marks) n) (sym keeps.set_up.graph_is) ready
@@ -138,10 +139,10 @@ module _ (f : Fixed) (stages : List Stage) (frames : List (Option FrameView)) (r
     ready_leased n ready = subst (λ (x : JobGraph ℤ). IsReady x (one.values j.marks) n) keeps.set_up.graph_is ready
 
     pub free_job : (n : ℕ) → mark_at v.marks n ≡ mark.Free → one.mark_at j.marks n ≡ one.Free
-    free_job n free = free_mark G g f.firing.path j.kinds keeps.set_up.kinds job stages j.marks frames keeps.stand n free
+    free_job n free = free_mark G g f.firing.path j.kinds keeps.set_up.kinds job stages j.marks held keeps.stand n free
 
     pub job_free : (n : ℕ) → one.mark_at j.marks n ≡ one.Free → mark_at v.marks n ≡ mark.Free
-    job_free n free = free_item G g f.firing.path j.kinds keeps.set_up.kinds job stages j.marks frames keeps.stand n free
+    job_free n free = free_item G g f.firing.path j.kinds keeps.set_up.kinds job stages j.marks held keeps.stand n free
 
     -- a free node with a task may be claimed
     pub enabled : (n : ℕ) (t : Task Firing words.Work) → mark_at v.marks n ≡ mark.Free → task v n ≡ Some t → leased.IsEnabled j n

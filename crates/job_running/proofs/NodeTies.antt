@@ -4,7 +4,6 @@ use Rattle.std.specs.Prelude.{is_none}
 use Rattle.std.specs.Option.{option_map}
 use Rattle.std.proofs.lemmas.Bool.{cases_lt}
 use Rattle.std.proofs.lemmas.List.{get_or_past}
-use Rattle.kernel_gate.specs.Value.{FrameView}
 use Rattle.nested_jobs.specs.Marks as mark
 use Rattle.param_resolver.specs.Numbering.{acting, state_size}
 use Rattle.pisdf_model.specs.declared.actor.Actor.{Actor}
@@ -15,7 +14,7 @@ use Rattle.pisdf_meaning.specs.declared.refusal.Refusal.{Refusal}
 use Rattle.sdf_level.specs.declared.node.Node.{Node}
 use Rattle.sdf_level.specs.declared.node.Node.TheVariants as node
 use Rattle.job_flow.specs.Frames as flow
-use Rattle.job_flow.specs.Frames.{inputs, lens}
+use Rattle.job_flow.specs.Frames.{inputs}
 use Rattle.job_flow.specs.Graphs.{JobGraph, node_at}
 use Rattle.job_flow.specs.Events.{IsReady}
 use Rattle.job_flow.specs.Laws.{InputsInAnyWords, ReadyInAnyWords}
@@ -26,11 +25,12 @@ use Rattle.one_job.specs.Pick.{is_child_in}
 use Rattle.one_job.specs.View.{IsFiring}
 use Rattle.job_preparing.specs.Handing.{ItemMarks, mark_at}
 use Rattle.job_running.specs.Parts.{AllStand, kernel_in, kind_of_actor}
-use Rattle.job_running.specs.Stages.{job_mark, mark_of, marks_of, refusal_for, spot_of, stage_at}
+use Rattle.job_running.specs.Stages.{job_mark, mark_of, marks_of, spot_of, stage_at}
 use Rattle.job_running.specs.View.{results}
 use Rattle.job_running.specs.declared.stage.Stage.{Stage}
 use Rattle.job_running.specs.declared.stage.Stage.TheVariants.{Free}
-use Rattle.job_running.proofs.NodeMarks.{free_job, free_stage, mark_here, value_tie}
+use Rattle.job_running.specs.declared.frames.Held.{Held}
+use Rattle.job_running.proofs.NodeMarks.{free_job, free_stage, mark_here, refusal_for, value_tie}
 
 -- ---- nodes that fire graphs
 
@@ -59,8 +59,8 @@ stateless graphs g kinds are (node.Round l) is = refl
 
 -- ---- what nodes are finished with
 
-module _ (graphs : List Graph) (g : Graph) (path : List ℕ) (kinds : List (Option ℕ)) (kinds_are : kinds ≡ map kind_of_actor (acting g)) (job : JobGraph ℤ) (stages : List Stage) (marks : List one.Mark) (frames : List (Option FrameView))
-    (stand : AllStand graphs g kinds job stages marks frames) where
+module _ (graphs : List Graph) (g : Graph) (path : List ℕ) (kinds : List (Option ℕ)) (kinds_are : kinds ≡ map kind_of_actor (acting g)) (job : JobGraph ℤ) (stages : List Stage) (marks : List one.Mark) (held : List Held)
+    (stand : AllStand graphs g kinds job stages marks held) where
   abbrev pub items : ItemMarks
   items = marks_of path (acting g) job.nodes stages
 

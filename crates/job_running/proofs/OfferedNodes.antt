@@ -2,7 +2,7 @@
 use Rattle.std.proofs.Common.{◌≡◌, ℕ, zero, suc, ◌<◌, ◌&&◌, nat_lt, ⊎_elim, ℤ, Bool, true, false, List, length, get_or, slice_get, Option, Some, None, refl, sym, ap, ◌∙◌, subst, arith}
 use Rattle.std.specs.Prelude.{Vec, is_none}
 use Rattle.std.specs.Global.{Global}
-use Rattle.kernel_gate.specs.Value.{FrameView, Places}
+use Rattle.kernel_gate.specs.Value.{Places}
 use Rattle.nested_jobs.specs.Rules.{Task, Work, Call}
 use Rattle.param_resolver.specs.Numbering.{acting}
 use Rattle.pisdf_model.specs.declared.actor.Actor.{Actor}
@@ -18,11 +18,10 @@ use Rattle.job_flow.specs.Events.{IsReady}
 use Rattle.job_flow.specs.Laws.{InputsInAnyWords, ReadyInAnyWords}
 use Rattle.job_rules.specs.Items.{actor_task, node_task}
 use Rattle.job_rules.specs.Words as words
-use Rattle.job_rules.specs.Words.{Answer, Spot, given_outs}
+use Rattle.job_rules.specs.Words.{Spot}
 use Rattle.one_job.specs.Marks as one
 use Rattle.one_job.specs.Pick.{is_child_in}
 use Rattle.one_job.specs.View as leased
-use Rattle.one_job.specs.View.{IsFiring}
 use Rattle.job_preparing.specs.Handing.{mark_at}
 use Rattle.job_running.specs.Kept.{view_with}
 use Rattle.job_running.specs.Parts.{Fixed, KeepsAll, fired, job_in, values_of}
@@ -51,6 +50,7 @@ use Rattle.worker_mapping.specs.declared.mapping.Mapping.{Mapping}
 use Rattle.job_running.specs.Parts.{prepared_of}
 use Rattle.job_running.specs.View.{IsOfferedCall, is_quiet}
 use Rattle.job_running.proofs.ClaimedNodes.{item_is, spot, state_kept}
+use Rattle.job_running.specs.declared.frames.Held.{Held}
 use Rattle.job_running.proofs.NodeTasks.{job_free, leased_ready, ready_leased}
 
 -- what is so below a number, is so of all below it
@@ -80,12 +80,12 @@ is_called (Work w) is = absurd (cc)
 is_called (Call d) is = (d, refl)
 
 -- where nothing more will come, no node is claimed
-pub never_claimed : (f : Fixed) (stages : List Stage) (frames : List (Option FrameView)) (rows : List (Vec (List TraceRow) Global)) (j : leased.JobView) → KeepsAll f stages frames rows j → IsQuiet (leased.graph_of j) (one.values j.marks) → (n : ℕ) (places : Places) → one.mark_at j.marks n ≡ one.Claimed places → ⊥
-never_claimed f stages frames rows j keeps quiet n places is =
+pub never_claimed : (f : Fixed) (stages : List Stage) (held : List Held) (rows : List (Vec (List TraceRow) Global)) (j : leased.JobView) → KeepsAll f stages held rows j → IsQuiet (leased.graph_of j) (one.values j.marks) → (n : ℕ) (places : Places) → one.mark_at j.marks n ≡ one.Claimed places → ⊥
+never_claimed f stages held rows j keeps quiet n places is =
     let ready = keeps.stand.ready n (λ free. let e : one.Free ≡ one.Claimed places = sym free ∙ is in absurd (cc)) in
     subst (λ (m : one.Mark). IsFinished (one.value_of m)) is (quiet n (subst (λ (x : JobGraph ℤ). IsReady x (one.values j.marks) n) (sym keeps.set_up.graph_is) ready))
 
-module _ (f : Fixed) (stages : List Stage) (frames : List (Option FrameView)) (rows : List (Vec (List TraceRow) Global)) (j : leased.JobView) (keeps : KeepsAll f stages frames rows j) (all : FiringsAreAll) (in_order : FiringsStandInOrder) where
+module _ (f : Fixed) (stages : List Stage) (held : List Held) (rows : List (Vec (List TraceRow) Global)) (j : leased.JobView) (keeps : KeepsAll f stages held rows j) (all : FiringsAreAll) (in_order : FiringsStandInOrder) where
   abbrev G : List Graph
   G = f.graphs.graphs
 
@@ -132,37 +132,37 @@ module _ (f : Fixed) (stages : List Stage) (frames : List (Option FrameView)) (r
       task_is : task (view_with f stages) n ≡ Some t
       sort : (elim t as (λ x. Bool) [ Work w ↦ false | Call d ↦ true ]) ≡ is_child_in j.kinds (node_at (job_in f).nodes n)
 
-    asks : (n : ℕ) → IsReady (job_in f) (results f stages frames rows j keeps) n → Asks n
+    asks : (n : ℕ) → IsReady (job_in f) (results f stages held rows j keeps) n → Asks n
     asks n ready =
-        let has = node_has n (node_at (job_in f).nodes n) refl (inputs (job_in f) (results f stages frames rows j keeps) n) (lens (job_in f) n) in
-        record { t = has.0; task_is = ready_task f stages frames rows j keeps n ready ∙ has.1; sort = sort_of f stages frames rows j keeps (node_at (job_in f).nodes n) (inputs (job_in f) (results f stages frames rows j keeps) n) (lens (job_in f) n) has.0 has.1 }
+        let has = node_has n (node_at (job_in f).nodes n) refl (inputs (job_in f) (results f stages held rows j keeps) n) (lens (job_in f) n) in
+        record { t = has.0; task_is = ready_task f stages held rows j keeps n ready ∙ has.1; sort = sort_of f stages held rows j keeps (node_at (job_in f).nodes n) (inputs (job_in f) (results f stages held rows j keeps) n) (lens (job_in f) n) has.0 has.1 }
 
     child_node : (n : ℕ) → is_child_in j.kinds (node_at j.compilation.graph.nodes n) ≡ is_child_in j.kinds (node_at (job_in f).nodes n)
-    child_node n = ap (λ (l : List Node). is_child_in j.kinds (node_at l n)) (nodes_are f stages frames rows j keeps)
+    child_node n = ap (λ (l : List Node). is_child_in j.kinds (node_at l n)) (nodes_are f stages held rows j keeps)
 
-    offered_ready : (n : ℕ) → leased.IsEnabled j n → IsReady (job_in f) (results f stages frames rows j keeps) n
-    offered_ready n enabled = told_ready f stages frames rows j keeps ready_words input_words n (ready_leased f stages frames rows j keeps ready_words input_words n enabled.ready)
+    offered_ready : (n : ℕ) → leased.IsEnabled j n → IsReady (job_in f) (results f stages held rows j keeps) n
+    offered_ready n enabled = told_ready f stages held rows j keeps ready_words input_words n (ready_leased f stages held rows j keeps ready_words input_words n enabled.ready)
 
     offers_work : (n : ℕ) → IsOffered j false n → IsOfferedWork (view_with f stages) n
     offers_work n offered =
         let a = asks n (offered_ready n offered.enabled) in
         let w = is_work a.t (a.sort ∙ sym (child_node n) ∙ offered.sort) in
-        record { free = job_free f stages frames rows j keeps ready_words input_words n offered.enabled.unclaimed; work = w.0; task_is = a.task_is ∙ ap Some w.1 }
+        record { free = job_free f stages held rows j keeps ready_words input_words n offered.enabled.unclaimed; work = w.0; task_is = a.task_is ∙ ap Some w.1 }
 
     offers_call : (n : ℕ) → IsOffered j true n → IsOfferedCall (view_with f stages) n
     offers_call n offered =
         let a = asks n (offered_ready n offered.enabled) in
         let d = is_called a.t (a.sort ∙ sym (child_node n) ∙ offered.sort) in
-        record { free = job_free f stages frames rows j keeps ready_words input_words n offered.enabled.unclaimed; job = d.0; task_is = a.task_is ∙ ap Some d.1 }
+        record { free = job_free f stages held rows j keeps ready_words input_words n offered.enabled.unclaimed; job = d.0; task_is = a.task_is ∙ ap Some d.1 }
 
     sort_here : (n : ℕ) (t : Task Firing words.Work) → task (view_with f stages) n ≡ Some t → (elim t as (λ x. Bool) [ Work w ↦ false | Call d ↦ true ]) ≡ is_child_in j.kinds (node_at j.compilation.graph.nodes n)
-    sort_here n t is = let has = has_task f stages frames rows j keeps n t is in sort_of f stages frames rows j keeps (node_at (job_in f).nodes n) _ (lens (job_in f) n) t has.is ∙ sym (child_node n)
+    sort_here n t is = let has = has_task f stages held rows j keeps n t is in sort_of f stages held rows j keeps (node_at (job_in f).nodes n) _ (lens (job_in f) n) t has.is ∙ sym (child_node n)
 
     work_offered : (n : ℕ) → IsOfferedWork (view_with f stages) n → IsOffered j false n
-    work_offered n offered = record { enabled = enabled f stages frames rows j keeps ready_words input_words n (Work offered.work) offered.free offered.task_is; sort = sym (sort_here n (Work offered.work) offered.task_is) }
+    work_offered n offered = record { enabled = enabled f stages held rows j keeps ready_words input_words n (Work offered.work) offered.free offered.task_is; sort = sym (sort_here n (Work offered.work) offered.task_is) }
 
     call_offered : (n : ℕ) → IsOfferedCall (view_with f stages) n → IsOffered j true n
-    call_offered n offered = record { enabled = enabled f stages frames rows j keeps ready_words input_words n (Call offered.job) offered.free offered.task_is; sort = sym (sort_here n (Call offered.job) offered.task_is) }
+    call_offered n offered = record { enabled = enabled f stages held rows j keeps ready_words input_words n (Call offered.job) offered.free offered.task_is; sort = sym (sort_here n (Call offered.job) offered.task_is) }
 
     mapping_is : j.compilation.mapping ≡ f.compilation.mapping
     mapping_is = ap (λ (c : Compilation). c.mapping) keeps.set_up.compilation_is
@@ -175,34 +175,34 @@ module _ (f : Fixed) (stages : List Stage) (frames : List (Option FrameView)) (r
 
     -- ---- when nothing more will come
 
-    no_task : (n : ℕ) → (IsReady (job_in f) (results f stages frames rows j keeps) n → ⊥) → task (view_with f stages) n ≡ None
-    no_task n never = go (nat_lt n (length (nodes_in G g f.firing (prepared_of f))) && is_ready_by (edges_in G g f.firing (prepared_of f)) (results f stages frames rows j keeps) n) refl
+    no_task : (n : ℕ) → (IsReady (job_in f) (results f stages held rows j keeps) n → ⊥) → task (view_with f stages) n ≡ None
+    no_task n never = go (nat_lt n (length (nodes_in G g f.firing (prepared_of f))) && is_ready_by (edges_in G g f.firing (prepared_of f)) (results f stages held rows j keeps) n) refl
       where
-        go : (b : Bool) → (nat_lt n (length (nodes_in G g f.firing (prepared_of f))) && is_ready_by (edges_in G g f.firing (prepared_of f)) (results f stages frames rows j keeps) n) ≡ b → task (view_with f stages) n ≡ None
-        go true is = absurd (never (ready_is G g f.firing (prepared_of f) (results f stages frames rows j keeps) n is))
+        go : (b : Bool) → (nat_lt n (length (nodes_in G g f.firing (prepared_of f))) && is_ready_by (edges_in G g f.firing (prepared_of f)) (results f stages held rows j keeps) n) ≡ b → task (view_with f stages) n ≡ None
+        go true is = absurd (never (ready_is G g f.firing (prepared_of f) (results f stages held rows j keeps) n is))
         go false is = rw is refl
 
     module _ (quiet : IsQuiet (leased.graph_of j) (one.values j.marks)) where
       finished_of : (n : ℕ) → IsReady (job_in f) (one.values j.marks) n → IsFinished (one.values j.marks n)
-      finished_of n ready = quiet n (leased_ready f stages frames rows j keeps ready_words input_words n ready)
+      finished_of n ready = quiet n (leased_ready f stages held rows j keeps ready_words input_words n ready)
 
       claimed_never : (n : ℕ) (places : Places) → one.mark_at j.marks n ≡ one.Claimed places → ⊥
-      claimed_never n places is = never_claimed f stages frames rows j keeps quiet n places is
+      claimed_never n places is = never_claimed f stages held rows j keeps quiet n places is
 
-      settled_stage : (n : ℕ) (s : Stage) → stage_at stages n ≡ s → one.mark_at j.marks n ≡ job_mark (state_kept f stages frames rows j keeps n) s → is_settled (mark_of (spot f stages frames rows j keeps n) s) (task (view_with f stages) n) ≡ true
-      settled_stage n Free at is = ap is_none (no_task n (λ ready. subst (λ (m : one.Mark). IsFinished (one.value_of m)) is (finished_of n (own_ready f stages frames rows j keeps ready_words input_words n ready))))
+      settled_stage : (n : ℕ) (s : Stage) → stage_at stages n ≡ s → one.mark_at j.marks n ≡ job_mark (state_kept f stages held rows j keeps n) s → is_settled (mark_of (spot f stages held rows j keeps n) s) (task (view_with f stages) n) ≡ true
+      settled_stage n Free at is = ap is_none (no_task n (λ ready. subst (λ (m : one.Mark). IsFinished (one.value_of m)) is (finished_of n (own_ready f stages held rows j keeps ready_words input_words n ready))))
       settled_stage n (Busy told) at is = absurd (claimed_never n told.frame.places is)
       settled_stage n (Lost told) at is = absurd (claimed_never n told.frame.places is)
       settled_stage n (Open job told) at is = absurd (claimed_never n told.frame.places is)
       settled_stage n (Fired told) at is = refl
       settled_stage n (Failed code) at is = refl
       settled_stage n (Gave told) at is = refl
-      settled_stage n (Refused refusal) at is = refl
+      settled_stage n (Refused told) at is = refl
 
       quiet_told : is_quiet (view_with f stages) ≡ true
       quiet_told = all_from (length (job_in f).nodes) (λ n. is_settled (mark_at (view_with f stages).marks n) (task (view_with f stages) n)) (λ n below.
           let s = keeps.stand.each n below in
-          ap (λ m. is_settled m (task (view_with f stages) n)) (item_is f stages frames rows j keeps n) ∙ settled_stage n (stage_at stages n) refl s.mark_is)
+          ap (λ m. is_settled m (task (view_with f stages) n)) (item_is f stages held rows j keeps n) ∙ settled_stage n (stage_at stages n) refl s.mark_is)
 
     some_finished : (keep : Bool) (sp : Option Spot) (s : Stage) (t : Task Firing words.Work) → is_settled (mark_of sp s) (Some t) ≡ true → IsFinished (one.value_of (job_mark keep s))
     some_finished keep sp Free t is = absurd (cc)
@@ -212,17 +212,17 @@ module _ (f : Fixed) (stages : List Stage) (frames : List (Option FrameView)) (r
     some_finished keep sp (Fired told) t is = tt
     some_finished keep sp (Failed code) t is = tt
     some_finished keep sp (Gave told) t is = tt
-    some_finished keep sp (Refused refusal) t is = tt
+    some_finished keep sp (Refused told) t is = tt
 
     pub told_quiet : is_quiet (view_with f stages) ≡ true → IsQuiet (leased.graph_of j) (one.values j.marks)
     told_quiet is n ready =
-        let own = ready_leased f stages frames rows j keeps ready_words input_words n ready in
-        let a = asks n (told_ready f stages frames rows j keeps ready_words input_words n own) in
+        let own = ready_leased f stages held rows j keeps ready_words input_words n ready in
+        let a = asks n (told_ready f stages held rows j keeps ready_words input_words n own) in
         let s = keeps.stand.each n own.there in
         let settled = all_at (length (job_in f).nodes) (λ k. is_settled (mark_at (view_with f stages).marks k) (task (view_with f stages) k)) is n own.there in
-        let at : is_settled (mark_of (spot f stages frames rows j keeps n) (stage_at stages n)) (Some a.t) ≡ true =
-        ap (λ o. is_settled (mark_of (spot f stages frames rows j keeps n) (stage_at stages n)) o) (sym a.task_is) ∙ ap (λ m. is_settled m (task (view_with f stages) n)) (sym (item_is f stages frames rows j keeps n)) ∙ settled in
-        subst (λ (m : one.Mark). IsFinished (one.value_of m)) (sym s.mark_is) (some_finished (state_kept f stages frames rows j keeps n) (spot f stages frames rows j keeps n) (stage_at stages n) a.t at)
+        let at : is_settled (mark_of (spot f stages held rows j keeps n) (stage_at stages n)) (Some a.t) ≡ true =
+        ap (λ o. is_settled (mark_of (spot f stages held rows j keeps n) (stage_at stages n)) o) (sym a.task_is) ∙ ap (λ m. is_settled m (task (view_with f stages) n)) (sym (item_is f stages held rows j keeps n)) ∙ settled in
+        subst (λ (m : one.Mark). IsFinished (one.value_of m)) (sym s.mark_is) (some_finished (state_kept f stages held rows j keeps n) (spot f stages held rows j keeps n) (stage_at stages n) a.t at)
 
     pub quiet_is : (b : Bool) → (IsTrue b → IsQuiet (leased.graph_of j) (one.values j.marks)) → (IsQuiet (leased.graph_of j) (one.values j.marks) → IsTrue b) → b ≡ is_quiet (view_with f stages)
     quiet_is true to from = sym (quiet_told (to refl))

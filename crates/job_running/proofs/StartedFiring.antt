@@ -5,7 +5,7 @@ use Rattle.std.proofs.Math.Seq.{get_or-append_seam}
 use Rattle.std.proofs.lemmas.Bool.{cases_eq, cases_lt}
 use Rattle.std.proofs.lemmas.List.{get_or-replicate, get_or_append_left, get_or_past, length-map, length-replicate, map-append}
 use Rattle.std.proofs.lemmas.Option.{get_or_from_slice_get, slice_get_within}
-use Rattle.kernel_gate.specs.Value.{FrameView, lengths}
+use Rattle.kernel_gate.specs.Value.{lengths}
 use Rattle.param_resolver.specs.LevelOf.{AreOneEach, level_faults, links_of, sources_of}
 use Rattle.param_resolver.specs.Numbering.{acting}
 use Rattle.param_resolver.specs.Refusal as part
@@ -46,12 +46,14 @@ use Rattle.job_rules.specs.Words.{Answer}
 use Rattle.one_job.specs.Marks as one
 use Rattle.one_job.specs.View as leased
 use Rattle.job_preparing.specs.CompileTasks.{IsReadyWith}
-use Rattle.job_running.specs.Parts.{AreParts, Fixed, IsSetUp, KeepsAll, Stands, Start, call_count, fired, frame_at, job_in, kind_of_actor, row_at, start_of, values_of}
+use Rattle.job_running.specs.Parts.{AreParts, Fixed, IsSetUp, KeepsAll, Stands, Start, call_count, fired, held_at, job_in, kind_of_actor, row_at, start_of, values_of}
 use Rattle.job_preparing.specs.Handing.{LeftSuits}
 use Rattle.job_running.specs.Kept.{view_with}
 use Rattle.job_running.specs.Stages.{lents_of, marks_of, stage_at, trace_in}
 use Rattle.job_running.specs.View.{nodes_of}
 use Rattle.job_running.specs.declared.stage.Stage.{Stage}
+use Rattle.job_running.specs.declared.frames.Held.{Held}
+use Rattle.job_running.specs.declared.frames.Held.TheVariants.{Nothing}
 use Rattle.job_running.specs.declared.stage.Stage.TheVariants.{Free}
 
 -- ---- lists of one thing
@@ -229,20 +231,20 @@ module _ (f : Fixed) (workers : ℕ) (values : List ℤ) (range : InRange f.grap
 
       -- all nodes are free
       pub keeps_at_start : (j : leased.JobView) → start_of j ≡ record { compilation = f.compilation; kinds = kinds; args = args; sources = sources; stored = stored } → j.kinds ≡ kinds → j.marks ≡ replicate (length f.compilation.graph.nodes) one.Free → (stages : List Stage) → stages ≡ replicate (length f.compilation.graph.nodes) Free →
-          (frames : List (Option FrameView)) → frames ≡ replicate (length frames) None → length frames ≤ length j.compilation.graph.nodes → ((n : ℕ) → n < length j.compilation.graph.nodes → is_child j n ≡ true → n < length frames) → (rows : List (Vec (List TraceRow) Global)) → length rows ≡ length f.compilation.counts → ((a : ℕ) → row_at rows a ≡ replicate (call_count j.kinds f.compilation.counts a) []) → AreParts f →
-          KeepsAll f stages frames rows j
-      keeps_at_start j started j_kinds marks_are stages stages_are frames frames_are few places rows many row_is parts = record {
+          (held : List Held) → held ≡ replicate (length held) Nothing → length held ≤ length j.compilation.graph.nodes → ((n : ℕ) → n < length j.compilation.graph.nodes → is_child j n ≡ true → n < length held) → (rows : List (Vec (List TraceRow) Global)) → length rows ≡ length f.compilation.counts → ((a : ℕ) → row_at rows a ≡ replicate (call_count j.kinds f.compilation.counts a) []) → AreParts f →
+          KeepsAll f stages held rows j
+      keeps_at_start j started j_kinds marks_are stages stages_are held held_are few room rows many row_is parts = record {
         set_up = subst (IsSetUp f) (sym started) set_up;
         stand = record {
           one_stage = ap length stages_are ∙ length-replicate (length f.compilation.graph.nodes) Free ∙ ap length nodes_here;
           one_mark = ap length marks_are ∙ length-replicate (length f.compilation.graph.nodes) one.Free ∙ ap length nodes_here;
-          few_frames = subst (λ (l : List Node). length frames ≤ length l) nodes_are few;
-          has_place = subst (λ (l : List Node). (n : ℕ) → n < length l → is_child_in j.kinds (node_at l n) ≡ true → n < length frames) nodes_are places;
+          few_held = subst (λ (l : List Node). length held ≤ length l) nodes_are few;
+          has_room = subst (λ (l : List Node). (n : ℕ) → n < length l → is_child_in j.kinds (node_at l n) ≡ true → n < length held) nodes_are room;
           each = λ n below.
-              let P : Stage → Type 0 = λ s. Stands G (lens (job_in f) n) (keeps_state G (actor_of g (node_at (job_in f).nodes n))) (is_child_in j.kinds (node_at (job_in f).nodes n)) (leased.IsFiring (node_at (job_in f).nodes n)) s (one.mark_at j.marks n) (frame_at frames n) in
+              let P : Stage → Type 0 = λ s. Stands G (lens (job_in f) n) (keeps_state G (actor_of g (node_at (job_in f).nodes n))) (is_child_in j.kinds (node_at (job_in f).nodes n)) (leased.IsFiring (node_at (job_in f).nodes n)) s (one.mark_at j.marks n) (held_at held n) in
               subst P (sym (ap (λ l. stage_at l n) stages_are ∙ any_replicate (length f.compilation.graph.nodes) n Free)) record {
                 mark_is = ap (λ l. one.mark_at l n) marks_are ∙ any_replicate (length f.compilation.graph.nodes) n one.Free;
-                held = ap (λ l. frame_at l n) frames_are ∙ any_replicate (length frames) n None;
+                held = ap (λ l. held_at l n) held_are ∙ any_replicate (length held) n Nothing;
                 sort = tt;
                 sizes = tt;
               };

@@ -1,17 +1,16 @@
 -- What a running firing gives suits the call.
-use Rattle.std.proofs.Common.{◌≡◌, ℕ, ◌<◌, ◌≤◌, ℤ, Bool, List, length, map, Option, Some, None, Ok, sym, ap, ◌∙◌, subst, arith}
+use Rattle.std.proofs.Common.{◌≡◌, ℕ, ◌<◌, ◌≤◌, ℤ, Bool, List, length, map, Some, None, Ok, sym, ap, ◌∙◌, subst, arith}
 use Rattle.std.specs.Prelude.{Vec}
 use Rattle.std.specs.Global.{Global}
 use Rattle.std.proofs.lemmas.List.{get_or_past}
-use Rattle.kernel_gate.specs.Value.{FrameView, lengths}
+use Rattle.kernel_gate.specs.Value.{lengths}
 use Rattle.pisdf_model.specs.declared.graph.Graph.{Graph}
 use Rattle.pisdf_meaning.specs.declared.outcome.TraceRow.{TraceRow}
 use Rattle.job_flow.specs.Frames as flow
-use Rattle.job_flow.specs.Frames.{inputs, lens}
+use Rattle.job_flow.specs.Frames.{lens}
 use Rattle.job_flow.specs.Graphs.{JobGraph}
 use Rattle.one_job.specs.Marks as one
 use Rattle.one_job.specs.View as leased
-use Rattle.one_job.specs.View.{IsFiring}
 use Rattle.job_running.specs.Parts.{Fixed, KeepsAll, fired, job_in, values_of}
 use Rattle.job_running.specs.Sizes.{child_outs}
 use Rattle.job_running.specs.Stages.{FitsLens, job_mark, stage_at}
@@ -35,6 +34,7 @@ use Rattle.pisdf_meaning.proofs.SoundGraphs.{levelled}
 use Rattle.pisdf_meaning.proofs.StateSizes.{begun_sizes}
 use Rattle.job_preparing.specs.Handing.{EndSuits}
 use Rattle.job_running.proofs.EndSizes.{left_fits, outs_long, state_long}
+use Rattle.job_running.specs.declared.frames.Held.{Held}
 use Rattle.job_running.proofs.NodeTasks.{here}
 
 written_so : (graphs : List Graph) (ls : List ℕ) (keep : Bool) (s : Stage) (outs : List (List ℤ)) → FitsLens graphs ls keep s → one.value_of (job_mark keep s) ≡ Some (Ok outs) → lengths outs ≡ ls
@@ -45,9 +45,9 @@ written_so graphs ls keep (Open job told) outs sizes is = absurd (cc)
 written_so graphs ls keep (Fired told) outs sizes is = let same : told.frame.outputs ≡ outs = cc in ap lengths (sym same) ∙ sizes
 written_so graphs ls keep (Failed code) outs sizes is = absurd (cc)
 written_so graphs ls keep (Gave told) outs sizes is = let same : child_outs keep told.value.outs told.value.state ≡ outs = cc in ap lengths (sym same) ∙ sizes
-written_so graphs ls keep (Refused refusal) outs sizes is = absurd (cc)
+written_so graphs ls keep (Refused told) outs sizes is = absurd (cc)
 
-module _ (f : Fixed) (stages : List Stage) (frames : List (Option FrameView)) (rows : List (Vec (List TraceRow) Global)) (j : leased.JobView) (keeps : KeepsAll f stages frames rows j) where
+module _ (f : Fixed) (stages : List Stage) (held : List Held) (rows : List (Vec (List TraceRow) Global)) (j : leased.JobView) (keeps : KeepsAll f stages held rows j) where
   abbrev G : List Graph
   G = f.graphs.graphs
 
@@ -55,7 +55,7 @@ module _ (f : Fixed) (stages : List Stage) (frames : List (Option FrameView)) (r
   g = fired f
 
   level : Levelled G f.firing.graph g
-  level = levelled f.graphs keeps.set_up.well f.firing.graph g (here f stages frames rows j keeps) (levels_made f.graphs keeps.set_up.range keeps.set_up.well)
+  level = levelled f.graphs keeps.set_up.well f.firing.graph g (here f stages held rows j keeps) (levels_made f.graphs keeps.set_up.range keeps.set_up.well)
 
   abbrev told : flow.Values ℤ ℕ
   told = one.values j.marks

@@ -40,4 +40,4 @@ abbrev pub view_of : Inside → RunningView
 view_of i = view_with (fixed_of i) i.stages.items
 
 abbrev pub IsRunning : Inside → Type 0
-IsRunning i = KeepsAll (fixed_of i) i.stages.items i.frames.items i.traces.items i.job
+IsRunning i = KeepsAll (fixed_of i) i.stages.items i.held.items i.traces.items i.job

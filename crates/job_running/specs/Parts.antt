@@ -23,6 +23,7 @@ use Rattle.pisdf_meaning.specs.TopLevel.{IsLevelSet}
 use Rattle.pisdf_meaning.specs.declared.firing.Configured.{Configured}
 use Rattle.pisdf_meaning.specs.declared.firing.Firing.{Firing}
 use Rattle.pisdf_meaning.specs.declared.outcome.TraceRow.{TraceRow}
+use Rattle.pisdf_meaning.specs.declared.refusal.Refusal.{Refusal}
 use Rattle.job_flow.specs.Graphs.{IsJobGraph, JobGraph, node_at}
 use Rattle.job_flow.specs.Events.{IsReady}
 use Rattle.job_flow.specs.Frames.{lens}
@@ -32,7 +33,9 @@ use Rattle.one_job.specs.Marks as one
 use Rattle.one_job.specs.Pick.{is_child_in}
 use Rattle.one_job.specs.View as leased
 use Rattle.job_preparing.specs.Handing.{LeftSuits}
-use Rattle.job_running.specs.Stages.{FitsLens, FitsSort, held_by, job_mark, stage_at, trace_in}
+use Rattle.job_running.specs.Stages.{FitsLens, FitsSort, job_mark, held_by, stage_at, trace_in}
+use Rattle.job_running.specs.declared.frames.Held.{Held}
+use Rattle.job_running.specs.declared.frames.Held.TheVariants.{Nothing, Waits, Refuses}
 use Rattle.job_running.specs.declared.stage.Stage.{Stage}
 
 -- ---- the start
@@ -112,28 +115,43 @@ pub record IsSetUp (f : Fixed) (s : Start) : Type 0 where
 
 -- ---- nodes
 
--- what is so of one node: its stage, its mark in the job of leases and its frame that waits tell the same
-pub record Stands (graphs : List Graph) (lens_are : List ℕ) (keeps child : Bool) (fires : Type 0) (stage : Stage) (mark : one.Mark) (frame : Option FrameView) : Type 0 where
+-- what is so of one node: its stage, its mark in the job of leases and what is held for it tell the same
+pub record Stands (graphs : List Graph) (lens_are : List ℕ) (keeps child : Bool) (fires : Type 0) (stage : Stage) (mark : one.Mark) (held_is : Held) : Type 0 where
   pub mark_is : mark ≡ job_mark keeps stage
-  pub held : frame ≡ held_by stage
+  pub held : held_is ≡ held_by stage
   pub sort : FitsSort child fires stage
   pub sizes : FitsLens graphs lens_are keeps stage
 
-abbrev pub frame_at : List (Option FrameView) → ℕ → Option FrameView
-frame_at frames n = slice_index_or frames n None
+abbrev pub held_at : List Held → ℕ → Held
+held_at held n = slice_index_or held n Nothing
+
+abbrev pub NoneWaits : List Held → Type 0
+NoneWaits held = (n : ℕ) (frame : FrameView) → held_at held n ≢ Waits frame
+
+-- the frame that waits
+abbrev pub frame_in : Held → Option FrameView
+frame_in Nothing = None
+frame_in (Waits frame) = Some frame
+frame_in (Refuses refusal) = None
+
+-- the refusal that is held
+abbrev pub refusal_in : Held → Option Refusal
+refusal_in Nothing = None
+refusal_in (Waits frame) = None
+refusal_in (Refuses refusal) = Some refusal
 
 -- the frames of all claimed nodes wait here, each of a node that is claimed with it
-pub record HoldClaimed (marks : List one.Mark) (frames : List (Option FrameView)) : Type 0 where
-  pub claimed : (n : ℕ) (frame : FrameView) → frame_at frames n ≡ Some frame → one.mark_at marks n ≡ one.Claimed frame.places
-  pub waits : (n : ℕ) (places : Places) → one.mark_at marks n ≡ one.Claimed places → (frame : FrameView) × (frame_at frames n ≡ Some frame)
+pub record HoldClaimed (marks : List one.Mark) (held : List Held) : Type 0 where
+  pub claimed : (n : ℕ) (frame : FrameView) → held_at held n ≡ Waits frame → one.mark_at marks n ≡ one.Claimed frame.places
+  pub waits : (n : ℕ) (lent : Places) → one.mark_at marks n ≡ one.Claimed lent → (frame : FrameView) × (held_at held n ≡ Waits frame)
 
-pub record AllStand (graphs : List Graph) (g : Graph) (kinds : List (Option ℕ)) (job : JobGraph ℤ) (stages : List Stage) (marks : List one.Mark) (frames : List (Option FrameView)) : Type 0 where
+pub record AllStand (graphs : List Graph) (g : Graph) (kinds : List (Option ℕ)) (job : JobGraph ℤ) (stages : List Stage) (marks : List one.Mark) (held : List Held) : Type 0 where
   pub one_stage : length stages ≡ length job.nodes
   pub one_mark : length marks ≡ length job.nodes
-  -- there are at most as many places for frames as nodes, and each node that fires a graph has one
-  pub few_frames : length frames ≤ length job.nodes
-  pub has_place : (n : ℕ) → n < length job.nodes → is_child_in kinds (node_at job.nodes n) ≡ true → n < length frames
-  pub each : (n : ℕ) → n < length job.nodes → Stands graphs (lens job n) (keeps_state graphs (actor_of g (node_at job.nodes n))) (is_child_in kinds (node_at job.nodes n)) (leased.IsFiring (node_at job.nodes n)) (stage_at stages n) (one.mark_at marks n) (frame_at frames n)
+  -- there is room for each node that fires a graph, and for no more than all nodes
+  pub few_held : length held ≤ length job.nodes
+  pub has_room : (n : ℕ) → n < length job.nodes → is_child_in kinds (node_at job.nodes n) ≡ true → n < length held
+  pub each : (n : ℕ) → n < length job.nodes → Stands graphs (lens job n) (keeps_state graphs (actor_of g (node_at job.nodes n))) (is_child_in kinds (node_at job.nodes n)) (leased.IsFiring (node_at job.nodes n)) (stage_at stages n) (one.mark_at marks n) (held_at held n)
   -- a node that isn't free was ready when it was claimed
   pub ready : (n : ℕ) → one.mark_at marks n ≢ one.Free → IsReady job (one.values marks) n
 
@@ -179,8 +197,8 @@ pub record AreParts (f : Fixed) : Type 0 where
 
 -- ---- all
 
-pub record KeepsAll (f : Fixed) (stages : List Stage) (frames : List (Option FrameView)) (rows : List (Vec (List TraceRow) Global)) (job : leased.JobView) : Type 0 where
+pub record KeepsAll (f : Fixed) (stages : List Stage) (held : List Held) (rows : List (Vec (List TraceRow) Global)) (job : leased.JobView) : Type 0 where
   pub set_up : IsSetUp f (start_of job)
-  pub stand : AllStand f.graphs.graphs (fired f) job.kinds (job_in f) stages job.marks frames
+  pub stand : AllStand f.graphs.graphs (fired f) job.kinds (job_in f) stages job.marks held
   pub traces : AreTraces (job_in f).nodes job.kinds f.compilation.counts stages rows
   pub parts : AreParts f

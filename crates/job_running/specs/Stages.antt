@@ -18,6 +18,8 @@ use Rattle.job_rules.specs.Words.{Answer, Spot, given_outs}
 use Rattle.one_job.specs.Marks as one
 use Rattle.job_preparing.specs.Handing.{ItemMarks, Lent, given_of}
 use Rattle.job_running.specs.Sizes.{call_lens, child_outs, place_lens}
+use Rattle.job_running.specs.declared.frames.Held.{Held}
+use Rattle.job_running.specs.declared.frames.Held.TheVariants.{Nothing, Waits, Refuses}
 use Rattle.job_running.specs.declared.stage.Stage.{Stage}
 use Rattle.job_running.specs.declared.stage.Stage.TheVariants.{Free, Busy, Lost, Open, Fired, Failed, Gave, Refused}
 
@@ -58,7 +60,7 @@ mark_of spot (Open job told) = mark.Open job.value
 mark_of spot (Fired told) = mark.Done (fired_in spot told.frame)
 mark_of spot (Failed code) = mark.Done (words.Refuses (refusal_at spot code))
 mark_of spot (Gave told) = mark.Done (words.Gives (given_of told.value))
-mark_of spot (Refused refusal) = mark.Done (words.Refuses refusal)
+mark_of spot (Refused told) = mark.Done (words.Refuses told.value)
 
 abbrev pub lent_of : Stage → Option Places
 lent_of Free = None
@@ -68,18 +70,18 @@ lent_of (Open job told) = None
 lent_of (Fired told) = None
 lent_of (Failed code) = None
 lent_of (Gave told) = None
-lent_of (Refused refusal) = None
+lent_of (Refused told) = None
 
--- the frame that waits for the end of a call
-abbrev pub held_by : Stage → Option FrameView
-held_by Free = None
-held_by (Busy told) = None
-held_by (Lost told) = Some told.frame
-held_by (Open job told) = Some told.frame
-held_by (Fired told) = None
-held_by (Failed code) = None
-held_by (Gave told) = None
-held_by (Refused refusal) = None
+-- what is held for the node
+abbrev pub held_by : Stage → Held
+held_by Free = Nothing
+held_by (Busy told) = Nothing
+held_by (Lost told) = Waits told.frame
+held_by (Open job told) = Waits told.frame
+held_by (Fired told) = Nothing
+held_by (Failed code) = Nothing
+held_by (Gave told) = Nothing
+held_by (Refused told) = Refuses told.value
 
 -- the mark of the node in the job of leases
 abbrev pub job_mark : Bool → Stage → one.Mark
@@ -90,18 +92,7 @@ job_mark keeps (Open job told) = one.Claimed told.frame.places
 job_mark keeps (Fired told) = one.Finished told.frame.outputs
 job_mark keeps (Failed code) = one.Failed code
 job_mark keeps (Gave told) = one.Finished (child_outs keeps told.value.outs told.value.state)
-job_mark keeps (Refused refusal) = one.Failed 0
-
--- the refusal for which the job of leases has this code
-abbrev pub refusal_for : Option Spot → Stage → ℕ → Refusal
-refusal_for spot Free code = refusal_at spot code
-refusal_for spot (Busy told) code = refusal_at spot code
-refusal_for spot (Lost told) code = refusal_at spot code
-refusal_for spot (Open job told) code = refusal_at spot code
-refusal_for spot (Fired told) code = refusal_at spot code
-refusal_for spot (Failed own) code = refusal_at spot code
-refusal_for spot (Gave told) code = refusal_at spot code
-refusal_for spot (Refused refusal) code = refusal
+job_mark keeps (Refused told) = one.Failed 0
 
 -- the trace of what it called
 abbrev pub trace_in : Stage → List TraceRow
@@ -112,7 +103,7 @@ trace_in (Open job told) = []
 trace_in (Fired told) = []
 trace_in (Failed code) = []
 trace_in (Gave told) = told.value.trace
-trace_in (Refused refusal) = []
+trace_in (Refused told) = []
 
 -- a node whose frame came back so
 abbrev pub IsFired : FrameView → Stage → Type 0
@@ -123,7 +114,7 @@ IsFired frame (Open job told) = ⊥
 IsFired frame (Fired told) = told.frame ≡ frame
 IsFired frame (Failed code) = ⊥
 IsFired frame (Gave told) = ⊥
-IsFired frame (Refused refusal) = ⊥
+IsFired frame (Refused told) = ⊥
 
 abbrev pub IsEnded : FrameView → Result (Unit {0}) KernelFault → Stage → Type 0
 IsEnded frame (Ok done) stage = IsFired frame stage
@@ -138,7 +129,7 @@ IsOpened job frame (Open own told) = (own.value ≡ job) × (told.frame ≡ fram
 IsOpened job frame (Fired told) = ⊥
 IsOpened job frame (Failed code) = ⊥
 IsOpened job frame (Gave told) = ⊥
-IsOpened job frame (Refused refusal) = ⊥
+IsOpened job frame (Refused told) = ⊥
 
 abbrev pub IsLost : FrameView → Stage → Type 0
 IsLost frame Free = ⊥
@@ -148,7 +139,7 @@ IsLost frame (Open job told) = ⊥
 IsLost frame (Fired told) = ⊥
 IsLost frame (Failed code) = ⊥
 IsLost frame (Gave told) = ⊥
-IsLost frame (Refused refusal) = ⊥
+IsLost frame (Refused told) = ⊥
 
 abbrev pub IsWaiting : Result Firing AllocError → FrameView → Stage → Type 0
 IsWaiting (Ok job) frame stage = IsOpened job frame stage
@@ -165,7 +156,7 @@ FitsSort child fires (Open job told) = child ≡ true
 FitsSort child fires (Fired told) = child ≡ false
 FitsSort child fires (Failed code) = (child ≡ false) × fires
 FitsSort child fires (Gave told) = child ≡ true
-FitsSort child fires (Refused refusal) = child ≡ true
+FitsSort child fires (Refused told) = child ≡ true
 
 -- outputs are as long as the node writes
 abbrev pub FitsLens : List Graph → List ℕ → Bool → Stage → Type 0
@@ -176,7 +167,7 @@ FitsLens graphs lens keeps (Open job told) = (lengths told.frame.outputs ≡ len
 FitsLens graphs lens keeps (Fired told) = lengths told.frame.outputs ≡ lens
 FitsLens graphs lens keeps (Failed code) = Unit {0}
 FitsLens graphs lens keeps (Gave told) = lengths (child_outs keeps told.value.outs told.value.state) ≡ lens
-FitsLens graphs lens keeps (Refused refusal) = Unit {0}
+FitsLens graphs lens keeps (Refused told) = Unit {0}
 
 -- ---- all nodes
 

@@ -1,5 +1,5 @@
 // How a firing ends.
-ghost use Rattle.std.specs.Prelude.{ℕ, ◌≡◌, ◌+◌, ◌<◌, ◌≤◌, ◌++◌, List as Seq, [], drop, length, map, vec_capacity, vec_len, slice_index_or, if◌then◌else◌, IfOk, OnErr};
+ghost use Rattle.std.specs.Prelude.{ℕ, ◌≡◌, ◌+◌, ◌<◌, ◌≤◌, ◌++◌, List as Seq, [], drop, length, map, vec_capacity, vec_len, slice_index_or, unwrap_or, if◌then◌else◌, IfOk, OnErr};
 ghost use Rattle.std.specs.List.{filter};
 ghost use Rattle.pisdf_meaning.specs.Running.{Traces, actor_states, child_rows, fifo_states, state_after, state_of_first};
 ghost use Rattle.pisdf_meaning.specs.States.{goes_on, tokens_at};
@@ -7,11 +7,10 @@ ghost use Rattle.param_resolver.specs.Numbering.{acting, has_state, is_kept};
 ghost use Rattle.pisdf_model.specs.declared.graph.Graph.{Graph as GraphView};
 ghost use Rattle.job_preparing.specs.Handing.{with_traces};
 ghost use Rattle.job_running.specs.Parts.{HaveTraces, IsLong};
-ghost use Rattle.job_running.specs.Stages.{refusal_at, refusal_for, spot_of, stage_at};
+ghost use Rattle.job_running.specs.Stages.{refusal_at, spot_of};
 ghost use Rattle.one_job.specs.View.{IsFiring};
 ghost use Rattle.pisdf_model.specs.declared.actor.Actor.{Actor as ActorView};
 
-use crate::stage::Stage;
 use crate::tracing::append_traces;
 use job_preparing::{JobGiven, Left};
 use param_expr::Name;
@@ -227,38 +226,20 @@ fn kernel_refusal(alloc: Global, path: Path, names: Vec<Name>, which: Node, code
     }
 }
 
-/// The refusal of a node in this stage, for which the job of leases has this code.
+/// The refusal of a node, for which the job of leases has this code: that of what it called, where that was refused.
 pub(crate) fn refusal_of(
     alloc: Global,
     path: Path,
     names: Vec<Name>,
     which: Node,
-    stage: Stage,
+    called: Option<Refusal>,
     code: u8,
 ) -> Refusal
     requires { IsFiring which }
-    ensures { (own : Seq ActorView) → names.items ≡ map (λ a. a.name) own → result ≡ refusal_for (spot_of path own which) stage code }
+    ensures { (own : Seq ActorView) → names.items ≡ map (λ a. a.name) own → result ≡ unwrap_or called (refusal_at (spot_of path own which) code) }
 {
-    match stage {
-        Stage::Refused(refusal) => refusal,
-        Stage::Free => kernel_refusal(alloc, path, names, which, code),
-        Stage::Busy(_) => kernel_refusal(alloc, path, names, which, code),
-        Stage::Lost(_) => kernel_refusal(alloc, path, names, which, code),
-        Stage::Open(_, _) => kernel_refusal(alloc, path, names, which, code),
-        Stage::Fired(_) => kernel_refusal(alloc, path, names, which, code),
-        Stage::Failed(_) => kernel_refusal(alloc, path, names, which, code),
-        Stage::Gave(_) => kernel_refusal(alloc, path, names, which, code),
-    }
-}
-
-/// The stage of a node, moved out.
-pub(crate) fn take_stage(mut stages: Vec<Stage>, node: u32) -> Stage
-    ensures { result ≡ stage_at stages.items node }
-{
-    let node = node as usize;
-    if node < stages.len() {
-        stages.swap_remove(node)
-    } else {
-        Stage::Free
+    match called {
+        Some(refusal) => refusal,
+        None => kernel_refusal(alloc, path, names, which, code),
     }
 }

@@ -10,8 +10,8 @@ ghost use Rattle.job_preparing.specs.View.{HasInherited};
 ghost use Rattle.job_preparing.specs.Handing.{EndSuits, IsNothingLent, answer_with, end_of, lent_at, mark_at};
 
 use crate::calling::{called, caller_of, firing_of};
-use crate::ending::{Ending, job_given, refusal_of, take_stage};
-use crate::frames::{end_frames, measured, put_frame, spend_frames, take_frame};
+use crate::ending::{Ending, job_given, refusal_of};
+use crate::frames::{Held, end_frames, measured, put_frame, spend_held, take_frame, take_refusal};
 use crate::given::put_trace;
 use crate::handed::{Handed, hand_out};
 use crate::stage::{Stage, ended, waiting};
@@ -54,9 +54,8 @@ pub struct Running {
     // Empty, with room for the state that it leaves.
     pub(crate) state: Vec<List<i64>>,
     pub(crate) stages: Vec<Stage>,
-    // At the number of each node that fires a graph the frame that waits for the call's end: as long as the last such node
-    // asks, and empty where no node fires a graph.
-    pub(crate) frames: Vec<Option<Frame>>,
+    // At the number of each node that fires a graph: as long as the last such node asks, and empty where no node fires one.
+    pub(crate) held: Vec<Held>,
     // Of each actor that fires graphs a trace for each firing, of another none.
     pub(crate) traces: Vec<Vec<LinkedList<TraceRow>>>,
     pub(crate) job: Job,
@@ -203,7 +202,7 @@ impl Running {
         );
         let result = called(alloc, &self.path, &caller, &frame);
         self.stages[node as usize] = waiting(&result, &frame);
-        put_frame(&mut self.frames, node as usize, frame);
+        put_frame(&mut self.held, node as usize, frame);
         result
     }
 
@@ -215,9 +214,9 @@ impl Running {
         graphs_numbered();
         ready_stays::<i64, u8, ()>();
         let which = self.job.node(node);
-        let mut frame = take_frame(&mut self.frames, node as usize);
         match end {
             Ok(given) => {
+                let mut frame = take_frame(&mut self.held, node as usize, Held::Nothing);
                 self.stages[node as usize] = Stage::Gave(Snapshot::of(&given));
                 let JobGiven {
                     outs,
@@ -232,7 +231,8 @@ impl Running {
                 self.job.finish(node, frame, Ok(()));
             }
             Err(refusal) => {
-                self.stages[node as usize] = Stage::Refused(refusal);
+                self.stages[node as usize] = Stage::Refused(Snapshot::of(&refusal));
+                let frame = take_frame(&mut self.held, node as usize, Held::Refuses(refusal));
                 self.job.finish(node, frame, Err(KernelFault { code: 0 }));
             }
         }
@@ -276,20 +276,20 @@ impl Running {
             rows,
             exports,
             state,
-            stages,
-            frames,
+            stages: _,
+            held,
             traces,
             job,
             alloc,
         } = self;
-        spend_frames(frames);
         match job.outcome() {
             JobEnd::Fault { node, code } => {
                 let which = compiled.graph().nodes.items()[node as usize];
-                let stage = take_stage(stages, node);
-                Ok(Err(refusal_of(alloc, path, names, which, stage, code)))
+                let called = take_refusal(held, node as usize);
+                Ok(Err(refusal_of(alloc, path, names, which, called, code)))
             }
             JobEnd::Done { outs, stored } => {
+                spend_held(held);
                 let graph = &graphs.graphs.items()[place as usize];
                 let own = Ending {
                     keeps,
@@ -324,11 +324,11 @@ impl Running {
             exports: _,
             state: _,
             stages: _,
-            frames,
+            held,
             traces: _,
             job,
             alloc: _,
         } = self;
-        end_frames(job, frames).end();
+        end_frames(job, held).end();
     }
 }

@@ -24,8 +24,8 @@ pub(crate) enum Stage {
     Failed(u8),
     /// What it called gave this.
     Gave(Snapshot<JobGiven>),
-    /// What it called was refused.
-    Refused(Refusal),
+    /// What it called was refused, and the refusal is held for it.
+    Refused(Snapshot<Refusal>),
 }
 
 /// How far a node is whose frame came back so.

@@ -19,14 +19,13 @@ ghost use Rattle.job_running.specs.Parts.{call_count, kernel_in, kind_of_actor, 
 ghost use Rattle.job_running.specs.View.{nodes_of};
 
 use crate::calling::acting_at;
-use crate::frames::no_frames;
+use crate::frames::{Held, nothing_held};
 use crate::given::empty_rows;
 use crate::running::Running;
 use crate::stage::Stage;
 use crate::told::told_before;
 use job_compiler::Compiled;
 use job_preparing::Configuring;
-use kernel_gate::Frame;
 use one_job::{Job, start};
 use param_expr::Name;
 use param_resolver::{LevelSet, level_by_actor};
@@ -308,27 +307,27 @@ fn free_nodes(
     Ok(FreeNodes { stages, traces })
 }
 
-/// How many places hold the frames of all nodes that fire graphs, each at its node's number: none where no node does.
-fn frame_places(job: &Job, nodes: usize) -> usize
+/// How long a list is that has an entry at the number of each node that fires a graph: empty where none does.
+fn room_needed(job: &Job, nodes: usize) -> usize
     requires many { nodes ≡ length job.now.compilation.graph.nodes }
     requires small { nodes < 2 ^ 32 }
     ensures few { result ≤ nodes }
     ensures all { (n : ℕ) → n < nodes → is_child job.now n ≡ true → n < result }
 {
-    let mut places = nodes;
-    while places > 0 && !job.is_child((places - 1) as u32) {
-        places -= 1;
+    let mut needed = nodes;
+    while needed > 0 && !job.is_child((needed - 1) as u32) {
+        needed -= 1;
     }
-    places
+    needed
 }
 
-/// A job of leases, and places for the frames of its nodes that fire graphs.
+/// A job of leases, and what is held for its nodes that fire graphs.
 struct Started {
     job: Job,
-    frames: Vec<Option<Frame>>,
+    held: Vec<Held>,
 }
 
-/// The job of leases of a firing at its start, where no frame waits.
+/// The job of leases of a firing at its start, for which nothing is held.
 fn start_job(alloc: Global, compiled: Arc<Compiled>, lists: JobLists) -> Result<Started, AllocError>
     requires kinds { length lists.kinds ≡ (arc_value compiled).level.actors }
     requires args { length lists.args ≡ (arc_value compiled).level.actors }
@@ -337,9 +336,9 @@ fn start_job(alloc: Global, compiled: Arc<Compiled>, lists: JobLists) -> Result<
     ensures compilation { IfOk result (λ s. s.job.compilation ≡ arc_value compiled) }
     ensures given { IfOk result (λ s. (s.job.kinds ≡ lists.kinds) × (s.job.args ≡ lists.args) × (s.job.sources ≡ lists.sources) × (s.job.stored ≡ lists.stored)) }
     ensures free { IfOk result (λ s. s.job.marks ≡ replicate (length (arc_value compiled).graph.nodes) Unclaimed) }
-    ensures empty { IfOk result (λ s. s.frames.items ≡ replicate (length s.frames.items) None) }
-    ensures few { IfOk result (λ s. length s.frames.items ≤ length s.job.compilation.graph.nodes) }
-    ensures places { IfOk result (λ s. (n : ℕ) → n < length s.job.compilation.graph.nodes → is_child s.job n ≡ true → n < length s.frames.items) }
+    ensures nothing { IfOk result (λ s. s.held.items ≡ replicate (length s.held.items) Held.Nothing) }
+    ensures few { IfOk result (λ s. length s.held.items ≤ length s.job.compilation.graph.nodes) }
+    ensures room { IfOk result (λ s. (n : ℕ) → n < length s.job.compilation.graph.nodes → is_child s.job n ≡ true → n < length s.held.items) }
 {
     let nodes = compiled.graph().nodes.items().len();
     let job = start(
@@ -350,11 +349,11 @@ fn start_job(alloc: Global, compiled: Arc<Compiled>, lists: JobLists) -> Result<
         lists.sources,
         lists.stored,
     )?;
-    let places = frame_places(&job, nodes);
-    match Vec::with_capacity(alloc, places) {
-        Ok(frames) => Ok(Started {
+    let needed = room_needed(&job, nodes);
+    match Vec::with_capacity(alloc, needed) {
+        Ok(held) => Ok(Started {
             job,
-            frames: no_frames(frames, places),
+            held: nothing_held(held, needed),
         }),
         Err(error) => {
             job.end();
@@ -406,7 +405,7 @@ pub fn run(
     let told = Snapshot::of(firing);
     let place = firing.graph;
     let shared = Arc::try_clone(&compiled)?;
-    let Started { job, frames } = start_job(alloc, compiled, lists)?;
+    let Started { job, held } = start_job(alloc, compiled, lists)?;
     Ok(Running {
         graphs,
         compiled: shared,
@@ -421,7 +420,7 @@ pub fn run(
         exports: own.exports,
         state: parts.state,
         stages: free.stages,
-        frames,
+        held,
         traces: free.traces,
         job,
         alloc,

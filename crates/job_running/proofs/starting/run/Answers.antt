@@ -83,9 +83,9 @@ invariant_of-result c =
     let counts_are : c.counts.result.now ≡ (arc_value c.args.compiled).counts = c.counts.ensures.value ∙ ap (λ (x : Compilation). x.counts) c.deref-2.ensures in
     let rows_are : (a : ℕ) → row_at c.in_ok-free.free.traces.items a ≡ replicate (call_count c.in_ok-job.field-0.job.kinds (arc_value c.args.compiled).counts a) [] =
     λ a. c.in_ok-free.ensures.traces a ∙ ap₂ (λ kinds counts. let none : List (List TraceRow) = replicate (call_count kinds counts a) [] in none) kinds_same counts_are in
-    subst (λ (x : Fixed). KeepsAll x c.in_ok-free.free.stages.items c.in_ok-job.field-0.frames.items c.in_ok-free.free.traces.items c.in_ok-job.field-0.job) same
+    subst (λ (x : Fixed). KeepsAll x c.in_ok-free.free.stages.items c.in_ok-job.field-0.held.items c.in_ok-free.free.traces.items c.in_ok-job.field-0.job) same
     (keeps_at_start f (arc_value c.args.compiled).workers c.args.values c.requires.in_range c.requires.well_formed c.requires.fit suits c.requires.compiled c.in_ok-lists.lists.sources c.in_ok-lists.lists.stored given c.in_ok-lists.lists.kinds c.in_ok-lists.lists.args kinds_are c.in_ok-lists.ensures.args
-    c.in_ok-job.field-0.job started c.in_ok-job.ensures.given.0 c.in_ok-job.ensures.free c.in_ok-free.free.stages.items stages_are c.in_ok-job.field-0.frames.items c.in_ok-job.ensures.empty c.in_ok-job.ensures.few c.in_ok-job.ensures.places c.in_ok-free.free.traces.items (c.in_ok-free.ensures.many ∙ ap length counts_are) rows_are parts)
+    c.in_ok-job.field-0.job started c.in_ok-job.ensures.given.0 c.in_ok-job.ensures.free c.in_ok-free.free.stages.items stages_are c.in_ok-job.field-0.held.items c.in_ok-job.ensures.nothing c.in_ok-job.ensures.few c.in_ok-job.ensures.room c.in_ok-free.free.traces.items (c.in_ok-free.ensures.many ∙ ap length counts_are) rows_are parts)
 
 pub returns-clause-free : goal.returns-clause-free
 returns-clause-free c =

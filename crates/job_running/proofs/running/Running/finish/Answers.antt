@@ -20,7 +20,7 @@ pub finish-requires-clause-claimed : goal.finish-requires-clause-claimed
 finish-requires-clause-claimed c =
     let i = c.self.inside in
     let lent = subst (λ (v : RunningView). lent_at v.lent c.args.node ≡ Some c.args.frame.places) (sym c.self.view_is) c.requires.lent in
-    claimed (fixed_of i) i.stages.items i.frames.items i.traces.items i.job c.self.invariant c.args.node c.args.frame lent ∙ ap (λ (x : FrameView). one.Claimed x.places) (sym c.measured-frame.ensures.same)
+    claimed (fixed_of i) i.stages.items i.held.items i.traces.items i.job c.self.invariant c.args.node c.args.frame lent ∙ ap (λ (x : FrameView). one.Claimed x.places) (sym c.measured-frame.ensures.same)
 
 pub invariant_of-self : goal.invariant_of-self
 invariant_of-self c =
@@ -31,8 +31,8 @@ invariant_of-self c =
     let long = subst (λ (x : FrameView). lengths x.outputs ≡ place_lens x.places) same c.measured-frame.ensures.lens in
     let sound = subst (λ (v : RunningView). IsFiring (node_at (nodes_of v) c.args.node) ⊎ IsOk c.args.answer) (sym c.self.view_is) c.requires.sound in
     let job_is = c.finish.ensures ∙ ap (λ (x : FrameView). record i.job { marks = set i.job.marks c.args.node (finished_with x c.args.answer) }) same in
-    subst (λ (j : leased.JobView). KeepsAll (fixed_of i) (set i.stages.items c.args.node c.ended.result) i.frames.items i.traces.items j) (sym job_is)
-    (keeps_finished (fixed_of i) i.stages.items i.frames.items i.traces.items i.job c.self.invariant c.args.node c.args.frame lent c.faults_renamed.ensures.ready c.faults_renamed.ensures.inputs c.ready_stays.ensures.ready c.args.answer c.ended.result ended sound long)
+    subst (λ (j : leased.JobView). KeepsAll (fixed_of i) (set i.stages.items c.args.node c.ended.result) i.held.items i.traces.items j) (sym job_is)
+    (keeps_finished (fixed_of i) i.stages.items i.held.items i.traces.items i.job c.self.invariant c.args.node c.args.frame lent c.faults_renamed.ensures.ready c.faults_renamed.ensures.inputs c.ready_stays.ensures.ready c.args.answer c.ended.result ended sound long)
 
 pub returns : goal.returns
 returns c =
@@ -41,5 +41,5 @@ returns c =
     let same = c.measured-frame.ensures.same in
     let ended = subst (λ (x : FrameView). IsEnded x c.args.answer c.ended.result) same c.ended.ensures in
     let sound = subst (λ (v : RunningView). IsFiring (node_at (nodes_of v) c.args.node) ⊎ IsOk c.args.answer) (sym c.self.view_is) c.requires.sound in
-    view_finished (fixed_of i) i.stages.items i.frames.items i.traces.items i.job c.self.invariant c.args.node c.args.frame lent c.faults_renamed.ensures.ready c.faults_renamed.ensures.inputs c.ready_stays.ensures.ready c.args.answer c.ended.result ended sound
+    view_finished (fixed_of i) i.stages.items i.held.items i.traces.items i.job c.self.invariant c.args.node c.args.frame lent c.faults_renamed.ensures.ready c.faults_renamed.ensures.inputs c.ready_stays.ensures.ready c.args.answer c.ended.result ended sound
     ∙ ap (λ (v : RunningView). record v { marks = set v.marks c.args.node (Done (answer_with (task v c.args.node) c.args.frame c.args.answer)); lent = set v.lent c.args.node None }) c.self.view_is
