@@ -1,5 +1,5 @@
 -- What workers hold they still hold after the steps of another one.
-use Rattle.std.proofs.Common.{◌≡◌, ◌≢◌, ℕ, zero, suc, ◌+◌, ◌<◌, ◌-◌, false, Option, Some, None, List, [], ◌++◌, length, get_or, set, replicate, refl, sym, ap, ◌∙◌, subst, append_assoc, append-nil, get_or-set_same, get_or-set_other}
+use Rattle.std.proofs.Common.{◌≡◌, ◌≢◌, ℕ, zero, suc, ◌<◌, false, Option, Some, None, List, [], ◌++◌, length, get_or, set, replicate, refl, sym, ap, ◌∙◌, subst, append_assoc, append-nil, get_or-set_same, get_or-set_other}
 use Rattle.std.specs.Prelude.{is_some}
 use native.Mathlib.Decide.{ℕ_discrete}
 use Rattle.kernel_gate.specs.Value.{Places}

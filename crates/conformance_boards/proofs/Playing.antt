@@ -1,5 +1,5 @@
 -- The list of what workers hold, from step to step.
-use Rattle.std.proofs.Common.{◌≡◌, ◌≢◌, ℕ, zero, suc, ◌+◌, ◌<◌, ◌^◌, List, [], ◌∷◌, ◌++◌, length, get_or, set, refl, sym, ap, ◌∙◌, subst, arith}
+use Rattle.std.proofs.Common.{◌≡◌, ◌≢◌, ℕ, zero, suc, ◌<◌, ◌^◌, List, [], ◌∷◌, ◌++◌, length, get_or, set, refl, sym, ap, ◌∙◌, subst, arith}
 use Rattle.kernel_gate.specs.Value.{FrameView}
 use Rattle.sdf_level.specs.declared.node.Node.{Node}
 use Rattle.job_rules.specs.Words.{Compiles, Copies, Fires, Work}

@@ -182,6 +182,29 @@ fn crew_end_of<R: Threads + Wait + Sync>(
     }
 }
 
+/// Runs the board of an iteration to its end, as the plan says.
+fn finish<R: Threads + Wait + Sync>(
+    rt: &R,
+    alloc: Global,
+    board: Board,
+    plan: &Plan<'_>,
+    number: u32,
+    kept: &mut Option<Kept>,
+    told: &mut Told,
+) -> Result<BoardEnd, Trouble>
+    requires kernels { HasOurKernels board }
+    requires idle { AreAllIdle board }
+    requires workers { plan.now.workers ≡ board.key.workers }
+    ensures { IfOk result (EndsWith board.key) }
+{
+    if plan.threads {
+        return crew_end_of(rt, alloc, board, plan.workers, kept);
+    }
+    let seed = plan.seed.wrapping_add(u64::from(number));
+    let mut turns = Turns::new(plan.order, plan.drawn, seed, plan.workers);
+    end_of(alloc, board, kept, &mut turns, told)
+}
+
 /// Tells the end of a board; whether another iteration may come.
 fn see_board(
     graphs: &Graphs,
@@ -270,13 +293,7 @@ fn iterate<R: Threads + Wait + Sync>(
     lengths_given();
     sizes_kept();
     let board = start_board(alloc, graphs, delays, ins, plan.workers)?;
-    let end = if plan.threads {
-        crew_end_of(rt, alloc, board, plan.workers, kept)?
-    } else {
-        let seed = plan.seed.wrapping_add(u64::from(number));
-        let mut turns = Turns::new(plan.order, plan.drawn, seed, plan.workers);
-        end_of(alloc, board, kept, &mut turns, told)?
-    };
+    let end = finish(rt, alloc, board, plan, number, kept, told)?;
     see_board(graphs, number, delays, end, told)
 }
 

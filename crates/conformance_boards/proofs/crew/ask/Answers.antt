@@ -1,6 +1,6 @@
 use Rattle.std.proofs.Common.{sym, subst}
 use Rattle.conformance_boards.specs.Holding.{Holds, IsCrewOf}
-use Rattle.conformance_boards.proofs.Playing.{copies_few, crew_then}
+use Rattle.conformance_boards.proofs.Playing.{crew_then}
 use Rattle.conformance_boards.proofs.crew.ask.Goals as goal
 
 pub returns-clause-crew : goal.returns-clause-crew

@@ -8,7 +8,7 @@ use Rattle.conformance_boards.proofs.Starting.{state_left}
 use Rattle.conformance_boards.proofs.iterations.iterate.Goals as goal
 
 pub returns : goal.returns
-returns c =
+returns g c =
     let graphs = arc_value c.args.graphs.now in
     let r = c.requires in
     let fit = (c.runnable.ensures (unnamed the_signatures) graphs r.sound.in_range r.sound.well_formed r.sound.kernels).fit in

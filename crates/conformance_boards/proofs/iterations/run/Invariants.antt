@@ -4,4 +4,4 @@ use Rattle.conformance_boards.proofs.iterations.run.Given as goal
 
 -- the state suits the next iteration
 abbrev pub invariant-loop-number : goal.invariant-loop-number
-invariant-loop-number l = IsTopState (arc_value l.graphs) l.delays.lists
+invariant-loop-number g l = IsTopState (arc_value l.graphs) l.delays.lists
