@@ -11,11 +11,11 @@ use Rattle.quiescent_driver.specs.Texts.{joined, texts_from}
 use Rattle.quiescent_driver.specs.declared.end.RunEnd.{RunEnd}
 use Rattle.quiescent_driver.specs.declared.end.RunEnd.TheVariants as here
 
--- where it is told what was written, this beginning of a text was
+-- where it is told what was written, it has grown by a beginning of this text
 abbrev pub GrowsPartly : Option (List ℕ) → Option (List ℕ) → List ℕ → Type 0
 GrowsPartly had has text = (kept : ℕ) × (kept ≤ length text) × Grows had has (take kept text)
 
--- so many iterations were done, and these texts of them were written whole
+-- the texts of these iterations, one after another
 abbrev pub text_of : Graphs → List Iteration → List ℕ
 text_of graphs iterations = joined (texts_from 0 (top_of graphs).outputs iterations)
 
