@@ -11,8 +11,8 @@ pub enum RunEnd {
     Short { stream: usize, has: u64, needs: u32 },
     /// One thread is refused in an iteration, or in the early check. Those before it were put.
     Refused(Refusal),
-    /// The text of an iteration couldn't be put: of it a beginning was, and nothing after it. Those before it were put. The sink's
-    /// count of faults rose.
+    /// The text of an iteration couldn't be put: of it a beginning was, and nothing after it. Those before it were put. The
+    /// sink's count of faults rose.
     WriteFault,
     /// There was no memory. The texts of the first iterations were put, each whole.
     Memory,
