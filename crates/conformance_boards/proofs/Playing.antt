@@ -1,34 +1,13 @@
 -- The list of what workers hold, from step to step.
-use Rattle.std.proofs.Common.{◌≡◌, ◌≢◌, ℕ, zero, suc, ◌<◌, ◌^◌, List, [], ◌∷◌, ◌++◌, length, get_or, set, refl, sym, ap, ◌∙◌, subst, arith}
-use Rattle.kernel_gate.specs.Value.{FrameView}
-use Rattle.sdf_level.specs.declared.node.Node.{Node}
-use Rattle.job_rules.specs.Words.{Compiles, Copies, Fires, Work}
+use Rattle.std.proofs.Common.{◌≡◌, ◌≢◌, ℕ, zero, suc, ◌<◌, List, [], ◌∷◌, ◌++◌, length, get_or, set, refl, sym, ap, ◌∙◌, subst, arith}
 use Rattle.board_rules.specs.Keys.{Key}
 use Rattle.firing_board.specs.Runs.{AreAllIdle, IsSound}
 use Rattle.firing_board.specs.View.{BoardView}
-use Rattle.worker_crew.specs.Asked.{IsToCopy}
-use Rattle.conformance_boards.specs.Holding.{AreHeld, CopiesFew, GivesBack, HasOurKernels, Holds, IsCrewOf, StepsOf}
+use Rattle.conformance_boards.specs.Holding.{AreHeld, GivesBack, HasOurKernels, Holds, IsCrewOf, StepsOf}
 use Rattle.worker_crew.specs.Laws.{BoardsHaveLaws}
 use Rattle.conformance_boards.specs.declared.held.Held.{Held}
-use Rattle.conformance_boards.specs.declared.held.Held.TheVariants.{Nothing, Fire, Configure, Copy, Compile}
+use Rattle.conformance_boards.specs.declared.held.Held.TheVariants.{Nothing}
 use Rattle.conformance_boards.proofs.Lasting.{held_set, held_then, idle_then, steps_on}
-
--- ---- of one worker
-
--- a claim that is to be copied has a frame whose inputs 32 bits can number
-few_work : (node : Node) (frame : FrameView) (key : Key) (work : Work) → IsToCopy node frame key work → length frame.inputs < 2 ^ 32
-few_work node frame key (Fires spot asked) h = absurd h
-few_work node frame key (Copies copier read lens) h = h.2.few_inputs
-few_work node frame key (Compiles firing left) h = absurd h
-
-pub copies_few : (b : BoardView) (w : ℕ) (held : Held) → Holds b w held → CopiesFew held
-copies_few b w Nothing h = tt
-copies_few b w (Fire ticket frame) h = tt
-copies_few b w (Configure ticket frame) h = tt
-copies_few b w (Copy ticket node frame) h = few_work node frame b.key h.runs.work h.runs.so
-copies_few b w (Compile ticket task) h = tt
-
--- ---- of all
 
 same_kernels : (x y : BoardView) → y.key ≡ x.key → HasOurKernels x → HasOurKernels y
 same_kernels x y key ours = ap (λ (k : Key). k.signatures) key ∙ ours
