@@ -1,11 +1,10 @@
 -- Lists of leases each of which is a whole block.
 use Rattle.std.proofs.Common.{◌≡◌, ℕ, ℤ, All, Bool, true, false, List, [], ◌∷◌, refl}
-use Rattle.std.specs.Prelude.{if◌then◌else◌}
 use Rattle.std.proofs.lemmas.List.Elements.{All-nil, All-cons, All-same}
 use Rattle.sdf_level.specs.declared.node.Node.{Node}
 use Rattle.split_block.specs.View.{LeaseView, IsWhole}
 use Rattle.one_job.specs.Ports.{reads_stored, writes_stored}
-use Rattle.one_job.specs.Taking.{IsOne, IsStored}
+use Rattle.one_job.specs.Taking.{IsStored}
 use Rattle.one_job.specs.Frames.{HasBlocks, IsMadeOf}
 use Rattle.one_job.specs.declared.frames.FrameParts.{FrameParts}
 
@@ -29,8 +28,3 @@ made_blocks which args read size ins outs f made = record {
   inputs = stored_blocks (reads_stored which) read f.inputs.items made.inputs.own;
   outputs = stored_blocks (writes_stored which) made.cells f.outputs.items made.outputs.own;
 }
-
--- the leases that stay in the list of a node's inputs
-pub rest_blocks : (b : Bool) (leases : List LeaseView) → (b ≡ true → IsOne leases) → All IsWhole (if b then leases else [])
-rest_blocks true leases one = let is = one refl in All-same IsWhole leases (is.0 ∷ []) is.1 (one_block is.0 is.2)
-rest_blocks false leases one = All-nil IsWhole

@@ -4,11 +4,11 @@ use Rattle.std.specs.Prelude.{◌≢◌, Option, slice_index_or, if◌then◌els
 use Rattle.std.specs.Global.{Global}
 use Rattle.std.proofs.lemmas.Bool.{false≢true}
 use Rattle.std.proofs.lemmas.List.{length-set, length-map, append-nil, take-append-le, take_all, get_or-set_other}
-use Rattle.std.proofs.lemmas.List.Elements.{All-nil, All-same, All-set}
+use Rattle.std.proofs.lemmas.List.Elements.{All-set}
 use Rattle.sdf_level.specs.declared.node.Node.{Node}
 use Rattle.sdf_level.specs.declared.node.Node.TheVariants as node
 use Rattle.single_rate.specs.Expanded.{place_of}
-use Rattle.split_block.specs.View.{Block, LeaseView, LeasePlace, IsWholePlace, IsWhole, lease_place, cells_of}
+use Rattle.split_block.specs.View.{Block, LeaseView, LeasePlace, IsWholePlace, lease_place, cells_of}
 use Rattle.cell_pool.specs.View.{PoolView}
 use Rattle.kernel_gate.specs.Value.{FrameView, Places}
 use Rattle.kernel_gate.specs.Leased.{AllWhole}
@@ -28,7 +28,6 @@ use Rattle.one_job.specs.Staged.{mark_of, stage_with}
 use Rattle.one_job.specs.declared.told.Told.{Told}
 use Rattle.one_job.proofs.Phases.{mark_elsewhere, phase_there, inside_of, claimed_not_free}
 use Rattle.one_job.proofs.Order.{IsLaid, finish_keeps_order}
-use Rattle.one_job.proofs.Blocks.{rest_blocks}
 use Rattle.one_job.proofs.Claiming.{ArePorts}
 use Rattle.one_job.proofs.Finishing.{IsEnd, Finishes, finishes, finish_keeps_full}
 use Rattle.one_job.proofs.Wires.{laid_of, ports_of}
@@ -196,13 +195,6 @@ module _ (j : JobView) (p : Parts) (pool : PoolView) (outs left : List (List ℤ
     ins_due = λ is. due_part (reads_stored which) in_leases pool is facts.ins_due;
     outs_one = stored_one place j.block (writes_stored which) (length (lens (graph_of j) n)) row_out out_leases long_out outs_behind;
     outs_due = λ is. due_part (writes_stored which) out_leases middle is facts.outs_due;
-  }
-
-  -- what the frame was made of, with no lease of the pool left in it
-  pub blocks_back : (parts : FrameParts) → parts.inputs.items ≡ (if reads_stored which then in_leases else []) → parts.outputs.items ≡ [] → HasBlocks parts
-  blocks_back parts inputs_rest outputs_rest = record {
-    inputs = All-same IsWhole parts.inputs.items (if reads_stored which then in_leases else []) inputs_rest (rest_blocks (reads_stored which) in_leases can_give_both.ins_one);
-    outputs = All-same IsWhole parts.outputs.items [] outputs_rest (All-nil IsWhole);
   }
 
   module _ (sound : IsFiring which ⊎ IsOk answer) (once : place_of j.compilation.graph.nodes which ≡ n) (kept : List ℤ) (told : (tokens : List ℤ) → writes_stored which ≡ true → map cells_of out_leases ≡ tokens ∷ [] → kept ≡ tokens) (parts : FrameParts) (blocks : HasBlocks parts) where

@@ -202,8 +202,8 @@ impl Job {
     }
 
     /// Finishes a claimed node: its frame comes back with what it wrote, or with the code of its kernel. A job of its own
-    /// that was refused is finished with code 0. It takes no memory, and frees none: what the frame was made of goes back to the
-    /// job.
+    /// that was refused is finished with code 0. It takes no memory. What the frame was made of goes back to the job, but for the
+    /// stored tokens that the node has read, which are given up.
     pub fn finish(&mut self, node: u32, frame: Frame, answer: Result<(), KernelFault>)
         requires claimed { mark_at self.old.marks node ≡ Claimed frame.places }
         requires sound { IsFiring (node_at self.old.compilation.graph.nodes node) ⊎ IsOk answer }
@@ -220,7 +220,12 @@ impl Job {
             sets: _,
         } = frame.take_back();
         let kind = self.compiled.graph().nodes.items()[n];
-        let inputs = give_inputs(&mut self.pool, reads_stored(kind), inputs.into_items());
+        let inputs = give_inputs(
+            &mut self.pool,
+            reads_stored(kind),
+            inputs.into_items(),
+            self.alloc,
+        );
         let (outputs, kept) = give_outputs(
             &mut self.pool,
             writes_stored(kind),
@@ -233,7 +238,7 @@ impl Job {
             outputs,
             args,
         };
-        // While the frame was out, its record was empty: nothing is freed here.
+        // While the frame was out, its record was empty: no list is freed here.
         spend_parts(mem::replace(&mut self.frames[n], parts));
         self.stages[n] = stage;
         self.claimed -= 1;

@@ -72,18 +72,6 @@ fn give_all(pool: &mut Pool, mut leases: Vec<Lease>) -> Vec<Lease>
     leases
 }
 
-/// Takes back the leases of a node's inputs. Where these are stored tokens, their lease stays in the list.
-pub(crate) fn give_inputs(pool: &mut Pool, stored: bool, leases: Vec<Lease>) -> Vec<Lease>
-    requires { stored ≡ false → AreDue leases.items pool.old }
-    ensures pool { pool.new ≡ (if stored then pool.old else with_leases leases.items pool.old) }
-    ensures rest { result.items ≡ (if stored then leases.items else []) }
-{
-    if stored {
-        return leases;
-    }
-    give_all(pool, leases)
-}
-
 /// The list without its one lease, which is a block of its own, and the tokens in that.
 fn take_tokens(mut leases: Vec<Lease>, alloc: Global) -> (Vec<Lease>, Vec<i64>)
     requires { IsOne leases.items }
@@ -114,4 +102,20 @@ pub(crate) fn give_outputs(
         return take_tokens(leases, alloc);
     }
     (give_all(pool, leases), Vec::new(alloc))
+}
+
+/// Takes back the leases of a node's inputs, which empties their list. Tokens that were stored are given up.
+pub(crate) fn give_inputs(
+    pool: &mut Pool,
+    stored: bool,
+    leases: Vec<Lease>,
+    alloc: Global,
+) -> Vec<Lease>
+    requires one { stored ≡ true → IsOne leases.items }
+    requires due { stored ≡ false → AreDue leases.items pool.old }
+    ensures pool { pool.new ≡ (if stored then pool.old else with_leases leases.items pool.old) }
+    ensures empty { result.items ≡ [] }
+{
+    let (leases, _read) = give_outputs(pool, stored, leases, alloc);
+    leases
 }

@@ -16,7 +16,8 @@ use Rattle.one_job.specs.Staged.{mark_of}
 use Rattle.one_job.specs.Frames.{HasBlocks}
 use Rattle.one_job.specs.Kept.{Parts, view_of, parts_of, Keeps}
 use Rattle.one_job.specs.declared.frames.FrameParts.{FrameParts}
-use Rattle.one_job.proofs.JobDone.{can_give_both, blocks_back, back_is, ports_part, finish_keeps, mark_stage, length-with_out, length-with_left, lent_back}
+use Rattle.one_job.proofs.Blocks.{no_blocks}
+use Rattle.one_job.proofs.JobDone.{can_give_both, back_is, ports_part, finish_keeps, mark_stage, length-with_out, length-with_left, lent_back}
 use Rattle.one_job.proofs.JobEnds.{once_of}
 use Rattle.one_job.proofs.FinishReady.{some_claimed, release_asks, release_keeps}
 use Rattle.one_job.proofs.job.Job.finish.Goals as goal
@@ -31,7 +32,7 @@ give_inputs-inputs-requires c =
     let reads = c.reads_stored.ensures ∙ ap (λ ns. reads_stored (node_at ns n)) nodes_are in
     let both = can_give_both (view_of i) (parts_of i) i.pool i.outs.items i.left.items c.self.invariant.0 n c.args.frame claimed c.into_items.result.items c.take_back-args.result.outputs
     (back.inputs.places ∙ ap (map lease_place) (sym c.into_items.ensures)) back.outputs.places back.outputs.cells c.args.answer in
-    λ is. both.ins_due (sym reads ∙ is)
+    record { one = λ is. both.ins_one (sym reads ∙ is); due = λ is. both.ins_due (sym reads ∙ is) }
 
 pub give_outputs-outputs-requires : goal.give_outputs-outputs-requires
 give_outputs-outputs-requires c =
@@ -76,9 +77,7 @@ kept_all c =
     (back.inputs.places ∙ ap (map lease_place) (sym c.into_items.ensures)) (back.outputs.places ∙ ap (map lease_place) (sym c.into_items-2.ensures)) (back.outputs.cells ∙ ap (map cells_of) (sym c.into_items-2.ensures)) c.args.answer
     sound (once_of c.graphs_numbered.ensures.once (view_of i).compilation c.self.invariant.0.compiled n (can_give_both (view_of i) (parts_of i) i.pool i.outs.items i.left.items c.self.invariant.0 n c.args.frame claimed c.into_items.result.items c.into_items-2.result.items
     (back.inputs.places ∙ ap (map lease_place) (sym c.into_items.ensures)) (back.outputs.places ∙ ap (map lease_place) (sym c.into_items-2.ensures)) (back.outputs.cells ∙ ap (map cells_of) (sym c.into_items-2.ensures)) c.args.answer).there) c.give_outputs-outputs.result.1.items (λ tokens is one. c.give_outputs-outputs.ensures.tokens tokens (writes ∙ is) one)
-    c.replace.new.dest (subst HasBlocks (sym c.replace.ensures.after) (blocks_back (view_of i) (parts_of i) i.pool i.outs.items i.left.items c.self.invariant.0 n c.args.frame claimed c.into_items.result.items c.into_items-2.result.items
-    (back.inputs.places ∙ ap (map lease_place) (sym c.into_items.ensures)) (back.outputs.places ∙ ap (map lease_place) (sym c.into_items-2.ensures)) (back.outputs.cells ∙ ap (map cells_of) (sym c.into_items-2.ensures)) c.args.answer
-    (parts_back c) (c.give_inputs-inputs.ensures.rest ∙ ap (λ b. if b then c.into_items.result.items else []) reads) c.give_outputs-outputs.ensures.empty))
+    c.replace.new.dest (subst HasBlocks (sym c.replace.ensures.after) (no_blocks (parts_back c) c.give_inputs-inputs.ensures.empty c.give_outputs-outputs.ensures.empty))
 
 -- the pool then
 pool_is : (c : goal.After-self-6-1) → c.give_outputs-outputs.new.pool ≡ with_leases (ports_part (writes_stored (which c)) c.into_items-2.result.items) (with_leases (ports_part (reads_stored (which c)) c.into_items.result.items) c.self.inside.pool)
