@@ -7,7 +7,7 @@ ghost use Rattle.one_job.specs.View.{job_graph};
 ghost use Rattle.one_job.specs.Ports.{AreWired};
 ghost use Rattle.one_job.specs.Wiring.{head_of, AreEndCounts};
 
-use crate::frames::{make_frames, spend_frames};
+use crate::frames::make_frames;
 use crate::job::Job;
 use crate::opening::{Given, empty_lists, free_stages};
 use crate::ready::start_ready;
@@ -104,11 +104,11 @@ pub fn start(
         sources,
         stored,
     };
-    let frames = make_frames(alloc, nodes, edges, &entering, &leaving, &given)?;
-    let pool = match Pool::start(alloc, compiled.placement().height, u32::MAX) {
-        Ok(pool) => pool,
+    let pool = Pool::start(alloc, compiled.placement().height, u32::MAX)?;
+    let frames = match make_frames(alloc, nodes, edges, &entering, &leaving, &given) {
+        Ok(frames) => frames,
         Err(error) => {
-            spend_frames(frames);
+            drop(pool.close());
             return Err(error);
         }
     };

@@ -64,8 +64,8 @@ left_are c = c.in_ok-left.ensures
 height_is : (c : goal.After-of-3) → c.placement.result.now.height ≡ (arc_value c.args.compiled).placement.height
 height_is c = ap (λ x. x.height) (c.placement.ensures.value ∙ ap (λ x. x.placement) c.deref-7.ensures)
 
-cells_are : (c : goal.After-of-3) → c.in-Ok.pool.cells ≡ replicate c.placement.result.now.height (Rattle.std.proofs.Common.pos 0)
-cells_are c = c.in-Ok.ensures.cells
+cells_are : (c : goal.After-of-3) → c.in_ok-pool.pool.cells ≡ replicate c.placement.result.now.height (Rattle.std.proofs.Common.pos 0)
+cells_are c = c.in_ok-pool.ensures.cells
 
 abbrev view_with : goal.After-of-3 → List (List ℤ) → List (List ℤ) → List (List ℤ) → JobView
 view_with c args sources stored = record {
@@ -74,7 +74,7 @@ view_with c args sources stored = record {
   args = args;
   sources = sources;
   stored = stored;
-  block = c.in-Ok.pool.block;
+  block = c.in_ok-pool.pool.block;
   marks = map mark_of c.in_ok-stages.stages.items;
 }
 
@@ -85,7 +85,7 @@ abbrev parts : goal.After-of-3 → Parts
 parts c = record {
   entering = c.in_ok-entering.field-0.entering;
   leaving = c.in_ok-entering.field-0.leaving;
-  frames = c.in_ok-frames.frames.items;
+  frames = c.in-Ok.frames.items;
 }
 
 all_given : (c : goal.After-of-3) → HasGiven (view c)
@@ -106,28 +106,28 @@ law c = c.edges_have_ports.ensures.ports
 made_so : (c : goal.After-of-3) → AreMade (arc_value c.args.compiled).graph.nodes (arc_value c.args.compiled).graph.edges (parts c).entering (parts c).leaving (given c) (parts c).frames
 made_so c =
     subst (λ (x : List Node × List Edge). AreMade x.0 x.1 (parts c).entering (parts c).leaving (given c) (parts c).frames)
-    (λ i. (nodes_are c i, edges_are c i)) c.in_ok-frames.ensures.made
+    (λ i. (nodes_are c i, edges_are c i)) c.in-Ok.ensures.made
 
-keeps : (c : goal.After-of-3) → Keeps (view c) (parts c) c.in-Ok.pool c.in_ok-outs.outs.items c.in_ok-left.left.items
+keeps : (c : goal.After-of-3) → Keeps (view c) (parts c) c.in_ok-pool.pool c.in_ok-outs.outs.items c.in_ok-left.left.items
 keeps c =
     let comp = arc_value c.args.compiled in
     let count : length c.items-nodes.result.now ≡ length comp.graph.nodes = ap length (nodes_are c) in
     let rows_in = (wired_so c).rows_in in
     let rows_out = (wired_so c).rows_out in
-    keeps_at_start (view c) (parts c) (kept c) (all_given c) (wired_so c) c.in-Ok.pool c.in_ok-outs.outs.items c.in_ok-left.left.items
+    keeps_at_start (view c) (parts c) (kept c) (all_given c) (wired_so c) c.in_ok-pool.pool c.in_ok-outs.outs.items c.in_ok-left.left.items
     (marks_are c ∙ ap (λ k. replicate k Free) count)
     record {
       block = refl;
-      pooled = c.in-Ok.ensures.block.1;
-      len = c.in-Ok.ensures.block.0 ∙ height_is c;
+      pooled = c.in_ok-pool.ensures.block.1;
+      len = c.in_ok-pool.ensures.block.0 ∙ height_is c;
       long = ap length (cells_are c) ∙ (length-replicate c.placement.result.now.height (Rattle.std.proofs.Common.pos 0) ∙ height_is c);
-      most = c.in-Ok.ensures.out.1;
+      most = c.in_ok-pool.ensures.out.1;
       small = subst (λ k. k ≤ 4294967295) (height_is c) (omega arith);
     }
-    c.in-Ok.ensures.out.0
+    c.in_ok-pool.ensures.out.0
     record {
       one_each = (made_so c).one_each;
-      blocks = c.in_ok-frames.ensures.whole;
+      blocks = c.in-Ok.ensures.whole;
     }
     (parts_of_free (view c) (parts c) (kept c) (all_given c) (wired_so c) (law c) (given c) refl refl refl (made_so c))
     (outs_are c ∙ ap (λ list. replicate (length list) []) (sinks_are c))
@@ -166,8 +166,8 @@ make_frames-requires-clause-there c = λ n e found.
 
 pub invariant_of-result : goal.invariant_of-result
 invariant_of-result c = (
-  subst (λ x. Keeps (view_with c x c.of-2.result.value c.of-3.result.value) (parts c) c.in-Ok.pool c.in_ok-outs.outs.items c.in_ok-left.left.items) (sym (args_of_job c))
-      (subst (λ x. Keeps (view_with c c.args.args x c.of-3.result.value) (parts c) c.in-Ok.pool c.in_ok-outs.outs.items c.in_ok-left.left.items) (sym (sources_of_job c))
-      (subst (λ x. Keeps (view_with c c.args.args c.args.sources x) (parts c) c.in-Ok.pool c.in_ok-outs.outs.items c.in_ok-left.left.items) (sym (stored_of_job c)) (keeps c))),
+  subst (λ x. Keeps (view_with c x c.of-2.result.value c.of-3.result.value) (parts c) c.in_ok-pool.pool c.in_ok-outs.outs.items c.in_ok-left.left.items) (sym (args_of_job c))
+      (subst (λ x. Keeps (view_with c c.args.args x c.of-3.result.value) (parts c) c.in_ok-pool.pool c.in_ok-outs.outs.items c.in_ok-left.left.items) (sym (sources_of_job c))
+      (subst (λ x. Keeps (view_with c c.args.args c.args.sources x) (parts c) c.in_ok-pool.pool c.in_ok-outs.outs.items c.in_ok-left.left.items) (sym (stored_of_job c)) (keeps c))),
   subst (λ (t : Type 0). t) (λ t. KeepsReady (view_with c (sym (args_of_job c) t) (sym (sources_of_job c) t) (sym (stored_of_job c) t)) c.in_ok-entering.field-0.into.items 0 c.in_ok-ready.ready) (keeps_ready c),
 )
