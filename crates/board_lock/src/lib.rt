@@ -4,6 +4,7 @@
 mod lock;
 mod locked;
 mod pass;
+mod pauses;
 mod rule;
 pub mod tally;
 #[cfg(test)]
@@ -13,3 +14,4 @@ mod view;
 pub use lock::{Lock, NotMade};
 pub use locked::Locked;
 pub use pass::{Held, Pass, Turn};
+pub use pauses::Pauses;

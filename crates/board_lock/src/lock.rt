@@ -5,10 +5,10 @@ ghost use Rattle.board_lock.specs.Rule.{first_view};
 
 use crate::locked::Locked;
 use crate::pass::{Held, Pass, StateSeat, Turn};
+use crate::pauses::Pauses;
 use crate::rule::{Cut, Keeps, Leaves, Merge, Opening, Rule, Starts, Tries};
 use crate::view::View;
 use atomic_table::Table;
-use crossbeam_utils::Backoff;
 use std::alloc::{AllocError, AllocFailed, Global};
 use std::marker::{Brand, Model};
 use std::sync::Wait;
@@ -127,7 +127,7 @@ impl<S: Locked> Lock<S> {
             number,
             count,
         } = pass;
-        let pause = Backoff::new();
+        let mut pauses = Pauses::new();
         for _ in rt.forever() {
             if self
                 .table
@@ -148,7 +148,7 @@ impl<S: Locked> Lock<S> {
                     state,
                 };
             }
-            pause.snooze();
+            pauses.pause();
         }
         unreachable!()
     }

@@ -6,6 +6,8 @@ use Rattle.board_lock.specs.Passes.{Later, first_gains}
 use Rattle.board_rules.specs.declared.entry.Entry.{Entry}
 use Rattle.board_rules.specs.declared.entry.Entry.TheVariants.{Claim, Finish}
 use Rattle.firing_board.specs.Locking.{worker_of}
+use Rattle.firing_board.specs.declared.claim.Claim.{Claim as claimed}
+use Rattle.worker_crew.specs.Asked.{AskedAfter, HasAsked}
 use Rattle.worker_crew.specs.Passes.{BoardPass, IsIdleAt, MayWork, entries_at, last_claims}
 use Rattle.worker_crew.specs.Worked.{AddsClaim, AreFinished, HasAdded, HasWorked}
 
@@ -133,3 +135,12 @@ worked_on p q r a b = record { later = later_on p q r a.later b.later; own = go 
           two.1 ∙ (ap (λ (l : List Entry). l ++ two.0) one.1 ∙ append_assoc (get_or p.own k []) one.0 two.0),
           finished_append (p.number + k) one.0 two.0 one.2 (subst (λ (n : ℕ). AreFinished (n + k) two.0) a.later.number two.2),
         )
+
+-- ---- what was asked then
+
+pub asked_on : (p q r : BoardPass) (c : claimed) → HasWorked p q → HasAsked q r c → HasAsked p r c
+asked_on p q r c worked asked = record { between = asked.between; worked = worked_on p q asked.between worked asked.worked; asked = asked.asked }
+
+-- an item was claimed and finished in between
+pub ran_on : (p q s : BoardPass) (c : claimed) → AddsClaim p q → AskedAfter q (Finish q.number ∷ []) s c → HasAsked p s c
+ran_on p q s c claim asked = asked_on p asked.after s c (ran_worked p q asked.after claim asked.added) asked.asked

@@ -157,3 +157,10 @@ module _ (k : BoardPass) (was : Option BoardView) (y z : BoardView) (more : List
       let lent : first_becomes k.lent (places_of (lent_to z k.number)) ≡ first_becomes (first_becomes k.lent (places_of (lent_to y k.number))) (places_of (lent_to z k.number)) =
       sym (became_twice k.lent (places_of (lent_to y k.number)) (places_of (lent_to z k.number))) in
       λ i. record k { seen = z.journal; over = z.starved; own = own i; lent = lent i }
+
+  module _ (found : Finds board_meant (known_after board_meant k y) y) where
+    pub found_then : Finds board_meant (known_after board_meant k z) z
+    found_then = subst (λ (q : BoardPass). Finds board_meant q z) (sym left_then) (left_found (known_after board_meant k y) y z more found changes)
+
+    pub added_then : HasAdded (known_after board_meant k y) (known_after board_meant k z) more
+    added_then = subst (λ (q : BoardPass). HasAdded (known_after board_meant k y) q more) (sym left_then) (added_left (known_after board_meant k y) y z more found changes)

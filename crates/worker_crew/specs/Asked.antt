@@ -16,7 +16,7 @@ use Rattle.firing_board.specs.Runs.{RunsWork}
 use Rattle.firing_board.specs.declared.claim.Claim.{Claim}
 use Rattle.firing_board.specs.declared.claim.Claim.TheVariants as claim
 use Rattle.worker_crew.specs.Passes.{BoardPass, HasSeenEnd}
-use Rattle.worker_crew.specs.Worked.{AddsClaim, HasAdded}
+use Rattle.worker_crew.specs.Worked.{AddsClaim, HasAdded, HasWorked}
 
 -- in the journal that the pass has seen, its number runs work of which this holds, and has this frame, or none
 pub record HasClaimed (p : BoardPass) (frame : Option Places) (P : Key → Work → Type 0) : Type 0 where
@@ -61,8 +61,14 @@ Asked p q claim.Wait = HasAdded p q []
 Asked p q claim.Finished = HasAdded p q [] × HasSeenEnd q
 Asked p q claim.Starved = HasAdded p q [] × (q.over ≡ true)
 
--- a pass that knew this has added these entries, and has asked then
-pub record AskedAfter (p : BoardPass) (more : List Entry) (q : BoardPass) (c : Claim) : Type 0 where
+-- a pass that knew this has claimed and finished what it could while it held the lock, and has asked then
+pub record HasAsked (p q : BoardPass) (c : Claim) : Type 0 where
   pub between : BoardPass
-  pub added : HasAdded p between more
+  pub worked : HasWorked p between
   pub asked : Asked between q c
+
+-- a pass that knew this has added these entries, and then so
+pub record AskedAfter (p : BoardPass) (more : List Entry) (q : BoardPass) (c : Claim) : Type 0 where
+  pub after : BoardPass
+  pub added : HasAdded p after more
+  pub asked : HasAsked after q c

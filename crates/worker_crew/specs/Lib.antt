@@ -1,4 +1,5 @@
 pub mod Passes
 pub mod Worked
 pub mod Asked
+pub mod Small
 pub mod Laws

@@ -4,8 +4,8 @@ ghost use Rattle.board_rules.specs.declared.entry.Entry.TheVariants as entry;
 ghost use Rattle.firing_board.specs.Finishes.{MayComeBack, MayEnd};
 ghost use Rattle.worker_crew.specs.Asked.{AskedAfter, HasClaimed};
 
-use crate::asking::claim_held;
 use crate::laws::board_laws;
+use crate::under_lock::{MAX_COPIES, claim_held};
 use board_lock::{Lock, Pass};
 use firing_board::{Board, Claim, Ticket};
 use job_preparing::CompileEnd;
@@ -33,7 +33,7 @@ pub(crate) fn give_back<R: Wait>(
     let mut held = lock.enter(rt, pass);
     let _journal = held.state.journal();
     held.state.finish_fire(ticket, frame, answer);
-    claim_held(alloc, held)
+    claim_held(alloc, held, MAX_COPIES)
 }
 
 /// Gives back the frame of a configuration actor's kernel, and claims the next item, in one holding of the lock.
@@ -56,7 +56,7 @@ pub(crate) fn give_back_configured<R: Wait>(
     let mut held = lock.enter(rt, pass);
     let _journal = held.state.journal();
     held.state.finish_configure(ticket, frame, answer);
-    claim_held(alloc, held)
+    claim_held(alloc, held, MAX_COPIES)
 }
 
 /// Gives back how a compilation ended, and claims the next item, in one holding of the lock. Where memory was wanted, the board
@@ -79,5 +79,5 @@ pub(crate) fn give_back_compiled<R: Wait>(
     let mut held = lock.enter(rt, pass);
     let _journal = held.state.journal();
     let _refused = held.state.finish_compile(alloc, ticket, end);
-    claim_held(alloc, held)
+    claim_held(alloc, held, MAX_COPIES)
 }

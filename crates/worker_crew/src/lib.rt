@@ -1,5 +1,6 @@
 //! The workers of a run. Each claims an item under the lock, runs it outside the lock, and gives it back under the lock, until
-//! the board is over. A crew works in as many threads as it has workers, by halves of halves.
+//! the board is over. A small copy it makes while it holds the lock. A crew works in as many threads as it has workers, by halves
+//! of halves.
 #![tactic(auto)]
 
 mod asking;
@@ -8,6 +9,7 @@ mod giving_back;
 mod laws;
 mod running;
 mod slot;
+mod under_lock;
 mod working;
 
 pub use crew::run_crew;

@@ -1,5 +1,5 @@
 use Rattle.std.proofs.Common.{[]}
-use Rattle.worker_crew.proofs.Advancing.{may_later, waited_worked, worked_idle_at}
+use Rattle.worker_crew.proofs.Advancing.{asked_on, may_later, waited_worked, worked_idle_at}
 use Rattle.worker_crew.proofs.Holding.{held_added, held_found, held_leaves, no_change}
 use Rattle.worker_crew.proofs.asking.ask.Goals as goal
 
@@ -33,8 +33,5 @@ pub returns-clause-asked : goal.returns-clause-asked
 returns-clause-asked g c =
     let p = c.args.pass.known in
     let x = c.enter.result.state.value in
-    record {
-      between = _;
-      added = held_added p x x [] c.enter.ensures.finds (no_change x p.number) c.enter.result.turn.known c.enter.result.turn.found c.enter.ensures.known c.enter.ensures.found;
-      asked = c.claim_held.ensures.asked;
-    }
+    let added = held_added p x x [] c.enter.ensures.finds (no_change x p.number) c.enter.result.turn.known c.enter.result.turn.found c.enter.ensures.known c.enter.ensures.found in
+    asked_on p _ _ _ (waited_worked p _ added) c.claim_held.ensures.asked

@@ -1,5 +1,5 @@
-use Rattle.std.proofs.Common.{◌≡◌, []}
-use Rattle.worker_crew.specs.Worked.{HasAdded}
+use Rattle.std.proofs.Common.{◌≡◌}
+use Rattle.worker_crew.specs.Worked.{HasWorked}
 use Rattle.worker_crew.proofs.asking.await_item.Given as goal
 
 abbrev pub invariant-loop : goal.invariant-loop
@@ -7,5 +7,5 @@ invariant-loop g l = record {
   can_next : (goal.iterator-loop g).can_next l.iterator';
   is_finite : (goal.iterator-loop g).is_finite l.iterator';
   lock : l.pass.lock ≡ l.lock;
-  added : HasAdded l.initial.pass.known l.pass.known [];
+  worked : HasWorked l.initial.pass.known l.pass.known;
 }

@@ -75,4 +75,4 @@ returns-clause-asked g c =
     let finishes : Finishes x y p.number = subst (λ (n : ℕ). Finishes x y n) c.requires.ticket (subst (λ (b : BoardView). Finishes b y c.args.ticket.worker) c.deref_mut.ensures.value c.finish_fire.ensures.finishes) in
     let starved : x.starved ≡ true → y.starved ≡ true = subst (λ (b : BoardView). b.starved ≡ true → y.starved ≡ true) c.deref_mut.ensures.value c.finish_fire.ensures.starved in
     let changes = gives_back p x y (Some c.args.frame.places) (λ key. MayComeBack key c.args.frame c.args.answer (IsOk c.args.answer)) c.board_laws.ensures c.enter-held.ensures.finds sound c.requires.claimed (λ work may. (answer_with (Some (nested.Work work)) c.args.frame c.args.answer, may.answered)) finishes starved in
-    record { between = _; added = held_added p x y (Finish p.number ∷ []) c.enter-held.ensures.finds changes c.enter-held.result.turn.known c.enter-held.result.turn.found c.enter-held.ensures.known c.enter-held.ensures.found; asked = c.claim_held.ensures.asked }
+    record { after = _; added = held_added p x y (Finish p.number ∷ []) c.enter-held.ensures.finds changes c.enter-held.result.turn.known c.enter-held.result.turn.found c.enter-held.ensures.known c.enter-held.ensures.found; asked = c.claim_held.ensures.asked }

@@ -81,4 +81,4 @@ returns-clause-asked g c =
     let finishes : Finishes x y p.number = subst (λ (n : ℕ). Finishes x y n) c.requires.ticket (subst (λ (b : BoardView). Finishes b y c.args.ticket.worker) c.deref_mut.ensures.value c.finish_compile-refused.ensures.finishes) in
     let starved : x.starved ≡ true → y.starved ≡ true = subst (λ (b : BoardView). b.starved ≡ true → y.starved ≡ true) c.deref_mut.ensures.value c.finish_compile-refused.ensures.stays in
     let changes = gives_back p x y None (λ key. MayEnd key c.args.end) c.board_laws.ensures c.enter-held.ensures.finds sound c.requires.claimed (λ work may. ended_answers x.key c.args.end work may) finishes starved in
-    record { between = _; added = held_added p x y (Finish p.number ∷ []) c.enter-held.ensures.finds changes c.enter-held.result.turn.known c.enter-held.result.turn.found c.enter-held.ensures.known c.enter-held.ensures.found; asked = c.claim_held.ensures.asked }
+    record { after = _; added = held_added p x y (Finish p.number ∷ []) c.enter-held.ensures.finds changes c.enter-held.result.turn.known c.enter-held.result.turn.found c.enter-held.ensures.known c.enter-held.ensures.found; asked = c.claim_held.ensures.asked }

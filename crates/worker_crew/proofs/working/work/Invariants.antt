@@ -1,7 +1,5 @@
 use Rattle.std.proofs.Common.{◌≡◌}
-use Rattle.worker_crew.specs.Asked.{Asked}
-use Rattle.worker_crew.specs.Passes.{BoardPass}
-use Rattle.worker_crew.specs.Worked.{HasWorked}
+use Rattle.worker_crew.specs.Asked.{HasAsked}
 use Rattle.worker_crew.proofs.working.work.Given as goal
 
 abbrev pub invariant-loop : goal.invariant-loop
@@ -9,5 +7,5 @@ invariant-loop g l = record {
   can_next : (goal.iterator-loop g).can_next l.iterator';
   is_finite : (goal.iterator-loop g).is_finite l.iterator';
   lock : l.pass.lock ≡ l.lock;
-  asked : (between : BoardPass) × HasWorked l.initial.pass.known between × Asked between l.pass.known l.claim;
+  asked : HasAsked l.initial.pass.known l.pass.known l.claim;
 }
