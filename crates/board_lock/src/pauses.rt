@@ -8,8 +8,8 @@ const GROWN: u32 = 6;
 /// How often a pause gets twice as long after that.
 const DOUBLED: u32 = 3;
 
-/// The pauses of a thread that tries again and again: each is twice as long as the one before, from one `spin_loop` up to 512. The
-/// pauses after that let other threads run too.
+/// The pauses of a thread that tries again and again: each is twice as long as the one before, from one `spin_loop` up to 512. Those
+/// of 512 let other threads run too.
 #[derive(Drop)]
 pub struct Pauses {
     backoff: Backoff,
@@ -25,7 +25,7 @@ impl Pauses {
         }
     }
 
-    /// Pauses, longer than the last time.
+    /// Pauses, twice as long as the last time, where that isn't the longest pause.
     pub fn pause(&mut self) {
         for _ in 0..1u32 << self.count.saturating_sub(GROWN).min(DOUBLED) {
             self.backoff.spin();

@@ -61,7 +61,7 @@ Asked p q claim.Wait = HasAdded p q []
 Asked p q claim.Finished = HasAdded p q [] × HasSeenEnd q
 Asked p q claim.Starved = HasAdded p q [] × (q.over ≡ true)
 
--- a pass that knew this has claimed and finished what it could while it held the lock, and has asked then
+-- a pass that knew this has added claims, each with its finish, and then this was claimed for its number, or nothing was
 pub record HasAsked (p q : BoardPass) (c : Claim) : Type 0 where
   pub between : BoardPass
   pub worked : HasWorked p between

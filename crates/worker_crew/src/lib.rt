@@ -1,6 +1,6 @@
 //! The workers of a run. Each claims an item under the lock, runs it outside the lock, and gives it back under the lock, until
-//! the board is over. A small copy it makes while it holds the lock. A crew works in as many threads as it has workers, by halves
-//! of halves.
+//! the board is over. Small copies it makes while it holds the lock, so many at the most. A crew works in as many threads as it
+//! has workers, by halves of halves.
 #![tactic(auto)]
 
 mod asking;

@@ -6,7 +6,7 @@ ghost use Rattle.kernel_gate.specs.Signed.{Counts};
 ghost use Rattle.firing_board.specs.Locking.{board_meant};
 ghost use Rattle.worker_crew.specs.Asked.{Asked, HasAsked, HasClaimed, IsToCopy};
 ghost use Rattle.worker_crew.specs.Passes.{IsIdleAt, MayWork};
-ghost use Rattle.worker_crew.specs.Small as small;
+ghost use Rattle.worker_crew.specs.Small.{IsSmallCopy};
 ghost use Rattle.worker_crew.specs.Worked.{HasAdded};
 
 use crate::laws::{board_laws, work_fits};
@@ -20,19 +20,20 @@ use std::alloc::Global;
 /// The most copies that a worker makes in one holding of the lock.
 pub(crate) const MAX_COPIES: u32 = 16;
 
-/// The most tokens that a copy writes which is made under the lock, and the most ports that it writes them to.
+/// The most tokens that a copy writes which is made under the lock, and the most inputs and outputs that it has.
 const MAX_TOKENS: usize = 64;
 
 const MAX_PORTS: u32 = 64;
 
-/// Whether a copy is small enough to be made under the lock: it takes less time than the lock takes to move to another worker
-/// and back.
+/// Whether a copy is small enough to be made under the lock: it should take less time than the lock takes to move to another
+/// worker and back.
 fn is_small(frame: &Frame) -> bool
-    requires { length frame.now.outputs < 2 ^ 32 }
-    ensures { IsTrue result ↔ small.IsSmall frame.now }
+    requires ins { length frame.now.inputs < 2 ^ 32 }
+    requires outs { length frame.now.outputs < 2 ^ 32 }
+    ensures { IsTrue result ↔ IsSmallCopy frame.now }
 {
     let ports = frame.outputs();
-    if ports > MAX_PORTS {
+    if frame.inputs() > MAX_PORTS || ports > MAX_PORTS {
         return false;
     }
     let mut room = MAX_TOKENS;

@@ -14,8 +14,8 @@ use std::sync::Wait;
 
 /// Works for the pass's number, which is the least of its numbers and runs nothing, until the board is over: it claims items,
 /// runs them outside the lock, and finishes them. An item is finished and the next one claimed in one holding of the lock; where
-/// that is a small copy, it is made in the same holding. Where nothing may be claimed until others finish, it pauses, and asks
-/// again. It may wait. Each claim that it adds to the journal is followed by its finish, among the entries of this number.
+/// that is a small copy, it is made in the same holding, as are 15 more at the most. Where nothing may be claimed until others
+/// finish, it pauses, and asks again. It may wait. Each claim that it adds to the journal is followed by its finish, among the entries of this number.
 pub fn work<K: Gate + Sync, R: Wait>(
     rt: &R,
     alloc: Global,
