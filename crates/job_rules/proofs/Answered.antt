@@ -22,7 +22,7 @@ use Rattle.sdf_level.specs.declared.single_rate.Edge.{Edge}
 use Rattle.single_rate.specs.Stages.{FiringsAreAll, FiringsStandInOrder, GraphsHaveStages, HaveStages}
 use Rattle.pisdf_meaning.specs.Configuring.{configurations}
 use Rattle.pisdf_meaning.specs.Meaning.{MeansWithin}
-use Rattle.pisdf_meaning.specs.Sizes.{GiveLengths}
+use Rattle.kernel_gate.specs.Laws.{GiveLengths}
 use Rattle.pisdf_meaning.specs.Sound.{AllFit}
 use Rattle.pisdf_meaning.specs.declared.firing.Firing.{Firing}
 use Rattle.pisdf_meaning.specs.declared.refusal.Refusal.{Refusal}

@@ -31,7 +31,7 @@ use Rattle.sdf_level.specs.LevelRun.{HaveRates}
 use Rattle.pisdf_meaning.specs.Endings.{End}
 use Rattle.pisdf_meaning.specs.Meaning.{MeansWithin}
 use Rattle.pisdf_meaning.specs.Running.{FiresActor, FiresBody, child_fires, child_firing, child_state, kernel_fires}
-use Rattle.pisdf_meaning.specs.Sizes.{GiveLengths}
+use Rattle.kernel_gate.specs.Laws.{GiveLengths}
 use Rattle.pisdf_meaning.specs.Sound.{AllFit, BodyFits, GraphFits}
 use Rattle.pisdf_meaning.specs.States.{tokens_at}
 use Rattle.pisdf_meaning.specs.declared.firing.Firing.{Firing}

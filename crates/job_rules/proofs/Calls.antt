@@ -32,7 +32,7 @@ use Rattle.sdf_level.specs.declared.node.Node.TheVariants as node
 use Rattle.pisdf_meaning.specs.Configuring.{Configuration, config_args, config_firing, configurations, early_in}
 use Rattle.pisdf_meaning.specs.Meaning.{MeansWithin}
 use Rattle.pisdf_meaning.specs.Running.{child_firing}
-use Rattle.pisdf_meaning.specs.Sizes.{GiveLengths}
+use Rattle.kernel_gate.specs.Laws.{GiveLengths}
 use Rattle.pisdf_meaning.specs.Sound.{AllFit, KnowsBody, actor_at, no_actor}
 use Rattle.pisdf_meaning.specs.States.{tokens_at}
 use Rattle.pisdf_meaning.specs.declared.firing.Configured.{Configured}

@@ -19,7 +19,7 @@ use Rattle.pisdf_model.specs.declared.graph.Graph.{Graph}
 use Rattle.pisdf_meaning.specs.Configuring.{Configuration, LeaveAll, Leaves, child_leaves, config_answer, config_args, config_firing, config_rates, configurations, configurations_from, early_in, fed_to, kernel_leaves}
 use Rattle.pisdf_meaning.specs.Endings.{End, Ends}
 use Rattle.pisdf_meaning.specs.Running.{source_tokens}
-use Rattle.pisdf_meaning.specs.Sizes.{GiveLengths}
+use Rattle.kernel_gate.specs.Laws.{GiveLengths}
 use Rattle.pisdf_meaning.specs.Sound.{AllFit, BodyFits, GraphFits, IsConfiguration, KnowsBody, actor_at, no_actor}
 use Rattle.pisdf_meaning.specs.States.{actor_list, tokens_at}
 use Rattle.pisdf_meaning.specs.declared.firing.Configured.{Configured}

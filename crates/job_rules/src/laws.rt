@@ -3,7 +3,7 @@
 ghost use Rattle.std.specs.Prelude.{List as Seq};
 ghost use Rattle.kernel_gate.specs.Signed.{Counts};
 ghost use Rattle.nested_jobs.specs.Meanings.{Lawful, Meant};
-ghost use Rattle.pisdf_meaning.specs.Sizes.{GiveLengths};
+ghost use Rattle.kernel_gate.specs.Laws.{GiveLengths};
 ghost use Rattle.pisdf_meaning.specs.Sound.{KernelsFit};
 ghost use Rattle.pisdf_model.specs.Range.{InRange};
 ghost use Rattle.pisdf_model.specs.WellFormed.{WellFormed};

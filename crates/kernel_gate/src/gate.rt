@@ -1,5 +1,6 @@
 // The trait of a set of kernels.
 ghost use Rattle.std.specs.Prelude.{◌≡◌, ◌<◌, ◌^◌, length, map};
+ghost use Rattle.kernel_gate.specs.Laws.{GiveLengths};
 ghost use Rattle.kernel_gate.specs.Table.{frame_value};
 ghost use Rattle.kernel_gate.specs.Signed.{IsFrameOf, signature_view, unnamed};
 ghost use Rattle.kernel_gate.specs.Value.{SameFrame, told_by};
@@ -16,10 +17,11 @@ pub trait Gate {
     /// The signatures of the kernels, in the order of their places.
     ghost kernels: { Self → List SignatureView };
 
-    /// The signatures of the kernels, in the order of their places.
+    /// The signatures of the kernels, in the order of their places. Each gives as many tokens as it is asked for.
     fn signatures(&self) -> &[Signature]
         ensures kernels { map signature_view result.now ≡ kernels self.now }
-        ensures few { length result.now < 2 ^ 32 };
+        ensures few { length result.now < 2 ^ 32 }
+        ensures lengths { GiveLengths (unnamed (kernels self.now)) };
 
     /// Fires the frame's kernel: its outputs and sets are then the kernel's. An `Err` has the kernel's code, and
     /// leaves any tokens in the outputs and any values in the sets.

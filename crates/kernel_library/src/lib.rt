@@ -4,7 +4,7 @@
 mod signatures;
 
 use crate::signatures::SIGNATURES;
-use kernel_gate::{Frame, Gate, KernelFault, Signature};
+use kernel_gate::{Frame, Gate, KernelFault, Signature, lengths_given};
 use kernel_set::{
     add, clamp, count_above, div, dot, down, dup, fir, gain, histogram, max, mean, median, min,
     moving, mul, pass, pick, ramp, read_param, spread, sub, sum, threshold, transpose, up,
@@ -21,6 +21,7 @@ impl Gate for Library {
     ghost kernels = { λ _. the_signatures };
 
     fn signatures(&self) -> &[Signature] {
+        lengths_given();
         &SIGNATURES
     }
 

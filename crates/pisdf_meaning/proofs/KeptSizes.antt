@@ -39,7 +39,8 @@ use Rattle.pisdf_meaning.specs.Endings.{End, Ends, Then}
 use Rattle.pisdf_meaning.specs.Meaning.{FiresGraph, MeansWithin}
 use Rattle.pisdf_meaning.specs.Preparing.{Schedules, level_in, rated, resolved}
 use Rattle.pisdf_meaning.specs.Running.{Fires, FiresActor, FiresBody, RunsLevel, child_fires, child_firing, child_state, given_by, kernel_fires, link_starts, source_tokens, state_after}
-use Rattle.pisdf_meaning.specs.Sizes.{GiveLengths, HasSizes, IsWired, KeepsSizes, MakesLevels}
+use Rattle.kernel_gate.specs.Laws.{GiveLengths}
+use Rattle.pisdf_meaning.specs.Sizes.{HasSizes, IsWired, KeepsSizes, MakesLevels}
 use Rattle.pisdf_meaning.specs.Sound.{AllFit, BodyFits, GraphFits, IsConfiguration, KnowsBody, actor_at, no_actor}
 use Rattle.pisdf_meaning.specs.States.{actor_list, tokens_at}
 use Rattle.pisdf_meaning.specs.declared.firing.Configured.{Configured}

@@ -15,7 +15,8 @@ use Rattle.pisdf_model.specs.declared.interface_wires.FifoPlace.{FifoPlace}
 use Rattle.pisdf_model.proofs.InitialStates.{flat_where_well_formed, initial_state}
 use Rattle.pisdf_model.proofs.Lists.{left_none, right_none, unmapped}
 use Rattle.pisdf_model.proofs.Numbers.{faults_4, faults_7, faults_8, faults_9, from_7, from_8, from_9, from_10}
-use Rattle.pisdf_meaning.specs.Sizes.{GiveLengths, IsWired, KeepsSizes, MakeLevels}
+use Rattle.kernel_gate.specs.Laws.{GiveLengths}
+use Rattle.pisdf_meaning.specs.Sizes.{IsWired, KeepsSizes, MakeLevels}
 use Rattle.pisdf_meaning.specs.Sound.{AllFit}
 use Rattle.pisdf_meaning.proofs.KeptSizes.{Levelled, none_each, sizes_kept}
 

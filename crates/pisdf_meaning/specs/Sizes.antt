@@ -1,8 +1,5 @@
 -- How long the lists are that firings of graphs give.
 use Rattle.std.specs.Prelude.{◌≡◌, ℕ, true, false, ℤ, List, [], slice_get, Some, Ok}
-use Rattle.kernel_gate.specs.Laws.{GivesLengths}
-use Rattle.kernel_gate.specs.Signed.{Counts}
-use Rattle.kernel_gate.specs.Table.{the_value}
 use Rattle.kernel_gate.specs.Value.{lengths}
 use Rattle.param_resolver.specs.EarlyCheck.{early_faults, early_of}
 use Rattle.param_resolver.specs.LevelOf.{level_at, level_faults, links_of}
@@ -19,11 +16,7 @@ use Rattle.pisdf_meaning.specs.Meaning.{Means}
 use Rattle.pisdf_meaning.specs.declared.firing.Firing.{Firing}
 use Rattle.pisdf_meaning.specs.declared.firing.Given.{Given}
 
--- ---- what is asked of kernels and graphs
-
--- each kernel of these signatures gives as much as it was asked for
-abbrev pub GiveLengths : List Counts → Type 0
-GiveLengths signatures = (kind : ℕ) (counts : Counts) → slice_get signatures kind ≡ Some counts → GivesLengths (the_value kind) counts
+-- ---- what is asked of graphs
 
 -- the FIFO leads from where tokens come to where they go, and is placed as it may be
 pub record IsWired (graphs : List Graph) (g : Graph) (f : Fifo) : Type 0 where

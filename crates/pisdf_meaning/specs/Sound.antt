@@ -11,6 +11,7 @@ use Rattle.pisdf_model.specs.declared.actor.Body.{Body}
 use Rattle.pisdf_model.specs.declared.actor.Body.TheVariants.{Kernel, Config, Child, ConfigChild}
 use Rattle.pisdf_model.specs.declared.graph.Graph.{Graph}
 use Rattle.pisdf_model.specs.Nesting.{nesting_limit}
+use Rattle.pisdf_model.specs.Valid.{AreValid}
 use Rattle.pisdf_model.specs.declared.graph.Graphs.{Graphs}
 use Rattle.pisdf_meaning.specs.Configuring.{configurations, configurations_from}
 use Rattle.pisdf_meaning.specs.Kernels.{FitsKernel}
@@ -104,3 +105,8 @@ KernelFits signatures (ConfigChild place args sets) = Unit {0}
 -- the kernels of all actors fit
 abbrev pub KernelsFit : List Counts → List Graph → Type 0
 KernelsFit signatures graphs = All (λ (g : Graph). All (λ (a : Actor). KernelFits signatures a.body) g.actors) graphs
+
+-- valid graphs whose kernels fit these signatures
+pub record AreValidFor (signatures : List Counts) (graphs : Graphs) : Type 0 where
+  pub valid : AreValid graphs
+  pub kernels : KernelsFit signatures graphs.graphs

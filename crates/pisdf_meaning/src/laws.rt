@@ -6,7 +6,8 @@ ghost use Rattle.pisdf_model.specs.WellFormed.{WellFormed};
 ghost use Rattle.pisdf_model.specs.declared.graph.Graph.{Graph};
 ghost use Rattle.pisdf_model.specs.declared.graph.Graphs.{Graphs};
 ghost use Rattle.pisdf_meaning.specs.Laws.{HasMeanings, HasOneMeaning, HasOneRun, HasRuns};
-ghost use Rattle.pisdf_meaning.specs.Sizes.{GiveLengths, KeepsSizes};
+ghost use Rattle.kernel_gate.specs.Laws.{GiveLengths};
+ghost use Rattle.pisdf_meaning.specs.Sizes.{KeepsSizes};
 ghost use Rattle.pisdf_meaning.specs.Sound.{AllFit};
 
 use level_schedule::schedules_exist;

@@ -13,5 +13,6 @@ pub mod Parts
 pub mod Ports
 pub mod Range
 pub mod Search
+pub mod Valid
 pub mod WellFormed
 pub mod Wires

@@ -10,7 +10,7 @@ use Rattle.pisdf_model.specs.Range.{InRange}
 use Rattle.pisdf_model.specs.WellFormed.{WellFormed}
 use Rattle.pisdf_model.specs.declared.graph.Graphs.{Graphs}
 use Rattle.pisdf_meaning.specs.Run.{top_needs}
-use Rattle.pisdf_meaning.specs.Sizes.{GiveLengths}
+use Rattle.kernel_gate.specs.Laws.{GiveLengths}
 use Rattle.pisdf_meaning.specs.Sound.{KernelsFit}
 use Rattle.pisdf_meaning.specs.declared.outcome.Delays.{Delays}
 use Rattle.job_rules.specs.Items.{no_graph}

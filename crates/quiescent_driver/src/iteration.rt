@@ -7,7 +7,7 @@ ghost use Rattle.param_resolver.specs.EarlyCheck.{early_faults};
 ghost use Rattle.pisdf_model.specs.Range.{InRange};
 ghost use Rattle.pisdf_model.specs.WellFormed.{WellFormed};
 ghost use Rattle.pisdf_meaning.specs.Run.{IterationEnds, IterationGives, top_needs};
-ghost use Rattle.pisdf_meaning.specs.Sizes.{GiveLengths};
+ghost use Rattle.kernel_gate.specs.Laws.{GiveLengths};
 ghost use Rattle.pisdf_meaning.specs.Sound.{KernelsFit};
 ghost use Rattle.pisdf_meaning.specs.declared.outcome.Iteration.{Iteration as Outcome};
 ghost use Rattle.pisdf_meaning.specs.declared.refusal.Refusal.{Refusal as Cause};

@@ -6,7 +6,7 @@ ghost use Rattle.param_resolver.specs.EarlyCheck.{early_faults};
 ghost use Rattle.pisdf_model.specs.Range.{InRange};
 ghost use Rattle.pisdf_model.specs.WellFormed.{WellFormed};
 ghost use Rattle.pisdf_meaning.specs.Run.{IsRun, Run, top_needs};
-ghost use Rattle.pisdf_meaning.specs.Sizes.{GiveLengths};
+ghost use Rattle.kernel_gate.specs.Laws.{GiveLengths};
 ghost use Rattle.pisdf_meaning.specs.Sound.{KernelsFit};
 ghost use Rattle.quiescent_driver.specs.Given.{IsTopState};
 ghost use Rattle.quiescent_driver.specs.Iterated.{Gives};

@@ -3,7 +3,7 @@ use Rattle.std.specs.Arc.{arc_value}
 use Rattle.kernel_gate.specs.Signed.{SignatureView, unnamed}
 use Rattle.kernel_gate.specs.Value.{lengths}
 use Rattle.pisdf_meaning.specs.Run.{top_needs}
-use Rattle.pisdf_meaning.specs.Sizes.{GiveLengths}
+use Rattle.kernel_gate.specs.Laws.{GiveLengths}
 use Rattle.quiescent_driver.specs.Stepped.{StopsAt}
 use Rattle.quiescent_driver.specs.Stops.{workers_stop}
 use Rattle.quiescent_driver.specs.Streams.{rest_of}
