@@ -1,4 +1,3 @@
-use Rattle.std.proofs.Common.{tt, subst}
 use Rattle.std.specs.Arc.{arc_value}
 use Rattle.kernel_gate.specs.Signed.{unnamed}
 use Rattle.quiescent_driver.proofs.OneAnswer.{state_given}

@@ -28,7 +28,7 @@ pub returns-clause-state : goal.returns-clause-state
 returns-clause-state g c = c.made.ensures.left
 
 pub made-requires-clause-begins : goal.made-requires-clause-begins
-made-requires-clause-begins g c = λ lives within.
+made-requires-clause-begins g c =
     record {
       sound = c.requires.sound;
       inputs = taken_lengths c.args.number c.args.streams.now.needs.now (run.top_needs (arc_value c.args.graphs.now)) c.args.streams.now.tokens.now c.as_slice.result.now

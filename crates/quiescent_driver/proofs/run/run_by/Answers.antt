@@ -22,7 +22,7 @@ returns-in-Err-top_needs-clause-ends g c =
     (unchecked (arc_value c.args.graphs.now) c.args.streams.now c.args.iterations had faults faults c.in-Err-top_needs.fault (omega (arith, c.if-iterations-eq0.false)) c.requires.valid.in_range.top (rw c.deref.ensures at c.in-Err-top_needs.ensures.refused))
 
 pub run_some-requires-clause-fit : goal.run_some-requires-clause-fit
-run_some-requires-clause-fit g c = λ lives within.
+run_some-requires-clause-fit g c =
     let top = top_there (arc_value c.args.graphs.now) c.requires.valid.in_range.top in
     ap length c.items.ensures ∙ (rw c.deref.ensures at c.in-Ok-top_needs.ensures.fit) top.0 top.1
     ∙ sym (c.requires.fit ∙ ap (λ (t : Graph). length {A = Interface} t.inputs) (top_is (arc_value c.args.graphs.now) top.0 top.1))
