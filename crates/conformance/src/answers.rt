@@ -4,7 +4,7 @@ use crate::drivers::{
     orderings, placements, program, reading, resolving, schedules, solving, tokens, top_levels,
     world,
 };
-use crate::trouble::Trouble;
+use case_rows::Trouble;
 use serde_json::Value;
 use std::alloc::Global;
 use std::sync::Wait;

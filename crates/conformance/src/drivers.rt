@@ -9,7 +9,6 @@ pub mod frames;
 mod graphs;
 pub mod kernels;
 pub mod leases;
-mod levels;
 pub mod lines;
 pub mod made_levels;
 pub mod models;

@@ -1,8 +1,6 @@
 // Reports on the list schedules of graphs.
 use crate::drivers::edges::{are_there, edges_of, rise};
-use crate::lists::{answer_of_smalls, smalls};
-use crate::row::small;
-use crate::trouble::Trouble;
+use case_rows::{Trouble, answer_of_smalls, small, smalls};
 use schedule_bound::{Report, Slot, report};
 use serde_json::Value;
 use std::alloc::Global;

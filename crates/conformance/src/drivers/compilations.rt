@@ -1,12 +1,8 @@
 // Compilations of levels, and how they are kept.
-use crate::drivers::levels::level_of;
 use crate::drivers::schedules::{rows_of_edges, text_of_nodes, word_of};
 use crate::drivers::solving::text_of_turns;
-use crate::lists::{answer_of_smalls, numbers};
-use crate::row::{items, small, small_or};
-use crate::trouble::Trouble;
+use case_rows::{Trouble, answer_of_smalls, items, level_of, level_with, numbers, small, small_or};
 use job_compiler::{CompileFault, Compiled, Kept, Key, compile, kept};
-use level_cases::level_with;
 use sdf_level::List;
 use serde_json::Value;
 use std::alloc::Global;

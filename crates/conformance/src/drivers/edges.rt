@@ -2,9 +2,7 @@
 ghost use Rattle.std.specs.Prelude.{◌≡◌, ◌<◌, ◌≤◌, ℕ, All, IsTrue, length, slice_index, sum, ◌^◌};
 ghost use Rattle.worker_mapping.specs.Graph.{AreThere, Rise};
 
-use crate::lists::{numbers_of, smalls};
-use crate::row::{items, small};
-use crate::trouble::Trouble;
+use case_rows::{Trouble, items, numbers_of, small, smalls};
 use serde_json::Value;
 use std::alloc::Global;
 

@@ -2,10 +2,7 @@
 ghost use Rattle.std.specs.Prelude.{◌≡◌, ◌↔◌, ◌^◌, ◌<◌, All, IfOk, IsTrue, length};
 ghost use Rattle.param_expr.specs.Words.{IsName};
 
-use crate::lists::numbers;
-use crate::notation::text;
-use crate::row::items;
-use crate::trouble::Trouble;
+use case_rows::{Trouble, items, numbers, text};
 use param_expr::{BindFault, EvalFault, ExprFault, Name, bind, eval, is_name, parse, print};
 use serde_json::Value;
 use std::alloc::Global;

@@ -1,8 +1,7 @@
 // What a frame holds, as parts of an answer.
 ghost use Rattle.kernel_gate.specs.Leased.{AreWhole};
 
-use crate::lists::answer_of;
-use crate::trouble::Trouble;
+use case_rows::{Trouble, answer_of};
 use kernel_gate::{Frame, Lent};
 use serde_json::Value;
 use split_block::Lease;

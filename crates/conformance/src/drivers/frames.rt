@@ -6,10 +6,9 @@ ghost use Rattle.kernel_gate.specs.Value.{lengths};
 ghost use Rattle.special_actors.specs.Fitting.{HasLengths, IsFrameOf};
 
 use crate::drivers::frame_parts::given_up;
-use crate::drivers::kernels::{lists, lists_of};
-use crate::lists::{answer_of_smalls, numbers, smalls, total};
-use crate::row::{small, small_or, word};
-use crate::trouble::Trouble;
+use case_rows::{
+    Trouble, answer_of_smalls, lists, lists_of, numbers, small, small_or, smalls, total, word,
+};
 use kernel_gate::Frame;
 use sdf_level::{List, Node};
 use serde_json::Value;

@@ -16,9 +16,7 @@
 // so many times.
 
 use crate::drivers::tokens::name_of;
-use crate::lists::{numbers_of, smalls};
-use crate::row::{items, small, small_or, word};
-use crate::trouble::Trouble;
+use case_rows::{Trouble, items, numbers_of, small, small_of, small_or, smalls, word};
 use param_expr::{Expr, Name, bind, parse};
 use pisdf_model::{
     Actor, Body, End, Fifo, Graph, Graphs, Interface, Life, Param, ParamKind, Port, life_of,
@@ -200,23 +198,16 @@ fn actors_of(alloc: Global, row: &Value) -> Result<List<Actor>, Trouble> {
     Ok(List::new(actors))
 }
 
-fn small_of(value: &Value) -> Result<u32, Trouble> {
-    match value.as_u64().map(u32::try_from) {
-        Some(Ok(number)) => Ok(number),
-        _ => Err(Trouble::Member("an end")),
-    }
-}
-
 fn end_of(value: &Value) -> Result<End, Trouble> {
     match value {
         Value::Array(places) => match places.as_slice() {
             [actor, port] => Ok(End::Port {
-                actor: small_of(actor)?,
-                port: small_of(port)?,
+                actor: small_of(actor, "an end")?,
+                port: small_of(port, "an end")?,
             }),
             _ => Err(Trouble::Member("an end")),
         },
-        _ => Ok(End::Interface(small_of(value)?)),
+        _ => Ok(End::Interface(small_of(value, "an end")?)),
     }
 }
 
@@ -225,7 +216,7 @@ pub fn delay_of(alloc: Global, value: &Value) -> Result<List<i64>, Trouble> {
     if let Some(list) = value.as_array() {
         return Ok(List::new(numbers_of(alloc, list.as_slice())?));
     }
-    let count = small_of(value)?;
+    let count = small_of(value, "an end")?;
     Ok(List::new(vec![in alloc; 0i64; count as usize]?))
 }
 

@@ -7,9 +7,7 @@ ghost use Rattle.kernel_gate.specs.Leased.{AreWhole};
 ghost use Rattle.conformance.specs.Signatures.{HasKernel};
 
 use crate::drivers::frame_parts::given_up;
-use crate::lists::{numbers, numbers_of, smalls};
-use crate::row::{items, small, small_or, word};
-use crate::trouble::Trouble;
+use case_rows::{Trouble, lists, lists_of, numbers, small_or, smalls, word};
 use kernel_gate::{Frame, Gate, KernelFault, Signature};
 use kernel_library::Library;
 use sdf_level::List;
@@ -42,39 +40,6 @@ pub fn place_of(name: &str) -> u32 {
         place = place.saturating_add(1);
     }
     place
-}
-
-/// The row's lists of this name. `{"times": n, "list": list}` stands for a list so many times.
-pub fn lists(alloc: Global, row: &Value, name: &'static str) -> Result<Vec<Vec<i64>>, Trouble> {
-    let mut lists = Vec::new(alloc);
-    for list in items(row, name)? {
-        match list.as_array() {
-            Some(items) => lists.push(numbers_of(alloc, items.as_slice())?)?,
-            None => push_same(alloc, &mut lists, list)?,
-        }
-    }
-    Ok(lists)
-}
-
-/// The item's list so many times, behind those that are there.
-fn push_same(alloc: Global, lists: &mut Vec<Vec<i64>>, item: &Value) -> Result<(), Trouble> {
-    let list = items(item, "list")?;
-    for _ in 0..small(item, "times")? {
-        lists.push(numbers_of(alloc, list)?)?;
-    }
-    Ok(())
-}
-
-/// The lists as lists of tokens.
-pub fn lists_of(alloc: Global, lists: &[Vec<i64>]) -> Result<List<List<i64>>, AllocError>
-    ensures { IfOk result (λ l. length l ≡ length lists.now) }
-{
-    let mut all = Vec::with_capacity(alloc, lists.len())?;
-    for list in lists {
-        let tokens = list.as_slice().to_vec(alloc)?;
-        all.push(List::new(tokens))?;
-    }
-    Ok(List::new(all))
 }
 
 /// Whether there is a kernel at a place that takes and gives so many.

@@ -8,9 +8,7 @@ ghost use Rattle.conformance.specs.Signatures.{HasKernel};
 
 use crate::drivers::frame_parts::{FrameParts, parts_of};
 use crate::drivers::kernels::{has_kernel, place_of, word_of};
-use crate::lists::{answer_of, numbers, smalls};
-use crate::row::{small, word};
-use crate::trouble::Trouble;
+use case_rows::{Trouble, answer_of, numbers, small, smalls, word};
 use cell_pool::Pool;
 use kernel_gate::{Frame, Gate, KernelFault, Lent};
 use kernel_library::Library;

@@ -1,24 +1,13 @@
 // The lines of links: what firings read of them and put on them, and what a run leaves of them.
 ghost use Rattle.std.specs.Prelude.{◌≡◌, length};
 
-use crate::drivers::kernels::{lists, lists_of};
-use crate::drivers::levels::level_of;
-use crate::lists::{answer_of, numbers, smalls};
-use crate::row::{items, small};
-use crate::trouble::Trouble;
+use case_rows::{
+    Trouble, answer_of, answer_of_lists, items, level_of, lists, lists_of, numbers, small, smalls,
+};
 use level_lines::{kept, left, ports_of, put, read};
 use sdf_level::{Level, List};
 use serde_json::Value;
 use std::alloc::Global;
-
-/// The answer that these lists are.
-fn answer_of_lists(alloc: Global, lists: &[List<i64>]) -> Result<Value, Trouble> {
-    let mut values = Vec::new(alloc);
-    for list in lists {
-        values.push(answer_of(alloc, list.items())?)?;
-    }
-    Ok(Value::from(values))
-}
 
 /// The answer that these lines are.
 fn answer_of_lines(alloc: Global, lines: &[Vec<i64>]) -> Result<Value, Trouble> {

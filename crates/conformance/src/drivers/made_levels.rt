@@ -5,12 +5,9 @@ ghost use Rattle.pisdf_model.specs.Range.{InRange};
 ghost use Rattle.pisdf_model.specs.WellFormed.{WellFormed};
 
 use crate::drivers::resolving::{
-    answer_of_args, answer_of_early, answer_of_rates, graphs_read, inherited_of, text_of_cause,
-    text_of_fault,
+    answer_of_early, answer_of_rates, graphs_read, inherited_of, text_of_cause, text_of_fault,
 };
-use crate::lists::{answer_of_smalls, numbers};
-use crate::row::small_or;
-use crate::trouble::Trouble;
+use case_rows::{Trouble, answer_of_lists, answer_of_smalls, numbers, small_or};
 use param_resolver::{
     Early, LevelFault, LevelSet, Origin, early, graphs_resolvable, level_of, resolve,
 };
@@ -81,7 +78,7 @@ pub(crate) fn answer_of_level(alloc: Global, set: &LevelSet) -> Result<Value, Tr
         answer_of_links(alloc, level.links.items())?,
         answer_of_origins(alloc, set.origins.items())?,
         answer_of_smalls(alloc, set.places.items())?,
-        answer_of_args(alloc, set.args.items())?,
+        answer_of_lists(alloc, set.args.items())?,
         answer_of_rates(alloc, set.outs.items())?,
         answer_of_children(alloc, set.children.items())?,
     ]?;
@@ -153,7 +150,7 @@ pub fn level_made(alloc: Global, row: &Value) -> Result<Value, Trouble> {
 pub fn run_begun(alloc: Global, row: &Value) -> Result<Value, Trouble> {
     let graphs = graphs_read(alloc, row)?;
     match first_delays(alloc, &graphs) {
-        Ok(delays) => answer_of_args(alloc, delays.lists.items()),
+        Ok(delays) => answer_of_lists(alloc, delays.lists.items()),
         Err(_) => Err(Trouble::Memory),
     }
 }

@@ -1,8 +1,7 @@
 // The checks of graphs.
 use crate::drivers::graphs::{delay_of, graphs_of};
 use crate::drivers::tokens::name_of;
-use crate::row::{items, member, small, small_or, word};
-use crate::trouble::Trouble;
+use case_rows::{Trouble, items, member, small, small_or, word};
 use param_expr::Name;
 use pisdf_model::{
     AnyCounts, Body, Counts, DetailFault, Graphs, Life, ModelFault, Scope, count, depth, duplicate,

@@ -3,9 +3,7 @@ ghost use Rattle.std.specs.Prelude.{◌≡◌, ◌<◌, ◌≤◌, ◌^◌, All,
 ghost use Rattle.std.specs.List.{sum_by};
 
 use crate::drivers::edges::{edges_of, rank_at};
-use crate::lists::{answer_of_smalls, smalls};
-use crate::row::small;
-use crate::trouble::Trouble;
+use case_rows::{Trouble, answer_of_smalls, small, smalls};
 use order_memory::ordered;
 use sdf_level::{Edge, List, Node, SingleRate};
 use serde_json::Value;

@@ -2,9 +2,7 @@
 ghost use Rattle.std.specs.Prelude.{◌≡◌, ◌<◌, ◌≤◌, ◌^◌, All, IsTrue, length, sum};
 
 use crate::drivers::edges::{are_there, edges_of, pairs, rise};
-use crate::lists::{answer_of_smalls, smalls, total};
-use crate::row::{items, small};
-use crate::trouble::Trouble;
+use case_rows::{Trouble, answer_of_smalls, items, small, smalls, total};
 use memory_exclusion::{Reach, reach};
 use placement::place;
 use placement_checker::{Exclusion, check};

@@ -4,8 +4,7 @@ ghost use Rattle.pisdf_model.specs.WellFormed.{WellFormed};
 
 use crate::drivers::shown::shown;
 use crate::drivers::signatures::signatures_of;
-use crate::notation::{bytes, quoted};
-use crate::trouble::Trouble;
+use case_rows::{Trouble, bytes, quoted};
 use graph_format::GraphFault;
 use graph_reader::read;
 use graph_writer::{upgrade, write};

@@ -6,10 +6,7 @@ ghost use Rattle.pisdf_model.specs.Range.{InRange};
 ghost use Rattle.pisdf_model.specs.WellFormed.{WellFormed};
 
 use crate::drivers::signatures::signatures_of;
-use crate::lists::{answer_of, answer_of_smalls, numbers};
-use crate::notation::quoted;
-use crate::row::small_or;
-use crate::trouble::Trouble;
+use case_rows::{Trouble, answer_of, answer_of_lists, answer_of_smalls, numbers, quoted, small_or};
 use graph_reader::read;
 use param_resolver::{
     Early, EarlyFault, ResolveFault, Why, early, graphs_resolvable, part_name, resolve,
@@ -86,15 +83,6 @@ fn answer_of_values(alloc: Global, values: &[Option<i64>]) -> Result<Value, Trou
     Ok(Value::from(answers))
 }
 
-/// The arguments of each configuration actor.
-pub(crate) fn answer_of_args(alloc: Global, lists: &[List<i64>]) -> Result<Value, Trouble> {
-    let mut answers = Vec::new(alloc);
-    for list in lists {
-        answers.push(answer_of(alloc, list.items())?)?;
-    }
-    Ok(Value::from(answers))
-}
-
 /// The output rates of each configuration actor.
 pub(crate) fn answer_of_rates(alloc: Global, lists: &[List<u32>]) -> Result<Value, Trouble> {
     let mut answers = Vec::new(alloc);
@@ -118,7 +106,7 @@ pub(crate) fn answer_of_early(alloc: Global, early: &Early) -> Result<Value, Tro
         answer_of_values(alloc, early.values.items())?,
         answer_of_smalls(alloc, early.inputs.items())?,
         answer_of_smalls(alloc, early.outputs.items())?,
-        answer_of_args(alloc, early.args.items())?,
+        answer_of_lists(alloc, early.args.items())?,
         answer_of_rates(alloc, early.outs.items())?,
         Value::from(children),
     ]?;

@@ -1,8 +1,6 @@
 // Schedules of levels, and their single-rate graphs.
-use crate::drivers::levels::level_of;
 use crate::drivers::solving::text_of_turns;
-use crate::lists::answer_of_smalls;
-use crate::trouble::Trouble;
+use case_rows::{Trouble, answer_of_smalls, level_of};
 use level_schedule::{Unscheduled, What, schedule};
 use sdf_level::{Edge, Node};
 use serde_json::Value;

@@ -1,9 +1,6 @@
 // The calls on levels: base vectors, repetition vectors, orders, and the links between two actors.
-use crate::drivers::levels::level_of;
-use crate::lists::{answer_of_smalls, smalls};
-use crate::row::{member, small};
-use crate::trouble::Trouble;
 use balance_solver::{Unsolved, repetition};
+use case_rows::{Trouble, answer_of_smalls, level_of, member, small, smalls};
 use firing_order::{Stuck, order};
 use interface_rules::{InterfaceFault, factor, kept_from, repeated_at};
 use sdf_level::{Head, Level, Tail, Turn};

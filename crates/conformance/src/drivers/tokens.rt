@@ -1,8 +1,5 @@
 // Token files, and the rows that a run writes.
-use crate::lists::numbers_of;
-use crate::notation::bytes;
-use crate::row::{items, member, number, small, word};
-use crate::trouble::Trouble;
+use case_rows::{Trouble, bytes, items, member, number, numbers_of, small, word};
 use param_expr::Name;
 use serde_json::Value;
 use std::alloc::Global;

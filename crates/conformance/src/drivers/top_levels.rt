@@ -7,12 +7,10 @@ ghost use Rattle.pisdf_meaning.specs.Sound.{KernelsFit};
 ghost use Rattle.pisdf_model.specs.Range.{InRange};
 ghost use Rattle.pisdf_model.specs.WellFormed.{WellFormed};
 
-use crate::drivers::kernels::{lists, lists_of};
 use crate::drivers::made_levels::answer_of_level;
 use crate::drivers::resolving::text_of_cause;
 use crate::drivers::schedules::word_of;
-use crate::notation::{quoted, text};
-use crate::trouble::Trouble;
+use case_rows::{Trouble, lists, lists_of, quoted, text};
 use graph_reader::read;
 use kernel_gate::Gate;
 use kernel_library::Library;

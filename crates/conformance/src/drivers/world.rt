@@ -1,7 +1,5 @@
 // Shelves and sinks in memory.
-use crate::notation::{bytes_of, text_of};
-use crate::row::{items, small};
-use crate::trouble::Trouble;
+use case_rows::{Trouble, bytes_of, items, small, text_of};
 use outer_world::{LoadFault, MemoryShelf, MemorySink, Shelf, Sink};
 use serde_json::Value;
 use std::alloc::Global;

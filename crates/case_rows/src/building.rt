@@ -1,28 +1,29 @@
 // Levels, each of whose ports is the next of its actor, in the order of the lines.
 ghost use Rattle.std.specs.Prelude.{◌≡◌, ◌≤◌, ◌<◌, ◌^◌, IsTrue, IfOk, All, length};
 ghost use Rattle.std.specs.Bool.{OnTrue};
-ghost use Rattle.level_cases.specs.Numbering.{IsSoundIn, NextHead, NextTail};
+ghost use Rattle.case_rows.specs.Numbering.{IsSoundIn, NextHead, NextTail};
 
-use crate::lines::{End, Line, NoLevel};
+use crate::lines::{End, Line};
+use crate::trouble::Trouble;
 use sdf_level::{Head, InnerLink, Level, Link, List, RATE_LIMIT, Tail};
 use std::alloc::Global;
 
 /// The tail at the next source or the next output of an actor, which is then counted.
-fn next_tail(end: End, sources: &mut Vec<u32>, outputs: &mut Vec<u32>) -> Result<Tail, NoLevel>
+fn next_tail(end: End, sources: &mut Vec<u32>, outputs: &mut Vec<u32>) -> Result<Tail, Trouble>
     ensures { IfOk result (λ t. NextTail sources.old.items outputs.old.items sources.new.items outputs.new.items t) }
 {
     match end {
         End::Interface(rate) => {
             let source = sources.len();
             if source > 1_000_000 {
-                return Err(NoLevel::Lines);
+                return Err(Trouble::Member("links"));
             }
             sources.push(rate)?;
             Ok(Tail::Source(source as u32))
         }
         End::Actor(actor, rate) => {
             if actor as usize >= outputs.len() || outputs[actor as usize] > 1_000_000 {
-                return Err(NoLevel::Lines);
+                return Err(Trouble::Member("links"));
             }
             let port = outputs[actor as usize];
             outputs[actor as usize] = port + 1;
@@ -32,21 +33,21 @@ fn next_tail(end: End, sources: &mut Vec<u32>, outputs: &mut Vec<u32>) -> Result
 }
 
 /// The head at the next sink or the next input of an actor, which is then counted.
-fn next_head(end: End, sinks: &mut Vec<u32>, inputs: &mut Vec<u32>) -> Result<Head, NoLevel>
+fn next_head(end: End, sinks: &mut Vec<u32>, inputs: &mut Vec<u32>) -> Result<Head, Trouble>
     ensures { IfOk result (λ h. NextHead sinks.old.items inputs.old.items sinks.new.items inputs.new.items h) }
 {
     match end {
         End::Interface(rate) => {
             let sink = sinks.len();
             if sink > 1_000_000 {
-                return Err(NoLevel::Lines);
+                return Err(Trouble::Member("links"));
             }
             sinks.push(rate)?;
             Ok(Head::Sink(sink as u32))
         }
         End::Actor(actor, rate) => {
             if actor as usize >= inputs.len() || inputs[actor as usize] > 1_000_000 {
-                return Err(NoLevel::Lines);
+                return Err(Trouble::Member("links"));
             }
             let port = inputs[actor as usize];
             inputs[actor as usize] = port + 1;
@@ -125,8 +126,9 @@ fn are_parts(actors: u32, sources: &Vec<u32>, sinks: &Vec<u32>, links: &Vec<Link
 ///
 /// # Errors
 ///
-/// [`NoLevel`].
-pub fn level_with(alloc: Global, actors: u32, lines: &[Line]) -> Result<Level, NoLevel>
+/// [`Trouble::Member`] where the lines are those of none: an end names no actor, a link has no actor or a delay at a source or sink, a
+/// rate is over its limit, or there are more than a million of them. [`Trouble::Memory`]..
+pub fn level_with(alloc: Global, actors: u32, lines: &[Line]) -> Result<Level, Trouble>
     ensures actors { IfOk result (λ level. level.actors ≡ actors) }
 {
     let mut outputs = vec![in alloc; 0u32; actors as usize]?;
@@ -144,7 +146,7 @@ pub fn level_with(alloc: Global, actors: u32, lines: &[Line]) -> Result<Level, N
         })?;
     }
     if !are_parts(actors, &sources, &sinks, &links) {
-        return Err(NoLevel::Lines);
+        return Err(Trouble::Member("links"));
     }
     Ok(Level {
         actors,
@@ -158,8 +160,9 @@ pub fn level_with(alloc: Global, actors: u32, lines: &[Line]) -> Result<Level, N
 ///
 /// # Errors
 ///
-/// [`NoLevel`].
-pub fn level_between(alloc: Global, actors: u32, links: &[InnerLink]) -> Result<Level, NoLevel>
+/// [`Trouble::Member`] where the lines are those of none: an end names no actor, a link has no actor or a delay at a source or sink, a
+/// rate is over its limit, or there are more than a million of them. [`Trouble::Memory`]..
+pub fn level_between(alloc: Global, actors: u32, links: &[InnerLink]) -> Result<Level, Trouble>
     ensures actors { IfOk result (λ level. level.actors ≡ actors) }
 {
     let mut lines = Vec::with_capacity(alloc, links.len())?;

@@ -2,22 +2,34 @@
 // and `{"times": n, "from": k}` for n numbers from k on, with `"step": s` each s more than the one before. In a list of rows
 // `{"times": n, "rows": [row, ..], "step": [s, ..]}` stands for these rows of numbers n times, the numbers each time more by
 // their steps.
-ghost use Rattle.std.specs.Prelude.{◌≡◌, IfSome, sum};
+ghost use Rattle.std.specs.Prelude.{◌≡◌, IfOk, IfSome, length, sum};
 
 use crate::row::{items, small};
 use crate::trouble::Trouble;
+use sdf_level::List;
 use serde_json::Value;
-use std::alloc::Global;
+use std::alloc::{AllocError, Global};
+
+/// The number that a value is.
+fn number_of(value: &Value, what: &'static str) -> Result<i64, Trouble> {
+    match value.as_i64() {
+        Some(number) => Ok(number),
+        None => Err(Trouble::Member(what)),
+    }
+}
+
+/// The numbers of a list, behind those that are there.
+fn push_each(numbers: &mut Vec<i64>, list: &[Value]) -> Result<(), Trouble> {
+    for number in list {
+        numbers.push(number_of(number, "of")?)?;
+    }
+    Ok(())
+}
 
 /// The numbers of a list so many times, behind those that are there.
 fn push_list(numbers: &mut Vec<i64>, list: &[Value], times: u32) -> Result<(), Trouble> {
     for _ in 0..times {
-        for number in list {
-            match number.as_i64() {
-                Some(number) => numbers.push(number)?,
-                None => return Err(Trouble::Member("of")),
-            }
-        }
+        push_each(numbers, list)?;
     }
     Ok(())
 }
@@ -50,6 +62,10 @@ fn push_numbers(numbers: &mut Vec<i64>, item: &Value) -> Result<(), Trouble> {
 }
 
 /// The numbers of a list.
+///
+/// # Errors
+///
+/// [`Trouble`].
 pub fn numbers_of(alloc: Global, list: &[Value]) -> Result<Vec<i64>, Trouble> {
     let mut numbers = Vec::new(alloc);
     for item in list {
@@ -59,11 +75,19 @@ pub fn numbers_of(alloc: Global, list: &[Value]) -> Result<Vec<i64>, Trouble> {
 }
 
 /// The numbers of the member of this name; none where there is no such member.
+///
+/// # Errors
+///
+/// [`Trouble`].
 pub fn numbers(alloc: Global, row: &Value, name: &'static str) -> Result<Vec<i64>, Trouble> {
     numbers_of(alloc, items(row, name)?)
 }
 
-/// The same, of 32 bits.
+/// The numbers of 32 bits of the member of this name; none where there is no such member.
+///
+/// # Errors
+///
+/// [`Trouble`].
 pub fn smalls(alloc: Global, row: &Value, name: &'static str) -> Result<Vec<u32>, Trouble> {
     let mut smalls = Vec::new(alloc);
     for number in numbers(alloc, row, name)? {
@@ -73,6 +97,47 @@ pub fn smalls(alloc: Global, row: &Value, name: &'static str) -> Result<Vec<u32>
         }
     }
     Ok(smalls)
+}
+
+/// The item's list so many times, behind those that are there.
+fn push_same(alloc: Global, lists: &mut Vec<Vec<i64>>, item: &Value) -> Result<(), Trouble> {
+    let list = items(item, "list")?;
+    for _ in 0..small(item, "times")? {
+        lists.push(numbers_of(alloc, list)?)?;
+    }
+    Ok(())
+}
+
+/// The row's lists of this name. `{"times": n, "list": list}` stands for a list so many times.
+///
+/// # Errors
+///
+/// [`Trouble`].
+pub fn lists(alloc: Global, row: &Value, name: &'static str) -> Result<Vec<Vec<i64>>, Trouble> {
+    let mut lists = Vec::new(alloc);
+    for list in items(row, name)? {
+        match list.as_array() {
+            Some(items) => lists.push(numbers_of(alloc, items.as_slice())?)?,
+            None => push_same(alloc, &mut lists, list)?,
+        }
+    }
+    Ok(lists)
+}
+
+/// The lists as lists of tokens.
+///
+/// # Errors
+///
+/// Where there is no memory.
+pub fn lists_of(alloc: Global, lists: &[Vec<i64>]) -> Result<List<List<i64>>, AllocError>
+    ensures { IfOk result (λ l. length l ≡ length lists.now) }
+{
+    let mut all = Vec::with_capacity(alloc, lists.len())?;
+    for list in lists {
+        let tokens = list.as_slice().to_vec(alloc)?;
+        all.push(List::new(tokens))?;
+    }
+    Ok(List::new(all))
 }
 
 /// The sum of numbers, where it is one of 32 bits.
@@ -87,22 +152,11 @@ pub fn total(numbers: &[u32]) -> Option<u32>
     Some(total)
 }
 
-/// The answer that these numbers are.
-pub fn answer_of(alloc: Global, numbers: &[i64]) -> Result<Value, Trouble> {
-    let mut values = Vec::new(alloc);
-    for number in numbers {
-        values.push(Value::from(*number))?;
-    }
-    Ok(Value::from(values))
-}
-
-/// The same, of 32 bits.
-pub fn answer_of_smalls(alloc: Global, numbers: &[u32]) -> Result<Value, Trouble> {
-    let mut values = Vec::new(alloc);
-    for number in numbers {
-        values.push(Value::from(*number))?;
-    }
-    Ok(Value::from(values))
+/// A number, more by so many times its step.
+fn more(number: &Value, step: &Value, times: u32) -> Result<i64, Trouble> {
+    let number = number_of(number, "rows")?;
+    let step = number_of(step, "rows")?;
+    Ok(number.saturating_add(step.saturating_mul(i64::from(times))))
 }
 
 /// The numbers of a row, each more by so many times its step.
@@ -112,11 +166,7 @@ fn stepped(alloc: Global, row: &Value, steps: &[Value], times: u32) -> Result<Va
     };
     let mut values = Vec::new(alloc);
     for (number, step) in numbers.iter().zip(steps) {
-        let (Some(number), Some(step)) = (number.as_i64(), step.as_i64()) else {
-            return Err(Trouble::Member("rows"));
-        };
-        let more = step.saturating_mul(i64::from(times));
-        values.push(Value::from(number.saturating_add(more)))?;
+        values.push(Value::from(more(number, step, times)?))?;
     }
     Ok(Value::from(values))
 }

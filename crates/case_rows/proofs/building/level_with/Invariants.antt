@@ -1,5 +1,5 @@
-use Rattle.level_cases.proofs.Numbered.{AreNumbered}
-use Rattle.level_cases.proofs.building.level_with.Given as goal
+use Rattle.case_rows.proofs.Numbered.{AreNumbered}
+use Rattle.case_rows.proofs.building.level_with.Given as goal
 
 -- the links so far have their numbers
 abbrev pub invariant-loop-line : goal.invariant-loop-line

@@ -1,7 +1,7 @@
 use std::alloc::{AllocError, AllocFailed};
 
 /// Why a case gives no answer.
-#[derive(Debug, Drop)]
+#[derive(Drop)]
 pub enum Trouble {
     /// A member of the row isn't there, or hasn't the form or the range that is asked for.
     Member(&'static str),

@@ -1,46 +1,40 @@
-// Levels, as the rows give them, and the calls on levels.
+// Levels, as the rows give them.
 //
 // A row has the number of `actors` and the `links`, in order: `[tail, put, head, taken]` or `[tail, put, head, taken,
 // delay]` is a link between two actors, `[{"source": rate}, head, taken]` one from a source, and `[tail, put,
 // {"sink": rate}]` one into a sink. `{"chain": n, "put": p, "taken": t}` are the links from actor 0 to 1, from 1 to 2
 // and so on, n of them. Sources, sinks and the ports of an actor are numbered in the order of the links.
-use crate::row::{items, small, small_or};
+use crate::building::level_with;
+use crate::lines::{End, Line};
+use crate::row::{items, small, small_of, small_or};
 use crate::trouble::Trouble;
-use level_cases::{End, Line, level_with};
 use sdf_level::Level;
 use serde_json::Value;
 use std::alloc::Global;
-
-fn small_of(value: &Value) -> Result<u32, Trouble> {
-    match value.as_u64().map(u32::try_from) {
-        Some(Ok(number)) => Ok(number),
-        _ => Err(Trouble::Member("links")),
-    }
-}
 
 /// The link that an item of a row is.
 fn line_of(parts: &[Value]) -> Result<Line, Trouble> {
     match parts {
         [tail, put, head, taken] => Ok(Line {
-            tail: End::Actor(small_of(tail)?, small_of(put)?),
-            head: End::Actor(small_of(head)?, small_of(taken)?),
+            tail: End::Actor(small_of(tail, "links")?, small_of(put, "links")?),
+            head: End::Actor(small_of(head, "links")?, small_of(taken, "links")?),
             delay: 0,
         }),
         [tail, put, head, taken, delay] => Ok(Line {
-            tail: End::Actor(small_of(tail)?, small_of(put)?),
-            head: End::Actor(small_of(head)?, small_of(taken)?),
-            delay: small_of(delay)?,
+            tail: End::Actor(small_of(tail, "links")?, small_of(put, "links")?),
+            head: End::Actor(small_of(head, "links")?, small_of(taken, "links")?),
+            delay: small_of(delay, "links")?,
         }),
         [first, second, third] => {
             if first.is_object() {
                 return Ok(Line {
                     tail: End::Interface(small(first, "source")?),
-                    head: End::Actor(small_of(second)?, small_of(third)?),
+                    head: End::Actor(small_of(second, "links")?, small_of(third, "links")?),
                     delay: 0,
                 });
             }
             Ok(Line {
-                tail: End::Actor(small_of(first)?, small_of(second)?),
+                tail: End::Actor(small_of(first, "links")?, small_of(second, "links")?),
                 head: End::Interface(small(third, "sink")?),
                 delay: 0,
             })
@@ -75,8 +69,12 @@ fn lines_of(alloc: Global, row: &Value) -> Result<Vec<Line>, Trouble> {
 }
 
 /// The row's level.
+///
+/// # Errors
+///
+/// [`Trouble`].
 pub fn level_of(alloc: Global, row: &Value) -> Result<Level, Trouble> {
     let actors = small(row, "actors")?;
     let lines = lines_of(alloc, row)?;
-    Ok(level_with(alloc, actors, lines.as_slice())?)
+    level_with(alloc, actors, lines.as_slice())
 }

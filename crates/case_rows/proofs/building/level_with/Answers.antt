@@ -1,5 +1,5 @@
-use Rattle.level_cases.proofs.Numbered.{numbered_next, numbered_level}
-use Rattle.level_cases.proofs.building.level_with.Goals as goal
+use Rattle.case_rows.proofs.Numbered.{numbered_next, numbered_level}
+use Rattle.case_rows.proofs.building.level_with.Goals as goal
 
 pub loop-line-preserved : goal.loop-line-preserved
 loop-line-preserved c =

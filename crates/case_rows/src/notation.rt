@@ -78,12 +78,20 @@ fn push_copies(
     }
 }
 
+/// The byte that a number is.
+fn byte_of(number: &Value) -> Result<u8, Trouble> {
+    let Some(number) = number.as_u64() else {
+        return Err(Trouble::Member("bytes"));
+    };
+    match u8::try_from(number) {
+        Ok(byte) => Ok(byte),
+        Err(_) => Err(Trouble::Member("bytes")),
+    }
+}
+
 fn push_bytes(bytes: &mut Vec<u8>, numbers: &[Value]) -> Result<(), Trouble> {
     for number in numbers {
-        match number.as_u64().map(u8::try_from) {
-            Some(Ok(byte)) => bytes.push(byte)?,
-            _ => return Err(Trouble::Member("bytes")),
-        }
+        bytes.push(byte_of(number)?)?;
     }
     Ok(())
 }
@@ -132,6 +140,10 @@ fn push_piece(piece: &Value, alloc: Global, bytes: &mut Vec<u8>) -> Result<(), T
 }
 
 /// The bytes that a piece is.
+///
+/// # Errors
+///
+/// [`Trouble`].
 pub fn bytes_of(alloc: Global, piece: &Value) -> Result<Vec<u8>, Trouble> {
     let mut bytes = Vec::new(alloc);
     push_piece(piece, alloc, &mut bytes)?;
@@ -139,11 +151,19 @@ pub fn bytes_of(alloc: Global, piece: &Value) -> Result<Vec<u8>, Trouble> {
 }
 
 /// The bytes of the member of this name.
+///
+/// # Errors
+///
+/// [`Trouble`].
 pub fn bytes(alloc: Global, row: &Value, name: &'static str) -> Result<Vec<u8>, Trouble> {
     bytes_of(alloc, member(row, name)?)
 }
 
 /// The text that a piece is.
+///
+/// # Errors
+///
+/// [`Trouble`].
 pub fn text_of(alloc: Global, piece: &Value) -> Result<String, Trouble> {
     match String::from_utf8(bytes_of(alloc, piece)?) {
         Ok(text) => Ok(text),
@@ -152,11 +172,19 @@ pub fn text_of(alloc: Global, piece: &Value) -> Result<String, Trouble> {
 }
 
 /// The text of the member of this name.
+///
+/// # Errors
+///
+/// [`Trouble`].
 pub fn text(alloc: Global, row: &Value, name: &'static str) -> Result<String, Trouble> {
     text_of(alloc, member(row, name)?)
 }
 
 /// The bytes of the member of this name, with `"` in the place of each `'`.
+///
+/// # Errors
+///
+/// [`Trouble`].
 pub fn quoted(alloc: Global, row: &Value, name: &'static str) -> Result<Vec<u8>, Trouble> {
     let written = bytes(alloc, row, name)?;
     let mut quoted = Vec::new(alloc);
