@@ -6,7 +6,7 @@ ghost use Rattle.conformance_boards.specs.Given.{AreSound};
 use crate::given::{graphs_of, streams_of};
 use crate::iterations::{Plan, run};
 use crate::told::Told;
-use case_rows::{Outcome, Trouble, items, small, small_or, word};
+use case_rows::{Outcome, Trouble, items, small, small_of, small_or, word};
 use job_compiler::kept;
 use pisdf_model::Graphs;
 use sdf_level::List;
@@ -52,10 +52,7 @@ fn tells_of(case: &Value) -> Result<Tells, Trouble> {
 fn order_of(alloc: Global, case: &Value) -> Result<Vec<u32>, Trouble> {
     let mut order = Vec::new(alloc);
     for worker in items(case, "order")? {
-        match worker.as_u64().map(u32::try_from) {
-            Some(Ok(worker)) => order.push(worker)?,
-            _ => return Err(Trouble::Member("order")),
-        }
+        order.push(small_of(worker, "order")?)?;
     }
     Ok(order)
 }

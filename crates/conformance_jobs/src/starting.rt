@@ -5,7 +5,7 @@ ghost use Rattle.kernel_gate.specs.Value.{lengths};
 ghost use Rattle.sdf_level.specs.LevelRun.{HaveDelays};
 ghost use Rattle.conformance_jobs.specs.Held.{HasNoneClaimed};
 
-use case_rows::{Trouble, items, level_of, lists, lists_of, small};
+use case_rows::{Trouble, items, level_of, lists, lists_of, small, small_of};
 use job_compiler::{Compiled, compile};
 use one_job::{Job, start};
 use sdf_level::{Link, List};
@@ -22,17 +22,19 @@ pub(crate) fn token_lists(
     Ok(lists_of(alloc, lists(alloc, row, name)?.as_slice())?)
 }
 
+/// The place of a kernel, or none.
+fn kind_of(item: &Value) -> Result<Option<u32>, Trouble> {
+    if item.as_u64().is_none() {
+        return Ok(None);
+    }
+    Ok(Some(small_of(item, "kinds")?))
+}
+
 /// The row's kinds: the place of a kernel for each actor, or none.
 fn kinds(alloc: Global, row: &Value) -> Result<List<Option<u32>>, Trouble> {
     let mut kinds = Vec::new(alloc);
     for item in items(row, "kinds")? {
-        kinds.push(match item.as_u64() {
-            Some(kind) => match u32::try_from(kind) {
-                Ok(kind) => Some(kind),
-                Err(_) => return Err(Trouble::Member("kinds")),
-            },
-            None => None,
-        })?;
+        kinds.push(kind_of(item)?)?;
     }
     Ok(List::new(kinds))
 }

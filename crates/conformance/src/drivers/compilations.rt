@@ -81,14 +81,20 @@ fn compiled_of(alloc: Global, actors: u32) -> Result<Arc<Compiled>, Trouble> {
     }
 }
 
+/// Keeps a compilation with so many actors.
+fn keep_one(alloc: Global, kept: &mut Kept, key: Key, actors: u32) -> Result<(), Trouble> {
+    let compiled = compiled_of(alloc, actors)?;
+    kept.keep(key, compiled)?;
+    Ok(())
+}
+
 /// Keeps compilations, one after the other: each with a graph of one number more, and with one actor more.
 fn keep_all(alloc: Global, kept: &mut Kept, step: &Value) -> Result<(), Trouble> {
     let graph = small(step, "keep")?;
     let actors = small_or(step, "actors", 1)?;
     for more in 0..small_or(step, "times", 1)? {
         let key = key_of(alloc, step, graph, more)?;
-        let compiled = compiled_of(alloc, actors.saturating_add(more))?;
-        kept.keep(key, compiled)?;
+        keep_one(alloc, kept, key, actors.saturating_add(more))?;
     }
     Ok(())
 }

@@ -2,7 +2,7 @@
 ghost use Rattle.std.specs.Prelude.{◌≡◌, ◌<◌, ◌≤◌, ℕ, All, IsTrue, length, slice_index, sum, ◌^◌};
 ghost use Rattle.worker_mapping.specs.Graph.{AreThere, Rise};
 
-use case_rows::{Trouble, items, numbers_of, small, smalls};
+use case_rows::{Trouble, items, small, small_of, smalls};
 use serde_json::Value;
 use std::alloc::Global;
 
@@ -17,18 +17,22 @@ pub struct Edges {
 }
 
 /// A pair of numbers.
-fn pair_of(alloc: Global, item: &Value, name: &'static str) -> Result<(u32, u32), Trouble> {
+fn pair_of(item: &Value, name: &'static str) -> Result<(u32, u32), Trouble> {
     let Some(ends) = item.as_array() else {
         return Err(Trouble::Member(name));
     };
-    let ends = numbers_of(alloc, ends.as_slice())?;
     match ends.as_slice() {
-        [first, second] => match (u32::try_from(*first), u32::try_from(*second)) {
-            (Ok(first), Ok(second)) => Ok((first, second)),
-            _ => Err(Trouble::Member(name)),
-        },
+        [first, second] => Ok((small_of(first, name)?, small_of(second, name)?)),
         _ => Err(Trouble::Member(name)),
     }
+}
+
+/// The pairs of a chain, behind those that are there.
+fn push_chain(pairs: &mut Vec<(u32, u32)>, count: u32) -> Result<(), Trouble> {
+    for tail in 0..count {
+        pairs.push((tail, tail.saturating_add(1)))?;
+    }
+    Ok(())
 }
 
 /// The row's pairs of numbers of this name. Instead of a pair there may stand a chain of pairs: `{"chain": n}` are the
@@ -37,11 +41,9 @@ pub fn pairs(alloc: Global, row: &Value, name: &'static str) -> Result<Vec<(u32,
     let mut pairs = Vec::new(alloc);
     for item in items(row, name)? {
         if item.is_array() {
-            pairs.push(pair_of(alloc, item, name)?)?;
+            pairs.push(pair_of(item, name)?)?;
         } else {
-            for tail in 0..small(item, "chain")? {
-                pairs.push((tail, tail.saturating_add(1)))?;
-            }
+            push_chain(&mut pairs, small(item, "chain")?)?;
         }
     }
     Ok(pairs)

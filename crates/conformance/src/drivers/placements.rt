@@ -33,14 +33,20 @@ impl Exclusion for EightBuffers {
     }
 }
 
+/// The bit of a pair of buffers.
+fn bit_of(pair: (u32, u32)) -> Result<u64, Trouble> {
+    let (e, f) = pair;
+    if e >= 8 || f >= 8 {
+        return Err(Trouble::Member("apart"));
+    }
+    Ok(1u64 << (8 * e + f))
+}
+
 /// The relation of the row's pairs of buffers that exclude each other, the lesser number first.
 fn relation_of(alloc: Global, row: &Value) -> Result<EightBuffers, Trouble> {
     let mut bits = 0u64;
-    for (e, f) in pairs(alloc, row, "apart")? {
-        if e >= 8 || f >= 8 {
-            return Err(Trouble::Member("apart"));
-        }
-        bits |= 1u64 << (8 * e + f);
+    for pair in pairs(alloc, row, "apart")? {
+        bits |= bit_of(pair)?;
     }
     Ok(EightBuffers { bits })
 }
@@ -59,16 +65,27 @@ fn reach_of(alloc: Global, row: &Value) -> Result<Reach, Trouble> {
     Ok(reach(alloc, graph.nodes, edges, ranks)?)
 }
 
+/// The pairs of a buffer and a later one that may share cells, behind those that are there.
+fn push_sharing(
+    alloc: Global,
+    pairs: &mut Vec<Value>,
+    reach: &Reach,
+    e: u32,
+) -> Result<(), Trouble> {
+    for f in 0..reach.range() {
+        if e < f && !reach.excludes(e, f) {
+            pairs.push(answer_of_smalls(alloc, &[e, f])?)?;
+        }
+    }
+    Ok(())
+}
+
 /// The pairs of buffers that may share cells, as the row's edges have them.
 pub fn shared(alloc: Global, row: &Value) -> Result<Value, Trouble> {
     let reach = reach_of(alloc, row)?;
     let mut pairs = Vec::new(alloc);
     for e in 0..reach.range() {
-        for f in 0..reach.range() {
-            if e < f && !reach.excludes(e, f) {
-                pairs.push(answer_of_smalls(alloc, &[e, f])?)?;
-            }
-        }
+        push_sharing(alloc, &mut pairs, &reach, e)?;
     }
     Ok(Value::from(pairs))
 }

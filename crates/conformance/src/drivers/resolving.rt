@@ -71,14 +71,19 @@ pub(crate) fn text_of_fault(alloc: Global, fault: &EarlyFault) -> Result<String,
     }
 }
 
+/// A number, or `null`.
+fn answer_of_value(value: Option<i64>) -> Value {
+    match value {
+        Some(number) => Value::from(number),
+        None => Value::Null,
+    }
+}
+
 /// The values of the early parameters, and `null` for each late one.
 fn answer_of_values(alloc: Global, values: &[Option<i64>]) -> Result<Value, Trouble> {
     let mut answers = Vec::new(alloc);
     for value in values {
-        answers.push(match value {
-            Some(number) => Value::from(*number),
-            None => Value::Null,
-        })?;
+        answers.push(answer_of_value(*value))?;
     }
     Ok(Value::from(answers))
 }
