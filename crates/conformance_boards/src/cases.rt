@@ -6,7 +6,7 @@ ghost use Rattle.conformance_boards.specs.Given.{AreSound};
 use crate::given::{graphs_of, streams_of};
 use crate::iterations::{Plan, run};
 use crate::told::Told;
-use case_rows::{Outcome, Trouble, items, small, small_of, small_or, word};
+use case_rows::{Outcome, Table, Trouble, items, small, small_of, small_or, word};
 use job_compiler::kept;
 use pisdf_model::Graphs;
 use sdf_level::List;
@@ -127,17 +127,21 @@ fn outcome_of<R: Threads + Wait + Sync>(
     case_rows::outcome_of(alloc, case, &answer)
 }
 
-/// What becomes of the `cases` of a line, which run the graphs of its `file`, in which `'` stands for `"`, on the `tokens` of a
+/// What becomes of the `cases` of the next line, which run the graphs of its `file`, in which `'` stands for `"`, on the `tokens` of a
 /// token file.
 pub fn outcomes<R: Threads + Wait + Sync>(
     rt: &R,
     alloc: Global,
-    row: &Value,
+    table: &mut Table,
+    line: &str,
 ) -> Result<Vec<Outcome>, Trouble> {
-    let graphs = Arc::new(alloc, graphs_of(alloc, word(row, "file")?)?)?;
-    let streams = streams_of(alloc, word(row, "tokens")?, &graphs)?;
+    let Some(row) = table.next_row(alloc, line)? else {
+        return Ok(Vec::new(alloc));
+    };
+    let graphs = Arc::new(alloc, graphs_of(alloc, word(&row, "file")?)?)?;
+    let streams = streams_of(alloc, word(&row, "tokens")?, &graphs)?;
     let mut outcomes = Vec::new(alloc);
-    for case in items(row, "cases")? {
+    for case in items(&row, "cases")? {
         outcomes.push(outcome_of(rt, alloc, &graphs, streams.items(), case)?)?;
     }
     Ok(outcomes)

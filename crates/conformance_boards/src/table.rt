@@ -1,22 +1,10 @@
 // One table: each of its lines is a graph with its tokens, and cases of it.
 use crate::cases::outcomes;
-use case_rows::{Outcome, Table, Trouble};
+use case_rows::Table;
 use std::rt::Files;
 use std::sync::Wait;
 use std::thread::Threads;
 use std::{fs, io};
-
-/// What becomes of the cases of the next line.
-fn outcomes_of_line<R: AllocGlobal + Threads + Wait + Sync>(
-    rt: &R,
-    table: &mut Table,
-    line: &str,
-) -> Result<Vec<Outcome>, Trouble> {
-    match table.next_row(rt.alloc(), line)? {
-        Some(row) => outcomes(rt, rt.alloc(), &row),
-        None => Ok(Vec::new(rt.alloc())),
-    }
-}
 
 /// Runs the cases of a line.
 fn run_line<R: Print + AllocGlobal + Threads + Wait + Sync>(
@@ -24,7 +12,7 @@ fn run_line<R: Print + AllocGlobal + Threads + Wait + Sync>(
     table: &mut Table,
     line: &str,
 ) -> io::Result<()> {
-    match outcomes_of_line(rt, table, line) {
+    match outcomes(rt, rt.alloc(), table, line) {
         Ok(outcomes) => {
             for outcome in outcomes {
                 table.see(rt, Ok(outcome))?;

@@ -1,6 +1,6 @@
 // Compilations of levels, and how they are kept.
-use crate::drivers::schedules::{rows_of_edges, text_of_nodes, word_of};
-use crate::drivers::solving::text_of_turns;
+use crate::schedules::{rows_of_edges, text_of_nodes, word_of};
+use crate::solving::text_of_turns;
 use case_rows::{Trouble, answer_of_smalls, items, level_of, level_with, numbers, small, small_or};
 use job_compiler::{CompileFault, Compiled, Kept, Key, compile, kept};
 use sdf_level::List;

@@ -1,8 +1,8 @@
 use Rattle.std.proofs.Common.{◌≡◌, ℕ, List, length, ap, ◌∙◌}
 use Rattle.std.proofs.lemmas.List.{length-map, length-replicate}
 use Rattle.std.specs.Prelude.{ℤ, replicate, pos}
-use Rattle.conformance.proofs.Fitting.{is_frame}
-use Rattle.conformance.proofs.drivers.kernels.frame_for.Goals as goal
+use Rattle.conformance_levels.proofs.Fitting.{is_frame}
+use Rattle.conformance_levels.proofs.kernels.frame_for.Goals as goal
 
 pub returns-clause-fitting : goal.returns-clause-fitting
 returns-clause-fitting c =

@@ -5,7 +5,7 @@ ghost use Rattle.kernel_gate.specs.Leased.{AreWhole};
 ghost use Rattle.kernel_gate.specs.Value.{lengths};
 ghost use Rattle.special_actors.specs.Fitting.{HasLengths, IsFrameOf};
 
-use crate::drivers::frame_parts::given_up;
+use crate::frame_parts::given_up;
 use case_rows::{
     Trouble, answer_of_smalls, lists, lists_of, numbers, small, small_or, smalls, total, word,
 };

@@ -1,5 +1,5 @@
 // Schedules of levels, and their single-rate graphs.
-use crate::drivers::solving::text_of_turns;
+use crate::solving::text_of_turns;
 use case_rows::{Trouble, answer_of_smalls, level_of};
 use level_schedule::{Unscheduled, What, schedule};
 use sdf_level::{Edge, Node};

@@ -4,10 +4,10 @@ ghost use Rattle.std.specs.Bool.{OnTrue};
 ghost use Rattle.kernel_gate.specs.Signed.{IsFrameOf, unnamed};
 ghost use Rattle.kernel_gate.specs.Table.{the_signatures};
 ghost use Rattle.kernel_gate.specs.Value.{SameFrame};
-ghost use Rattle.conformance.specs.Signatures.{HasKernel};
+ghost use Rattle.conformance_levels.specs.Signatures.{HasKernel};
 
-use crate::drivers::frame_parts::{FrameParts, parts_of};
-use crate::drivers::kernels::{has_kernel, place_of, word_of};
+use crate::frame_parts::{FrameParts, parts_of};
+use crate::kernels::{has_kernel, place_of, word_of};
 use case_rows::{Trouble, answer_of, numbers, small, smalls, word};
 use cell_pool::Pool;
 use kernel_gate::{Frame, Gate, KernelFault, Lent};

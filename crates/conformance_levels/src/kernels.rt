@@ -4,9 +4,9 @@ ghost use Rattle.std.specs.Bool.{OnTrue};
 ghost use Rattle.kernel_gate.specs.Signed.{IsFrameOf, unnamed};
 ghost use Rattle.kernel_gate.specs.Table.{the_signatures};
 ghost use Rattle.kernel_gate.specs.Leased.{AreWhole};
-ghost use Rattle.conformance.specs.Signatures.{HasKernel};
+ghost use Rattle.conformance_levels.specs.Signatures.{HasKernel};
 
-use crate::drivers::frame_parts::given_up;
+use crate::frame_parts::given_up;
 use case_rows::{Trouble, lists, lists_of, numbers, small_or, smalls, word};
 use kernel_gate::{Frame, Gate, KernelFault, Signature};
 use kernel_library::Library;

@@ -2,7 +2,7 @@
 ghost use Rattle.std.specs.Prelude.{◌≡◌, ◌<◌, ◌≤◌, ◌^◌, All, IfSome, IsTrue, length, slice_index};
 ghost use Rattle.std.specs.List.{sum_by};
 
-use crate::drivers::edges::{edges_of, rank_at};
+use crate::edges::{edges_of, rank_at};
 use case_rows::{Trouble, answer_of_smalls, small, smalls};
 use order_memory::ordered;
 use sdf_level::{Edge, List, Node, SingleRate};

@@ -1,7 +1,7 @@
 // Exclusions of buffers, placements and mappings.
 ghost use Rattle.std.specs.Prelude.{◌≡◌, ◌<◌, ◌≤◌, ◌^◌, All, IsTrue, length, sum};
 
-use crate::drivers::edges::{are_there, edges_of, pairs, rise};
+use crate::edges::{are_there, edges_of, pairs, rise};
 use case_rows::{Trouble, answer_of_smalls, items, small, smalls, total};
 use memory_exclusion::{Reach, reach};
 use placement::place;

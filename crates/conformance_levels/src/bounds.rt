@@ -1,5 +1,5 @@
 // Reports on the list schedules of graphs.
-use crate::drivers::edges::{are_there, edges_of, rise};
+use crate::edges::{are_there, edges_of, rise};
 use case_rows::{Trouble, answer_of_smalls, small, smalls};
 use schedule_bound::{Report, Slot, report};
 use serde_json::Value;

@@ -1,8 +1,8 @@
 use Rattle.std.proofs.Common.{List, map, sym, ap, ◌∙◌}
 use Rattle.split_block.specs.View.{LeaseView, lease_place}
 use Rattle.kernel_gate.specs.Value.{Places}
-use Rattle.conformance.proofs.Placed.{only_place}
-use Rattle.conformance.proofs.drivers.leases.lend_both.Goals as goal
+use Rattle.conformance_levels.proofs.Placed.{only_place}
+use Rattle.conformance_levels.proofs.leases.lend_both.Goals as goal
 
 pub only-requires : goal.only-requires
 only-requires c =
