@@ -91,7 +91,7 @@ fn main(rt: HostRuntime) -> io::Result<ExitCode> {
         if !meets(&rt, rt.alloc(), run, &mut shelf, &mut out, &mut err) {
             let graph = run.graph;
             let workers = run.workers;
-            println!(&rt; "{graph}: the kernels of {workers} workers didn't meet")?;
+            println!(rt; "{graph}: the kernels of {workers} workers didn't meet")?;
             return Ok(ExitCode::FAILURE);
         }
     }
