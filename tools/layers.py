@@ -1,7 +1,8 @@
 #!/usr/bin/env python3
 """Draws the crates in layers.
 
-    layers.py text    for docs/ARCHITECTURE.md: the layers from the highest, each crate with the crates that it uses
+    layers.py text    the layers from the highest, each crate with the crates that it uses
+    layers.py page    puts this text into docs/ARCHITECTURE.md, in place of the one there
     layers.py dot     the same as Graphviz DOT
     layers.py svg     the same as a picture in docs/pictures/crates.svg, where Graphviz is there
 
@@ -17,6 +18,7 @@ import textwrap
 
 TOP = os.path.realpath(os.path.join(os.path.dirname(__file__), ".."))
 PICTURE = os.path.join("docs", "pictures", "crates.svg")
+PAGE = os.path.join("docs", "ARCHITECTURE.md")
 WIDTH = 118
 
 
@@ -93,6 +95,16 @@ def draw_text(uses):
             yield from textwrap.wrap(text, WIDTH, subsequent_indent=" " * (len(start) + 2), drop_whitespace=True, break_on_hyphens=False)
 
 
+def draw_page(uses):
+    """Puts the text in place of the one that the page has between its first two lines of three backticks."""
+    path = os.path.join(TOP, PAGE)
+    with open(path, encoding="utf-8") as file:
+        before, _, after = file.read().split("```\n", 2)
+    with open(path, "w", encoding="utf-8") as file:
+        file.write(before + "```\n" + "".join(line + "\n" for line in draw_text(uses)) + "```\n" + after)
+    yield PAGE
+
+
 def draw_dot(uses):
     layers, direct = layers_of(uses), direct_of(uses)
     yield "digraph crates {"
@@ -114,7 +126,7 @@ def draw_svg(uses):
     yield PICTURE
 
 
-DRAWINGS = {"text": draw_text, "dot": draw_dot, "svg": draw_svg}
+DRAWINGS = {"text": draw_text, "page": draw_page, "dot": draw_dot, "svg": draw_svg}
 
 
 def main(words):
