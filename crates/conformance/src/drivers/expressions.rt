@@ -2,10 +2,8 @@
 ghost use Rattle.std.specs.Prelude.{◌≡◌, ◌↔◌, ◌^◌, ◌<◌, All, IfOk, IsTrue, length};
 ghost use Rattle.param_expr.specs.Words.{IsName};
 
-use crate::lists::numbers;
-use crate::notation::text;
-use crate::row::items;
-use crate::trouble::Trouble;
+use crate::drivers::tokens::names_of;
+use case_rows::{Trouble, numbers, text};
 use param_expr::{BindFault, EvalFault, ExprFault, Name, bind, eval, is_name, parse, print};
 use serde_json::Value;
 use std::alloc::Global;
@@ -20,18 +18,6 @@ fn are_names(names: &[Name]) -> bool
     ensures { IsTrue result ↔ All IsName names.now }
 {
     names.iter().all(|name| is_name(name.text()))
-}
-
-/// The row's names.
-fn names_of(alloc: Global, row: &Value) -> Result<Vec<Name>, Trouble> {
-    let mut names = Vec::new(alloc);
-    for name in items(row, "names")? {
-        match name.as_str() {
-            Some(text) => names.push(Name::new(String::from_str(alloc, text)?))?,
-            None => return Err(Trouble::Member("names")),
-        }
-    }
-    Ok(names)
 }
 
 /// What a text of a few words says of a fault.
@@ -71,7 +57,7 @@ fn outcome(alloc: Global, text: &str, names: &[Name]) -> Result<String, Trouble>
 /// What is printed of the row's text, where it is an expression over the row's names, or why it isn't.
 pub fn printed(alloc: Global, row: &Value) -> Result<Value, Trouble> {
     let text = text(alloc, row, "text")?;
-    let names = names_of(alloc, row)?;
+    let names = names_of(alloc, row, "names")?;
     let names = names.as_slice();
     if names.len() > 100 || !are_names(names) {
         return Err(Trouble::Member("names"));
@@ -102,7 +88,7 @@ fn value_of(alloc: Global, text: &str, names: &[Name], values: &[i64]) -> Result
 /// The value of the row's text, where the row's names have the row's values.
 pub fn evaluated(alloc: Global, row: &Value) -> Result<Value, Trouble> {
     let text = text(alloc, row, "text")?;
-    let names = names_of(alloc, row)?;
+    let names = names_of(alloc, row, "names")?;
     let values = numbers(alloc, row, "values")?;
     let names = names.as_slice();
     let values = values.as_slice();

@@ -15,10 +15,8 @@
 // An expression is a number, or a text over the parameters `p0`, `p1` and so on. `{"times": n, "of": part}` is a part
 // so many times.
 
-use crate::drivers::tokens::name_of;
-use crate::lists::{numbers_of, smalls};
-use crate::row::{items, small, small_or, word};
-use crate::trouble::Trouble;
+use crate::drivers::tokens::{name_in, name_of};
+use case_rows::{Trouble, items, numbers_of, small, small_of, small_or, smalls, word};
 use param_expr::{Expr, Name, bind, parse};
 use pisdf_model::{
     Actor, Body, End, Fifo, Graph, Graphs, Interface, Life, Param, ParamKind, Port, life_of,
@@ -27,16 +25,20 @@ use sdf_level::List;
 use serde_json::Value;
 use std::alloc::Global;
 
+/// A part so many times, behind those that are there.
+fn push_times<'a>(parts: &mut Vec<&'a Value>, part: &'a Value, times: u32) -> Result<(), Trouble> {
+    for _ in 0..times {
+        parts.push(part)?;
+    }
+    Ok(())
+}
+
 /// The row's parts of this name, each so often as it stands for.
 fn parts<'a>(alloc: Global, row: &'a Value, name: &'static str) -> Result<Vec<&'a Value>, Trouble> {
     let mut parts = Vec::new(alloc);
     for item in items(row, name)? {
         match item.get("of") {
-            Some(part) => {
-                for _ in 0..small(item, "times")? {
-                    parts.push(part)?;
-                }
-            }
+            Some(part) => push_times(&mut parts, part, small(item, "times")?)?,
             None => parts.push(item)?,
         }
     }
@@ -78,10 +80,7 @@ fn named<'a>(alloc: Global, part: &'a Value) -> Result<(Name, &'a [Value]), Trou
         return Err(Trouble::Member("a part"));
     };
     match list.as_slice() {
-        [first, rest @ ..] => match first.as_str() {
-            Some(text) => Ok((name_of(alloc, text)?, rest)),
-            None => Err(Trouble::Member("a name")),
-        },
+        [first, rest @ ..] => Ok((name_in(alloc, first, "a name")?, rest)),
         [] => Err(Trouble::Member("a part")),
     }
 }
@@ -143,10 +142,7 @@ fn ports_of(alloc: Global, row: &Value, list: &'static str) -> Result<List<Port>
 fn names_of(alloc: Global, row: &Value, list: &'static str) -> Result<List<Name>, Trouble> {
     let mut names = Vec::new(alloc);
     for part in parts(alloc, row, list)? {
-        match part.as_str() {
-            Some(text) => names.push(name_of(alloc, text)?)?,
-            None => return Err(Trouble::Member(list)),
-        }
+        names.push(name_in(alloc, part, list)?)?;
     }
     Ok(List::new(names))
 }
@@ -200,23 +196,16 @@ fn actors_of(alloc: Global, row: &Value) -> Result<List<Actor>, Trouble> {
     Ok(List::new(actors))
 }
 
-fn small_of(value: &Value) -> Result<u32, Trouble> {
-    match value.as_u64().map(u32::try_from) {
-        Some(Ok(number)) => Ok(number),
-        _ => Err(Trouble::Member("an end")),
-    }
-}
-
 fn end_of(value: &Value) -> Result<End, Trouble> {
     match value {
         Value::Array(places) => match places.as_slice() {
             [actor, port] => Ok(End::Port {
-                actor: small_of(actor)?,
-                port: small_of(port)?,
+                actor: small_of(actor, "an end")?,
+                port: small_of(port, "an end")?,
             }),
             _ => Err(Trouble::Member("an end")),
         },
-        _ => Ok(End::Interface(small_of(value)?)),
+        _ => Ok(End::Interface(small_of(value, "an end")?)),
     }
 }
 
@@ -225,7 +214,7 @@ pub fn delay_of(alloc: Global, value: &Value) -> Result<List<i64>, Trouble> {
     if let Some(list) = value.as_array() {
         return Ok(List::new(numbers_of(alloc, list.as_slice())?));
     }
-    let count = small_of(value)?;
+    let count = small_of(value, "an end")?;
     Ok(List::new(vec![in alloc; 0i64; count as usize]?))
 }
 

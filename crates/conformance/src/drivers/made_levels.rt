@@ -5,12 +5,9 @@ ghost use Rattle.pisdf_model.specs.Range.{InRange};
 ghost use Rattle.pisdf_model.specs.WellFormed.{WellFormed};
 
 use crate::drivers::resolving::{
-    answer_of_args, answer_of_early, answer_of_rates, graphs_read, inherited_of, text_of_cause,
-    text_of_fault,
+    answer_of_early, answer_of_rates, graphs_read, inherited_of, text_of_cause, text_of_fault,
 };
-use crate::lists::{answer_of_smalls, numbers};
-use crate::row::small_or;
-use crate::trouble::Trouble;
+use case_rows::{Trouble, answer_of_lists, answer_of_smalls, numbers, small_or};
 use param_resolver::{
     Early, LevelFault, LevelSet, Origin, early, graphs_resolvable, level_of, resolve,
 };
@@ -34,38 +31,53 @@ fn text_of_head(alloc: Global, head: Head) -> Result<String, Trouble> {
     }
 }
 
+/// A link as `TAIL -> HEAD (DELAY)`.
+fn text_of_link(alloc: Global, link: &Link) -> Result<String, Trouble> {
+    let tail = text_of_tail(alloc, link.tail)?;
+    let head = text_of_head(alloc, link.head)?;
+    let delay = link.delay;
+    Ok(format!(in alloc; "{tail} -> {head} ({delay})")?)
+}
+
 /// Each link as `TAIL -> HEAD (DELAY)`.
 fn answer_of_links(alloc: Global, links: &[Link]) -> Result<Value, Trouble> {
     let mut answers = Vec::new(alloc);
     for link in links {
-        let tail = text_of_tail(alloc, link.tail)?;
-        let head = text_of_head(alloc, link.head)?;
-        let delay = link.delay;
-        answers.push(Value::from(format!(in alloc; "{tail} -> {head} ({delay})")?))?;
+        answers.push(Value::from(text_of_link(alloc, link)?))?;
     }
     Ok(Value::from(answers))
+}
+
+/// What a link comes from: `fifo` or `state`, and a place.
+fn text_of_origin(alloc: Global, origin: Origin) -> Result<String, Trouble> {
+    match origin {
+        Origin::Fifo(place) => Ok(format!(in alloc; "fifo {place}")?),
+        Origin::State(place) => Ok(format!(in alloc; "state {place}")?),
+    }
 }
 
 /// What each link comes from: `fifo` or `state`, and a place.
 fn answer_of_origins(alloc: Global, origins: &[Origin]) -> Result<Value, Trouble> {
     let mut answers = Vec::new(alloc);
     for origin in origins {
-        answers.push(match *origin {
-            Origin::Fifo(place) => Value::from(format!(in alloc; "fifo {place}")?),
-            Origin::State(place) => Value::from(format!(in alloc; "state {place}")?),
-        })?;
+        answers.push(Value::from(text_of_origin(alloc, *origin)?))?;
     }
     Ok(Value::from(answers))
+}
+
+/// What is known of the graph that an actor names, or `null`.
+fn answer_of_child(alloc: Global, child: &Option<Early>) -> Result<Value, Trouble> {
+    match child {
+        Some(child) => answer_of_early(alloc, child),
+        None => Ok(Value::Null),
+    }
 }
 
 /// What is known of the graph that each actor names, or `null`.
 fn answer_of_children(alloc: Global, children: &[Option<Early>]) -> Result<Value, Trouble> {
     let mut answers = Vec::new(alloc);
     for child in children {
-        answers.push(match child {
-            Some(child) => answer_of_early(alloc, child)?,
-            None => Value::Null,
-        })?;
+        answers.push(answer_of_child(alloc, child)?)?;
     }
     Ok(Value::from(answers))
 }
@@ -81,7 +93,7 @@ pub(crate) fn answer_of_level(alloc: Global, set: &LevelSet) -> Result<Value, Tr
         answer_of_links(alloc, level.links.items())?,
         answer_of_origins(alloc, set.origins.items())?,
         answer_of_smalls(alloc, set.places.items())?,
-        answer_of_args(alloc, set.args.items())?,
+        answer_of_lists(alloc, set.args.items())?,
         answer_of_rates(alloc, set.outs.items())?,
         answer_of_children(alloc, set.children.items())?,
     ]?;
@@ -153,7 +165,7 @@ pub fn level_made(alloc: Global, row: &Value) -> Result<Value, Trouble> {
 pub fn run_begun(alloc: Global, row: &Value) -> Result<Value, Trouble> {
     let graphs = graphs_read(alloc, row)?;
     match first_delays(alloc, &graphs) {
-        Ok(delays) => answer_of_args(alloc, delays.lists.items()),
+        Ok(delays) => answer_of_lists(alloc, delays.lists.items()),
         Err(_) => Err(Trouble::Memory),
     }
 }

@@ -1,13 +1,12 @@
 // The checks of graphs.
 use crate::drivers::graphs::{delay_of, graphs_of};
 use crate::drivers::tokens::name_of;
-use crate::row::{items, member, small, small_or, word};
-use crate::trouble::Trouble;
+use case_rows::{Trouble, items, member, small, small_or, word};
 use param_expr::Name;
 use pisdf_model::{
-    AnyCounts, Body, Counts, DetailFault, Graphs, Life, ModelFault, Scope, count, depth, duplicate,
-    graph_cycle, in_range, interface_wire, life_of, param_order, port_text, ports, push_name,
-    repeat, well_formed, wire,
+    AnyCounts, Body, Counts, DetailFault, Graphs, Life, ModelFault, Scope, ScopedName, count,
+    depth, duplicate, graph_cycle, in_range, interface_wire, life_of, param_order, port_text,
+    ports, push_name, repeat, well_formed, wire,
 };
 use serde_json::Value;
 use std::alloc::Global;
@@ -98,19 +97,24 @@ pub fn checked(alloc: Global, row: &Value) -> Result<Value, Trouble> {
     Ok(Value::from(answer))
 }
 
+/// Names something behind the names that are there: an item's name, in the scope of a graph's parts or of the graphs.
+fn push_named(alloc: Global, names: &mut Vec<ScopedName>, item: &Value) -> Result<(), Trouble> {
+    let name = name_of(alloc, word(item, "name")?)?;
+    if item.get("parts").is_none() {
+        push_name(names, Scope::Graphs, &name)?;
+        return Ok(());
+    }
+    let graph = small(item, "parts")? as usize;
+    push_name(names, Scope::Parts { graph }, &name)?;
+    Ok(())
+}
+
 /// The first of the row's names that is repeated in its scope, or `none`. A name is a text and the number of a graph's
 /// parts, or the text alone for the name of a graph.
 pub fn repeated(alloc: Global, row: &Value) -> Result<Value, Trouble> {
     let mut names = Vec::new(alloc);
     for item in items(row, "names")? {
-        let name = name_of(alloc, word(item, "name")?)?;
-        let scope = match item.get("parts") {
-            Some(_) => Scope::Parts {
-                graph: small(item, "parts")? as usize,
-            },
-            None => Scope::Graphs,
-        };
-        push_name(&mut names, scope, &name)?;
+        push_named(alloc, &mut names, item)?;
     }
     Ok(Value::from(told(alloc, repeat(alloc, names.as_slice()))?))
 }

@@ -1,8 +1,6 @@
 // The whole program, over a shelf and sinks in memory.
 use crate::drivers::world::{failing_loads, failing_puts, files_of, text_after};
-use crate::notation::text;
-use crate::row::small_or;
-use crate::trouble::Trouble;
+use case_rows::{Trouble, small_or, text};
 use kernel_library::Library;
 use outer_world::{MemoryShelf, MemorySink};
 use pisdf_program::run_program;

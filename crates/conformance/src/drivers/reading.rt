@@ -4,11 +4,11 @@ ghost use Rattle.pisdf_model.specs.WellFormed.{WellFormed};
 
 use crate::drivers::shown::shown;
 use crate::drivers::signatures::signatures_of;
-use crate::notation::{bytes, quoted};
-use crate::trouble::Trouble;
+use case_rows::{Trouble, bytes, quoted};
 use graph_format::GraphFault;
 use graph_reader::read;
 use graph_writer::{upgrade, write};
+use kernel_gate::Signature;
 use pisdf_model::Graphs;
 use serde_json::Value;
 use std::alloc::Global;
@@ -101,6 +101,37 @@ fn asked_for(alloc: Global, row: &Value, graphs: Graphs) -> Result<Graphs, Troub
     Ok(upgrade(alloc, &graphs)?)
 }
 
+/// What is wrong where these graphs are not those that are read from what is written of them.
+fn unlike(
+    alloc: Global,
+    written: &[u8],
+    graphs: &Graphs,
+    signatures: &[Signature],
+) -> Result<Option<String>, Trouble> {
+    match read(alloc, written, signatures) {
+        Ok(again) => {
+            let again = shown(alloc, &again)?;
+            let first = shown(alloc, graphs)?;
+            if again.as_str() == first.as_str() {
+                return Ok(None);
+            }
+            Ok(Some(String::from_str(alloc, "other graphs")?))
+        }
+        Err(fault) => Ok(Some(fault_text(alloc, &fault)?)),
+    }
+}
+
+/// What is written, with `'` in the place of `"`; `same` where it is the file.
+fn written_told(alloc: Global, file: &[u8], written: Vec<u8>) -> Result<Value, Trouble> {
+    if written.as_slice() == file {
+        return Ok(Value::try_from_str(alloc, "same")?);
+    }
+    match String::from_utf8(written) {
+        Ok(text) => Ok(Value::from(text.replace(alloc, '"', "'")?)),
+        Err(_) => Ok(Value::try_from_str(alloc, "bytes that are no text")?),
+    }
+}
+
 /// What is written of the graphs of the row's file, or of the upgraded ones, where these are read from it again, with `'`
 /// in the place of `"`; `same` where it is the row's file.
 pub fn rewritten(alloc: Global, row: &Value) -> Result<Value, Trouble> {
@@ -111,19 +142,8 @@ pub fn rewritten(alloc: Global, row: &Value) -> Result<Value, Trouble> {
         Err(fault) => return Ok(Value::from(fault_text(alloc, &fault)?)),
     };
     let written = write(alloc, &graphs, signatures.as_slice())?;
-    match read(alloc, written.as_slice(), signatures.as_slice()) {
-        Ok(again) => {
-            if shown(alloc, &again)?.as_str() != shown(alloc, &graphs)?.as_str() {
-                return Ok(Value::try_from_str(alloc, "other graphs")?);
-            }
-        }
-        Err(fault) => return Ok(Value::from(fault_text(alloc, &fault)?)),
-    }
-    if written.as_slice() == file.as_slice() {
-        return Ok(Value::try_from_str(alloc, "same")?);
-    }
-    match String::from_utf8(written) {
-        Ok(text) => Ok(Value::from(text.replace(alloc, '"', "'")?)),
-        Err(_) => Ok(Value::try_from_str(alloc, "bytes that are no text")?),
+    match unlike(alloc, written.as_slice(), &graphs, signatures.as_slice())? {
+        Some(wrong) => Ok(Value::from(wrong)),
+        None => written_told(alloc, file.as_slice(), written),
     }
 }

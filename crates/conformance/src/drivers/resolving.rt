@@ -6,10 +6,7 @@ ghost use Rattle.pisdf_model.specs.Range.{InRange};
 ghost use Rattle.pisdf_model.specs.WellFormed.{WellFormed};
 
 use crate::drivers::signatures::signatures_of;
-use crate::lists::{answer_of, answer_of_smalls, numbers};
-use crate::notation::quoted;
-use crate::row::small_or;
-use crate::trouble::Trouble;
+use case_rows::{Trouble, answer_of, answer_of_lists, answer_of_smalls, numbers, quoted, small_or};
 use graph_reader::read;
 use param_resolver::{
     Early, EarlyFault, ResolveFault, Why, early, graphs_resolvable, part_name, resolve,
@@ -74,23 +71,19 @@ pub(crate) fn text_of_fault(alloc: Global, fault: &EarlyFault) -> Result<String,
     }
 }
 
+/// A number, or `null`.
+fn answer_of_value(value: Option<i64>) -> Value {
+    match value {
+        Some(number) => Value::from(number),
+        None => Value::Null,
+    }
+}
+
 /// The values of the early parameters, and `null` for each late one.
 fn answer_of_values(alloc: Global, values: &[Option<i64>]) -> Result<Value, Trouble> {
     let mut answers = Vec::new(alloc);
     for value in values {
-        answers.push(match value {
-            Some(number) => Value::from(*number),
-            None => Value::Null,
-        })?;
-    }
-    Ok(Value::from(answers))
-}
-
-/// The arguments of each configuration actor.
-pub(crate) fn answer_of_args(alloc: Global, lists: &[List<i64>]) -> Result<Value, Trouble> {
-    let mut answers = Vec::new(alloc);
-    for list in lists {
-        answers.push(answer_of(alloc, list.items())?)?;
+        answers.push(answer_of_value(*value))?;
     }
     Ok(Value::from(answers))
 }
@@ -118,7 +111,7 @@ pub(crate) fn answer_of_early(alloc: Global, early: &Early) -> Result<Value, Tro
         answer_of_values(alloc, early.values.items())?,
         answer_of_smalls(alloc, early.inputs.items())?,
         answer_of_smalls(alloc, early.outputs.items())?,
-        answer_of_args(alloc, early.args.items())?,
+        answer_of_lists(alloc, early.args.items())?,
         answer_of_rates(alloc, early.outs.items())?,
         Value::from(children),
     ]?;

@@ -1,5 +1,5 @@
 // Graphs as a short text, in which `#2` is the parameter at place 2.
-use crate::trouble::Trouble;
+use case_rows::Trouble;
 use param_expr::{Expr, Node, Op};
 use pisdf_model::{Actor, Body, End, Fifo, Graph, Graphs, Life, Param, ParamKind, Port};
 use std::alloc::Global;

@@ -1,6 +1,5 @@
 // The signatures that a row's file is read with.
-use crate::row::word;
-use crate::trouble::Trouble;
+use case_rows::{Trouble, word};
 use kernel_gate::{Gate, Signature};
 use kernel_library::Library;
 use serde_json::Value;

@@ -1,9 +1,7 @@
 // Token files, and the rows that a run writes.
-use crate::lists::numbers_of;
-use crate::notation::bytes;
-use crate::row::{items, member, number, small, word};
-use crate::trouble::Trouble;
+use case_rows::{Trouble, bytes, items, member, number, numbers_of, small, word};
 use param_expr::Name;
+use sdf_level::List;
 use serde_json::Value;
 use std::alloc::Global;
 use std::fmt::Write;
@@ -14,14 +12,19 @@ pub fn name_of(alloc: Global, text: &str) -> Result<Name, Trouble> {
     Ok(Name::new(String::from_str(alloc, text)?))
 }
 
+/// The name that a value is.
+pub fn name_in(alloc: Global, value: &Value, what: &'static str) -> Result<Name, Trouble> {
+    match value.as_str() {
+        Some(text) => name_of(alloc, text),
+        None => Err(Trouble::Member(what)),
+    }
+}
+
 /// The row's names.
 pub fn names_of(alloc: Global, row: &Value, member: &'static str) -> Result<Vec<Name>, Trouble> {
     let mut names = Vec::new(alloc);
     for name in items(row, member)? {
-        match name.as_str() {
-            Some(text) => names.push(name_of(alloc, text)?)?,
-            None => return Err(Trouble::Member(member)),
-        }
+        names.push(name_in(alloc, name, member)?)?;
     }
     Ok(names)
 }
@@ -36,17 +39,21 @@ fn push_stream(text: &mut String, tokens: &[i64]) -> Result<(), Trouble> {
     Ok(())
 }
 
+/// The tokens of each stream.
+fn push_streams(text: &mut String, streams: &[List<i64>]) -> Result<(), Trouble> {
+    for stream in streams {
+        push_stream(text, stream.items())?;
+    }
+    Ok(())
+}
+
 /// What the row's token file gives for the row's names: the tokens of each name with a slash after them, or the fault.
 pub fn tokens_read(alloc: Global, row: &Value) -> Result<Value, Trouble> {
     let file = bytes(alloc, row, "file")?;
     let names = names_of(alloc, row, "names")?;
     let mut text = String::new(alloc);
     match read_tokens(alloc, file.as_slice(), names.as_slice()) {
-        Ok(streams) => {
-            for stream in streams.items() {
-                push_stream(&mut text, stream.items())?;
-            }
-        }
+        Ok(streams) => push_streams(&mut text, streams.items())?,
         Err(TokenFault::Name { row }) => write!(text, "name {row}")?,
         Err(TokenFault::Repeated { row }) => write!(text, "repeated {row}")?,
         Err(TokenFault::Number { row, field }) => write!(text, "number {row} {field}")?,
@@ -81,16 +88,26 @@ fn one_row(alloc: Global, row: &Value) -> Result<Vec<u8>, Trouble> {
     Ok(tokens_row(alloc, iteration, &name, tokens.as_slice())?)
 }
 
+/// Puts a row behind those that are there, made alone or not.
+fn push_either(
+    alloc: Global,
+    text: &mut Vec<u8>,
+    row: &Value,
+    is_alone: bool,
+) -> Result<(), Trouble> {
+    if !is_alone {
+        return push_row(alloc, text, row);
+    }
+    text.extend_from_slice(one_row(alloc, row)?.as_slice())?;
+    Ok(())
+}
+
 /// The text that the row's rows are, each made alone or put behind the others.
 pub fn rows_written(alloc: Global, row: &Value) -> Result<Value, Trouble> {
     let mut text = Vec::new(alloc);
     let alone = member(row, "alone")?.as_bool() == Some(true);
     for one in items(row, "rows")? {
-        if alone {
-            text.extend_from_slice(one_row(alloc, one)?.as_slice())?;
-        } else {
-            push_row(alloc, &mut text, one)?;
-        }
+        push_either(alloc, &mut text, one, alone)?;
     }
     match String::from_utf8(text) {
         Ok(text) => Ok(Value::from(text)),

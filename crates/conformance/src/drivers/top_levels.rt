@@ -7,15 +7,13 @@ ghost use Rattle.pisdf_meaning.specs.Sound.{KernelsFit};
 ghost use Rattle.pisdf_model.specs.Range.{InRange};
 ghost use Rattle.pisdf_model.specs.WellFormed.{WellFormed};
 
-use crate::drivers::kernels::{lists, lists_of};
 use crate::drivers::made_levels::answer_of_level;
 use crate::drivers::resolving::text_of_cause;
-use crate::drivers::schedules::word_of;
-use crate::notation::{quoted, text};
-use crate::trouble::Trouble;
+use case_rows::{Trouble, lists, lists_of, quoted, text};
 use graph_reader::read;
 use kernel_gate::Gate;
 use kernel_library::Library;
+use level_schedule::What;
 use param_expr::Name;
 use pisdf_meaning::{
     Cause, Delays, Left, Path, PlainFault, Refusal, first_delays, top_level, top_needs,
@@ -49,6 +47,15 @@ fn state_before(alloc: Global, row: &Value, graphs: &Graphs) -> Result<Delays, T
     Ok(Delays {
         lists: lists_of(alloc, state.as_slice())?,
     })
+}
+
+/// The word for what is over its limit.
+fn word_of(what: What) -> &'static str {
+    match what {
+        What::Firings => "firings",
+        What::Links => "links",
+        What::Tokens => "tokens",
+    }
 }
 
 /// `deadlock`, and each actor with its count of firings left.

@@ -1,10 +1,19 @@
 // Shelves and sinks in memory.
-use crate::notation::{bytes_of, text_of};
-use crate::row::{items, small};
-use crate::trouble::Trouble;
+use case_rows::{Trouble, bytes_of, items, small, text_of};
 use outer_world::{LoadFault, MemoryShelf, MemorySink, Shelf, Sink};
 use serde_json::Value;
 use std::alloc::Global;
+
+/// A file that is a name and a piece of text.
+fn file_of(alloc: Global, item: &Value, name: &'static str) -> Result<(String, Vec<u8>), Trouble> {
+    let Some(parts) = item.as_array() else {
+        return Err(Trouble::Member(name));
+    };
+    match parts.as_slice() {
+        [file, text] => Ok((text_of(alloc, file)?, bytes_of(alloc, text)?)),
+        _ => Err(Trouble::Member(name)),
+    }
+}
 
 /// The row's files of this name, each a name and a piece of text.
 pub fn files_of(
@@ -14,24 +23,37 @@ pub fn files_of(
 ) -> Result<Vec<(String, Vec<u8>)>, Trouble> {
     let mut files = Vec::new(alloc);
     for item in items(row, name)? {
-        match item.as_array().map(Vec::as_slice) {
-            Some([file, text]) => files.push((text_of(alloc, file)?, bytes_of(alloc, text)?))?,
-            _ => return Err(Trouble::Member(name)),
-        }
+        files.push(file_of(alloc, item, name)?)?;
     }
     Ok(files)
+}
+
+/// A whole number.
+fn whole_of(item: &Value, name: &'static str) -> Result<u64, Trouble> {
+    match item.as_u64() {
+        Some(number) => Ok(number),
+        None => Err(Trouble::Member(name)),
+    }
 }
 
 /// The numbers of the loads that fail.
 pub fn failing_loads(alloc: Global, row: &Value, name: &'static str) -> Result<Vec<u64>, Trouble> {
     let mut numbers = Vec::new(alloc);
     for item in items(row, name)? {
-        match item.as_u64() {
-            Some(number) => numbers.push(number)?,
-            None => return Err(Trouble::Member(name)),
-        }
+        numbers.push(whole_of(item, name)?)?;
     }
     Ok(numbers)
+}
+
+/// A put that fails.
+fn put_of(item: &Value, name: &'static str) -> Result<(u64, usize), Trouble> {
+    let Some(parts) = item.as_array() else {
+        return Err(Trouble::Member(name));
+    };
+    match parts.as_slice() {
+        [number, kept] => Ok((whole_of(number, name)?, whole_of(kept, name)? as usize)),
+        _ => Err(Trouble::Member(name)),
+    }
 }
 
 /// The puts that fail, each by its number and the count of the bytes that it keeps.
@@ -42,13 +64,7 @@ pub fn failing_puts(
 ) -> Result<Vec<(u64, usize)>, Trouble> {
     let mut puts = Vec::new(alloc);
     for item in items(row, name)? {
-        match item.as_array().map(Vec::as_slice) {
-            Some([number, kept]) => match (number.as_u64(), kept.as_u64()) {
-                (Some(number), Some(kept)) => puts.push((number, kept as usize))?,
-                _ => return Err(Trouble::Member(name)),
-            },
-            _ => return Err(Trouble::Member(name)),
-        }
+        puts.push(put_of(item, name)?)?;
     }
     Ok(puts)
 }
@@ -63,6 +79,24 @@ pub fn text_after(alloc: Global, word: &str, bytes: &[u8]) -> Result<Value, Trou
     }
 }
 
+/// The answer of a load, which is the name of a file and the most bytes that it may have.
+fn load_told(alloc: Global, shelf: &mut MemoryShelf, load: &Value) -> Result<Value, Trouble> {
+    let Some(parts) = load.as_array() else {
+        return Err(Trouble::Member("loads"));
+    };
+    let [name, most] = parts.as_slice() else {
+        return Err(Trouble::Member("loads"));
+    };
+    let name = text_of(alloc, name)?;
+    let most = whole_of(most, "loads")? as usize;
+    match shelf.load(name.as_str(), most) {
+        Ok(bytes) => text_after(alloc, "ok ", bytes.as_slice()),
+        Err(LoadFault::Failed) => Ok(Value::try_from_str(alloc, "failed")?),
+        Err(LoadFault::TooLong) => Ok(Value::try_from_str(alloc, "too long")?),
+        Err(LoadFault::Memory) => Err(Trouble::Memory),
+    }
+}
+
 /// The answers of the row's loads from a shelf of the row's files.
 pub fn loads(alloc: Global, row: &Value) -> Result<Value, Trouble> {
     let files = files_of(alloc, row, "files")?;
@@ -70,18 +104,19 @@ pub fn loads(alloc: Global, row: &Value) -> Result<Value, Trouble> {
     let mut shelf = MemoryShelf::new(alloc, files, failing);
     let mut answers = Vec::new(alloc);
     for load in items(row, "loads")? {
-        let (name, most) = match load.as_array().map(Vec::as_slice) {
-            Some([name, most]) => (text_of(alloc, name)?, most.as_u64().unwrap_or(0)),
-            _ => return Err(Trouble::Member("loads")),
-        };
-        answers.push(match shelf.load(name.as_str(), most as usize) {
-            Ok(bytes) => text_after(alloc, "ok ", bytes.as_slice())?,
-            Err(LoadFault::Failed) => Value::try_from_str(alloc, "failed")?,
-            Err(LoadFault::TooLong) => Value::try_from_str(alloc, "too long")?,
-            Err(LoadFault::Memory) => return Err(Trouble::Memory),
-        })?;
+        answers.push(load_told(alloc, &mut shelf, load)?)?;
     }
     Ok(Value::from(answers))
+}
+
+/// The answer of a put of a piece of text, with what the sink holds then.
+fn put_told(alloc: Global, sink: &mut MemorySink, put: &Value) -> Result<Value, Trouble> {
+    let bytes = bytes_of(alloc, put)?;
+    let word = match sink.put(bytes.as_slice()) {
+        Ok(()) => "ok ",
+        Err(_) => "failed ",
+    };
+    text_after(alloc, word, sink.bytes())
 }
 
 /// The answers of the row's puts to a sink with so much room, each with what the sink holds then.
@@ -91,12 +126,7 @@ pub fn puts(alloc: Global, row: &Value) -> Result<Value, Trouble> {
     let mut sink = MemorySink::new(alloc, room, failing)?;
     let mut answers = Vec::new(alloc);
     for put in items(row, "puts")? {
-        let bytes = bytes_of(alloc, put)?;
-        let word = match sink.put(bytes.as_slice()) {
-            Ok(()) => "ok ",
-            Err(_) => "failed ",
-        };
-        answers.push(text_after(alloc, word, sink.bytes())?)?;
+        answers.push(put_told(alloc, &mut sink, put)?)?;
     }
     Ok(Value::from(answers))
 }

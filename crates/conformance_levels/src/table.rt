@@ -1,0 +1,38 @@
+// One table: each of its lines is a case.
+use crate::answers::{Call, answer};
+use case_rows::{Outcome, Trouble, outcome_of};
+use std::alloc::Global;
+use std::rt::Files;
+use std::{fs, io};
+
+/// A file of cases, and the call that they are about.
+#[derive(Clone, Copy)]
+pub struct Table {
+    pub file: &'static str,
+    pub call: Call,
+}
+
+/// What becomes of the next line.
+fn outcome(
+    alloc: Global,
+    lines: &mut case_rows::Table,
+    call: Call,
+    line: &str,
+) -> Result<Outcome, Trouble> {
+    let Some(row) = lines.next_row(alloc, line)? else {
+        return Ok(Outcome::NoCase);
+    };
+    let answer = answer(call, alloc, &row)?;
+    outcome_of(alloc, &row, &answer)
+}
+
+/// Runs the cases of a table, and prints how many there are.
+pub fn run_table(rt: &(impl Files + Print + AllocGlobal), table: Table) -> io::Result<()> {
+    let text = fs::read_to_string(rt, table.file)?;
+    let mut lines = case_rows::Table::new(rt.alloc(), table.file);
+    for line in text.as_str().lines() {
+        let outcome = outcome(rt.alloc(), &mut lines, table.call, line);
+        lines.see(rt, outcome)?;
+    }
+    lines.close(rt)
+}
