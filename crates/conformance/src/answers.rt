@@ -1,8 +1,12 @@
 // The calls, each with the driver that makes it.
-use crate::drivers::{
-    expressions, made_levels, models, program, reading, resolving, tokens, top_levels, world,
-};
+use crate::program;
 use case_rows::Trouble;
+use graph_calls::{
+    expressions, made_levels, models, reading, resolving, tokens, top_levels, world,
+};
+use level_calls::{
+    bounds, compilations, frames, kernels, leases, lines, orderings, placements, schedules, solving,
+};
 use serde_json::Value;
 use std::alloc::Global;
 use std::sync::Wait;
@@ -14,8 +18,17 @@ pub enum Call {
     IsName,
     Print,
     Eval,
+    Fire,
     ReadTokens,
     WriteRows,
+    Base,
+    Counts,
+    Order,
+    Level,
+    Place,
+    Reach,
+    Placement,
+    Map,
     Check,
     Repeat,
     SmallCall,
@@ -25,9 +38,21 @@ pub enum Call {
     Load,
     Put,
     Run,
+    Start,
+    Copy,
+    Cut,
+    Pool,
+    Lend,
+    Schedule,
+    Expand,
+    Bound,
+    Line,
     Resolve,
     MakeLevel,
     Begin,
+    OrderWorkers,
+    Compile,
+    Keep,
     TopLevel,
     MakePath,
 }
@@ -43,8 +68,17 @@ pub fn answer<R: Threads + Wait + Sync>(
         Call::IsName => expressions::is_name_of(alloc, row),
         Call::Print => expressions::printed(alloc, row),
         Call::Eval => expressions::evaluated(alloc, row),
+        Call::Fire => kernels::fired(alloc, row),
         Call::ReadTokens => tokens::tokens_read(alloc, row),
         Call::WriteRows => tokens::rows_written(alloc, row),
+        Call::Base => solving::base(alloc, row),
+        Call::Counts => solving::counts(alloc, row),
+        Call::Order => solving::ordered(alloc, row),
+        Call::Level => solving::parts(alloc, row),
+        Call::Place => solving::place(alloc, row),
+        Call::Reach => placements::shared(alloc, row),
+        Call::Placement => placements::placement(alloc, row),
+        Call::Map => placements::mapped(alloc, row),
         Call::Check => models::checked(alloc, row),
         Call::Repeat => models::repeated(alloc, row),
         Call::SmallCall => models::small_calls(alloc, row),
@@ -54,9 +88,21 @@ pub fn answer<R: Threads + Wait + Sync>(
         Call::Load => world::loads(alloc, row),
         Call::Put => world::puts(alloc, row),
         Call::Run => program::ran(rt, alloc, row),
+        Call::Start => frames::started(alloc, row),
+        Call::Copy => frames::copied(alloc, row),
+        Call::Cut => leases::cut(alloc, row),
+        Call::Pool => leases::pooled(alloc, row),
+        Call::Lend => leases::lent(alloc, row),
+        Call::Schedule => schedules::scheduled(alloc, row),
+        Call::Expand => schedules::expanded(alloc, row),
+        Call::Bound => bounds::reported(alloc, row),
+        Call::Line => lines::lined(alloc, row),
         Call::Resolve => resolving::resolved(alloc, row),
         Call::MakeLevel => made_levels::level_made(alloc, row),
         Call::Begin => made_levels::run_begun(alloc, row),
+        Call::OrderWorkers => orderings::orders_and_offsets(alloc, row),
+        Call::Compile => compilations::compilation(alloc, row),
+        Call::Keep => compilations::kept_by(alloc, row),
         Call::TopLevel => top_levels::top_level_made(alloc, row),
         Call::MakePath => top_levels::path_made(alloc, row),
     }

@@ -1,10 +1,10 @@
-//! Compares the calls on graphs, and the whole program, with tables of cases: each line of a table, a file of `data/`, is a JSON object
+//! Compares the calls of the libraries with tables of cases: each line of a table, a file of `data/`, is a JSON object
 //! with the inputs of a call and the answer that is wanted. It prints each case whose answer is another, and at the end
 //! the number of cases of each table.
 #![tactic(auto)]
 
 mod answers;
-mod drivers;
+mod program;
 mod table;
 
 use crate::answers::Call;
@@ -12,7 +12,7 @@ use crate::table::{Table, run_table};
 use std::io;
 
 /// The tables, in the order of their lines in the output.
-const TABLES: [Table; 22] = [
+const TABLES: [Table; 43] = [
     Table {
         file: "names.jsonl",
         call: Call::IsName,
@@ -26,12 +26,48 @@ const TABLES: [Table; 22] = [
         call: Call::Eval,
     },
     Table {
+        file: "kernels.jsonl",
+        call: Call::Fire,
+    },
+    Table {
         file: "token_files.jsonl",
         call: Call::ReadTokens,
     },
     Table {
         file: "rows.jsonl",
         call: Call::WriteRows,
+    },
+    Table {
+        file: "levels.jsonl",
+        call: Call::Level,
+    },
+    Table {
+        file: "bases.jsonl",
+        call: Call::Base,
+    },
+    Table {
+        file: "repetitions.jsonl",
+        call: Call::Counts,
+    },
+    Table {
+        file: "places.jsonl",
+        call: Call::Place,
+    },
+    Table {
+        file: "orders.jsonl",
+        call: Call::Order,
+    },
+    Table {
+        file: "reaches.jsonl",
+        call: Call::Reach,
+    },
+    Table {
+        file: "placements.jsonl",
+        call: Call::Placement,
+    },
+    Table {
+        file: "mappings.jsonl",
+        call: Call::Map,
     },
     Table {
         file: "checks.jsonl",
@@ -82,6 +118,42 @@ const TABLES: [Table; 22] = [
         call: Call::Run,
     },
     Table {
+        file: "frames.jsonl",
+        call: Call::Start,
+    },
+    Table {
+        file: "copies.jsonl",
+        call: Call::Copy,
+    },
+    Table {
+        file: "cuts.jsonl",
+        call: Call::Cut,
+    },
+    Table {
+        file: "pools.jsonl",
+        call: Call::Pool,
+    },
+    Table {
+        file: "lendings.jsonl",
+        call: Call::Lend,
+    },
+    Table {
+        file: "schedules.jsonl",
+        call: Call::Schedule,
+    },
+    Table {
+        file: "expansions.jsonl",
+        call: Call::Expand,
+    },
+    Table {
+        file: "bounds.jsonl",
+        call: Call::Bound,
+    },
+    Table {
+        file: "lines.jsonl",
+        call: Call::Line,
+    },
+    Table {
         file: "resolutions.jsonl",
         call: Call::Resolve,
     },
@@ -92,6 +164,18 @@ const TABLES: [Table; 22] = [
     Table {
         file: "first_states.jsonl",
         call: Call::Begin,
+    },
+    Table {
+        file: "orderings.jsonl",
+        call: Call::OrderWorkers,
+    },
+    Table {
+        file: "compilations.jsonl",
+        call: Call::Compile,
+    },
+    Table {
+        file: "keepings.jsonl",
+        call: Call::Keep,
     },
     Table {
         file: "top_levels.jsonl",
