@@ -10,6 +10,7 @@ pub mod InPlace
 pub mod OfVersion
 pub mod Ranged
 pub mod Writable
+pub mod FileNamed
 pub mod Reading
 pub mod Located
 pub mod Misshapen

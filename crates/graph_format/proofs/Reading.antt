@@ -6,6 +6,7 @@ use Rattle.serde_json.specs.Data.{Data}
 use Rattle.kernel_gate.specs.Signed.{SignatureView}
 use Rattle.pisdf_model.specs.Details.{first}
 use Rattle.pisdf_model.specs.Range.{InRange}
+use Rattle.pisdf_model.specs.Valid.{AreNamed}
 use Rattle.pisdf_model.specs.WellFormed.{WellFormed}
 use Rattle.pisdf_model.specs.declared.graph.Graphs.{Graphs}
 use Rattle.graph_format.specs.Faults.{Tells, file_faults, graphs_of}
@@ -20,6 +21,7 @@ use Rattle.graph_format.specs.Writable.{IsWritableGraph}
 use Rattle.graph_format.specs.declared.file.File.{File}
 use Rattle.graph_format.specs.declared.graph_fault.GraphFault.{GraphFault}
 use Rattle.graph_format.specs.declared.graph_fault.GraphFault.TheVariants.{Memory, NotJson}
+use Rattle.graph_format.proofs.FileNamed.{named}
 use Rattle.graph_format.proofs.Laws.{well_formed}
 use Rattle.graph_format.proofs.NoFaults.{no_file_faults}
 use Rattle.graph_format.proofs.StatedFiles.{file_reads}
@@ -116,6 +118,12 @@ module _ (signatures : List SignatureView) (bytes : List ℕ) where
       let f = found signatures bytes graphs h in
       subst (λ (g : Graphs). WellFormed g) (sym f.is) (well_formed signatures f.file f.none)
   reads_well_formed (Err fault) h = tt
+
+  pub reads_named : (r : Result Graphs GraphFault) → Reads signatures bytes r → IfOk r (λ graphs. AreNamed graphs)
+  reads_named (Ok graphs) h =
+      let f = found signatures bytes graphs h in
+      subst (λ (g : Graphs). AreNamed g) (sym f.is) (named signatures f.value f.file f.states.states)
+  reads_named (Err fault) h = tt
 
   pub reads_writable : (r : Result Graphs GraphFault) → Reads signatures bytes r → IfOk r (λ graphs. All IsWritableGraph graphs.graphs)
   reads_writable (Ok graphs) h =

@@ -50,3 +50,8 @@ pub is_done : {A B : Type 0} (unknown : A → List (List ℕ)) (placed : A → B
 is_done unknown placed xs i done le stands =
     let whole : take i xs ≡ xs = take_all i xs le in
     (ap (flat_map unknown) (sym whole) ∙ stands.known, stands.made ∙ ap (map placed) whole)
+
+-- one part more, of which is told what is told of its source
+pub tells_on : {A B C : Type 0} (view : B → C) (told : A → C) (xs : List A) (i : ℕ) (x : A) (y : B) (done : List B) → i < length xs → x ≡ get_or xs i x → view y ≡ told x → map view done ≡ map told (take i xs) → map view (done ++ y ∷ []) ≡ map told (take (i + 1) xs)
+tells_on view told xs i x y done lt is h before =
+    map_push view done y ∙ ap (λ d. d ++ view y ∷ []) before ∙ ap (λ z. map told (take i xs) ++ z ∷ []) h ∙ sym (map_push told (take i xs) x) ∙ sym (ap (map told) (take_next xs i x lt is))

@@ -2,6 +2,7 @@ ghost use Rattle.std.specs.Prelude.{◌≡◌, IfErr, IfOk, All, map};
 ghost use Rattle.serde_json.specs.Data.{Data};
 ghost use Rattle.kernel_gate.specs.Signed.{signature_view};
 ghost use Rattle.pisdf_model.specs.Range.{InRange};
+ghost use Rattle.pisdf_model.specs.Valid.{AreNamed};
 ghost use Rattle.pisdf_model.specs.WellFormed.{WellFormed};
 ghost use Rattle.pisdf_model.specs.Names.{repeats};
 ghost use Rattle.graph_format.specs.Faults.{Tells, file_faults, graphs_of};
@@ -123,6 +124,7 @@ pub fn read(alloc: Global, bytes: &[u8], signatures: &[Signature]) -> Result<Gra
     ensures means { IfOk result (λ graphs. (d : Data) × IsJson bytes.now d × ((file : File) × States d file × Means (map signature_view signatures.now) file graphs)) }
     ensures in_range { IfOk result (λ graphs. InRange graphs) }
     ensures well_formed { IfOk result (λ graphs. WellFormed graphs) }
+    ensures named { IfOk result (λ graphs. AreNamed graphs) }
     ensures writable { IfOk result (λ graphs. All IsWritableGraph graphs.graphs) }
     // What is stated is read where it has no fault, and else its first fault is answered, unless memory runs out.
     ensures stated { (d : Data) (file : File) → IsJson bytes.now d → States d file

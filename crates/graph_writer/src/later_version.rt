@@ -3,8 +3,7 @@ ghost use Rattle.pisdf_model.specs.Range.{InRange};
 ghost use Rattle.pisdf_model.specs.WellFormed.{WellFormed};
 ghost use Rattle.graph_writer.specs.Upgraded.{HasFirstLives, upgraded};
 
-use crate::copy;
-use pisdf_model::Graphs;
+use pisdf_model::{Graphs, copies};
 use std::alloc::{AllocError, Global};
 
 /// The same graphs as those of a file of version 2. Each delay keeps the life that it has, which a file of version 1
@@ -26,6 +25,6 @@ pub fn upgrade(alloc: Global, graphs: &Graphs) -> Result<Graphs, AllocError>
     Ok(Graphs {
         version: 2,
         top: graphs.top,
-        graphs: copy::list(alloc, graphs.graphs.items())?,
+        graphs: copies(alloc, graphs.graphs.items())?,
     })
 }

@@ -2,7 +2,6 @@
 #![tactic(auto)]
 
 mod actor;
-mod copy;
 mod fifo;
 mod graph;
 mod later_version;

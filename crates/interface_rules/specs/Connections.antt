@@ -1,4 +1,4 @@
--- The components that some first links make, each with a number that its actors share.
+-- The components that links make, each with a number that its actors share.
 use Rattle.std.specs.Prelude.{◌≡◌, ℕ, ◌<◌, ◌↔◌, List, [], ◌∷◌, ◌++◌, length, slice_index}
 use Rattle.sdf_level.specs.Components.{AreConnected}
 use Rattle.sdf_level.specs.declared.link.Link.{Link}

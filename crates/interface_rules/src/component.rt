@@ -27,8 +27,13 @@ fn join(alloc: Global, link: &InnerLink, groups: &mut Groups) -> Result<(), Allo
     groups.unite(alloc, first, second)
 }
 
-/// For each actor the number of its component, which is below the count of actors.
-pub(crate) fn components(alloc: Global, level: &Level) -> Result<Vec<u32>, AllocError>
+/// For each actor of a level the number of its component, which is below the count of actors: two actors have one number
+/// exactly where links of positive rates connect them, in either direction.
+///
+/// # Errors
+///
+/// Want of memory.
+pub fn components(alloc: Global, level: &Level) -> Result<Vec<u32>, AllocError>
     ensures { IfOk result (λ v. AreGrouped level.now.actors level.now.links v.items) }
 {
     let links = level.inner_links(alloc)?;

@@ -9,6 +9,7 @@ mod need;
 mod place;
 mod repetition;
 
+pub use component::components;
 pub use fault::InterfaceFault;
 pub use place::{kept_from, repeated_at};
 pub use repetition::factor;

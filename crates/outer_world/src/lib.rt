@@ -16,5 +16,5 @@ pub use folder::{Folder, SystemFiles};
 pub use memory_shelf::MemoryShelf;
 pub use memory_sink::MemorySink;
 pub use shelf::{LoadFault, Shelf};
-pub use sink::{Sink, SinkFailed};
+pub use sink::{Sink, SinkFailed, put_text};
 pub use stream_sink::StreamSink;

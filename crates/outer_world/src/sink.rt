@@ -1,4 +1,4 @@
-ghost use Rattle.std.specs.Prelude.{ℕ, List, Option};
+ghost use Rattle.std.specs.Prelude.{◌≡◌, ℕ, List, [], IsOk, Option};
 ghost use Rattle.outer_world.specs.Sink.{Puts};
 
 use thiserror::Error;
@@ -19,4 +19,19 @@ pub trait Sink {
     /// Appends all the bytes, or a beginning of them where it fails.
     fn put(&mut self, bytes: &[u8]) -> Result<(), SinkFailed>
         ensures { Puts (written self.old) (written self.new) (faults self.old) (faults self.new) bytes.now result };
+}
+
+/// Puts a text, unless it is empty.
+///
+/// # Errors
+///
+/// The put failed, and the sink's count of faults rose.
+pub fn put_text<W: Sink>(sink: &mut W, text: &[u8]) -> Result<(), SinkFailed>
+    ensures puts { Puts (W.written sink.old) (W.written sink.new) (W.faults sink.old) (W.faults sink.new) text.now result }
+    ensures nothing { text.now ≡ [] → IsOk result × (sink.new ≡ sink.old) }
+{
+    if text.is_empty() {
+        return Ok(());
+    }
+    sink.put(text)
 }

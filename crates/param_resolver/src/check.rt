@@ -1,7 +1,6 @@
 ghost use Rattle.std.specs.Prelude.{◌≡◌, ◌<◌, [], length, slice_get, IfErr, IfOk, IfSome, OnOk};
 ghost use Rattle.pisdf_model.specs.Ports.{inherited_count};
-ghost use Rattle.pisdf_model.specs.Range.{InRange};
-ghost use Rattle.pisdf_model.specs.WellFormed.{WellFormed};
+ghost use Rattle.pisdf_model.specs.Valid.{AreValid};
 ghost use Rattle.param_resolver.specs.EarlyCheck.{early_faults, early_of};
 ghost use Rattle.param_resolver.specs.Refusal.{StandsFirst, TellsMemory, refusal_of};
 
@@ -32,8 +31,7 @@ pub fn early(
     graph: u32,
     inherited: &[i64],
 ) -> Result<Early, EarlyFault>
-    requires in_range { InRange graphs.now }
-    requires well_formed { WellFormed graphs.now }
+    requires valid { AreValid graphs.now }
     requires there { graph < length graphs.now.graphs }
     requires inherited { length inherited.now ≡ inherited_count (slice_get graphs.now.graphs graph) }
     ensures known { IfOk result (λ e. e ≡ early_of graphs.now.graphs graph inherited.now) }

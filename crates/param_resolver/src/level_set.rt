@@ -1,7 +1,6 @@
 // The level of a graph, and with what its actors fire.
 ghost use Rattle.std.specs.Prelude.{◌≡◌, ◌<◌, ℕ, ℤ, List as Seq, [], Some, length, slice_get, IfErr, IfOk, IfSome, OnOk};
-ghost use Rattle.pisdf_model.specs.Range.{InRange};
-ghost use Rattle.pisdf_model.specs.WellFormed.{WellFormed};
+ghost use Rattle.pisdf_model.specs.Valid.{AreValid};
 ghost use Rattle.pisdf_model.specs.declared.actor.Actor.{Actor};
 ghost use Rattle.sdf_level.specs.Kept.{IsLevel, how_many};
 ghost use Rattle.sdf_level.specs.Run.{is_into_actor};
@@ -155,8 +154,7 @@ pub fn level_of(
     early: &Early,
     values: &[i64],
 ) -> Result<LevelSet, LevelFault>
-    requires in_range { InRange graphs.now }
-    requires well_formed { WellFormed graphs.now }
+    requires valid { AreValid graphs.now }
     requires there { graph < length graphs.now.graphs }
     requires early { (inherited : Seq ℤ) × (early.now ≡ early_of graphs.now.graphs graph inherited) }
     requires values { IfSome (slice_get graphs.now.graphs graph) (λ g. length values.now ≡ length g.params) }

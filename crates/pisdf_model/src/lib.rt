@@ -6,6 +6,7 @@
 mod actor;
 mod arrows;
 mod components;
+mod copy;
 mod counting;
 mod detail_fault;
 mod duplicates;
@@ -28,6 +29,7 @@ mod tally;
 mod wires;
 
 pub use actor::{Actor, Body, Port};
+pub use copy::{Copied, copies};
 pub use counting::{Counted, PartCounts, count};
 pub use detail_fault::DetailFault;
 pub use duplicates::duplicate;

@@ -18,5 +18,7 @@ repeated t i (suc n) = repeat t i ++ repeated t (i + 1) n
 abbrev pub last_place : ℕ → ℕ → ℕ
 last_place total r = total - r
 
+-- The last r elements. Of fewer than r it is all. This doesn't arise at a sink whose rate is r: all firings of a repetition
+-- vector write at least r tokens to it, and so it keeps exactly r, by the law `KeepsRates`.
 abbrev pub last : {T : Type 0} → ℕ → List T → List T
 last r t = drop (last_place (length t) r) t

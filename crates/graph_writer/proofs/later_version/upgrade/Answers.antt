@@ -7,4 +7,4 @@ use Rattle.graph_writer.proofs.later_version.upgrade.Goals as goal
 pub returns-clause-well_formed : goal.returns-clause-well_formed
 returns-clause-well_formed c =
     let with_graphs : List Graph → Graphs = λ graphs. record { version = 2; top = c.args.graphs.now.top; graphs = graphs } in
-    subst (λ (graphs : List Graph). WellFormed (with_graphs graphs)) (sym (c.in_ok-list.ensures ∙ c.items.ensures)) c.requires.well_formed
+    subst (λ (graphs : List Graph). WellFormed (with_graphs graphs)) (sym (c.in_ok-copies.ensures ∙ c.items.ensures)) c.requires.well_formed

@@ -4,15 +4,15 @@ use Rattle.param_resolver.proofs.Sound.{nested, resolvable}
 use Rattle.param_resolver.proofs.level_set.level_of.Goals as goal
 
 pub level_in-requires-clause-resolvable : goal.level_in-requires-clause-resolvable
-level_in-requires-clause-resolvable c = rw c.items-all.ensures (resolvable c.args.graphs.now c.requires.in_range c.requires.well_formed)
+level_in-requires-clause-resolvable c = rw c.items-all.ensures (resolvable c.args.graphs.now c.requires.valid.in_range c.requires.valid.well_formed)
 
 pub level_in-requires-clause-nested : goal.level_in-requires-clause-nested
-level_in-requires-clause-nested c = rw c.items-all.ensures (λ k below. nested c.args.graphs.now c.requires.in_range c.requires.well_formed k below)
+level_in-requires-clause-nested c = rw c.items-all.ensures (λ k below. nested c.args.graphs.now c.requires.valid.in_range c.requires.valid.well_formed k below)
 
 pub level_in-requires-clause-linkable : goal.level_in-requires-clause-linkable
 level_in-requires-clause-linkable c =
     let here = at_place c.args.graphs.now.graphs c.items-all.result.now c.args.graph c.index-all-graph.result c.items-all.ensures c.requires.there c.index-all-graph.is in
-    rw c.items-all.ensures (linkable c.args.graphs.now c.requires.in_range c.requires.well_formed c.args.graph c.index-all-graph.result here)
+    rw c.items-all.ensures (linkable c.args.graphs.now c.requires.valid.in_range c.requires.valid.well_formed c.args.graph c.index-all-graph.result here)
 
 pub level_in-requires-clause-values : goal.level_in-requires-clause-values
 level_in-requires-clause-values c =
@@ -22,7 +22,7 @@ level_in-requires-clause-values c =
 pub level_in-requires-clause-kept : goal.level_in-requires-clause-kept
 level_in-requires-clause-kept c =
     let here = at_place c.args.graphs.now.graphs c.items-all.result.now c.args.graph c.index-all-graph.result c.items-all.ensures c.requires.there c.index-all-graph.is in
-    rw c.items-all.ensures (kept c.args.graphs.now c.requires.in_range c.requires.well_formed c.args.graph c.index-all-graph.result here c.args.early.now c.requires.early.0 c.args.values.now c.requires.early.1)
+    rw c.items-all.ensures (kept c.args.graphs.now c.requires.valid.in_range c.requires.valid.well_formed c.args.graph c.index-all-graph.result here c.args.early.now c.requires.early.0 c.args.values.now c.requires.early.1)
 
 pub returns-clause-level : goal.returns-clause-level
 returns-clause-level c =
@@ -67,4 +67,4 @@ returns-clause-first_fault c =
 pub returns-clause-inputs : goal.returns-clause-inputs
 returns-clause-inputs c =
     let here = at_place c.args.graphs.now.graphs c.items-all.result.now c.args.graph c.index-all-graph.result c.items-all.ensures c.requires.there c.index-all-graph.is in
-    rw here (inputs_ok c.level_in.result (level_at c.args.graphs.now.graphs c.index-all-graph.result c.args.early.now c.args.values.now) c.args.graphs.now.graphs c.index-all-graph.result (rw c.items-all.ensures at c.level_in.ensures.level) (level_inputs_are c.args.graphs.now c.requires.in_range c.requires.well_formed c.args.graph c.index-all-graph.result here c.args.values.now))
+    rw here (inputs_ok c.level_in.result (level_at c.args.graphs.now.graphs c.index-all-graph.result c.args.early.now c.args.values.now) c.args.graphs.now.graphs c.index-all-graph.result (rw c.items-all.ensures at c.level_in.ensures.level) (level_inputs_are c.args.graphs.now c.requires.valid.in_range c.requires.valid.well_formed c.args.graph c.index-all-graph.result here c.args.values.now))

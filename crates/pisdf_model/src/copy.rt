@@ -1,19 +1,31 @@
 // Copies of the parts of graphs.
 ghost use Rattle.std.specs.Prelude.{◌≡◌, IfOk};
 
+use crate::actor::{Actor, Body, Port};
+use crate::fifo::Fifo;
+use crate::graph::{Graph, Interface};
+use crate::param::{Param, ParamKind};
 use param_expr::{Expr, Name, Node};
-use pisdf_model::{Actor, Body, Fifo, Graph, Interface, Param, ParamKind, Port};
 use sdf_level::List;
 use std::alloc::{AllocError, Global};
 
-/// What can be copied where there is memory.
-pub(crate) trait Copied: Drop + Sized {
+/// What can be copied where there is memory: graphs and their parts.
+pub trait Copied: Drop + Sized {
+    /// An equal one.
+    ///
+    /// # Errors
+    ///
+    /// Want of memory.
     fn copied(&self, alloc: Global) -> Result<Self, AllocError>
         ensures { IfOk result (λ copy. copy ≡ self.now) };
 }
 
-/// Copies of parts, in their order.
-pub(crate) fn list<T: Copied>(alloc: Global, items: &[T]) -> Result<List<T>, AllocError>
+/// Copies of graphs, or of parts of them, in their order.
+///
+/// # Errors
+///
+/// Want of memory.
+pub fn copies<T: Copied>(alloc: Global, items: &[T]) -> Result<List<T>, AllocError>
     ensures { IfOk result (λ copies. copies ≡ items.now) }
 {
     let mut copies = Vec::with_capacity(alloc, items.len())?;
@@ -114,9 +126,9 @@ impl Copied for Body {
                 outs,
             } => Ok(Body::Kernel {
                 kernel: *kernel,
-                args: list(alloc, args.items())?,
-                ins: list(alloc, ins.items())?,
-                outs: list(alloc, outs.items())?,
+                args: copies(alloc, args.items())?,
+                ins: copies(alloc, ins.items())?,
+                outs: copies(alloc, outs.items())?,
             }),
             Body::Config {
                 kernel,
@@ -126,19 +138,19 @@ impl Copied for Body {
                 sets,
             } => Ok(Body::Config {
                 kernel: *kernel,
-                args: list(alloc, args.items())?,
-                ins: list(alloc, ins.items())?,
-                outs: list(alloc, outs.items())?,
-                sets: list(alloc, sets.items())?,
+                args: copies(alloc, args.items())?,
+                ins: copies(alloc, ins.items())?,
+                outs: copies(alloc, outs.items())?,
+                sets: copies(alloc, sets.items())?,
             }),
             Body::Child { graph, args } => Ok(Body::Child {
                 graph: *graph,
-                args: list(alloc, args.items())?,
+                args: copies(alloc, args.items())?,
             }),
             Body::ConfigChild { graph, args, sets } => Ok(Body::ConfigChild {
                 graph: *graph,
-                args: list(alloc, args.items())?,
-                sets: list(alloc, sets.items())?,
+                args: copies(alloc, args.items())?,
+                sets: copies(alloc, sets.items())?,
             }),
         }
     }
@@ -158,7 +170,7 @@ impl Copied for Fifo {
         Ok(Fifo {
             tail: self.tail,
             head: self.head,
-            delay: list(alloc, self.delay.items())?,
+            delay: copies(alloc, self.delay.items())?,
             life: self.life,
         })
     }
@@ -168,12 +180,12 @@ impl Copied for Graph {
     fn copied(&self, alloc: Global) -> Result<Graph, AllocError> {
         Ok(Graph {
             name: self.name.clone()?,
-            params: list(alloc, self.params.items())?,
-            inputs: list(alloc, self.inputs.items())?,
-            outputs: list(alloc, self.outputs.items())?,
-            actors: list(alloc, self.actors.items())?,
-            fifos: list(alloc, self.fifos.items())?,
-            exports: list(alloc, self.exports.items())?,
+            params: copies(alloc, self.params.items())?,
+            inputs: copies(alloc, self.inputs.items())?,
+            outputs: copies(alloc, self.outputs.items())?,
+            actors: copies(alloc, self.actors.items())?,
+            fifos: copies(alloc, self.fifos.items())?,
+            exports: copies(alloc, self.exports.items())?,
         })
     }
 }
