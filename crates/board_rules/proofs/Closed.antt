@@ -32,6 +32,6 @@ module _ (key : Key) (is : IsKey key) (laws : BoardLaws key) (finish : JobsFinis
       (tells key is laws taken legal)
       (allowed_answered (rules key) (Answers key.graphs.graphs) key.workers s e (last_allowed key (start (top_job key)) taken e more.allowed))
       o done_so in
-      let all = finished laws.jobs finish key.signatures key.graphs is.in_range is.well_formed laws.fit is.lengths (8 - suc (length p)) c (values (after (rules key) s e).marks p)
+      let all = finished laws.jobs finish key.signatures key.graphs is.valid.valid.in_range is.valid.valid.well_formed laws.fit is.lengths (8 - suc (length p)) c (values (after (rules key) s e).marks p)
       ((known key is laws taken legal).fits p c o) closed.settled given (sym closed.outcome_is) in
       subst (λ (z : BoardState). HasFinished key z.marks p c) (sym next) record { prepared = all.p; prepared_so = all.prepared_so; each = all.each_item }

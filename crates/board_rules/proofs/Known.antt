@@ -49,7 +49,7 @@ pub record Known (key : Key) (m : Marks Firing Answer) : Type 0 where
 module _ (key : Key) (is : IsKey key) (laws : BoardLaws key) where
   pub shallow_top : rank key.graphs.graphs (top_job key) < 8
   shallow_top =
-      let most = nested key.graphs is.in_range is.well_formed key.graphs.top (slice_get_within key.graphs.graphs key.graphs.top is.fit.g is.fit.here) in
+      let most = nested key.graphs is.valid.valid.in_range is.valid.valid.well_formed key.graphs.top (slice_get_within key.graphs.graphs key.graphs.top is.fit.g is.fit.here) in
       omega arith
 
   pub keeps : (taken : List Step) → AreLegal key taken → Keeps (rules key) (top_job key) key.workers (state_after key taken)

@@ -1,7 +1,8 @@
 -- The six rules order what they look at: of two standings that differ one goes before the other.
 use Rattle.std.proofs.Common.{◌≡◌, ℕ, ◌<◌, nat_lt, not, ◌&&◌, Bool, true, false, Option, Some, None, List, [], ◌∷◌, refl, sym, ap, ◌∙◌, subst, arith, ltb-true, ltb-false}
 use Rattle.std.proofs.lemmas.Bool.{lt-ltb, le-ltb}
-use Rattle.board_rules.specs.Picks.{Standing, decide, goes_before, is_lesser_path, is_lesser_way, is_more_urgent}
+use Rattle.nested_jobs.specs.Pick.{decide, is_more_urgent}
+use Rattle.board_rules.specs.Picks.{Standing, goes_before, is_lesser_path, is_lesser_way}
 
 -- a strict order in which two of which neither goes before the other are the same
 pub record IsOrder {T : Type 0} (before : T → T → Bool) : Type 0 where

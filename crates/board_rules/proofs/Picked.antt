@@ -108,7 +108,7 @@ module _ (key : Key) (law : Lawful (rules key) (rank key.graphs.graphs)) where
 
   pub tells : (taken : List Step) → IsKey key → Meant (rules key) (meanings key.graphs.graphs) → AreLegal key taken → HasEnded key taken → TellsOneThread key taken
   tells taken is meant legal ended =
-      let most = nested key.graphs is.in_range is.well_formed key.graphs.top (slice_get_within key.graphs.graphs key.graphs.top is.fit.g is.fit.here) in
+      let most = nested key.graphs is.valid.valid.in_range is.valid.valid.well_formed key.graphs.top (slice_get_within key.graphs.graphs key.graphs.top is.fit.g is.fit.here) in
       let enough : ranks (top_job key) < 8 = omega arith in
       let told = ended_tells (rules key) ranks law (top_job key) (meanings key.graphs.graphs) meant is.fit 8 enough key.workers taken legal.allowed ended in
       record { end = told.2.end; done = told.1 ∙ ap Done told.2.answer_is; means = told.2.means }

@@ -25,7 +25,8 @@ use Rattle.job_rules.specs.Items.{Prepared, actor_task, compile_number, compile_
 use Rattle.job_rules.specs.Meant.{rank}
 use Rattle.job_rules.specs.Words.{Answer}
 use Rattle.board_rules.specs.Keys.{IsKey, Key, rules, top_job}
-use Rattle.board_rules.specs.Picks.{step_in, step_of_item, step_of_node, steps_to}
+use Rattle.job_rules.specs.Items.{step_of_node}
+use Rattle.board_rules.specs.Picks.{step_in, step_of_item, steps_to}
 use Rattle.board_rules.proofs.ActorPlaces.{acting_rise, configs_rise, places_apart, rises_apart}
 use Rattle.board_rules.proofs.Known.{BoardLaws, Known}
 
@@ -99,7 +100,7 @@ module _ (key : Key) (is : IsKey key) (laws : BoardLaws key) (m : Marks Firing A
     by_node n d None e task = absurd (cc)
     by_node n d (Some p) e task =
         let at : node_rule key.graphs.graphs g firing v n (prepared_in g v) ≡ Some (Call d) = ap (node_rule key.graphs.graphs g firing v n) e ∙ task in
-        let ready = rule_so laws.jobs key.signatures key.graphs is.in_range is.well_formed laws.fit is.lengths (known.levels q) firing v (known.fits q firing o) (known.sound q firing o) p e n (Call d) at in
+        let ready = rule_so laws.jobs key.signatures key.graphs is.valid.valid.in_range is.valid.valid.well_formed laws.fit is.lengths (known.levels q) firing v (known.fits q firing o) (known.sound q firing o) p e n (Call d) at in
         record {
           number = n;
           number_is = refl;
@@ -155,7 +156,7 @@ module _ (key : Key) (is : IsKey key) (laws : BoardLaws key) (m : Marks Firing A
         let e_is : node_at N e.number ≡ node.Firing e.firing_is.actor e.firing_is.turn = subst (λ (z : Prepared). node_at (nodes_in key.graphs.graphs g firing z) e.number ≡ node.Firing e.firing_is.actor e.firing_is.turn) p_same e.firing_is.is in
         let e_inside : e.number < length N = subst (λ (z : Prepared). e.number < length (nodes_in key.graphs.graphs g firing z)) p_same e.inside in
         let nodes_same : node_at N c.number ≡ node_at N e.number = c.firing_is.is ∙ (ap (λ (z : ℕ). node.Firing z c.firing_is.turn) actor ∙ (ap (node.Firing e.firing_is.actor) turn ∙ sym e_is)) in
-        let job = is_job laws.jobs key.signatures key.graphs is.in_range is.well_formed laws.fit is.lengths (known.levels q) firing v (known.fits q firing o) (known.sound q firing o) c.p c.prepared_so in
+        let job = is_job laws.jobs key.signatures key.graphs is.valid.valid.in_range is.valid.valid.well_formed laws.fit is.lengths (known.levels q) firing v (known.fits q firing o) (known.sound q firing o) c.p c.prepared_so in
         let once : (n : ℕ) → n < length N → place_of N (node_at N n) ≡ n = λ n inside. laws.jobs.once c.p.schedule.counts c.p.schedule.order (job_graph key.graphs.graphs g firing c.p) n job inside in
         let number : c.number ≡ e.number = sym (once c.number c.inside) ∙ (ap (place_of N) nodes_same ∙ once e.number e_inside) in
         c.number_is ∙ (ap (λ (z : ℕ). node_base g + z) number ∙ sym e.number_is)

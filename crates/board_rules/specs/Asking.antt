@@ -11,7 +11,8 @@ use Rattle.job_rules.specs.Words.{Answer}
 use Rattle.board_rules.specs.Keys.{Key}
 use Rattle.board_rules.specs.Board.{OpenJobs}
 use Rattle.board_rules.specs.Offers.{calls}
-use Rattle.board_rules.specs.Picks.{ItemStands, Standing, decide, goes_before, is_more_urgent, steps_to}
+use Rattle.nested_jobs.specs.Pick.{decide, is_more_urgent}
+use Rattle.board_rules.specs.Picks.{ItemStands, Standing, goes_before, steps_to}
 
 -- an item that a job offers: its number, whether its home is another worker, and its priority, where it is a node
 pub record Offer : Type 0 where

@@ -1,5 +1,5 @@
 -- What code keeps of a board: a table of the open jobs, and what each worker runs.
-use Rattle.std.specs.Prelude.{◌≡◌, ◌≢◌, ℕ, ◌==◌, ◌<◌, Bool, Option, Some, None, List, [], ◌∷◌, ◌++◌, if◌then◌else◌}
+use Rattle.std.specs.Prelude.{◌≡◌, ◌≢◌, ℕ, ◌==◌, ◌<◌, Option, Some, None, List, [], ◌∷◌, ◌++◌, if◌then◌else◌}
 use Rattle.pisdf_meaning.specs.declared.firing.Firing.{Firing}
 use Rattle.nested_jobs.specs.Rules.{Place}
 use Rattle.nested_jobs.specs.Marks.{Busy, Marks}
@@ -12,12 +12,6 @@ use Rattle.job_rules.specs.Words.{Answer}
 use Rattle.board_rules.specs.Keys.{Key, rules, top_job}
 use Rattle.board_rules.specs.Entries.{Step}
 use Rattle.board_rules.specs.Legal.{AreLegal, state_after}
-
--- what a board was started with, the steps that were taken on it, and whether memory was wanted
-pub record BoardView : Type 0 where
-  pub key : Key
-  pub taken : List Step
-  pub starved : Bool
 
 -- the open jobs, by their keys
 abbrev pub OpenJobs : Type 0

@@ -1,19 +1,16 @@
 -- Which of the enabled items a worker is handed: the first by six rules.
 use Rattle.std.specs.Prelude.{◌≡◌, ◌≢◌, ℕ, suc, ◌-◌, ◌==◌, nat_lt, Bool, true, false, not, ◌&&◌, Option, Some, None, List, [], ◌∷◌, ◌++◌, map, length, reverse, take, slice_index, if◌then◌else◌}
 use Rattle.job_compiler.specs.Compilation.{IsMapped}
-use Rattle.param_resolver.specs.Numbering.{acting_places}
 use Rattle.pisdf_model.specs.declared.graph.Graph.{Graph}
 use Rattle.pisdf_meaning.specs.Configuring.{Configuration, configurations}
 use Rattle.pisdf_meaning.specs.declared.firing.Firing.{Firing}
-use Rattle.sdf_level.specs.declared.node.Node.{Node}
-use Rattle.sdf_level.specs.declared.node.Node.TheVariants as node
 use Rattle.worker_mapping.specs.declared.mapping.Mapping.{Mapping}
 use Rattle.job_flow.specs.Graphs.{node_at}
 use Rattle.nested_jobs.specs.Rules.{Place}
 use Rattle.nested_jobs.specs.Marks.{Mark, Free, Busy, Open, Done, Marks, values}
-use Rattle.nested_jobs.specs.Pick.{outer}
+use Rattle.nested_jobs.specs.Pick.{decide, is_more_urgent, outer}
 use Rattle.nested_jobs.specs.Steps.{IsEnabled}
-use Rattle.job_rules.specs.Items.{Prepared, compile_number, edges_in, graph_of, node_base, nodes_in, prepared_in}
+use Rattle.job_rules.specs.Items.{Prepared, compile_number, edges_in, graph_of, node_base, nodes_in, prepared_in, step_of_node}
 use Rattle.job_rules.specs.Words.{Answer}
 use Rattle.board_rules.specs.Keys.{Key, rules}
 
@@ -36,16 +33,6 @@ pub record Standing : Type 0 where
   pub within : List ℕ
 
 -- ---- the six rules
-
--- goes first by one rule, or doesn't, and else by the rules after it
-abbrev pub decide : (first second rest : Bool) → Bool
-decide first second rest = if first then true else (if second then false else rest)
-
-abbrev pub is_more_urgent : Option ℕ → Option ℕ → Bool
-is_more_urgent None None = false
-is_more_urgent None (Some q) = true
-is_more_urgent (Some p) None = false
-is_more_urgent (Some p) (Some q) = nat_lt q p
 
 abbrev pub is_lesser_path : List (ℕ × ℕ) → List (ℕ × ℕ) → Bool
 is_lesser_path [] [] = false
@@ -87,17 +74,6 @@ item_towards q a = slice_index a (length a - suc (length q))
 -- and the items of the jobs below that one, the outermost first
 abbrev pub items_below : Place → Place → List ℕ
 items_below q a = reverse (take (length a - suc (length q)) a)
-
-abbrev pub step_of_node : Graph → Node → ℕ × ℕ
-step_of_node g (node.Source s) = (0, 0)
-step_of_node g (node.Init l) = (0, 0)
-step_of_node g (node.Firing a k) = (slice_index (acting_places g) a, k)
-step_of_node g (node.Broadcast l) = (0, 0)
-step_of_node g (node.Fork l i) = (0, 0)
-step_of_node g (node.Join l j) = (0, 0)
-step_of_node g (node.Round l) = (0, 0)
-step_of_node g (node.End l) = (0, 0)
-step_of_node g (node.Sink t) = (0, 0)
 
 abbrev pub step_of_item : Key → Graph → Firing → ℕ → Option Prepared → ℕ × ℕ
 step_of_item key g firing i None = (slice_index (map (λ (c : Configuration). c.place) (configurations g)) i, 0)

@@ -153,7 +153,7 @@ module _ (graphs : Graphs) (firing : Firing) (early : EarlyView) (places : List 
   few =
       let there_is = here graphs.graphs firing kept.fit in
       let own = get_or_from_slice_get graphs.graphs firing.graph g g there_is in
-      let parts : AreFew g = subst AreFew own (few_parts graphs kept.in_range kept.well_formed firing.graph g (slice_get_within graphs.graphs firing.graph g there_is)) in
+      let parts : AreFew g = subst AreFew own (few_parts graphs kept.valid.in_range kept.valid.well_formed firing.graph g (slice_get_within graphs.graphs firing.graph g there_is)) in
       let actors = parts.actors in
       let count = count_le 0 0 g.actors in
       let m = many in

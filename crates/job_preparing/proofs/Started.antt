@@ -4,8 +4,7 @@ use Rattle.std.proofs.lemmas.List.{length-replicate}
 use Rattle.kernel_gate.specs.Value.{FrameView}
 use Rattle.nested_jobs.specs.Marks.{Free}
 use Rattle.param_resolver.specs.EarlyView.{EarlyView}
-use Rattle.pisdf_model.specs.Range.{InRange}
-use Rattle.pisdf_model.specs.WellFormed.{WellFormed}
+use Rattle.pisdf_model.specs.Valid.{AreValid}
 use Rattle.pisdf_model.specs.declared.graph.Graph.{Graph}
 use Rattle.pisdf_model.specs.declared.graph.Graphs.{Graphs}
 use Rattle.pisdf_meaning.specs.Configuring.{configurations, early_in}
@@ -26,11 +25,10 @@ module _ (graphs : Graphs) (firing : Firing) (places : List ℕ) (stages : List 
   own_seats : AreSeated graphs.graphs (graph_of graphs.graphs firing) firing (length places) stages frames
   own_seats = subst (λ (x : Graph). AreSeated graphs.graphs x firing (length places) stages frames) g_is seated
 
-  pub start_keeps : (early : EarlyView) (left : List Configured) (traces : List (List TraceRow)) → InRange graphs → WellFormed graphs → IsFit graphs.graphs firing → early ≡ early_in graphs.graphs firing →
+  pub start_keeps : (early : EarlyView) (left : List Configured) (traces : List (List TraceRow)) → AreValid graphs → IsFit graphs.graphs firing → early ≡ early_in graphs.graphs firing →
       left ≡ replicate (length places) nothing → traces ≡ replicate (length places) [] → Keeps graphs firing early places stages frames left traces
-  start_keeps early left traces range well fit early_is left_is traces_are = record {
-    in_range = range;
-    well_formed = well;
+  start_keeps early left traces valid fit early_is left_is traces_are = record {
+    valid = valid;
     fit = fit;
     early_is = early_is;
     places_are = own_places;

@@ -49,8 +49,7 @@ module _ (graphs : Graphs) (firing : Firing) (early : EarlyView) (places : List 
 
     pub put : Keeps graphs firing early places (set stages n stage) (set frames n frame) (set left n one) (set traces n trace)
     put = record {
-      in_range = kept.in_range;
-      well_formed = kept.well_formed;
+      valid = kept.valid;
       fit = kept.fit;
       early_is = kept.early_is;
       places_are = kept.places_are;

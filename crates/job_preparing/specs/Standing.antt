@@ -7,8 +7,7 @@ use Rattle.kernel_gate.specs.Leased.{AreWhole}
 use Rattle.kernel_gate.specs.Value.{FrameView, Places, lengths}
 use Rattle.nested_jobs.specs.Rules.{Task, Work, Call}
 use Rattle.pisdf_model.specs.Hold.{in_line, initial}
-use Rattle.pisdf_model.specs.Range.{InRange}
-use Rattle.pisdf_model.specs.WellFormed.{WellFormed}
+use Rattle.pisdf_model.specs.Valid.{AreValid}
 use Rattle.pisdf_model.specs.declared.graph.Graph.{Graph}
 use Rattle.pisdf_model.specs.declared.graph.Graphs.{Graphs}
 use Rattle.param_resolver.specs.EarlyCheck.{early_of}
@@ -107,8 +106,7 @@ abbrev pub nothing : Configured
 nothing = record { outs = []; sets = []; state = []; trace = [] }
 
 pub record Keeps (graphs : Graphs) (firing : Firing) (early : EarlyView) (places : List ℕ) (stages : List Stage) (frames : List (Option FrameView)) (left : List Configured) (traces : List (List TraceRow)) : Type 0 where
-  pub in_range : InRange graphs
-  pub well_formed : WellFormed graphs
+  pub valid : AreValid graphs
   pub fit : IsFit graphs.graphs firing
   pub early_is : early ≡ early_in graphs.graphs firing
   pub places_are : ArePlaces (graph_of graphs.graphs firing) places

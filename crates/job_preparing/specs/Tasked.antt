@@ -2,8 +2,7 @@
 use Rattle.std.specs.Prelude.{◌≡◌, ℕ, ◌≤◌, [], slice_get, Option, Some, None}
 use Rattle.std.specs.Option.{option_map}
 use Rattle.std.specs.Arc.{arc_value}
-use Rattle.pisdf_model.specs.Range.{InRange}
-use Rattle.pisdf_model.specs.WellFormed.{WellFormed}
+use Rattle.pisdf_model.specs.Valid.{AreValid}
 use Rattle.param_resolver.specs.EarlyCheck.{early_faults}
 use Rattle.pisdf_meaning.specs.Configuring.{early_in}
 use Rattle.job_rules.specs.Items.{graph_of}
@@ -22,8 +21,7 @@ task_view i = record {
 }
 
 pub record IsTask (i : Inside) : Type 0 where
-  pub in_range : InRange (arc_value i.graphs)
-  pub well_formed : WellFormed (arc_value i.graphs)
+  pub valid : AreValid (arc_value i.graphs)
   pub here : slice_get (arc_value i.graphs).graphs i.whole.value.graph ≡ Some (graph_of (arc_value i.graphs).graphs i.whole.value)
   pub sound : early_faults (arc_value i.graphs).graphs i.whole.value.graph i.whole.value.inherited ≡ []
   pub early_is : arc_value i.early ≡ early_in (arc_value i.graphs).graphs i.whole.value

@@ -1,13 +1,12 @@
 // What is asked of the configuration actors of a firing.
-ghost use Rattle.std.specs.Prelude.{◌≡◌, [], length, vec_capacity, slice_get, slice_index_or, None, Some, IfOk, ℕ, List as Seq};
+ghost use Rattle.std.specs.Prelude.{◌≡◌, [], length, vec_capacity, slice_get, None, Some, IfOk, ℕ, List as Seq};
 ghost use Rattle.nested_jobs.specs.Marks.{Free};
 ghost use Rattle.nested_jobs.specs.Rules.{Call, Work};
 ghost use Rattle.kernel_gate.specs.Value.{lengths};
 ghost use Rattle.param_resolver.specs.EarlyCheck.{early_of};
 ghost use Rattle.pisdf_model.specs.Hold.{in_line, initial};
 ghost use Rattle.pisdf_model.specs.Ports.{inherited_count};
-ghost use Rattle.pisdf_model.specs.Range.{InRange};
-ghost use Rattle.pisdf_model.specs.WellFormed.{WellFormed};
+ghost use Rattle.pisdf_model.specs.Valid.{AreValid};
 ghost use Rattle.pisdf_meaning.specs.Configuring.{configurations, config_rates, early_in};
 ghost use Rattle.pisdf_meaning.specs.Nested.{configuration_at};
 ghost use Rattle.pisdf_meaning.specs.Sound.{IsConfiguration};
@@ -24,35 +23,14 @@ use crate::stage::{Spare, Stage};
 use kernel_gate::{Frame, Lent};
 use param_expr::Name;
 use param_resolver::{Early, early, early_unfolds};
-use pisdf_meaning::{Firing, config_firing, copy_name, copy_tokens, fed_to};
+use pisdf_meaning::{Firing, config_firing, copy_name, copy_tokens, fed_to, rates_at, tokens_at};
 use pisdf_model::{Body, Graph, Graphs, is_configuration};
 use sdf_level::List;
 use std::alloc::{AllocError, Global};
 
-/// The list at a place, or none.
-pub(crate) fn tokens_at(lists: &[List<i64>], place: usize) -> &[i64]
-    ensures { result.now ≡ tokens_at lists.now place }
-{
-    match lists.get(place) {
-        Some(tokens) => tokens.items(),
-        None => &[],
-    }
-}
-
-/// The rates at a place, or none.
-pub(crate) fn rates_at(lists: &[List<u32>], place: usize) -> &[u32]
-    ensures { result.now ≡ slice_index_or lists.now place [] }
-{
-    match lists.get(place) {
-        Some(rates) => rates.items(),
-        None => &[],
-    }
-}
-
 /// What is known of the graph of a firing before its configuration actors fire.
 pub(crate) fn known(alloc: Global, graphs: &Graphs, firing: &Firing) -> Result<Early, AllocError>
-    requires in_range { InRange graphs.now }
-    requires well_formed { WellFormed graphs.now }
+    requires valid { AreValid graphs.now }
     requires fit { IsFit graphs.now.graphs firing.now }
     requires inherited { length firing.now.inherited ≡ inherited_count (slice_get graphs.now.graphs firing.now.graph) }
     ensures { IfOk result (λ e. e ≡ early_in graphs.now.graphs firing.now) }
@@ -136,8 +114,7 @@ pub(crate) fn make_seat(
     number: usize,
     place: usize,
 ) -> Result<Seat, AllocError>
-    requires in_range { InRange graphs.now }
-    requires well_formed { WellFormed graphs.now }
+    requires valid { AreValid graphs.now }
     requires here { slice_get graphs.now.graphs firing.now.graph ≡ Some graph.now }
     requires early { early.now ≡ early_in graphs.now.graphs firing.now }
     requires configuration { slice_get (configurations graph.now) number ≡ Some (configuration_at graph.now number place) }
@@ -185,8 +162,7 @@ pub(crate) fn child_of(
     number: usize,
     place: usize,
 ) -> Result<Firing, AllocError>
-    requires in_range { InRange graphs.now }
-    requires well_formed { WellFormed graphs.now }
+    requires valid { AreValid graphs.now }
     requires here { slice_get graphs.now.graphs firing.now.graph ≡ Some graph.now }
     requires early { early.now ≡ early_in graphs.now.graphs firing.now }
     requires is { IsConfiguration graph.now number place }

@@ -1,8 +1,7 @@
 // The compilation of a firing, step by step.
 ghost use Rattle.std.specs.Prelude.{◌≡◌, ◌≤◌, [], slice_get, Some, IfErr, IfOk};
 ghost use Rattle.param_resolver.specs.EarlyCheck.{early_faults};
-ghost use Rattle.pisdf_model.specs.Range.{InRange};
-ghost use Rattle.pisdf_model.specs.WellFormed.{WellFormed};
+ghost use Rattle.pisdf_model.specs.Valid.{AreValid};
 ghost use Rattle.pisdf_meaning.specs.Configuring.{early_in};
 ghost use Rattle.pisdf_meaning.specs.Endings.{IfRefused};
 ghost use Rattle.job_rules.specs.Doing as doing;
@@ -34,16 +33,24 @@ pub enum CompileEnd {
     Memory,
 }
 
-/// What the compilation of a firing makes.
+/// What the compilation of a firing makes: the compilation of its level, the level with what its actors fire, and the values of
+/// the graph's parameters.
 #[derive(Drop)]
-pub(crate) struct Made {
-    pub(crate) compiled: Arc<Compiled>,
-    pub(crate) set: LevelSet,
-    pub(crate) values: List<i64>,
+pub struct Made {
+    pub compiled: Arc<Compiled>,
+    pub set: LevelSet,
+    pub values: List<i64>,
 }
 
-/// The values of the parameters, the level and its compilation for so many workers, in this order.
-pub(crate) fn make(
+/// The values of the parameters, the level and its compilation for so many workers, in this order. The compilation that is kept
+/// is taken where it is of this level and of as many workers, else a new one is made.
+///
+/// # Errors
+///
+/// - `Refused`: a parameter has no value within its range, a rate or an argument of the level has none, or the level has no
+///   schedule.
+/// - `Memory`: want of memory.
+pub fn make(
     alloc: Global,
     graphs: &Graphs,
     early: &Early,
@@ -52,8 +59,7 @@ pub(crate) fn make(
     workers: u32,
     kept: &Option<Arc<Compiled>>,
 ) -> Result<Made, PlainFault>
-    requires in_range { InRange graphs.now }
-    requires well_formed { WellFormed graphs.now }
+    requires valid { AreValid graphs.now }
     requires here { slice_get graphs.now.graphs firing.now.graph ≡ Some (graph_of graphs.now.graphs firing.now) }
     requires early { early.now ≡ early_in graphs.now.graphs firing.now }
     requires sound { early_faults graphs.now.graphs firing.now.graph firing.now.inherited ≡ [] }

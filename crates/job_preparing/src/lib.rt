@@ -15,7 +15,7 @@ mod starting;
 mod told;
 
 pub use compile_task::CompileTask;
-pub use compiling::CompileEnd;
+pub use compiling::{CompileEnd, Made, make};
 pub use configuring::Configuring;
 pub use handing::{JobGiven, Left};
 pub use starting::configure;

@@ -2,8 +2,7 @@
 ghost use Rattle.std.specs.Prelude.{◌≡◌, ◌<◌, ◌≤◌, [], length, map, replicate, slice_get, Some, None, IfOk, All};
 ghost use Rattle.std.specs.Arc.{arc_value};
 ghost use Rattle.nested_jobs.specs.Marks.{Free};
-ghost use Rattle.pisdf_model.specs.Range.{InRange};
-ghost use Rattle.pisdf_model.specs.WellFormed.{WellFormed};
+ghost use Rattle.pisdf_model.specs.Valid.{AreValid};
 ghost use Rattle.pisdf_meaning.specs.Configuring.{early_in};
 ghost use Rattle.job_rules.specs.Items.{compile_number, graph_of};
 ghost use Rattle.job_rules.specs.Meant.{IsFit};
@@ -78,8 +77,7 @@ fn make_seats(
     firing: &Firing,
     places: &[usize],
 ) -> Result<Seats, AllocError>
-    requires in_range { InRange graphs.now }
-    requires well_formed { WellFormed graphs.now }
+    requires valid { AreValid graphs.now }
     requires here { slice_get graphs.now.graphs firing.now.graph ≡ Some graph.now }
     requires early { early.now ≡ early_in graphs.now.graphs firing.now }
     requires places { ArePlaces graph.now places.now }
@@ -114,8 +112,7 @@ pub fn configure(
     graphs: Arc<Graphs>,
     firing: Firing,
 ) -> Result<Configuring, AllocError>
-    requires in_range { InRange (arc_value graphs) }
-    requires well_formed { WellFormed (arc_value graphs) }
+    requires valid { AreValid (arc_value graphs) }
     requires fit { IsFit (arc_value graphs).graphs firing }
     requires inherited { HasInherited (arc_value graphs).graphs firing }
     ensures given { IfOk result (λ v. (v.graphs ≡ arc_value graphs) × (v.firing ≡ firing)) }

@@ -1,12 +1,9 @@
 -- A settled job ends as the firing does in one thread.
-use Rattle.std.proofs.Common.{◌≡◌, ℕ, suc, ◌+◌, ◌<◌, Bool, true, ℤ, pos, List, [], length, get_or, slice_get, Option, Some, None, unwrap_or, Result, Ok, Err, refl, sym, ap, ◌∙◌, subst, arith}
-use Rattle.std.specs.Option.{option_map}
-use Rattle.std.proofs.lemmas.Bool.{not-true}
+use Rattle.std.proofs.Common.{◌≡◌, ℕ, suc, ◌+◌, ◌<◌, ℤ, pos, List, [], length, get_or, slice_get, Option, Some, None, unwrap_or, Result, Ok, Err, refl, sym, ap, ◌∙◌, subst, arith}
 use Rattle.std.proofs.lemmas.Option.{slice_get-get_or}
 use Rattle.kernel_gate.specs.Signed.{Counts}
 use Rattle.param_resolver.specs.LevelOf.{level_args}
-use Rattle.param_resolver.specs.Numbering.{acting, fires, has_state}
-use Rattle.pisdf_model.specs.InterfaceWires.{is_configuration}
+use Rattle.param_resolver.specs.Numbering.{acting, has_state}
 use Rattle.pisdf_model.specs.Range.{InRange}
 use Rattle.pisdf_model.specs.WellFormed.{WellFormed}
 use Rattle.pisdf_model.specs.declared.actor.Actor.{Actor}
@@ -16,7 +13,6 @@ use Rattle.pisdf_model.specs.declared.graph.Graphs.{Graphs}
 use Rattle.level_schedule.specs.declared.scheduling.LevelSchedule.{LevelSchedule}
 use Rattle.sdf_level.specs.Laws.{Firing as Made, among}
 use Rattle.sdf_level.specs.LevelRun.{Ended, IsLevelRun}
-use Rattle.sdf_level.specs.declared.node.Node.{Node}
 use Rattle.sdf_level.specs.declared.node.Node.TheVariants as node
 use Rattle.single_rate.specs.Expanded.{place_of}
 use Rattle.pisdf_meaning.specs.Configuring.{Configuration, LeaveAll, configurations}
@@ -30,32 +26,28 @@ use Rattle.pisdf_meaning.specs.States.{tokens_at}
 use Rattle.pisdf_meaning.specs.declared.firing.Configured.{Configured}
 use Rattle.pisdf_meaning.specs.declared.firing.Firing.{Firing}
 use Rattle.pisdf_meaning.specs.declared.refusal.Refusal.{Refusal}
-use Rattle.pisdf_meaning.proofs.LinkSizes.{one_at, placed}
-use Rattle.nested_jobs.specs.Rules.{Task, Work, Values}
+use Rattle.nested_jobs.specs.Rules.{Work, Values}
 use Rattle.nested_jobs.specs.Meanings as jobs
 use Rattle.nested_jobs.specs.Meanings.{MayAnswer, Sound}
 use Rattle.job_flow.specs.Frames as flow
 use Rattle.job_flow.specs.Frames.{inputs, lens}
 use Rattle.job_flow.specs.Graphs.{JobGraph, node_at}
-use Rattle.job_flow.specs.Events.{IsFinished, IsQuiet, Settled}
+use Rattle.job_flow.specs.Events.{Settled}
 use Rattle.job_flow.specs.Laws.{JobsEndAsRuns}
 use Rattle.job_flow.specs.Outcomes as outcomes
 use Rattle.job_flow.specs.Outcomes.{Failure, ended, failure, failure_from, failure_or}
-use Rattle.job_rules.specs.Words as words
 use Rattle.job_rules.specs.Words.{Answer, Gives, Schedules, Refuses, Compiles, answer_of}
 use Rattle.job_rules.specs.Doing.{LeadsToSchedule, scheduled}
-use Rattle.job_rules.specs.Items.{Prepared, actor_of, actor_task, keeps_state, compile_number, compile_rule, count, first_refusal, firing_task, given_in, graph_of, job_rules, left_in, no_schedule, node_base, node_result, node_rule, node_task, nodes_after, outcome, outcome_of, prepared_in, refusal_or, rule, trace_of, traces_in, values_in}
+use Rattle.job_rules.specs.Items.{Prepared, actor_of, actor_task, keeps_state, compile_number, compile_rule, count, first_refusal, firing_task, given_in, graph_of, job_rules, left_in, no_schedule, node_base, node_result, node_task, nodes_after, outcome, outcome_of, prepared_in, refusal_or, rule, trace_of, traces_in, values_in}
 use Rattle.job_rules.specs.Meant.{EndsAs, IsFit, meanings}
 use Rattle.job_rules.proofs.Answered.{Laws, answered, coded, here, is_job, job, level_so, prep, reads, reads_long, told, vs}
 use Rattle.job_rules.proofs.Called.{actor_fires}
 use Rattle.job_rules.proofs.Compiled as compilation
-use Rattle.job_rules.proofs.Compiled.{came, compiled, refused_so, runs_so}
+use Rattle.job_rules.proofs.Compiled.{compiled, refused_so, runs_so}
 use Rattle.job_rules.proofs.Configured.{Came, Tells, walk}
-use Rattle.job_rules.proofs.Growing.{is_ready}
-use Rattle.job_rules.proofs.Lawfully.{config_has_task, configured}
-use Rattle.job_rules.proofs.Numbers.{rule_of_compilation, rule_of_configuration, rule_of_node}
-use Rattle.job_rules.proofs.OfActors.{of_actor, within}
-use Rattle.job_rules.proofs.Settled.{body_has_task, decoded, fault_of, inside_of, level_runs_also, node_refusals}
+use Rattle.job_rules.proofs.Numbers.{rule_of_compilation}
+use Rattle.job_rules.proofs.Quiet as quieting
+use Rattle.job_rules.proofs.Settled.{decoded, fault_of, level_runs_also, node_refusals}
 
 module _ (laws : Laws) (runs : JobsEndAsRuns ℤ Refusal ℕ) (signatures : List Counts) (graphs : Graphs) (range : InRange graphs) (well : WellFormed graphs) (fit : AllFit signatures graphs.graphs) (give : GiveLengths signatures) (n : ℕ) (firing : Firing) (v : Values Answer)
     (fitted : IsFit graphs.graphs firing) (settled : jobs.Settled (job_rules graphs.graphs) (meanings graphs.graphs) n firing v) where
@@ -92,43 +84,8 @@ module _ (laws : Laws) (runs : JobsEndAsRuns ℤ Refusal ℕ) (signatures : List
     counts_many : length p.schedule.counts ≡ length (acting g)
     counts_many = level_known.is_scheduled.repetition.multiplied.one_each
 
-    -- each ready node has a task
-    node_has_task : (m : ℕ) → m < length own_job.nodes → (nd : Node) → node_at own_job.nodes m ≡ nd → (read : List (List ℤ)) (lengths : List ℕ) → (t : Task Firing words.Work) × (node_task G g firing own_values nd read lengths ≡ Some t)
-    node_has_task m inside (node.Source s) at read lengths = (_, refl)
-    node_has_task m inside (node.Init l) at read lengths = (_, refl)
-    node_has_task m inside (node.Firing b k) at read lengths =
-        let job_is = is_job laws signatures graphs range well fit give n firing v fitted settled.sound p prepared_so in
-        let of = of_actor laws.all laws.in_order own_job.level p.schedule.counts p.schedule.order job_is.order m b k at in
-        let count = within laws.all laws.in_order own_job.level p.schedule.counts p.schedule.order job_is.order b k of in
-        let low = inside_of p.schedule.counts b (omega arith) in
-        let many = counts_many in
-        let actor : Actor = get_or (acting g) b record { name = []; body = Kernel 0 [] [] [] } in
-        let found : slice_get (acting g) b ≡ Some actor = slice_get-get_or (acting g) b record { name = []; body = Kernel 0 [] [] [] } (omega arith) in
-        let acts : fires actor ≡ true = (placed g.actors b actor found).acts in
-        let task = body_has_task G g firing own_values b k read actor actor.body (not-true (is_configuration actor.body) acts) in
-        (task.0, ap (λ o. actor_task G g firing own_values b k read o) found ∙ task.1)
-    node_has_task m inside (node.Broadcast l) at read lengths = (_, refl)
-    node_has_task m inside (node.Fork l i) at read lengths = (_, refl)
-    node_has_task m inside (node.Join l j) at read lengths = (_, refl)
-    node_has_task m inside (node.Round l) at read lengths = (_, refl)
-    node_has_task m inside (node.End l) at read lengths = (_, refl)
-    node_has_task m inside (node.Sink t) at read lengths = (_, refl)
-
-    is_finished : (keeps : Bool) (o : Option Answer) (a : Answer) → o ≡ Some a → IsFinished (option_map (node_result keeps) o)
-    is_finished keeps None a is = absurd (cc)
-    is_finished keeps (Some x) a is = tt
-
-    quiet : IsQuiet own_job nodes_values
-    quiet m ready =
-        let task = node_has_task m ready.there (node_at own_job.nodes m) refl (inputs own_job nodes_values m) (lens own_job m) in
-        let test = is_ready G g firing p nodes_values m ready in
-        let at : node_rule G g firing v m (Some p) ≡ Some task.0 = rw test task.1 in
-        let rule_is : rule G firing v (node_base g + m) ≡ Some task.0 = rule_of_node G g firing v cs m ∙ ap (node_rule G g firing v m) prepared_so ∙ at in
-        let a = settled.whole (node_base g + m) task.0 rule_is in
-        is_finished _ (v (node_base g + m)) a.0 a.1
-
     quiet_job : Settled own_job (among elements) nodes_values
-    quiet_job = record { answered = answered laws signatures graphs range well fit give n firing v fitted settled.sound p prepared_so; quiet = quiet }
+    quiet_job = quieting.quiet_job laws signatures graphs range well fit give n firing v fitted settled p prepared_so
 
     -- what the finished firings made, one thread gets
     also : (b k : ℕ) (ins : List (List ℤ)) (r : Result (List (List ℤ)) Refusal) → b < length (acting g) → among elements b k ins r → Fires G (MeansWithin n G) g firing own_values (traces_in G g firing p v) b k ins r
@@ -212,12 +169,7 @@ module _ (laws : Laws) (runs : JobsEndAsRuns ℤ Refusal ℕ) (signatures : List
   -- ---- all cases
 
   each : (j : ℕ) (c : Configuration) → slice_get cs j ≡ Some c → (a : Answer) × Came G n g firing v (0 + j) c a
-  each j c at =
-      let task = config_has_task G g firing c c.body (one_at (λ (x : Configuration). is_configuration x.body ≡ true) cs (configured 0 0 g.actors) j c at) in
-      let a = settled.whole j task.0 (rule_of_configuration G g firing v cs j c at ∙ task.1) in
-      let e : j ≡ 0 + j = omega arith in
-      let P : ℕ → Type 0 = λ k. Came G n g firing v k c a.0 in
-      (a.0, subst P e (came G n firing v there settled.sound j c at a.0 a.1))
+  each j c at = quieting.each laws signatures graphs range well fit give n firing v fitted settled j c at
 
   compiled_ends : (left : List Configured) → left_in g v ≡ Some left → LeaveAll G (MeansWithin n G) g firing cs (Ok left) → ((m : ℕ) → first_refusal v 0 (length cs + m) ≡ first_refusal v (0 + length cs) m) →
       (a : Answer) → v (compile_number g) ≡ Some a → (end : Result LevelSchedule Refusal) → LeadsToSchedule G g firing left end → a ≡ scheduled end → EndsAs G (suc n) firing (outcome G firing v)

@@ -1,10 +1,10 @@
 -- The items of a job, by number: its configuration actors in file order, its compilation, and the nodes of the single-rate
 -- graph of its level. An item has a task once all that stands before it is finished without a fault.
-use Rattle.std.specs.Prelude.{ℕ, zero, suc, ◌+◌, ℤ, nat_lt, ◌==◌, ◌&&◌, Bool, true, false, List, [], ◌∷◌, length, slice_get, slice_index_or, Option, Some, None, Result, Ok, Err, if◌then◌else◌}
+use Rattle.std.specs.Prelude.{ℕ, zero, suc, ◌+◌, ℤ, nat_lt, ◌==◌, ◌&&◌, Bool, true, false, List, [], ◌∷◌, length, slice_get, slice_index, slice_index_or, Option, Some, None, Result, Ok, Err, if◌then◌else◌}
 use Rattle.std.specs.Option.{option_map, unwrap_or}
 use Rattle.param_resolver.specs.Assignment.{numbers, values_of}
 use Rattle.param_resolver.specs.LevelOf.{level_args, out_rates}
-use Rattle.param_resolver.specs.Numbering.{acting, has_state}
+use Rattle.param_resolver.specs.Numbering.{acting, acting_places, has_state}
 use Rattle.pisdf_model.specs.Parts.{input_count}
 use Rattle.pisdf_model.specs.declared.actor.Actor.{Actor}
 use Rattle.pisdf_model.specs.declared.actor.Body.{Body}
@@ -124,6 +124,18 @@ actor_of g (node.Join l j) = None
 actor_of g (node.Round l) = None
 actor_of g (node.End l) = None
 actor_of g (node.Sink t) = None
+
+-- of a firing the place of its actor among all actors of the graph, and its number; of another node nothing is told
+abbrev pub step_of_node : Graph → Node → ℕ × ℕ
+step_of_node g (node.Source s) = (0, 0)
+step_of_node g (node.Init l) = (0, 0)
+step_of_node g (node.Firing a k) = (slice_index (acting_places g) a, k)
+step_of_node g (node.Broadcast l) = (0, 0)
+step_of_node g (node.Fork l i) = (0, 0)
+step_of_node g (node.Join l j) = (0, 0)
+step_of_node g (node.Round l) = (0, 0)
+step_of_node g (node.End l) = (0, 0)
+step_of_node g (node.Sink t) = (0, 0)
 
 -- whether the state of the actor's graph goes on over its link to itself
 abbrev pub keeps_state : List Graph → Option Actor → Bool

@@ -4,9 +4,8 @@ ghost use Rattle.std.specs.Prelude.{List as Seq};
 ghost use Rattle.kernel_gate.specs.Signed.{Counts};
 ghost use Rattle.nested_jobs.specs.Meanings.{Lawful, Meant};
 ghost use Rattle.kernel_gate.specs.Laws.{GiveLengths};
-ghost use Rattle.pisdf_meaning.specs.Sound.{KernelsFit};
-ghost use Rattle.pisdf_model.specs.Range.{InRange};
-ghost use Rattle.pisdf_model.specs.WellFormed.{WellFormed};
+ghost use Rattle.pisdf_meaning.specs.Sound.{AreValidFor};
+ghost use Rattle.pisdf_model.specs.Valid.{AreValid};
 ghost use Rattle.pisdf_model.specs.declared.graph.Graphs.{Graphs};
 ghost use Rattle.job_rules.specs.Fitting.{CallsInherit, TasksFit};
 ghost use Rattle.job_rules.specs.Items.{job_rules};
@@ -21,7 +20,7 @@ use single_rate::graphs_numbered;
 /// finished, and the item is one of those that the job counts; a firing that is called is of a graph with fewer graphs
 /// nested below it; and a job begins with a task.
 pub fn rules_are_lawful()
-    ensures { (graphs : Graphs) → InRange graphs → WellFormed graphs → Lawful (job_rules graphs.graphs) (rank graphs.graphs) }
+    ensures { (graphs : Graphs) → AreValid graphs → Lawful (job_rules graphs.graphs) (rank graphs.graphs) }
 {
     ready_stays::<i64, Refusal, ()>();
 }
@@ -32,7 +31,7 @@ pub fn rules_are_lawful()
 /// firings that it calls are given what their graphs take, where the job's own is. The actors' kernels have to fit signatures
 /// of kernels that give outputs of the lengths that they are asked for.
 pub fn jobs_mean_firings()
-    ensures { (signatures : Seq Counts) (graphs : Graphs) → InRange graphs → WellFormed graphs → KernelsFit signatures graphs.graphs → GiveLengths signatures → Meant (job_rules graphs.graphs) (meanings graphs.graphs) }
+    ensures { (signatures : Seq Counts) (graphs : Graphs) → AreValidFor signatures graphs → GiveLengths signatures → Meant (job_rules graphs.graphs) (meanings graphs.graphs) }
 {
     runnable();
     early_unfolds();

@@ -8,9 +8,9 @@ use Rattle.nested_jobs.specs.Journals.{start_mark}
 use Rattle.nested_jobs.specs.Meanings.{Lawful}
 use Rattle.nested_jobs.specs.Kept.{InJob, Nested}
 use Rattle.nested_jobs.specs.Tables.{Row, Table, HasRow, IsRow, StandsFor, answers_in, fresh_row, is_quiet_row, put_row, with_mark}
-use Rattle.nested_jobs.specs.TableLaws.{Closes, ClosesTop, Finishes, HasUpper, Opens}
+use Rattle.nested_jobs.specs.TableLaws.{Closes, ClosesTop, Finishes, Opens}
 use Rattle.nested_jobs.proofs.Places.{cons_ne, head_is, put_here, put_other, put_at, tail_is}
-use Rattle.nested_jobs.proofs.Nesting.{closes_nested, ends_nested, of_open, opens_nested, quiet_idle}
+use Rattle.nested_jobs.proofs.Nesting.{closes_nested, ends_nested, opens_nested, quiet_idle}
 use Rattle.nested_jobs.proofs.Finding.{claimed_ready}
 use Rattle.nested_jobs.proofs.OneStep.{claimed_below, closed_goes_on, closed_stops, closed_top, enabled_below, finished_is, work_enabled}
 
@@ -350,14 +350,6 @@ module _ {J W A : Type 0} (rs : Rules J W A) where
           stands = goes table m stands k row here y (λ d e. cc) l i upper above place_is;
           goes_on = closed_goes_on rs m i upper.place row.job o quiet_so ∙ ap (λ (n : Marks J A). closed rs n upper.place) same;
         }
-
-    pub upper_of : (i : ℕ) (p : Place) → row.place ≡ i ∷ p → HasUpper table row i p
-    upper_of i p place_is =
-        let o : m (i ∷ p) ≡ Open row.job = ap m (sym place_is) ∙ own_is.is_open in
-        let up = of_open rs rank law top m i p row.job nested o in
-        let has = stands.whole p up.job up.is_open in
-        let upper_row = stands.rows has.key has.row has.here in
-        record { upper = has; is_item = sym (upper_row.items i) ∙ (ap (λ (q : Place). m (i ∷ q)) has.place_is ∙ o) }
 
     pub none_below : (l i : ℕ) (other : Row J A) → table l ≡ Some other → is_quiet_row rs row ≡ true → other.place ≢ i ∷ row.place
     none_below l i other there quiet place_is =

@@ -1,6 +1,6 @@
 -- The first two rules of the pick: an enabled item of an open job comes before one that opens a job, and of the items that open
--- a job those of the deeper open job come first.
-use Rattle.std.specs.Prelude.{◌≡◌, ◌≢◌, ◌⊎◌, ℕ, ◌<◌, ◌≤◌, List, [], ◌∷◌, Some, length}
+-- a job those of the deeper open job come first. And the words of the rules after them.
+use Rattle.std.specs.Prelude.{◌≡◌, ◌≢◌, ◌⊎◌, ℕ, ◌<◌, ◌≤◌, nat_lt, Bool, true, false, List, [], ◌∷◌, Option, Some, None, length, if◌then◌else◌}
 use Rattle.nested_jobs.specs.Rules.{Place, Work, Call, Rules}
 use Rattle.nested_jobs.specs.Marks.{Mark, Free, Busy, Open, Done, Marks, values}
 use Rattle.nested_jobs.specs.Journals.{Entry, Claim, Finish, State, after}
@@ -59,3 +59,16 @@ Few most m = (e : ℕ) (ps : List Place) → Distinct ps → AreOpen m e ps → 
 abbrev pub AreAllOpen : {J A : Type 0} → Marks J A → List Place → Type 0
 AreAllOpen {J} {A} m [] = Unit {0}
 AreAllOpen {J} {A} m (p ∷ ps) = ((j : J) × (m p ≡ Open j)) × AreAllOpen m ps
+
+-- ---- the order of items
+
+-- goes first by one rule, or doesn't, and else by the rules after it
+abbrev pub decide : (first second rest : Bool) → Bool
+decide first second rest = if first then true else (if second then false else rest)
+
+-- a greater priority; what has none goes before all that have one
+abbrev pub is_more_urgent : Option ℕ → Option ℕ → Bool
+is_more_urgent None None = false
+is_more_urgent None (Some q) = true
+is_more_urgent (Some p) None = false
+is_more_urgent (Some p) (Some q) = nat_lt q p

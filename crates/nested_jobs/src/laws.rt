@@ -1,7 +1,6 @@
 // Laws of boards of nested jobs, for whoever proves something above them. The functions do nothing; their contracts are the
 // laws. They hold for jobs, work and answers of any type, for all rules that keep the laws of `Lawful`, and for any
 // relation between work and its answers: what one thread gets needn't be a function of the job.
-ghost use Rattle.nested_jobs.specs.TableLaws.{QuietRowsAreLast, RowsHaveUppers, RowsTell, TablesClaim, TablesClose, TablesCloseTop, TablesFinish, TablesOpen, TablesStart, TablesStop};
 ghost use Rattle.nested_jobs.specs.Laws.{EndedJournalsTell, AnswersAreSound, OpenJobsGoOn, EndsAtTop, NoneIsStuck, OneNeverWaits, QuietJobsAreClosed, TasksStay, FewJobsAreOpen, OpenJobsAreShallow, FewAreOpenInAll, EnabledItemsAreListed, ClosedJobsAreSettled, ClosingsStop};
 
 /// Every legal journal of claims and finishes, by any number of workers in any order, that has ended leaves the top job done
@@ -51,19 +50,4 @@ pub fn enabled_items_listed<J, W, A>()
 pub fn closed_jobs_settled<J, W, A, R, M, F>()
     ensures settled { ClosedJobsAreSettled J W A R M F }
     ensures stop { ClosingsStop J W A }
-{}
-
-/// A table of the open jobs, each with the marks of its items, follows the steps of a board: what its rows tell is so, and it
-/// stands for the state after a claim, an opening, a finish and each closing, where one row is changed, added or taken away.
-pub fn tables_follow<J, W, A>()
-    ensures tell { RowsTell J W A }
-    ensures start { TablesStart J A }
-    ensures claim { TablesClaim J W A }
-    ensures open { TablesOpen J W A }
-    ensures finish { TablesFinish J W A }
-    ensures stop { TablesStop J W A }
-    ensures close { TablesClose J W A }
-    ensures close_top { TablesCloseTop J W A }
-    ensures upper { RowsHaveUppers J W A }
-    ensures last { QuietRowsAreLast J W A }
 {}

@@ -8,7 +8,7 @@ use Rattle.param_resolver.specs.declared.level_set.LevelSet.{LevelSet}
 use Rattle.param_resolver.proofs.Levels.{some_graph}
 use Rattle.pisdf_model.specs.Nesting.{nesting_limit}
 use Rattle.pisdf_model.specs.Range.{InRange}
-use Rattle.pisdf_model.specs.WellFormed.{WellFormed}
+use Rattle.pisdf_model.specs.Valid.{AreValid}
 use Rattle.pisdf_model.specs.declared.graph.Graph.{Graph}
 use Rattle.pisdf_model.specs.declared.graph.Graphs.{Graphs}
 use Rattle.pisdf_meaning.specs.Configuring.{Configures}
@@ -29,8 +29,8 @@ use Rattle.pisdf_meaning.specs.declared.refusal.PlainFault.TheVariants.{Refused,
 use Rattle.pisdf_meaning.specs.declared.refusal.Refusal.{Refusal}
 use Rattle.pisdf_meaning.proofs.AtActors.{nests_below}
 
-pub can_run : (signatures : List Counts) (graphs : Graphs) → InRange graphs → WellFormed graphs → AreRunnable signatures graphs → CanRun signatures graphs
-can_run signatures graphs range well runnable = record { in_range = range; well_formed = well; fit = runnable.fit }
+pub can_run : (signatures : List Counts) (graphs : Graphs) → AreValid graphs → AreRunnable signatures graphs → CanRun signatures graphs
+can_run signatures graphs valid runnable = record { valid = valid; fit = runnable.fit }
 
 module _ (graphs : Graphs) (ins state : List (List ℤ)) (top : Graph) (firing : Firing) (top_at : slice_get graphs.graphs graphs.top ≡ Some top) (firing_is : firing ≡ top_firing top graphs.top ins state) where
   graph_is : firing.graph ≡ graphs.top
@@ -42,12 +42,12 @@ module _ (graphs : Graphs) (ins state : List (List ℤ)) (top : Graph) (firing :
   pub top_nests : (n : ℕ) → NestsWithin n graphs.graphs graphs.top → NestsWithin n graphs.graphs firing.graph
   top_nests n nests = subst (NestsWithin n graphs.graphs) (sym graph_is) nests
 
-  pub top_underway : (signatures : List Counts) (early : EarlyView) → InRange graphs → WellFormed graphs → AreRunnable signatures graphs → early ≡ early_of graphs.graphs graphs.top [] → early_faults graphs.graphs graphs.top [] ≡ [] →
+  pub top_underway : (signatures : List Counts) (early : EarlyView) → AreValid graphs → AreRunnable signatures graphs → early ≡ early_of graphs.graphs graphs.top [] → early_faults graphs.graphs graphs.top [] ≡ [] →
       IsUnderway signatures (nesting_limit - 1) graphs top firing early
-  top_underway signatures early range well runnable is sound =
+  top_underway signatures early valid runnable is sound =
       let P : Firing → Type 0 = λ f. early_faults graphs.graphs f.graph f.inherited ≡ [] in
       record {
-        can = can_run signatures graphs range well runnable;
+        can = can_run signatures graphs valid runnable;
         here = top_here;
         nests = nests_below nesting_limit graphs.graphs graphs.top top top_at runnable.nests;
         early_is = is ∙ ap (λ (f : Firing). early_of graphs.graphs f.graph f.inherited) (sym firing_is);

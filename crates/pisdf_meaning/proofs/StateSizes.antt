@@ -1,5 +1,5 @@
 -- How long the lists of states are.
-use Rattle.std.proofs.Common.{◌≡◌, ℕ, zero, suc, ◌+◌, ◌<◌, nat_lt, true, false, ⊎_elim, ℤ, List, [], ◌∷◌, ◌++◌, length, map, get_or, take, drop, drop-cons, slice_get, slice_index, Some, Result, Ok, Err, refl, ap, sym, ◌∙◌, subst, arith, length-append}
+use Rattle.std.proofs.Common.{◌≡◌, ℕ, zero, suc, ◌+◌, ◌<◌, nat_lt, true, false, ⊎_elim, ℤ, List, [], ◌∷◌, ◌++◌, length, map, get_or, take, drop, drop-cons, slice_get, slice_index, Some, Result, Ok, Err, refl, ap, ap₂, sym, ◌∙◌, subst, arith, length-append}
 use Rattle.std.specs.List.{AllByRecursion, filter}
 use Rattle.std.proofs.lemmas.Bool.{cases_Bool, ltb-false}
 use Rattle.std.proofs.lemmas.List.{get_or-append-add, get_or-map, get_or_append_left, length-drop, length-map, length-take-le, map-append, take_more}
@@ -21,7 +21,7 @@ use Rattle.sdf_level.specs.LevelRun.{HaveDelays}
 use Rattle.sdf_level.specs.declared.link.Link.{Link}
 use Rattle.pisdf_meaning.specs.Configuring.{Configuration, LeaveAll, Leaves, configurations_from, with_first}
 use Rattle.pisdf_meaning.specs.Endings.{Ends, Then}
-use Rattle.pisdf_meaning.specs.Running.{actor_starts, actor_states, fifo_starts, fifo_states, state_after}
+use Rattle.pisdf_meaning.specs.Running.{actor_starts, actor_states, fifo_starts, fifo_states, state_after, state_of_first}
 use Rattle.pisdf_meaning.specs.Sound.{IsConfiguration, actor_at, no_actor}
 use Rattle.pisdf_meaning.specs.States.{actor_list, begins_with, cut, goes_on, state_in, tokens_at}
 use Rattle.pisdf_meaning.specs.declared.firing.Configured.{Configured}
@@ -197,6 +197,65 @@ module _ (graphs : List Graph) (g : Graph) (values : List ℤ) where
       no_tokens Firing delay e = refl
       no_tokens Permanent delay e = sym e
 
+  no_held : (body : Body) → is_configuration body ≡ false → nat_lt 0 (state_size graphs body) ≡ false → length (actor_state (initial graphs) body) ≡ 0
+  no_held (Kernel kernel args ins outs) acts none = refl
+  no_held (Config kernel args ins outs sets) acts none = refl
+  no_held (Child place args) acts none = let least = ltb-false 0 (state_size graphs (Child place args)) none in omega arith
+  no_held (ConfigChild place args sets) acts none = absurd (cc)
+
+  config_none : (body : Body) → is_configuration body ≡ true → nat_lt 0 (state_size graphs body) ≡ false
+  config_none (Kernel kernel args ins outs) is = absurd (cc)
+  config_none (Config kernel args ins outs sets) is = refl
+  config_none (Child place args) is = absurd (cc)
+  config_none (ConfigChild place args sets) is = refl
+
+  -- each state that is left is as long as that with which its graph begins
+  abbrev pub StatesLong : List Configuration → List Configured → Type 0
+  StatesLong cs configured = map (λ (one : Configured). length one.state) configured ≡ map (λ (c : Configuration). length (actor_state (initial graphs) c.body)) cs
+
+  first_state : (size : ℕ) (rest : List ℕ) (configured : List Configured) → map (λ (one : Configured). length one.state) configured ≡ size ∷ rest → (length (state_of_first configured) ≡ size) × (map (λ (one : Configured). length one.state) (drop 1 configured) ≡ rest)
+  first_state size rest [] e = absurd (cc)
+  first_state size rest (one ∷ configured) e = (cc, cc)
+
+  actors_left : (c a : ℕ) (actors : List Actor) (configured : List Configured) (left : List (List ℤ)) → StatesLong (configurations_from c a actors) configured → HaveDelays (from_number a of_state actors) left → lengths (actor_states graphs actors configured left) ≡ map (actor_size graphs) actors
+  actors_left c a [] configured left all links = refl
+  actors_left c a (x ∷ actors) configured left all links =
+      let P : List Link → Type 0 = λ l. HaveDelays l left in
+      ⊎_elim
+      (λ (is : is_configuration x.body ≡ true).
+      let none : has_state graphs x ≡ false = config_none x.body is in
+      let links' : HaveDelays (from_number (a + 1) of_state actors) left = let e : from_number a of_state (x ∷ actors) ≡ from_number (a + 1) of_state actors = rw none refl in subst P e links in
+      let first : configurations_from c a (x ∷ actors) ≡ record { number = c; place = a; name = x.name; body = x.body } ∷ configurations_from (c + 1) (a + 1) actors = rw is refl in
+      let s = first_state (actor_size graphs x) (map (λ (k : Configuration). length (actor_state (initial graphs) k.body)) (configurations_from (c + 1) (a + 1) actors)) configured (all ∙ ap (map (λ (k : Configuration). length (actor_state (initial graphs) k.body))) first) in
+      let again = actors_left (c + 1) (a + 1) actors (drop 1 configured) left s.1 links' in
+      rw is (ap₂ (λ (n : ℕ) (l : List ℕ). n ∷ l) s.0 again))
+      (λ (acts : is_configuration x.body ≡ false).
+      let others : configurations_from c a (x ∷ actors) ≡ configurations_from c (a + 1) actors = rw acts refl in
+      let all' : StatesLong (configurations_from c (a + 1) actors) configured = all ∙ ap (map (λ (k : Configuration). length (actor_state (initial graphs) k.body))) others in
+      ⊎_elim
+      (λ (has : has_state graphs x ≡ true).
+      let first : from_number a of_state (x ∷ actors) ≡ state_link graphs g a x.body ∷ from_number (a + 1) of_state actors = rw has refl in
+      let s = split (state_link graphs g a x.body) (from_number (a + 1) of_state actors) left (subst P first links) in
+      let head : length s.one ≡ actor_size graphs x = s.long ∙ sym (state_held graphs x.body has) in
+      let again = actors_left c (a + 1) actors configured s.rest all' s.others in
+      rw (acts, has, s.is) (ap₂ (λ (n : ℕ) (l : List ℕ). n ∷ l) head again))
+      (λ (none : has_state graphs x ≡ false).
+      let first : from_number a of_state (x ∷ actors) ≡ from_number (a + 1) of_state actors = rw none refl in
+      let head : 0 ≡ actor_size graphs x = sym (no_held x.body acts none) in
+      let again = actors_left c (a + 1) actors configured left all' (subst P first links) in
+      rw (acts, none) (ap₂ (λ (n : ℕ) (l : List ℕ). n ∷ l) head again))
+      (cases_Bool (has_state graphs x)))
+      (cases_Bool (is_configuration x.body))
+
+  -- the state after a firing
+  pub state_long : AllByRecursion (λ (f : Fifo). is_kept g f ≡ false → length f.delay ≡ 0) g.fifos → (configured : List Configured) (left : List (List ℤ)) → StatesLong (configurations_from 0 0 g.actors) configured → HaveDelays (links_of graphs g values) left → lengths (state_after graphs g configured left) ≡ map fifo_size g.fifos ++ map (actor_size graphs) g.actors
+  state_long none configured left all links =
+      let first = fifos_left 0 g.fifos (from_number 0 of_state g.actors) left none links in
+      let second = actors_left 0 0 g.actors configured (drop (length (filter (is_kept g) g.fifos)) left) all first.1 in
+      map-append (λ (l : List ℤ). length l) (fifo_states g g.fifos left) (actor_states graphs g.actors configured (drop (length (filter (is_kept g) g.fifos)) left))
+      ∙ ap (λ (l : List ℕ). l ++ lengths (actor_states graphs g.actors configured (drop (length (filter (is_kept g) g.fifos)) left))) first.0
+      ∙ ap (λ (l : List ℕ). map fifo_size g.fifos ++ l) second
+
   -- ---- what configuration actors leave
 
   module _ (ends : Ends) (firing : firing.Firing) where
@@ -224,58 +283,32 @@ module _ (graphs : List Graph) (g : Graph) (values : List ℤ) where
     LeavesSizes = (number a : ℕ) (x : Actor) (one : Configured) → IsConfiguration g number a → slice_get g.actors a ≡ Some x →
         Leaves graphs ends g firing (record { number = number; place = a; name = x.name; body = x.body }) x.body (Ok one) → length one.state ≡ actor_size graphs x
 
-    no_held : (body : Body) → is_configuration body ≡ false → nat_lt 0 (state_size graphs body) ≡ false → length (actor_state (initial graphs) body) ≡ 0
-    no_held (Kernel kernel args ins outs) acts none = refl
-    no_held (Config kernel args ins outs sets) acts none = refl
-    no_held (Child place args) acts none = let least = ltb-false 0 (state_size graphs (Child place args)) none in omega arith
-    no_held (ConfigChild place args sets) acts none = absurd (cc)
-
-    config_none : (body : Body) → is_configuration body ≡ true → nat_lt 0 (state_size graphs body) ≡ false
-    config_none (Kernel kernel args ins outs) is = absurd (cc)
-    config_none (Config kernel args ins outs sets) is = refl
-    config_none (Child place args) is = absurd (cc)
-    config_none (ConfigChild place args sets) is = refl
-
-    actors_left : LeavesSizes → (c a : ℕ) (actors : List Actor) (configured : List Configured) (left : List (List ℤ)) → drop a g.actors ≡ actors → c ≡ length (configurations_from 0 0 (take a g.actors)) →
-        LeaveAll graphs ends g firing (configurations_from c a actors) (Ok configured) → HaveDelays (from_number a of_state actors) left → lengths (actor_states graphs actors configured left) ≡ map (actor_size graphs) actors
-    actors_left sized c a [] configured left here number all links = refl
-    actors_left sized c a (x ∷ actors) configured left here number all links =
+    -- so they leave states of these lengths
+    states_long : LeavesSizes → (c a : ℕ) (actors : List Actor) (configured : List Configured) → drop a g.actors ≡ actors → c ≡ length (configurations_from 0 0 (take a g.actors)) →
+        LeaveAll graphs ends g firing (configurations_from c a actors) (Ok configured) → StatesLong (configurations_from c a actors) configured
+    states_long sized c a [] configured here number all = let e : configured ≡ [] = cc in ap (map (λ (one : Configured). length one.state)) e
+    states_long sized c a (x ∷ actors) configured here number all =
         let inside : a < length g.actors = past_end g.actors a x actors here in
         let now = drop-cons g.actors a no_actor inside in
         let own : actor_at g a ≡ x = let e : actor_at g a ∷ drop (suc a) g.actors ≡ x ∷ actors = sym now ∙ here in cc in
         let rest : drop (a + 1) g.actors ≡ actors = let e : actor_at g a ∷ drop (suc a) g.actors ≡ x ∷ actors = sym now ∙ here in let f : drop (suc a) g.actors ≡ actors = cc in ap (λ n. drop n g.actors) (let k : a + 1 ≡ suc a = omega arith in k) ∙ f in
         let there : slice_get g.actors a ≡ Some x = slice_get-get_or g.actors a no_actor inside ∙ ap Some own in
         let take_one = take_more g.actors a no_actor inside in
-        let P : List Link → Type 0 = λ l. HaveDelays l left in
+        let Q : List Configuration → Type 0 = λ l. LeaveAll graphs ends g firing l (Ok configured) in
+        let R : List Configuration → Type 0 = λ l. StatesLong l configured in
         ⊎_elim
         (λ (is : is_configuration x.body ≡ true).
-        let none : has_state graphs x ≡ false = config_none x.body is in
-        let Q : List Configuration → Type 0 = λ l. LeaveAll graphs ends g firing l (Ok configured) in
         let s = leaving (record { number = c; place = a; name = x.name; body = x.body }) (configurations_from (c + 1) (a + 1) actors) configured (subst Q (with_first_one c a x actors is) all) in
-        let links' : HaveDelays (from_number (a + 1) of_state actors) left = let e : from_number a of_state (x ∷ actors) ≡ from_number (a + 1) of_state actors = rw none refl in subst P e links in
         let body_is : is_configuration (actor_at g a).body ≡ true = ap (λ (y : Actor). is_configuration y.body) own ∙ is in
         let head : length s.one.state ≡ actor_size graphs x = sized c a x s.one record { inside = inside; is = body_is; number_is = number } there s.leaves in
         let count : c + 1 ≡ length (configurations_from 0 0 (take (a + 1) g.actors)) = let m = count_with 0 0 (take a g.actors) (actor_at g a) body_is in let t = ap (λ (l : List Actor). length (configurations_from 0 0 l)) take_one in omega arith in
-        let again = actors_left sized (c + 1) (a + 1) actors s.more left rest count s.others links' in
-        rw (is, s.is) (ap (λ n. n ∷ lengths (actor_states graphs actors s.more left)) head ∙ ap (λ (l : List ℕ). actor_size graphs x ∷ l) again))
+        let again = states_long sized (c + 1) (a + 1) actors s.more rest count s.others in
+        subst R (sym (with_first_one c a x actors is)) (ap (map (λ (one : Configured). length one.state)) s.is ∙ ap₂ (λ (n : ℕ) (l : List ℕ). n ∷ l) head again))
         (λ (acts : is_configuration x.body ≡ false).
-        let Q : List Configuration → Type 0 = λ l. LeaveAll graphs ends g firing l (Ok configured) in
-        let all' = subst Q (without_first_one c a x actors acts) all in
         let body_is : is_configuration (actor_at g a).body ≡ false = ap (λ (y : Actor). is_configuration y.body) own ∙ acts in
         let count : c ≡ length (configurations_from 0 0 (take (a + 1) g.actors)) = let m = count_without 0 0 (take a g.actors) (actor_at g a) body_is in let t = ap (λ (l : List Actor). length (configurations_from 0 0 l)) take_one in omega arith in
-        ⊎_elim
-        (λ (has : has_state graphs x ≡ true).
-        let first : from_number a of_state (x ∷ actors) ≡ state_link graphs g a x.body ∷ from_number (a + 1) of_state actors = rw has refl in
-        let s = split (state_link graphs g a x.body) (from_number (a + 1) of_state actors) left (subst P first links) in
-        let head : length s.one ≡ actor_size graphs x = s.long ∙ sym (state_held graphs x.body has) in
-        let again = actors_left sized c (a + 1) actors configured s.rest rest count all' s.others in
-        rw (acts, has, s.is) (ap (λ n. n ∷ lengths (actor_states graphs actors configured s.rest)) head ∙ ap (λ (l : List ℕ). actor_size graphs x ∷ l) again))
-        (λ (none : has_state graphs x ≡ false).
-        let first : from_number a of_state (x ∷ actors) ≡ from_number (a + 1) of_state actors = rw none refl in
-        let head : 0 ≡ actor_size graphs x = sym (no_held x.body acts none) in
-        let again = actors_left sized c (a + 1) actors configured left rest count all' (subst P first links) in
-        rw (acts, none) (ap (λ n. n ∷ lengths (actor_states graphs actors configured left)) head ∙ ap (λ (l : List ℕ). actor_size graphs x ∷ l) again))
-        (cases_Bool (has_state graphs x)))
+        let again = states_long sized c (a + 1) actors configured rest count (subst Q (without_first_one c a x actors acts) all) in
+        subst R (sym (without_first_one c a x actors acts)) again)
         (cases_Bool (is_configuration x.body))
       where
         past_end : {X : Type 0} (xs : List X) (n : ℕ) (y : X) (ys : List X) → drop n xs ≡ y ∷ ys → n < length xs
@@ -287,9 +320,4 @@ module _ (graphs : List Graph) (g : Graph) (values : List ℤ) where
     -- the state after a firing
     pub state_left : LeavesSizes → (configured : List Configured) (left : List (List ℤ)) → AllByRecursion (λ (f : Fifo). is_kept g f ≡ false → length f.delay ≡ 0) g.fifos →
         LeaveAll graphs ends g firing (configurations_from 0 0 g.actors) (Ok configured) → HaveDelays (links_of graphs g values) left → lengths (state_after graphs g configured left) ≡ map fifo_size g.fifos ++ map (actor_size graphs) g.actors
-    state_left sized configured left none all links =
-        let first = fifos_left 0 g.fifos (from_number 0 of_state g.actors) left none links in
-        let second = actors_left sized 0 0 g.actors configured (drop (length (filter (is_kept g) g.fifos)) left) refl refl all first.1 in
-        map-append (λ (l : List ℤ). length l) (fifo_states g g.fifos left) (actor_states graphs g.actors configured (drop (length (filter (is_kept g) g.fifos)) left))
-        ∙ ap (λ (l : List ℕ). l ++ lengths (actor_states graphs g.actors configured (drop (length (filter (is_kept g) g.fifos)) left))) first.0
-        ∙ ap (λ (l : List ℕ). map fifo_size g.fifos ++ l) second
+    state_left sized configured left none all links = state_long none configured left (states_long sized 0 0 g.actors configured refl refl all) links

@@ -7,8 +7,7 @@ use Rattle.param_resolver.specs.EarlyView.{EarlyView}
 use Rattle.param_resolver.specs.LevelOf.{level_args}
 use Rattle.param_resolver.specs.Numbering.{acting}
 use Rattle.pisdf_model.specs.declared.actor.Actor.{Actor}
-use Rattle.pisdf_model.specs.Range.{InRange}
-use Rattle.pisdf_model.specs.WellFormed.{WellFormed}
+use Rattle.pisdf_model.specs.Valid.{AreValid}
 use Rattle.pisdf_model.specs.declared.graph.Graph.{Graph}
 use Rattle.pisdf_model.specs.declared.graph.Graphs.{Graphs}
 use Rattle.pisdf_meaning.specs.Configuring.{Configuration, Configures, LeaveAll, configurations_from, early_in}
@@ -23,8 +22,7 @@ use Rattle.pisdf_meaning.specs.declared.refusal.Refusal.{Refusal}
 
 -- graphs can be run with the kernels of these signatures
 pub record CanRun (signatures : List Counts) (graphs : Graphs) : Type 0 where
-  pub in_range : InRange graphs
-  pub well_formed : WellFormed graphs
+  pub valid : AreValid graphs
   pub fit : AllFit signatures graphs.graphs
 
 -- a graph is fired, from whose actors on no more than n graphs are nested in each other, and this is what its early check

@@ -76,8 +76,13 @@ pub fn child_firing(
     })
 }
 
-/// What the actor's firing gives, whose child gave this.
-pub(crate) fn child_made(alloc: Global, keeps: bool, given: Given) -> Result<Made, AllocError>
+/// What the actor's firing gives, whose child gave this. An actor that keeps the state of its child has it in one line after
+/// the child's outputs.
+///
+/// # Errors
+///
+/// Want of memory.
+pub fn child_made(alloc: Global, keeps: bool, given: Given) -> Result<Made, AllocError>
     ensures outs { IfOk result (λ made. Ok made.outs ≡ child_fires keeps (Ok given)) }
     ensures trace { IfOk result (λ made. made.trace ≡ given.trace) }
 {
@@ -122,7 +127,11 @@ pub fn config_firing(
 }
 
 /// What a hierarchical configuration actor leaves, whose child gave this.
-pub(crate) fn child_left(alloc: Global, given: Given) -> Result<Configured, AllocError>
+///
+/// # Errors
+///
+/// Want of memory.
+pub fn child_left(alloc: Global, given: Given) -> Result<Configured, AllocError>
     ensures leaves { IfOk result (λ one. Ok one ≡ child_leaves (Ok given)) }
     ensures outs { IfOk result (λ one. one.outs ≡ given.outs) }
 {

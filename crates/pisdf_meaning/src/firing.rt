@@ -45,9 +45,9 @@ pub struct Configured {
 
 /// What one firing of an actor of a level gave.
 #[derive(Drop)]
-pub(crate) struct Made {
+pub struct Made {
     /// The tokens of each output.
-    pub(crate) outs: List<List<i64>>,
+    pub outs: List<List<i64>>,
     /// The trace of the graph that it fired, if it did.
-    pub(crate) trace: List<TraceRow>,
+    pub trace: List<TraceRow>,
 }

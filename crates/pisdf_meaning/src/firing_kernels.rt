@@ -80,23 +80,28 @@ pub(crate) fn leave_kernel<K: Gate>(
 
 /// The one firing of a configuration actor that fires a kernel.
 #[derive(Drop)]
-pub(crate) struct ConfigCall<'a> {
+pub struct ConfigCall<'a> {
     /// The actor's name.
-    pub(crate) actor: &'a Name,
+    pub actor: &'a Name,
     /// The actor's number among the configuration actors of its graph.
-    pub(crate) number: usize,
+    pub number: usize,
     /// The actor's place among all actors of its graph.
-    pub(crate) place: usize,
+    pub place: usize,
     /// The kernel that it fires.
-    pub(crate) kernel: u32,
+    pub kernel: u32,
     /// How many inputs it has.
-    pub(crate) inputs: usize,
+    pub inputs: usize,
     /// How many parameters it sets.
-    pub(crate) sets: u32,
+    pub sets: u32,
 }
 
 /// What a configuration actor that fires a kernel leaves.
-pub(crate) fn leave_config<K: Gate>(
+///
+/// # Errors
+///
+/// - `Refused`: the kernel faults.
+/// - `Memory`: want of memory.
+pub fn leave_config<K: Gate>(
     alloc: Global,
     gate: &K,
     graph: &Graph,

@@ -1,5 +1,5 @@
 // What a firing of a graph gives, once its level was run.
-ghost use Rattle.std.specs.Prelude.{◌≡◌, ℕ, ◌++◌, List as Seq, [], drop, length, map, slice_index_or, IfOk, OnOk};
+ghost use Rattle.std.specs.Prelude.{◌≡◌, ◌≤◌, ℕ, ◌+◌, ◌++◌, List as Seq, [], drop, length, map, slice_index_or, vec_capacity, vec_len, IfOk, OnOk};
 ghost use Rattle.std.specs.List.{filter};
 ghost use Rattle.param_resolver.specs.Numbering.{is_kept};
 ghost use Rattle.pisdf_model.specs.declared.graph.Graph.{Graph as GraphView};
@@ -23,19 +23,19 @@ use std::collections::VecDeque;
 
 /// What the run of a level leaves.
 #[derive(Drop)]
-pub(crate) struct LevelEnd {
+pub struct LevelEnd {
     /// What each sink keeps.
-    pub(crate) outs: List<List<i64>>,
+    pub outs: List<List<i64>>,
     /// What is left on each link.
-    pub(crate) left: List<List<i64>>,
+    pub left: List<List<i64>>,
     /// The traces of each actor's firings, by the actor's number in the level.
-    pub(crate) rows: Vec<Vec<TraceRow>>,
+    pub rows: Vec<Vec<TraceRow>>,
 }
 
 // ---- the state
 
 /// Takes the first of these lists, which is empty where there is none.
-fn next_list(alloc: Global, lists: &mut VecDeque<List<i64>>) -> List<i64>
+pub fn next_list(alloc: Global, lists: &mut VecDeque<List<i64>>) -> List<i64>
     ensures taken { result ≡ tokens_at lists.old.items 0 }
     ensures rest { lists.new.items ≡ drop 1 lists.old.items }
 {
@@ -55,25 +55,28 @@ fn goes_on(alloc: Global, life: Life, left: List<i64>) -> List<i64>
     }
 }
 
-/// Adds what goes on of each FIFO, and takes from what is left on the links that of the FIFOs that become links.
-fn push_fifo_states(
+/// Adds what goes on of each FIFO, and takes from what is left on the links that of the FIFOs that become links. It takes no
+/// memory: `state` has room for a list of each FIFO.
+pub fn push_fifo_states(
     alloc: Global,
     graph: &Graph,
     left: &mut VecDeque<List<i64>>,
     state: &mut Vec<List<i64>>,
-) -> Result<(), AllocError>
-    ensures state { OnOk result (state.new.items ≡ state.old.items ++ fifo_states graph.now graph.now.fifos left.old.items) }
-    ensures left { OnOk result (left.new.items ≡ drop (length (filter (is_kept graph.now) graph.now.fifos)) left.old.items) }
+)
+    requires room { vec_len state.old + length graph.now.fifos ≤ vec_capacity state.old }
+    ensures state { state.new.items ≡ state.old.items ++ fifo_states graph.now graph.now.fifos left.old.items }
+    ensures left { left.new.items ≡ drop (length (filter (is_kept graph.now) graph.now.fifos)) left.old.items }
+    ensures len { vec_len state.new ≡ vec_len state.old + length graph.now.fifos }
+    ensures capacity { vec_capacity state.new ≡ vec_capacity state.old }
 {
     for fifo in graph.fifos.items() {
         if is_kept(graph, fifo) {
             let tokens = next_list(alloc, left);
-            state.push(goes_on(alloc, fifo.life, tokens))?;
+            state.push_reserved(goes_on(alloc, fifo.life, tokens));
         } else {
-            state.push(List::new(Vec::new(alloc)))?;
+            state.push_reserved(List::new(Vec::new(alloc)));
         }
     }
-    Ok(())
 }
 
 /// The state that the configuration actor of this number left.
@@ -123,8 +126,8 @@ fn state_after(
     ensures { IfOk result (λ state. state ≡ state_after graphs.now graph.now configured.now left) }
 {
     let mut left = VecDeque::from_vec(left.into_items());
-    let mut state = Vec::new(alloc);
-    push_fifo_states(alloc, graph, &mut left, &mut state)?;
+    let mut state = Vec::with_capacity(alloc, graph.fifos.items().len())?;
+    push_fifo_states(alloc, graph, &mut left, &mut state);
     let actors = graph.actors.items();
     let holds = holds_for(alloc, graphs, actors)?;
     push_actor_states(alloc, &holds, actors, configured, &mut left, &mut state)?;
@@ -134,7 +137,7 @@ fn state_after(
 // ---- the values of parameters
 
 /// The value at a place, or 0 past the end.
-fn value_at(values: &[i64], place: usize) -> i64
+pub fn value_at(values: &[i64], place: usize) -> i64
     ensures { result ≡ value_at values.now place }
 {
     match values.get(place) {
@@ -143,8 +146,12 @@ fn value_at(values: &[i64], place: usize) -> i64
     }
 }
 
-/// The values of the graph's exports.
-fn exports_of(alloc: Global, graph: &Graph, values: &[i64]) -> Result<List<i64>, AllocError>
+/// The values of the graph's exports, where these are those of its parameters.
+///
+/// # Errors
+///
+/// Want of memory.
+pub fn exports_of(alloc: Global, graph: &Graph, values: &[i64]) -> Result<List<i64>, AllocError>
     ensures { IfOk result (λ exports. exports ≡ map (value_at values.now) graph.now.exports) }
 {
     let mut exports = Vec::new(alloc);
@@ -240,7 +247,11 @@ fn push_child_rows(
 
 /// What a firing of a graph gives, whose configuration actors left this, whose parameters have these values, and the run
 /// of whose level left that.
-pub(crate) fn given_by(
+///
+/// # Errors
+///
+/// Want of memory.
+pub fn given_by(
     alloc: Global,
     graphs: &[Graph],
     graph: &Graph,

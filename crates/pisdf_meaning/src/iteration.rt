@@ -4,12 +4,11 @@ ghost use Rattle.kernel_gate.specs.Signed.{unnamed};
 ghost use Rattle.param_resolver.specs.EarlyCheck.{early_faults, early_of};
 ghost use Rattle.param_resolver.specs.declared.level_set.LevelSet.{LevelSet as SetOfLevel};
 ghost use Rattle.pisdf_model.specs.Ports.{inherited_count};
-ghost use Rattle.pisdf_model.specs.Range.{InRange};
-ghost use Rattle.pisdf_model.specs.WellFormed.{WellFormed};
+ghost use Rattle.pisdf_model.specs.Valid.{AreValid};
 ghost use Rattle.pisdf_model.specs.declared.graph.Graph.{Graph as OneGraph};
 ghost use Rattle.pisdf_meaning.specs.Endings.{IfRefused};
 ghost use Rattle.pisdf_meaning.specs.Run.{IterationEnds, IterationGives, top_firing};
-ghost use Rattle.pisdf_meaning.specs.Sound.{KernelsFit};
+ghost use Rattle.pisdf_meaning.specs.Sound.{AreValidFor};
 ghost use Rattle.pisdf_meaning.specs.TopLevel.{IsTopLevel, TopLevelRefused};
 ghost use Rattle.pisdf_meaning.specs.declared.outcome.Iteration.{Iteration as Outcome};
 ghost use Rattle.pisdf_meaning.specs.declared.refusal.Refusal.{Refusal as Cause};
@@ -33,8 +32,7 @@ use std::alloc::{AllocError, Global};
 
 /// What is known of the top graph, whose early check finds nothing.
 fn top_early(alloc: Global, graphs: &Graphs) -> Result<Early, AllocError>
-    requires in_range { InRange graphs.now }
-    requires well_formed { WellFormed graphs.now }
+    requires valid { AreValid graphs.now }
     requires none_inherited { inherited_count (slice_get graphs.now.graphs graphs.now.top) ≡ 0 }
     requires sound { early_faults graphs.now.graphs graphs.now.top [] ≡ [] }
     ensures { IfOk result (λ known. known ≡ early_of graphs.now.graphs graphs.now.top []) }
@@ -47,7 +45,11 @@ fn top_early(alloc: Global, graphs: &Graphs) -> Result<Early, AllocError>
 }
 
 /// The firing of the top graph, which stands at a place, with these inputs and this state.
-fn top_firing(
+///
+/// # Errors
+///
+/// Want of memory.
+pub fn top_firing(
     alloc: Global,
     top: &Graph,
     place: u32,
@@ -72,8 +74,7 @@ fn begin_iteration(
     delays: &Delays,
     ins: &[List<i64>],
 ) -> Result<(Early, Firing), AllocError>
-    requires in_range { InRange graphs.now }
-    requires well_formed { WellFormed graphs.now }
+    requires valid { AreValid graphs.now }
     requires none_inherited { inherited_count (slice_get graphs.now.graphs graphs.now.top) ≡ 0 }
     requires sound { early_faults graphs.now.graphs graphs.now.top [] ≡ [] }
     ensures early { IfOk result (λ begun. begun.0 ≡ early_of graphs.now.graphs graphs.now.top []) }
@@ -93,9 +94,7 @@ fn iterate<K: Gate>(
     ins: &[List<i64>],
     gate: &K,
 ) -> Result<Iteration, PlainFault>
-    requires in_range { InRange graphs.now }
-    requires well_formed { WellFormed graphs.now }
-    requires kernels { KernelsFit (unnamed (K.kernels gate.now)) graphs.now.graphs }
+    requires valid { AreValidFor (unnamed (K.kernels gate.now)) graphs.now }
     requires sound { early_faults graphs.now.graphs graphs.now.top [] ≡ [] }
     ensures gives { IfOk result (λ iteration. IterationGives graphs.now ins.now delays.old.lists iteration delays.new.lists) }
     ensures refused { IfErr result (IfRefused (λ refusal. IterationEnds graphs.now ins.now delays.old.lists (Err refusal))) }
@@ -128,9 +127,7 @@ pub fn plain_iteration<K: Gate>(
     ins: &[List<i64>],
     gate: &K,
 ) -> Result<Iteration, PlainFault>
-    requires in_range { InRange graphs.now }
-    requires well_formed { WellFormed graphs.now }
-    requires kernels { KernelsFit (unnamed (K.kernels gate.now)) graphs.now.graphs }
+    requires valid { AreValidFor (unnamed (K.kernels gate.now)) graphs.now }
     requires sound { early_faults graphs.now.graphs graphs.now.top [] ≡ [] }
     ensures gives { IfOk result (λ iteration. IterationGives graphs.now ins.now delays.old.lists iteration delays.new.lists) }
     ensures refused { IfErr result (IfRefused (λ refusal. IterationEnds graphs.now ins.now delays.old.lists (Err refusal))) }
@@ -152,9 +149,7 @@ fn lead_to_level<K: Gate>(
     ins: &[List<i64>],
     gate: &K,
 ) -> Result<LevelSet, PlainFault>
-    requires in_range { InRange graphs.now }
-    requires well_formed { WellFormed graphs.now }
-    requires kernels { KernelsFit (unnamed (K.kernels gate.now)) graphs.now.graphs }
+    requires valid { AreValidFor (unnamed (K.kernels gate.now)) graphs.now }
     requires sound { early_faults graphs.now.graphs graphs.now.top [] ≡ [] }
     ensures level { IfOk result (IsTopLevel graphs.now ins.now delays.now.lists) }
     ensures refused { IfErr result (IfRefused (TopLevelRefused graphs.now ins.now delays.now.lists)) }
@@ -182,9 +177,7 @@ pub fn top_level<K: Gate>(
     ins: &[List<i64>],
     gate: &K,
 ) -> Result<LevelSet, PlainFault>
-    requires in_range { InRange graphs.now }
-    requires well_formed { WellFormed graphs.now }
-    requires kernels { KernelsFit (unnamed (K.kernels gate.now)) graphs.now.graphs }
+    requires valid { AreValidFor (unnamed (K.kernels gate.now)) graphs.now }
     requires sound { early_faults graphs.now.graphs graphs.now.top [] ≡ [] }
     ensures level { IfOk result (IsTopLevel graphs.now ins.now delays.now.lists) }
     ensures refused { IfErr result (IfRefused (TopLevelRefused graphs.now ins.now delays.now.lists)) }

@@ -15,7 +15,7 @@ use std::alloc::{AllocError, Global};
 
 /// What a kernel gave.
 #[derive(Drop)]
-pub(crate) enum KernelEnd {
+pub enum KernelEnd {
     /// The tokens of each output, and the values that it sets.
     Gave {
         outs: List<List<i64>>,
@@ -63,7 +63,11 @@ fn gave(alloc: Global, frame: Frame, lists: Vec<List<i64>>) -> KernelEnd
 }
 
 /// Fires a kernel with these arguments and inputs, outputs of these lengths and so many sets.
-pub(crate) fn fire_kernel<K: Gate>(
+///
+/// # Errors
+///
+/// Want of memory.
+pub fn fire_kernel<K: Gate>(
     alloc: Global,
     gate: &K,
     kernel: u32,

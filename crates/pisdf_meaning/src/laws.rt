@@ -1,8 +1,7 @@
 // Laws of the definitions, for whoever proves something above them. The functions do nothing; their contracts are the laws.
 ghost use Rattle.std.specs.Prelude.{List as Seq};
 ghost use Rattle.kernel_gate.specs.Signed.{Counts};
-ghost use Rattle.pisdf_model.specs.Range.{InRange};
-ghost use Rattle.pisdf_model.specs.WellFormed.{WellFormed};
+ghost use Rattle.pisdf_model.specs.Valid.{AreValid};
 ghost use Rattle.pisdf_model.specs.declared.graph.Graph.{Graph};
 ghost use Rattle.pisdf_model.specs.declared.graph.Graphs.{Graphs};
 ghost use Rattle.pisdf_meaning.specs.Laws.{HasMeanings, HasOneMeaning, HasOneRun, HasRuns};
@@ -24,8 +23,8 @@ pub fn one_meaning()
 /// And a run has one, whatever its streams hold. This holds of well-formed graphs whose numbers refer to parts, and of any
 /// inputs, states and kernels, whether or not there is memory to work it out. With `one_meaning` it is exactly one.
 pub fn meanings_exist()
-    ensures firings { (graphs : Graphs) → InRange graphs → WellFormed graphs → HasMeanings graphs.graphs }
-    ensures runs { (graphs : Graphs) → InRange graphs → WellFormed graphs → HasRuns graphs }
+    ensures firings { (graphs : Graphs) → AreValid graphs → HasMeanings graphs.graphs }
+    ensures runs { (graphs : Graphs) → AreValid graphs → HasRuns graphs }
 {
     schedules_exist();
     early_unfolds();
@@ -36,5 +35,5 @@ pub fn meanings_exist()
 /// lengths of its inputs. So it is in well-formed graphs whose kernels fit signatures of kernels that give outputs of the
 /// lengths that they are asked for.
 pub fn sizes_kept()
-    ensures { (signatures : Seq Counts) (graphs : Graphs) → InRange graphs → WellFormed graphs → AllFit signatures graphs.graphs → GiveLengths signatures → KeepsSizes graphs.graphs }
+    ensures { (signatures : Seq Counts) (graphs : Graphs) → AreValid graphs → AllFit signatures graphs.graphs → GiveLengths signatures → KeepsSizes graphs.graphs }
 {}

@@ -24,7 +24,7 @@ pub fn copy_lists(alloc: Global, lists: &[List<i64>]) -> Result<List<List<i64>>,
 }
 
 /// The list at a place, or none.
-pub(crate) fn tokens_at(lists: &[List<i64>], place: usize) -> &[i64]
+pub fn tokens_at(lists: &[List<i64>], place: usize) -> &[i64]
     ensures { result.now ≡ tokens_at lists.now place }
 {
     match lists.get(place) {

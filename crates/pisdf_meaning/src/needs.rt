@@ -1,8 +1,7 @@
 // How many tokens an iteration takes.
 ghost use Rattle.std.specs.Prelude.{◌≡◌, [], length, slice_get, Some, IfErr, IfOk, OnOk, Err, Option};
 ghost use Rattle.param_resolver.specs.EarlyCheck.{early_faults};
-ghost use Rattle.pisdf_model.specs.Range.{InRange};
-ghost use Rattle.pisdf_model.specs.WellFormed.{WellFormed};
+ghost use Rattle.pisdf_model.specs.Valid.{AreValid};
 ghost use Rattle.pisdf_model.specs.declared.graph.Graph.{Graph};
 ghost use Rattle.pisdf_meaning.specs.Endings.{IfRefused};
 ghost use Rattle.pisdf_meaning.specs.Run.{Lack, after_early, top_needs};
@@ -22,8 +21,7 @@ use std::alloc::Global;
 ///
 /// `Refused`: the early check of the top graph, which each iteration makes first, refuses it. `Memory`: want of memory.
 pub fn top_needs(alloc: Global, graphs: &Graphs) -> Result<List<u32>, PlainFault>
-    requires in_range { InRange graphs.now }
-    requires well_formed { WellFormed graphs.now }
+    requires valid { AreValid graphs.now }
     ensures needs { IfOk result (λ needs. needs ≡ top_needs graphs.now) }
     ensures fit { IfOk result (λ needs. (top : Graph) → slice_get graphs.now.graphs graphs.now.top ≡ Some top → length needs ≡ length top.inputs) }
     ensures sound { OnOk result (early_faults graphs.now.graphs graphs.now.top [] ≡ []) }

@@ -1,7 +1,6 @@
 // The level of a graph in one of its firings.
 ghost use Rattle.std.specs.Prelude.{◌≡◌, length, slice_get, Ok, Err, Some, IfOk, IfErr, OnOk};
-ghost use Rattle.pisdf_model.specs.Range.{InRange};
-ghost use Rattle.pisdf_model.specs.WellFormed.{WellFormed};
+ghost use Rattle.pisdf_model.specs.Valid.{AreValid};
 ghost use Rattle.pisdf_meaning.specs.Configuring.{early_in};
 ghost use Rattle.pisdf_meaning.specs.Endings.{IfRefused};
 ghost use Rattle.pisdf_meaning.specs.PartsOf.{ArePartsOf};
@@ -39,8 +38,7 @@ pub fn parts_of(
     firing: &Firing,
     values: &[i64],
 ) -> Result<LevelSet, PlainFault>
-    requires in_range { InRange graphs.now }
-    requires well_formed { WellFormed graphs.now }
+    requires valid { AreValid graphs.now }
     requires here { slice_get graphs.now.graphs firing.now.graph ≡ Some graph.now }
     requires early { early.now ≡ early_in graphs.now.graphs firing.now }
     requires each { length values.now ≡ length graph.now.params }

@@ -17,7 +17,7 @@ use sdf_level::List;
 use std::alloc::{AllocError, Global};
 
 /// The rates at a place, or none.
-pub(crate) fn rates_at(lists: &[List<u32>], place: usize) -> &[u32]
+pub fn rates_at(lists: &[List<u32>], place: usize) -> &[u32]
     ensures { result.now ≡ slice_index_or lists.now place [] }
 {
     match lists.get(place) {

@@ -2,8 +2,7 @@
 ghost use Rattle.std.specs.Prelude.{◌≡◌, ◌++◌, [], drop, length, slice_get, zip, Some, Ok, Err, IfOk, IfErr, OnOk};
 ghost use Rattle.param_resolver.specs.EarlyCheck.{early_faults};
 ghost use Rattle.pisdf_model.specs.Ports.{sets_of};
-ghost use Rattle.pisdf_model.specs.Range.{InRange};
-ghost use Rattle.pisdf_model.specs.WellFormed.{WellFormed};
+ghost use Rattle.pisdf_model.specs.Valid.{AreValid};
 ghost use Rattle.pisdf_meaning.specs.Configuring.{configurations, configurations_from, early_in};
 ghost use Rattle.pisdf_meaning.specs.Endings.{IfRefused};
 ghost use Rattle.pisdf_meaning.specs.Preparing.{chosen_next, chosen_values, first_sets, resolved, value_set, values_set};
@@ -124,8 +123,7 @@ pub fn resolved(
     firing: &Firing,
     configured: &[Configured],
 ) -> Result<List<i64>, PlainFault>
-    requires in_range { InRange graphs.now }
-    requires well_formed { WellFormed graphs.now }
+    requires valid { AreValid graphs.now }
     requires here { slice_get graphs.now.graphs firing.now.graph ≡ Some graph.now }
     requires early { early.now ≡ early_in graphs.now.graphs firing.now }
     requires sound { early_faults graphs.now.graphs firing.now.graph firing.now.inherited ≡ [] }

@@ -1,16 +1,14 @@
 // A law of the definitions, for whoever fires graphs. The function does nothing; its contract is the law.
 ghost use Rattle.std.specs.Prelude.{List as Seq};
 ghost use Rattle.kernel_gate.specs.Signed.{Counts};
-ghost use Rattle.pisdf_model.specs.Range.{InRange};
-ghost use Rattle.pisdf_model.specs.WellFormed.{WellFormed};
 ghost use Rattle.pisdf_model.specs.declared.graph.Graphs.{Graphs};
-ghost use Rattle.pisdf_meaning.specs.Sound.{AreRunnable, KernelsFit};
+ghost use Rattle.pisdf_meaning.specs.Sound.{AreRunnable, AreValidFor};
 
 use param_resolver::early_unfolds;
 
 /// Well-formed graphs, whose numbers refer to parts and whose actors' kernels fit the signatures of a gate, can be run.
 pub fn runnable()
-    ensures { (signatures : Seq Counts) (graphs : Graphs) → InRange graphs → WellFormed graphs → KernelsFit signatures graphs.graphs → AreRunnable signatures graphs }
+    ensures { (signatures : Seq Counts) (graphs : Graphs) → AreValidFor signatures graphs → AreRunnable signatures graphs }
 {
     early_unfolds();
 }

@@ -14,7 +14,7 @@ use sdf_level::List;
 use std::alloc::{AllocError, Global};
 
 /// Whether a FIFO becomes a link of the level: it doesn't lead into a configuration actor.
-pub fn is_kept(graph: &Graph, fifo: &Fifo) -> bool
+pub(crate) fn is_kept(graph: &Graph, fifo: &Fifo) -> bool
     ensures { result ≡ is_kept graph.now fifo.now }
 {
     !is_at_configuration(graph, &fifo.head)

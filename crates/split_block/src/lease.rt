@@ -33,9 +33,6 @@ impl Model for Lease {
     ghost invariant = { IsLeased };
 }
 
-// Nothing else reaches the cells.
-unsafe impl Send for Lease {}
-
 impl Lease {
     ghost use Rattle.split_block.specs.Lending.{LendsCells};
 

@@ -17,14 +17,14 @@ impl Model for Origin {
 }
 
 /// The cell `start` of the block of `size` cells at `ptr`.
-pub fn locate(ptr: *mut i64, size: usize, pooled: bool, start: usize) -> Origin
+pub(crate) fn locate(ptr: *mut i64, size: usize, pooled: bool, start: usize) -> Origin
     ensures { result ≡ record { block = record { ptr = ptr; len = size; pooled = pooled }; start = start } }
 {
     Origin {}
 }
 
 /// The same origin, and the one `at` cells behind it.
-pub fn fork(origin: Origin, at: usize) -> (Origin, Origin)
+pub(crate) fn fork(origin: Origin, at: usize) -> (Origin, Origin)
     ensures { (result.0 ≡ origin) × (result.1 ≡ record origin { start = origin.start + at }) }
 {
     let Origin {} = origin;

@@ -2,9 +2,9 @@ use Rattle.board_rules.proofs.laws.job_laws.Goals as goal
 
 pub returns : goal.returns
 returns c = λ key is. record {
-  lawful = c.rules_are_lawful.ensures key.graphs is.in_range is.well_formed;
-  meant = c.jobs_mean_firings.ensures key.signatures key.graphs is.in_range is.well_formed is.kernels is.lengths;
-  fit = (c.runnable.ensures key.signatures key.graphs is.in_range is.well_formed is.kernels).fit;
+  lawful = c.rules_are_lawful.ensures key.graphs is.valid.valid;
+  meant = c.jobs_mean_firings.ensures key.signatures key.graphs is.valid is.lengths;
+  fit = (c.runnable.ensures key.signatures key.graphs is.valid).fit;
   all = c.graphs_numbered.ensures.all;
   in_order = c.graphs_numbered.ensures.in_order;
   stages = c.graphs_numbered.ensures.stages;

@@ -15,7 +15,7 @@ use Rattle.job_preparing.proofs.Reading.{ok_more}
 use Rattle.job_preparing.proofs.asking.child_of.Goals as goal
 
 pub config_firing-requires-clause-few : goal.config_firing-requires-clause-few
-config_firing-requires-clause-few c = few c.args.graphs.now c.requires.in_range c.requires.well_formed c.args.firing.now c.args.graph.now c.requires.here c.args.number c.args.place c.requires.is
+config_firing-requires-clause-few c = few c.args.graphs.now c.requires.valid.in_range c.requires.valid.well_formed c.args.firing.now c.args.graph.now c.requires.here c.args.number c.args.place c.requires.is
 
 -- the actor's body
 body_at : (c : goal.After-config_firing) → (actor_at c.args.graph.now c.args.place).body ≡ ConfigChild c.in-ConfigChild.child c.in-ConfigChild.args c.in-ConfigChild.sets
@@ -34,16 +34,16 @@ pub returns-clause-rates : goal.returns-clause-rates
 returns-clause-rates c =
     let P : Firing → Type 0 = λ d. (early_of c.args.graphs.now.graphs d.graph d.inherited).outputs ≡ config_rates c.args.graphs.now.graphs c.args.firing.now c.args.number in
     ok_more _ P c.config_firing.result
-    (λ d e. subst P (sym (is_called c d e)) (child_rates c.args.graphs.now c.requires.in_range c.requires.well_formed c.args.firing.now c.args.graph.now c.requires.here c.args.number c.args.place c.requires.is
-    (λ place inherited inside. c.early_unfolds.ensures c.args.graphs.now place inherited c.requires.in_range c.requires.well_formed inside) c.requires.fit c.in-ConfigChild.child c.in-ConfigChild.args c.in-ConfigChild.sets (body_at c)))
+    (λ d e. subst P (sym (is_called c d e)) (child_rates c.args.graphs.now c.requires.valid.in_range c.requires.valid.well_formed c.args.firing.now c.args.graph.now c.requires.here c.args.number c.args.place c.requires.is
+    (λ place inherited inside. c.early_unfolds.ensures c.args.graphs.now place inherited c.requires.valid.in_range c.requires.valid.well_formed inside) c.requires.fit c.in-ConfigChild.child c.in-ConfigChild.args c.in-ConfigChild.sets (body_at c)))
     c.config_firing.ensures
 
 pub returns-clause-state : goal.returns-clause-state
 returns-clause-state c =
     let P : Firing → Type 0 = λ d. lengths d.state ≡ lengths (initial c.args.graphs.now.graphs d.graph) in
     ok_more _ P c.config_firing.result
-    (λ d e. subst P (sym (is_called c d e)) (child_state c.args.graphs.now c.requires.in_range c.requires.well_formed c.args.firing.now c.args.graph.now c.requires.here c.args.number c.args.place c.requires.is
-    (λ place inherited inside. c.early_unfolds.ensures c.args.graphs.now place inherited c.requires.in_range c.requires.well_formed inside) c.requires.fit c.in-ConfigChild.child c.in-ConfigChild.args c.in-ConfigChild.sets (body_at c)))
+    (λ d e. subst P (sym (is_called c d e)) (child_state c.args.graphs.now c.requires.valid.in_range c.requires.valid.well_formed c.args.firing.now c.args.graph.now c.requires.here c.args.number c.args.place c.requires.is
+    (λ place inherited inside. c.early_unfolds.ensures c.args.graphs.now place inherited c.requires.valid.in_range c.requires.valid.well_formed inside) c.requires.fit c.in-ConfigChild.child c.in-ConfigChild.args c.in-ConfigChild.sets (body_at c)))
     c.config_firing.ensures
 
 pub returns-clause-inherited : goal.returns-clause-inherited
@@ -51,7 +51,7 @@ returns-clause-inherited c =
     let P : Firing → Type 0 = λ d. HasInherited c.args.graphs.now.graphs d in
     ok_more _ P c.config_firing.result
     (λ d e. subst P (sym (is_called c d e)) (record {
-      one_each = child_inherited c.args.graphs.now c.requires.in_range c.requires.well_formed c.args.firing.now c.args.graph.now c.requires.here c.args.number c.args.place c.requires.is
-          (λ place inherited inside. c.early_unfolds.ensures c.args.graphs.now place inherited c.requires.in_range c.requires.well_formed inside) c.requires.fit c.in-ConfigChild.child c.in-ConfigChild.args c.in-ConfigChild.sets (body_at c);
+      one_each = child_inherited c.args.graphs.now c.requires.valid.in_range c.requires.valid.well_formed c.args.firing.now c.args.graph.now c.requires.here c.args.number c.args.place c.requires.is
+          (λ place inherited inside. c.early_unfolds.ensures c.args.graphs.now place inherited c.requires.valid.in_range c.requires.valid.well_formed inside) c.requires.fit c.in-ConfigChild.child c.in-ConfigChild.args c.in-ConfigChild.sets (body_at c);
     }))
     c.config_firing.ensures

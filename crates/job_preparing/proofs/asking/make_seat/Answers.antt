@@ -24,7 +24,7 @@ actor_is g items place x e inside is = sym (get_or_read items place x (subst (λ
 pub overflow_cast-items : goal.overflow_cast-items
 overflow_cast-items c =
     let own = actor_is c.args.graph.now c.items.result.now c.args.place c.index-items-place.result c.items.ensures c.requires.is.inside c.index-items-place.is in
-    let few = sets_few c.args.graphs.now c.requires.in_range c.requires.well_formed c.args.firing.now c.args.graph.now c.requires.here c.args.number c.args.place c.requires.is
+    let few = sets_few c.args.graphs.now c.requires.valid.in_range c.requires.valid.well_formed c.args.firing.now c.args.graph.now c.requires.here c.args.number c.args.place c.requires.is
     (Config c.in-Config.kernel c.in-Config.args c.in-Config.ins c.in-Config.outs c.in-Config.sets) (ap (λ (x : Actor). x.body) own ∙ c.in-Config.is) in
     let same = ap (λ (l : List ℕ). length l) c.items-in-Config-3.ensures in
     omega arith

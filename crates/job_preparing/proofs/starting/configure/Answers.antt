@@ -21,7 +21,7 @@ seated c =
 pub invariant_of-result : goal.invariant_of-result
 invariant_of-result c =
     start_keeps (arc_value c.args.graphs) c.args.firing c.in_ok-places.places.items c.in_ok-stages.field-0.stages.items c.in_ok-stages.field-0.frames.items c.index-items-firing.result (graph_is c) c.in_ok-places.ensures (seated c)
-    (arc_value c.in_ok-shared.shared) c.in_ok-left.left.items c.in_ok-traces.traces.items c.requires.in_range c.requires.well_formed c.requires.fit
+    (arc_value c.in_ok-shared.shared) c.in_ok-left.left.items c.in_ok-traces.traces.items c.requires.valid c.requires.fit
     (c.in_ok-shared.ensures.ok ∙ c.in_ok-early.ensures ∙ ap (λ (x : Graphs). early_in x.graphs c.args.firing) c.deref.ensures)
     (c.in_ok-left.ensures ∙ ap (λ n. replicate n nothing) (c.len.ensures ∙ c.in_ok-places.places.ok.0))
     (c.in_ok-traces.ensures ∙ ap (λ n. replicate n []) (c.len-2.ensures ∙ c.in_ok-places.places.ok.0))

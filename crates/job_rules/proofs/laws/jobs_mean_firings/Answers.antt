@@ -5,8 +5,10 @@ use Rattle.job_rules.proofs.Settling.{settled_ends}
 use Rattle.job_rules.proofs.laws.jobs_mean_firings.Goals as goal
 
 pub returns : goal.returns
-returns c = λ signatures graphs range well kernels give.
-    let fit = (c.runnable.ensures signatures graphs range well kernels).fit in
+returns c = λ signatures graphs valid give.
+    let range = valid.valid.in_range in
+    let well = valid.valid.well_formed in
+    let fit = (c.runnable.ensures signatures graphs valid).fit in
     let laws : Laws = record {
       all = c.graphs_numbered.ensures.all;
       in_order = c.graphs_numbered.ensures.in_order;

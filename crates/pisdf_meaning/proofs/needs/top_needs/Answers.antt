@@ -5,7 +5,7 @@ use Rattle.pisdf_meaning.proofs.Fitting.{none_inherited}
 use Rattle.pisdf_meaning.proofs.needs.top_needs.Goals as goal
 
 pub early-requires-clause-inherited : goal.early-requires-clause-inherited
-early-requires-clause-inherited c = sym (none_inherited c.args.graphs.now c.requires.in_range c.requires.well_formed)
+early-requires-clause-inherited c = sym (none_inherited c.args.graphs.now c.requires.valid.in_range c.requires.valid.well_formed)
 
 pub returns-in_ok-path-in-Err-clause-refused : goal.returns-in_ok-path-in-Err-clause-refused
 returns-in_ok-path-in-Err-clause-refused c =

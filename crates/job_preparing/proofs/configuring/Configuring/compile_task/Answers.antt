@@ -4,8 +4,7 @@ use Rattle.std.specs.Option.{option_map}
 use Rattle.std.specs.Prelude.{Vec}
 use Rattle.std.specs.Global.{Global}
 use Rattle.pisdf_meaning.specs.declared.outcome.TraceRow.{TraceRow}
-use Rattle.pisdf_model.specs.Range.{InRange}
-use Rattle.pisdf_model.specs.WellFormed.{WellFormed}
+use Rattle.pisdf_model.specs.Valid.{AreValid}
 use Rattle.pisdf_model.specs.declared.graph.Graphs.{Graphs}
 use Rattle.param_resolver.specs.EarlyCheck.{early_faults}
 use Rattle.job_rules.specs.Items.{graph_of}
@@ -36,8 +35,7 @@ invariant_of-result c =
     let Q : Graphs → Firing → Type 0 = λ x f. early_faults x.graphs f.graph f.inherited ≡ [] in
     let own = here (arc_value c.self.inside.graphs).graphs c.self.inside.firing c.self.invariant.fit in
     record {
-      in_range = subst InRange (sym graphs_are) c.self.invariant.in_range;
-      well_formed = subst (λ (x : Graphs). WellFormed x) (sym graphs_are) c.self.invariant.well_formed;
+      valid = subst (λ (x : Graphs). AreValid x) (sym graphs_are) c.self.invariant.valid;
       here = subst (λ (x : Graphs). P x c.of.result.value) (sym graphs_are) (subst (P (arc_value c.self.inside.graphs)) (sym firing_is) own);
       sound = subst (λ (x : Graphs). Q x c.of.result.value) (sym graphs_are) (subst (Q (arc_value c.self.inside.graphs)) (sym firing_is) c.self.invariant.fit.sound);
       early_is = c.in_ok-try_clone-2.ensures ∙ c.self.invariant.early_is ∙ ap (λ (x : Graphs). early_in x.graphs c.self.inside.firing) (sym graphs_are) ∙ ap (λ f. early_in (arc_value c.in_ok-try_clone.field-0).graphs f) (sym firing_is);
