@@ -21,7 +21,7 @@ use Rattle.quiescent_driver.specs.Endings.{HasWholeJournal, IsWhole}
 use Rattle.quiescent_driver.specs.Given.{key_with}
 use Rattle.quiescent_driver.specs.declared.fault.IterationFault.{IterationFault}
 use Rattle.quiescent_driver.specs.declared.fault.IterationFault.TheVariants as by_workers
-use Rattle.pisdf_program.specs.Boards.{IsJournalText, boards, boards_at_end, journal_text, key_at}
+use Rattle.quiescent_driver.specs.Journals.{IsJournalText, boards, boards_at_end, journal_text, key_at}
 use Rattle.quiescent_driver.specs.Runs.{GrowsPartly}
 use Rattle.quiescent_driver.specs.Iterated.{Checks, Gives, HaveIterated, IsRefused}
 use Rattle.pisdf_program.specs.Journals.{ClosesWith, EndsBoard, EndsBoards, HasBoards, HasNoBoard, IsDone, PutsJournal, ToldTo}
@@ -122,7 +122,7 @@ module _ (g : Graphs) (streams : State) (workers : ℕ) where
   boards_start s had first = record { so_far = []; done = (refl, first); written = ([], tt, grows_none had) }
 
   pub is_journal : (k : ℕ) (s next : State) (its : List Iteration) (had has : File) (W : List ℕ → Type 0) → HaveIterated g streams k its s → (puts : PutsJournal g streams workers k s next had has W)
-      → IsJournalText g streams workers k (journal_text k puts.0)
+      → IsJournalText g the_signatures streams workers k (journal_text k puts.0)
   is_journal k s next its had has W done puts = record { before = its; state = s; done = done; entries = puts.0; whole = puts.1; text_is = refl }
 
   pub boards_go_on : (k : ℕ) (s next : State) (had has new : File) (i : Iteration) → BoardsReached k s had has → Gives g s (rest_of k (run.top_needs g) streams) i next
@@ -218,7 +218,7 @@ stops_before g streams workers k s next had f stop.Memory h = grows_none had
 
 -- the journal that came with an iteration is one of its board
 pub whole_at : (g : Graphs) (streams : State) (workers n : ℕ) (state : State) (needs : List ℕ) (ins : State) (kernels : List SignatureView) (entries : List Entry) → kernels ≡ the_signatures → needs ≡ run.top_needs g
-    → ins ≡ run.taken needs (rest_of n needs streams) → IsWhole (key_with g kernels state ins workers) entries → IsWhole (key_at g streams workers n state) entries
+    → ins ≡ run.taken needs (rest_of n needs streams) → IsWhole (key_with g kernels state ins workers) entries → IsWhole (key_at g the_signatures streams workers n state) entries
 whole_at g streams workers n state needs ins kernels entries signed same is h =
     let taken : ins ≡ run.taken (run.top_needs g) (rest_of n (run.top_needs g) streams) = is ∙ ap (λ k. run.taken k (rest_of n k streams)) same in
     subst (λ i. IsWhole (key_with g the_signatures state i workers) entries) taken (subst (λ k. IsWhole (key_with g k state ins workers) entries) signed h)

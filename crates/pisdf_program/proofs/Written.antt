@@ -2,9 +2,10 @@
 use Rattle.std.proofs.Common.{◌≡◌, ℕ, zero, suc, ◌+◌, ◌-◌, ◌≤◌, ℤ, List, [], ◌∷◌, ◌++◌, length, length-append, take, Option, refl, sym, ap, ◌∙◌, subst, append_assoc, arith}
 use Rattle.std.proofs.lemmas.List.{append-nil}
 use Rattle.std.proofs.Math.Seq.{take-length, take-append_seam}
+use Rattle.kernel_gate.specs.Table.{the_signatures}
 use Rattle.outer_world.specs.Sink.{Grows}
 use Rattle.pisdf_model.specs.declared.graph.Graphs.{Graphs}
-use Rattle.pisdf_program.specs.Boards.{IsJournalText}
+use Rattle.quiescent_driver.specs.Journals.{IsJournalText}
 use Rattle.quiescent_driver.specs.Runs.{GrowsPartly}
 use Rattle.quiescent_driver.specs.Texts.{joined}
 use Rattle.pisdf_program.specs.Written.{AreTexts, Exactly, IsText, JournalOf, Text, Wrote, WroteFirst, WrotePartly, exactly, journals}
@@ -58,7 +59,7 @@ joined_snoc written bytes = ap (λ (t : List ℕ). joined written ++ t) (sym (ap
 -- ---- journals
 
 module _ (g : Graphs) (streams : List (List ℤ)) (workers : ℕ) where
-  pub wrote_more : (had has new : File) (k : ℕ) (bytes : List ℕ) → Wrote had has (journals g streams workers k) → IsJournalText g streams workers k bytes → Grows has new bytes
+  pub wrote_more : (had has new : File) (k : ℕ) (bytes : List ℕ) → Wrote had has (journals g streams workers k) → IsJournalText g the_signatures streams workers k bytes → Grows has new bytes
       → Wrote had new (journals g streams workers (suc k))
   wrote_more had has new k bytes h is grows = (
     h.0 ++ bytes ∷ [],
@@ -66,7 +67,7 @@ module _ (g : Graphs) (streams : List (List ℤ)) (workers : ℕ) where
     grows_as had new _ _ (joined_snoc h.0 bytes) (grows_on had has new (joined h.0) bytes h.2 grows),
   )
 
-  pub partly_more : (had has new : File) (k : ℕ) (bytes : List ℕ) → Wrote had has (journals g streams workers k) → IsJournalText g streams workers k bytes → GrowsPartly has new bytes
+  pub partly_more : (had has new : File) (k : ℕ) (bytes : List ℕ) → Wrote had has (journals g streams workers k) → IsJournalText g the_signatures streams workers k bytes → GrowsPartly has new bytes
       → (written : List (List ℕ)) × AreTexts (journals g streams workers (suc k)) written × GrowsPartly had new (joined written)
   partly_more had has new k bytes h is grows = (
     h.0 ++ bytes ∷ [],

@@ -1,5 +1,6 @@
 -- What the calls of the command `journal` say.
 use Rattle.std.specs.Prelude.{◌≡◌, ℕ, ◌≤◌, ℤ, List, [], Option, Some, None, Result, Ok, Err}
+use Rattle.kernel_gate.specs.Table.{the_signatures}
 use Rattle.outer_world.specs.Faults.{Rose}
 use Rattle.outer_world.specs.Sink.{Grows}
 use Rattle.pisdf_model.specs.declared.graph.Graphs.{Graphs}
@@ -8,7 +9,7 @@ use Rattle.pisdf_meaning.specs.declared.outcome.Iteration.{Iteration}
 use Rattle.pisdf_meaning.specs.declared.refusal.Refusal.{Refusal}
 use Rattle.board_rules.specs.declared.entry.Entry.{Entry}
 use Rattle.quiescent_driver.specs.Endings.{IsWhole}
-use Rattle.pisdf_program.specs.Boards.{boards, journal_text, key_at}
+use Rattle.quiescent_driver.specs.Journals.{boards, journal_text, key_at}
 use Rattle.quiescent_driver.specs.Runs.{GrowsPartly}
 use Rattle.quiescent_driver.specs.Iterated.{Checks, Gives, IsRefused}
 use Rattle.quiescent_driver.specs.Streams.{rest_of}
@@ -37,7 +38,7 @@ HasNoBoard graphs streams stop.Memory = Unit {0}
 module _ (graphs : Graphs) (streams : List (List ℤ)) (workers n : ℕ) (state next : List (List ℤ)) (had has : Option (List ℕ)) where
   -- the text of a journal of iteration n was put, whole or in part
   abbrev pub PutsJournal : (List ℕ → Type 0) → Type 0
-  PutsJournal Written = (entries : List Entry) × IsWhole (key_at graphs streams workers n state) entries × Written (journal_text n entries)
+  PutsJournal Written = (entries : List Entry) × IsWhole (key_at graphs the_signatures streams workers n state) entries × Written (journal_text n entries)
 
   -- the journal of iteration n was put, and the iteration left the state `next`, or it ended the run
   abbrev pub EndsBoard : ℕ → ℕ → RunEnd → Type 0

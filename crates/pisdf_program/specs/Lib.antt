@@ -9,7 +9,6 @@ pub mod Uncompiled
 pub mod LineSeen
 pub mod Loaded
 pub mod Lines
-pub mod Boards
 pub mod Written
 pub mod Journals
 pub mod Soak

@@ -1,13 +1,11 @@
 -- What loading a file gives.
 use Rattle.std.specs.Prelude.{◌≡◌, ℕ, Bool, true, false, Result, Ok, Err, All}
 use Rattle.outer_world.specs.Faults.{Rose}
-use Rattle.pisdf_model.specs.Range.{InRange}
-use Rattle.pisdf_model.specs.WellFormed.{WellFormed}
 use Rattle.pisdf_model.specs.declared.graph.Graphs.{Graphs}
 use Rattle.graph_format.specs.Writable.{IsWritableGraph}
 use Rattle.kernel_gate.specs.Signed.{unnamed}
 use Rattle.kernel_gate.specs.Table.{the_signatures}
-use Rattle.pisdf_meaning.specs.Sound.{KernelsFit}
+use Rattle.pisdf_meaning.specs.Sound.{AreValidFor}
 use Rattle.pisdf_program.specs.declared.status.Status.{Status}
 use Rattle.pisdf_program.specs.declared.status.Status.TheVariants.{Done, Usage, GraphRefused, TokensRefused, RunRefused, ReadFault, WriteFault, WantOfMemory}
 use Rattle.pisdf_program.specs.declared.status.Which.{Which}
@@ -61,9 +59,7 @@ StopsReading (ReadFault which) = Unit {0}
 StopsReading WriteFault = ⊥
 StopsReading WantOfMemory = Unit {0}
 
--- graphs that were read: in range, without a fault, such that they can be written, and fitting the kernels of the table
+-- graphs that were read: valid, fitting the kernels of the table, and such that they can be written
 pub record AreGood (graphs : Graphs) : Type 0 where
-  pub in_range : InRange graphs
-  pub well_formed : WellFormed graphs
+  pub valid : AreValidFor (unnamed the_signatures) graphs
   pub writable : All IsWritableGraph graphs.graphs
-  pub kernels : KernelsFit (unnamed the_signatures) graphs.graphs

@@ -20,7 +20,7 @@ use Rattle.job_report.specs.Names.{names_of}
 use Rattle.job_report.specs.Rows.{name_at}
 use Rattle.job_report.specs.Told.{Tells}
 use Rattle.job_report.specs.declared.text.JobText.{JobText}
-use Rattle.pisdf_program.specs.Boards.{boards}
+use Rattle.quiescent_driver.specs.Journals.{boards}
 use Rattle.pisdf_program.specs.Job.{EndsJob, JobEnd}
 use Rattle.pisdf_program.specs.Soak.{all_tokens, soak_file, soak_iterations, soak_text, soak_streams}
 use Rattle.quiescent_driver.specs.Top.{top_of}

@@ -1,8 +1,9 @@
 -- What was written of the texts of a command.
 use Rattle.std.specs.Prelude.{◌≡◌, ℕ, zero, suc, ℤ, List, [], ◌∷◌, ◌++◌, map, take, Option}
+use Rattle.kernel_gate.specs.Table.{the_signatures}
 use Rattle.outer_world.specs.Sink.{Grows}
 use Rattle.pisdf_model.specs.declared.graph.Graphs.{Graphs}
-use Rattle.pisdf_program.specs.Boards.{IsJournalText}
+use Rattle.quiescent_driver.specs.Journals.{IsJournalText}
 use Rattle.quiescent_driver.specs.Runs.{GrowsPartly}
 use Rattle.quiescent_driver.specs.Texts.{joined}
 
@@ -21,7 +22,7 @@ journals graphs streams workers (suc n) = journals graphs streams workers n ++ J
 
 abbrev pub IsText : Text → List ℕ → Type 0
 IsText (Exactly bytes) written = written ≡ bytes
-IsText (JournalOf graphs streams workers number) written = IsJournalText graphs streams workers number written
+IsText (JournalOf graphs streams workers number) written = IsJournalText graphs the_signatures streams workers number written
 
 -- these were written, one for each text
 abbrev pub AreTexts : List Text → List (List ℕ) → Type 0

@@ -11,9 +11,9 @@ use crate::stop::stop_status;
 use job_compiler::Compiled;
 use job_report::{JobText, job_text};
 use kernel_gate::Gate;
-use outer_world::{Shelf, Sink};
+use outer_world::{Shelf, Sink, put_text};
 use pisdf_model::Graphs;
-use quiescent_driver::{Stop, put_text, top_of};
+use quiescent_driver::{Stop, top_of};
 use std::alloc::Global;
 
 /// Puts what is told of a job, in one put.

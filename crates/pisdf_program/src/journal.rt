@@ -4,7 +4,7 @@ ghost use Rattle.std.specs.Arc.{arc_value};
 ghost use Rattle.kernel_gate.specs.Table.{the_signatures};
 ghost use Rattle.param_resolver.specs.EarlyCheck.{early_faults};
 ghost use Rattle.pisdf_meaning.specs.Run.{top_needs};
-ghost use Rattle.pisdf_program.specs.Boards.{key_at};
+ghost use Rattle.quiescent_driver.specs.Journals.{key_at};
 ghost use Rattle.pisdf_program.specs.Journals.{ClosesWith, EndsBoards, HasNoBoard, StepsBoard};
 ghost use Rattle.pisdf_program.specs.Loaded.{AreGood};
 ghost use Rattle.pisdf_program.specs.Result.{AreTold, FromFiles, Journals};
@@ -20,11 +20,11 @@ use crate::program::report;
 use crate::status::Status;
 use board_journal::Journal;
 use job_compiler::{Kept, kept};
-use kernel_gate::{Gate, lengths_given};
-use outer_world::{Shelf, Sink};
+use kernel_gate::Gate;
+use outer_world::{Shelf, Sink, put_text};
 use pisdf_meaning::{Delays, Refusal, first_delays, top_needs};
 use pisdf_model::Graphs;
-use quiescent_driver::{IterationFault, RunEnd, Stop, Streams, put_text, run_iteration};
+use quiescent_driver::{IterationFault, RunEnd, Stop, Streams, run_iteration};
 use sdf_level::List;
 use std::alloc::Global;
 use std::sync::{Arc, Wait};
@@ -58,11 +58,10 @@ fn next_board<K: Gate + Sync, R: Threads + Wait + Sync>(
     requires some { 0 < workers }
     requires most { workers ≤ 16 }
     ensures closes { IfOk result (λ c. ClosesWith (arc_value graphs.now) delays.old.lists delays.new.lists (rest_of number (top_needs (arc_value graphs.now)) streams.now.tokens.now) c.refusal) }
-    ensures whole { IfOk result (λ c. IsWhole (key_at (arc_value graphs.now) streams.now.tokens.now workers number delays.old.lists) c.journal.entries) }
+    ensures whole { IfOk result (λ c. IsWhole (key_at (arc_value graphs.now) the_signatures streams.now.tokens.now workers number delays.old.lists) c.journal.entries) }
     ensures none { IfErr result (HasNoBoard (arc_value graphs.now) (rest_of number (top_needs (arc_value graphs.now)) streams.now.tokens.now)) }
     ensures state { IsTopState (arc_value graphs.now) delays.new.lists }
 {
-    lengths_given();
     match streams.first_lack(number) {
         Some(lack) => return Err(Stop::from(lack)),
         None => {}

@@ -2,7 +2,7 @@
 ghost use Rattle.std.specs.Prelude.{◌≡◌, ◌++◌, IfOk, OnOk, string_bytes};
 ghost use Rattle.board_journal.specs.View.{entry_told};
 ghost use Rattle.board_rules.specs.declared.entry.Entry.TheVariants as entry;
-ghost use Rattle.pisdf_program.specs.Boards.{entry_line, journal_text};
+ghost use Rattle.quiescent_driver.specs.Journals.{entry_line, journal_text};
 
 use board_journal::{EntryAt, Journal};
 use board_rules::Item;

@@ -1,14 +1,15 @@
 // The top call.
-ghost use Rattle.std.specs.Prelude.{ℕ, ◌≡◌, ◌≢◌, ◌⊎◌, ◌↔◌, ◌<◌, ◌≤◌, ◌==◌, true, map, IfErr, IfSome, IsTrue, length, string_bytes};
+ghost use Rattle.std.specs.Prelude.{ℕ, ◌≡◌, ◌≢◌, ◌⊎◌, ◌↔◌, ◌<◌, ◌≤◌, ◌==◌, true, map, IfErr, IsTrue, length, string_bytes};
 ghost use Rattle.std.specs.Arc.{arc_value};
+ghost use Rattle.kernel_gate.specs.Signed.{unnamed};
 ghost use Rattle.kernel_gate.specs.Table.{the_signatures};
+ghost use Rattle.pisdf_meaning.specs.Sound.{AreValidFor};
 ghost use Rattle.quiescent_driver.specs.Runs.{EndsRun};
 ghost use Rattle.quiescent_driver.specs.Top.{top_of};
 ghost use Rattle.pisdf_program.specs.SoakEnd.{IsSoakStatus};
 ghost use Rattle.pisdf_program.specs.Loaded.{AreGood, is_answer};
 ghost use Rattle.pisdf_program.specs.Result.{AreTold, Knows, Outcome, ResultOf, RunsFile};
 ghost use Rattle.pisdf_program.specs.Words as table;
-ghost use Rattle.pisdf_program.specs.WordsSeen.{AreSome};
 ghost use Rattle.pisdf_program.specs.Worked.{Completes, Concludes, CountRose, Ended, FilesRose, IsThere, PutsLine, Reports, TellsUnlessCut, Works};
 
 use crate::job_command::tell_job;
@@ -20,10 +21,10 @@ use crate::status::Status;
 use crate::stop::short_status;
 use crate::upgrade::upgrade;
 use crate::words::{Command, read_words};
-use kernel_gate::{Gate, lengths_given};
-use outer_world::{Shelf, Sink};
+use kernel_gate::Gate;
+use outer_world::{Shelf, Sink, put_text};
 use pisdf_model::Graphs;
-use quiescent_driver::{RunEnd, plain_run, put_text, run_all, top_of};
+use quiescent_driver::{RunEnd, plain_run, run_all, top_of};
 use sdf_level::List;
 use std::alloc::Global;
 use std::sync::{Arc, Wait};
@@ -49,45 +50,38 @@ pub(crate) fn report(alloc: Global, graphs: &Graphs, end: RunEnd) -> Result<Stri
     }
 }
 
-/// Runs graphs on their streams, by so many workers, or where none are given by one thread over queues.
-fn run_graphs<O: Sink, K: Gate + Sync, R: Threads + Wait + Sync>(
-    rt: &R,
-    alloc: Global,
+/// Runs graphs on their streams by `run`.
+fn end_of<O: Sink, F: Fn(&Arc<Graphs>, &[List<i64>], &mut O) -> RunEnd>(
+    run: &F,
     graphs: &Arc<Graphs>,
     streams: &[List<i64>],
     iterations: u32,
-    workers: Option<u32>,
-    gate: &K,
     out: &mut O,
 ) -> RunEnd
+    requires may { (graphs : _) (streams : _) (out : _) → AreGood (arc_value graphs.now) → length streams.now ≡ length (top_of (arc_value graphs.now)).inputs → F.pre run.now graphs streams out }
+    requires runs { (graphs : _) (streams : _) (out : _) (end : _) (left : _) → AreGood (arc_value graphs.now) → length streams.now ≡ length (top_of (arc_value graphs.now)).inputs → F.post run.now graphs streams out end left → EndsRun (arc_value graphs.now) streams.now iterations (O.written out.now) (O.written left.now) (O.faults out.now) (O.faults left.now) end }
     requires good { AreGood (arc_value graphs.now) }
-    requires kernels { K.kernels gate.now ≡ the_signatures }
     requires fit { length streams.now ≡ length (top_of (arc_value graphs.now)).inputs }
-    requires some { IfSome workers AreSome }
     ensures { EndsRun (arc_value graphs.now) streams.now iterations (O.written out.old) (O.written out.new) (O.faults out.old) (O.faults out.new) result }
 {
-    lengths_given();
-    match workers {
-        Some(workers) => run_all(rt, alloc, graphs, streams, iterations, workers, gate, out),
-        None => plain_run(rt, alloc, graphs, streams, iterations, gate, out),
-    }
+    run(graphs, streams, out)
 }
 
-/// Runs a graph file on a token file, by so many workers, or where none are given by one thread over queues. The answer is the
-/// lines for standard error after a run that is done, or another status; nothing was put to standard error yet.
-fn run<S: Shelf, O: Sink, K: Gate + Sync, R: Threads + Wait + Sync>(
-    rt: &R,
+/// Runs a graph file on a token file by `run`. The answer is the lines for standard error after a run that is done, or another
+/// status; nothing was put to standard error yet.
+fn run_files<S: Shelf, O: Sink, K: Gate, F: Fn(&Arc<Graphs>, &[List<i64>], &mut O) -> RunEnd>(
     alloc: Global,
     graph: &str,
     tokens: &str,
     iterations: u32,
-    workers: Option<u32>,
+    run: &F,
     shelf: &mut S,
     out: &mut O,
     gate: &K,
 ) -> Result<String, Status>
     requires kernels { K.kernels gate.now ≡ the_signatures }
-    requires some { IfSome workers AreSome }
+    requires may { (graphs : _) (streams : _) (out : _) → AreGood (arc_value graphs.now) → length streams.now ≡ length (top_of (arc_value graphs.now)).inputs → F.pre run.now graphs streams out }
+    requires runs { (graphs : _) (streams : _) (out : _) (end : _) (left : _) → AreGood (arc_value graphs.now) → length streams.now ≡ length (top_of (arc_value graphs.now)).inputs → F.post run.now graphs streams out end left → EndsRun (arc_value graphs.now) streams.now iterations (O.written out.now) (O.written left.now) (O.faults out.now) (O.faults left.now) end }
     ensures works { Works (RunsFile (S.holds shelf.old graph.now) iterations (S.holds shelf.old tokens.now)) (O.written out.old) (O.written out.new) (O.faults out.old) (O.faults out.new) result }
     ensures there { IsThere (AreTold (S.holds shelf.old graph.now) (S.holds shelf.old tokens.now)) (RunsFile (S.holds shelf.old graph.now) iterations (S.holds shelf.old tokens.now)) result }
     ensures read { IfErr result (FilesRose graph.now tokens.now (S.faults shelf.old) (S.faults shelf.new)) }
@@ -100,9 +94,62 @@ fn run<S: Shelf, O: Sink, K: Gate + Sync, R: Threads + Wait + Sync>(
     let Ok(graphs) = Arc::new(alloc, input.graphs) else {
         return Err(Status::WantOfMemory);
     };
-    let streams = input.streams.items();
-    let end = run_graphs(rt, alloc, &graphs, streams, iterations, workers, gate, out);
+    let end = end_of(run, &graphs, input.streams.items(), iterations, out);
     report(alloc, &graphs, end)
+}
+
+/// Runs a graph file on a token file by so many workers.
+fn run<S: Shelf, O: Sink, K: Gate + Sync, R: Threads + Wait + Sync>(
+    rt: &R,
+    alloc: Global,
+    graph: &str,
+    tokens: &str,
+    iterations: u32,
+    workers: u32,
+    shelf: &mut S,
+    out: &mut O,
+    gate: &K,
+) -> Result<String, Status>
+    requires kernels { K.kernels gate.now ≡ the_signatures }
+    requires some { 0 < workers }
+    requires few { workers ≤ 16 }
+    ensures works { Works (RunsFile (S.holds shelf.old graph.now) iterations (S.holds shelf.old tokens.now)) (O.written out.old) (O.written out.new) (O.faults out.old) (O.faults out.new) result }
+    ensures there { IsThere (AreTold (S.holds shelf.old graph.now) (S.holds shelf.old tokens.now)) (RunsFile (S.holds shelf.old graph.now) iterations (S.holds shelf.old tokens.now)) result }
+    ensures read { IfErr result (FilesRose graph.now tokens.now (S.faults shelf.old) (S.faults shelf.new)) }
+    ensures usage { result ≢ Err Status.Usage }
+{
+    let run = |graphs: &Arc<Graphs>, streams: &[List<i64>], out: &mut O| -> RunEnd
+        requires valid { AreValidFor (unnamed (K.kernels gate.now)) (arc_value graphs.now) }
+        requires fit { length streams.now ≡ length (top_of (arc_value graphs.now)).inputs }
+        requires some { 0 < workers }
+        requires few { workers ≤ 16 }
+        ensures { EndsRun (arc_value graphs.entry.now) streams.entry.now iterations (O.written out.entry.now) (O.written out.exit.now) (O.faults out.entry.now) (O.faults out.exit.now) result }
+    { run_all(rt, alloc, graphs, streams, iterations, workers, gate, out) };
+    run_files(alloc, graph, tokens, iterations, &run, shelf, out, gate)
+}
+
+/// Runs a graph file on a token file by one thread over queues. It waits for nobody.
+fn plain<S: Shelf, O: Sink, K: Gate>(
+    alloc: Global,
+    graph: &str,
+    tokens: &str,
+    iterations: u32,
+    shelf: &mut S,
+    out: &mut O,
+    gate: &K,
+) -> Result<String, Status>
+    requires kernels { K.kernels gate.now ≡ the_signatures }
+    ensures works { Works (RunsFile (S.holds shelf.old graph.now) iterations (S.holds shelf.old tokens.now)) (O.written out.old) (O.written out.new) (O.faults out.old) (O.faults out.new) result }
+    ensures there { IsThere (AreTold (S.holds shelf.old graph.now) (S.holds shelf.old tokens.now)) (RunsFile (S.holds shelf.old graph.now) iterations (S.holds shelf.old tokens.now)) result }
+    ensures read { IfErr result (FilesRose graph.now tokens.now (S.faults shelf.old) (S.faults shelf.new)) }
+    ensures usage { result ≢ Err Status.Usage }
+{
+    let run = |graphs: &Arc<Graphs>, streams: &[List<i64>], out: &mut O| -> RunEnd
+        requires valid { AreValidFor (unnamed (K.kernels gate.now)) (arc_value graphs.now) }
+        requires fit { length streams.now ≡ length (top_of (arc_value graphs.now)).inputs }
+        ensures { EndsRun (arc_value graphs.entry.now) streams.entry.now iterations (O.written out.entry.now) (O.written out.exit.now) (O.faults out.entry.now) (O.faults out.exit.now) result }
+    { plain_run(alloc, graphs, streams, iterations, gate, out) };
+    run_files(alloc, graph, tokens, iterations, &run, shelf, out, gate)
 }
 
 /// Does what the words ask for, up to what is put to standard error.
@@ -132,21 +179,13 @@ fn work<S: Shelf, O: Sink, K: Gate + Sync, R: Threads + Wait + Sync>(
             iterations,
             workers,
         } => run(
-            rt,
-            alloc,
-            graph,
-            tokens,
-            iterations,
-            Some(workers),
-            shelf,
-            out,
-            gate,
+            rt, alloc, graph, tokens, iterations, workers, shelf, out, gate,
         ),
         Command::Plain {
             graph,
             tokens,
             iterations,
-        } => run(rt, alloc, graph, tokens, iterations, None, shelf, out, gate),
+        } => plain(alloc, graph, tokens, iterations, shelf, out, gate),
         Command::Job {
             what,
             graph,

@@ -23,11 +23,11 @@ use crate::status::Status;
 use crate::stop::stop_status;
 use graph_writer::write;
 use job_compiler::{Kept, kept};
-use kernel_gate::{Gate, Signature, lengths_given};
-use outer_world::Sink;
+use kernel_gate::{Gate, Signature};
+use outer_world::{Sink, put_text};
 use pisdf_meaning::{Delays, Iteration, first_delays};
 use pisdf_model::Graphs;
-use quiescent_driver::{Stop, put_text, run_iteration};
+use quiescent_driver::{Stop, run_iteration};
 use std::alloc::Global;
 use std::sync::{Arc, Wait};
 use std::thread::Threads;
@@ -79,7 +79,6 @@ fn soak_iteration<K: Gate + Sync, R: Threads + Wait + Sync>(
     ensures enough { IfErr result LacksNothing }
     ensures state { OnOk result (IsTopState (arc_value graphs.now) delays.new.lists) }
 {
-    lengths_given();
     let Ok(ins) = soak_part(alloc, number, iteration) else {
         return Err(Stop::Memory);
     };

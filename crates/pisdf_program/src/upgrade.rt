@@ -11,9 +11,8 @@ use crate::load::load_graphs;
 use crate::status::Status;
 use graph_writer::write;
 use kernel_gate::{Gate, Signature};
-use outer_world::{Shelf, Sink};
+use outer_world::{Shelf, Sink, put_text};
 use pisdf_model::Graphs;
-use quiescent_driver::put_text;
 use std::alloc::{AllocError, Global};
 
 /// The graphs as those of version 2, where their version is 1.

@@ -6,12 +6,10 @@ use Rattle.kernel_gate.specs.Signed.{SignatureView, counts_of, signature_view, u
 use Rattle.kernel_gate.specs.Value.{lengths}
 use Rattle.kernel_gate.specs.declared.signature.Signature.{Signature}
 use Rattle.param_resolver.specs.EarlyCheck.{early_faults}
-use Rattle.pisdf_model.specs.Range.{InRange}
-use Rattle.pisdf_model.specs.WellFormed.{WellFormed}
 use Rattle.pisdf_model.specs.declared.graph.Graphs.{Graphs}
 use Rattle.pisdf_meaning.specs.Run.{top_needs}
 use Rattle.kernel_gate.specs.Laws.{GiveLengths}
-use Rattle.pisdf_meaning.specs.Sound.{KernelsFit}
+use Rattle.pisdf_meaning.specs.Sound.{AreValidFor}
 use Rattle.pisdf_meaning.specs.declared.outcome.Delays.{Delays}
 use Rattle.job_rules.specs.Items.{no_graph}
 use Rattle.board_rules.specs.Keys.{IsKey, Key}
@@ -25,16 +23,14 @@ pub counts_told : (signatures : List Signature) (kernels : List SignatureView) �
 counts_told signatures kernels told = sym (map-map (λ (s : SignatureView). s.counts) signature_view signatures) ∙ ap unnamed told
 
 pub is_key : (graphs : Graphs) (signatures : List Signature) (kernels : List SignatureView) (delays : Delays) (ins : List (List ℤ)) (workers : ℕ) → map signature_view signatures ≡ kernels →
-    InRange graphs → WellFormed graphs → KernelsFit (unnamed kernels) graphs.graphs → GiveLengths (unnamed kernels) → early_faults graphs.graphs graphs.top [] ≡ [] →
+    AreValidFor (unnamed kernels) graphs → GiveLengths (unnamed kernels) → early_faults graphs.graphs graphs.top [] ≡ [] →
     lengths ins ≡ top_needs graphs → IsTopState graphs delays.lists → 0 < workers → workers ≤ 16 → IsKey (key_from graphs signatures delays ins workers)
-is_key graphs signatures kernels delays ins workers told range well fit give sound inputs state some few =
+is_key graphs signatures kernels delays ins workers told valid give sound inputs state some few =
     let counts : unnamed kernels ≡ map counts_of signatures = sym (counts_told signatures kernels told) in
     record {
-      in_range = range;
-      well_formed = well;
-      kernels = subst (λ s. KernelsFit s graphs.graphs) counts fit;
+      valid = subst (λ s. AreValidFor s graphs) counts valid;
       lengths = subst GiveLengths counts give;
-      fit = record { g = _; here = slice_get-get_or graphs.graphs graphs.top no_graph range.top; sound = sound; inputs = inputs; state = state };
+      fit = record { g = _; here = slice_get-get_or graphs.graphs graphs.top no_graph valid.valid.in_range.top; sound = sound; inputs = inputs; state = state };
       some = some;
       few = few;
     }

@@ -9,3 +9,4 @@ pub mod Stops
 pub mod Making
 pub mod Runs
 pub mod Stepped
+pub mod Journals

@@ -4,11 +4,8 @@ ghost use Rattle.std.specs.Arc.{arc_value};
 ghost use Rattle.kernel_gate.specs.Signed.{unnamed};
 ghost use Rattle.kernel_gate.specs.Value.{lengths};
 ghost use Rattle.param_resolver.specs.EarlyCheck.{early_faults};
-ghost use Rattle.pisdf_model.specs.Range.{InRange};
-ghost use Rattle.pisdf_model.specs.WellFormed.{WellFormed};
 ghost use Rattle.pisdf_meaning.specs.Run.{IterationEnds, IterationGives, top_needs};
-ghost use Rattle.kernel_gate.specs.Laws.{GiveLengths};
-ghost use Rattle.pisdf_meaning.specs.Sound.{KernelsFit};
+ghost use Rattle.pisdf_meaning.specs.Sound.{AreValidFor};
 ghost use Rattle.pisdf_meaning.specs.declared.outcome.Iteration.{Iteration as Outcome};
 ghost use Rattle.pisdf_meaning.specs.declared.refusal.Refusal.{Refusal as Cause};
 ghost use Rattle.board_journal.specs.View.{JournalView};
@@ -38,10 +35,7 @@ fn start_board<K: Gate>(
     workers: u32,
     gate: &K,
 ) -> Result<Board, AllocError>
-    requires in_range { InRange (arc_value graphs.now) }
-    requires well_formed { WellFormed (arc_value graphs.now) }
-    requires kernels { KernelsFit (unnamed (K.kernels gate.now)) (arc_value graphs.now).graphs }
-    requires lengths { GiveLengths (unnamed (K.kernels gate.now)) }
+    requires valid { AreValidFor (unnamed (K.kernels gate.now)) (arc_value graphs.now) }
     requires sound { early_faults (arc_value graphs.now).graphs (arc_value graphs.now).top [] ≡ [] }
     requires inputs { lengths ins.now ≡ top_needs (arc_value graphs.now) }
     requires state { IsTopState (arc_value graphs.now) delays.now.lists }
@@ -71,10 +65,7 @@ fn iterate<K: Gate + Sync, R: Threads + Wait + Sync>(
     kept: &mut Option<Kept>,
     gate: &K,
 ) -> Result<(Iteration, Journal), IterationFault>
-    requires in_range { InRange (arc_value graphs.now) }
-    requires well_formed { WellFormed (arc_value graphs.now) }
-    requires kernels { KernelsFit (unnamed (K.kernels gate.now)) (arc_value graphs.now).graphs }
-    requires lengths { GiveLengths (unnamed (K.kernels gate.now)) }
+    requires valid { AreValidFor (unnamed (K.kernels gate.now)) (arc_value graphs.now) }
     requires sound { early_faults (arc_value graphs.now).graphs (arc_value graphs.now).top [] ≡ [] }
     requires inputs { lengths ins.now ≡ top_needs (arc_value graphs.now) }
     requires state { IsTopState (arc_value graphs.now) delays.old.lists }
@@ -122,10 +113,7 @@ pub fn run_iteration<K: Gate + Sync, R: Threads + Wait + Sync>(
     kept: &mut Option<Kept>,
     gate: &K,
 ) -> Result<(Iteration, Journal), IterationFault>
-    requires in_range { InRange (arc_value graphs.now) }
-    requires well_formed { WellFormed (arc_value graphs.now) }
-    requires kernels { KernelsFit (unnamed (K.kernels gate.now)) (arc_value graphs.now).graphs }
-    requires lengths { GiveLengths (unnamed (K.kernels gate.now)) }
+    requires valid { AreValidFor (unnamed (K.kernels gate.now)) (arc_value graphs.now) }
     requires sound { early_faults (arc_value graphs.now).graphs (arc_value graphs.now).top [] ≡ [] }
     requires inputs { lengths ins.now ≡ top_needs (arc_value graphs.now) }
     requires state { IsTopState (arc_value graphs.now) delays.old.lists }
@@ -148,5 +136,6 @@ pub fn run_iteration<K: Gate + Sync, R: Threads + Wait + Sync>(
     one_meaning();
     sizes_kept();
     runnable();
+    let _signatures = gate.signatures();
     iterate(rt, alloc, graphs, delays, ins, workers, kept, gate)
 }

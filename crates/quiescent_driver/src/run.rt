@@ -1,30 +1,27 @@
-// A run over its iterations.
+// A run over its iterations, each of which a closure makes.
 ghost use Rattle.std.specs.Prelude.{◌≡◌, ◌<◌, ◌≤◌, [], length, map, IfErr, IfOk, OnOk};
 ghost use Rattle.std.specs.Arc.{arc_value};
 ghost use Rattle.kernel_gate.specs.Signed.{unnamed};
 ghost use Rattle.param_resolver.specs.EarlyCheck.{early_faults};
-ghost use Rattle.pisdf_model.specs.Range.{InRange};
-ghost use Rattle.pisdf_model.specs.WellFormed.{WellFormed};
+ghost use Rattle.pisdf_model.specs.Valid.{AreValid};
 ghost use Rattle.pisdf_meaning.specs.Run.{IsRun, Run, top_needs};
-ghost use Rattle.kernel_gate.specs.Laws.{GiveLengths};
-ghost use Rattle.pisdf_meaning.specs.Sound.{KernelsFit};
+ghost use Rattle.pisdf_meaning.specs.Sound.{AreValidFor};
 ghost use Rattle.quiescent_driver.specs.Given.{IsTopState};
 ghost use Rattle.quiescent_driver.specs.Iterated.{Gives};
-ghost use Rattle.quiescent_driver.specs.Making.{IsReady};
+ghost use Rattle.quiescent_driver.specs.Making.{IsMade, Makes, MayBegin, MayMake};
 ghost use Rattle.quiescent_driver.specs.Runs.{EndsLike, EndsRun};
 ghost use Rattle.quiescent_driver.specs.Stepped.{Steps, StopsAt};
 ghost use Rattle.quiescent_driver.specs.Streams.{rest_of};
 ghost use Rattle.quiescent_driver.specs.Top.{top_of};
 
 use crate::end::RunEnd;
-use crate::maker::Maker;
-use crate::put::put_text;
+use crate::maker::{Made, make_by_queues, make_by_workers};
 use crate::stop::Stop;
 use crate::streams::Streams;
 use crate::texts::iteration_text;
-use job_compiler::kept;
+use job_compiler::{Kept, kept};
 use kernel_gate::Gate;
-use outer_world::Sink;
+use outer_world::{Sink, put_text};
 use pisdf_meaning::{Delays, Iteration, first_delays, one_meaning, top_needs};
 use pisdf_model::{Graph, Graphs};
 use sdf_level::List;
@@ -40,30 +37,42 @@ pub fn top_of(graphs: &Graphs) -> &Graph
     &graphs.graphs.items()[graphs.top as usize]
 }
 
+/// Makes an iteration by `make`.
+fn made<S, F: Fn(&mut S, &mut Delays, &[List<i64>]) -> Made>(
+    graphs: &Arc<Graphs>,
+    make: &F,
+    kept: &mut S,
+    delays: &mut Delays,
+    ins: &[List<i64>],
+) -> Result<Iteration, Stop>
+    requires may { MayMake (arc_value graphs.now) (F.pre make.now) }
+    requires makes { Makes (arc_value graphs.now) (F.post make.now) }
+    requires begins { MayBegin (arc_value graphs.now) delays.old.lists ins.now }
+    ensures { IsMade (arc_value graphs.now) delays.old.lists ins.now delays.new.lists result }
+{
+    make(kept, delays, ins)
+}
+
 /// Makes one iteration, which leaves its state for the next, or answers why it isn't done.
-fn next_iteration<K: Gate + Sync, R: Threads + Wait + Sync>(
-    rt: &R,
+fn next_iteration<S, F: Fn(&mut S, &mut Delays, &[List<i64>]) -> Made>(
     alloc: Global,
     graphs: &Arc<Graphs>,
     streams: &Streams<'_>,
     number: u32,
-    maker: &mut Maker,
+    make: &F,
+    kept: &mut S,
     delays: &mut Delays,
-    gate: &K,
 ) -> Result<Iteration, Stop>
-    requires in_range { InRange (arc_value graphs.now) }
-    requires well_formed { WellFormed (arc_value graphs.now) }
-    requires kernels { KernelsFit (unnamed (K.kernels gate.now)) (arc_value graphs.now).graphs }
-    requires lengths { GiveLengths (unnamed (K.kernels gate.now)) }
+    requires there { (arc_value graphs.now).top < length (arc_value graphs.now).graphs }
+    requires may { MayMake (arc_value graphs.now) (F.pre make.now) }
+    requires makes { Makes (arc_value graphs.now) (F.post make.now) }
     requires needs { streams.now.needs.now ≡ top_needs (arc_value graphs.now) }
     requires fit { length streams.now.needs.now ≡ length streams.now.tokens.now }
     requires sound { early_faults (arc_value graphs.now).graphs (arc_value graphs.now).top [] ≡ [] }
     requires state { IsTopState (arc_value graphs.now) delays.old.lists }
-    requires ready { IsReady maker.old }
     ensures gives { IfOk result (λ i. Gives (arc_value graphs.now) delays.old.lists (rest_of number (top_needs (arc_value graphs.now)) streams.now.tokens.now) i delays.new.lists) }
     ensures stops { IfErr result (StopsAt (arc_value graphs.now) delays.old.lists (rest_of number (top_needs (arc_value graphs.now)) streams.now.tokens.now)) }
     ensures state { OnOk result (IsTopState (arc_value graphs.now) delays.new.lists) }
-    ensures ready { IsReady maker.new }
 {
     match streams.first_lack(number) {
         Some(lack) => return Err(Stop::from(lack)),
@@ -72,36 +81,32 @@ fn next_iteration<K: Gate + Sync, R: Threads + Wait + Sync>(
     let Ok(ins) = streams.taken(alloc, number) else {
         return Err(Stop::Memory);
     };
-    maker.iteration(rt, alloc, graphs, delays, ins.as_slice(), gate)
+    made(graphs, make, kept, delays, ins.as_slice())
 }
 
 /// Makes and puts one iteration, which leaves its state for the next, or answers how the run ends with it.
-fn step<O: Sink, K: Gate + Sync, R: Threads + Wait + Sync>(
-    rt: &R,
+fn step<O: Sink, S, F: Fn(&mut S, &mut Delays, &[List<i64>]) -> Made>(
     alloc: Global,
     graphs: &Arc<Graphs>,
     streams: &Streams<'_>,
     number: u32,
-    maker: &mut Maker,
+    make: &F,
+    kept: &mut S,
     delays: &mut Delays,
-    gate: &K,
     out: &mut O,
 ) -> Result<(), RunEnd>
-    requires in_range { InRange (arc_value graphs.now) }
-    requires well_formed { WellFormed (arc_value graphs.now) }
-    requires kernels { KernelsFit (unnamed (K.kernels gate.now)) (arc_value graphs.now).graphs }
-    requires lengths { GiveLengths (unnamed (K.kernels gate.now)) }
+    requires there { (arc_value graphs.now).top < length (arc_value graphs.now).graphs }
+    requires may { MayMake (arc_value graphs.now) (F.pre make.now) }
+    requires makes { Makes (arc_value graphs.now) (F.post make.now) }
     requires needs { streams.now.needs.now ≡ top_needs (arc_value graphs.now) }
     requires fit { length streams.now.needs.now ≡ length streams.now.tokens.now }
     requires sound { early_faults (arc_value graphs.now).graphs (arc_value graphs.now).top [] ≡ [] }
     requires state { IsTopState (arc_value graphs.now) delays.old.lists }
-    requires ready { IsReady maker.old }
     ensures steps { Steps (arc_value graphs.now) number delays.old.lists delays.new.lists (rest_of number (top_needs (arc_value graphs.now)) streams.now.tokens.now) (O.written out.old) (O.written out.new) (O.faults out.old) (O.faults out.new) result }
     ensures never_falls { O.faults out.old ≤ O.faults out.new }
     ensures state { OnOk result (IsTopState (arc_value graphs.now) delays.new.lists) }
-    ensures ready { IsReady maker.new }
 {
-    let iteration = match next_iteration(rt, alloc, graphs, streams, number, maker, delays, gate) {
+    let iteration = match next_iteration(alloc, graphs, streams, number, make, kept, delays) {
         Ok(iteration) => iteration,
         Err(stop) => return Err(RunEnd::from(stop)),
     };
@@ -116,24 +121,21 @@ fn step<O: Sink, K: Gate + Sync, R: Threads + Wait + Sync>(
 }
 
 /// Runs so many iterations, at least one, on streams from which each takes what the top graph needs.
-fn run_some<O: Sink, K: Gate + Sync, R: Threads + Wait + Sync>(
-    rt: &R,
+fn run_some<O: Sink, S, F: Fn(&mut S, &mut Delays, &[List<i64>]) -> Made>(
     alloc: Global,
     graphs: &Arc<Graphs>,
     streams: &Streams<'_>,
     iterations: u32,
-    maker: &mut Maker,
-    gate: &K,
+    make: &F,
+    kept: &mut S,
     out: &mut O,
 ) -> RunEnd
-    requires in_range { InRange (arc_value graphs.now) }
-    requires well_formed { WellFormed (arc_value graphs.now) }
-    requires kernels { KernelsFit (unnamed (K.kernels gate.now)) (arc_value graphs.now).graphs }
-    requires lengths { GiveLengths (unnamed (K.kernels gate.now)) }
+    requires there { (arc_value graphs.now).top < length (arc_value graphs.now).graphs }
+    requires may { MayMake (arc_value graphs.now) (F.pre make.now) }
+    requires makes { Makes (arc_value graphs.now) (F.post make.now) }
     requires needs { streams.now.needs.now ≡ top_needs (arc_value graphs.now) }
     requires fit { length streams.now.needs.now ≡ length streams.now.tokens.now }
     requires sound { early_faults (arc_value graphs.now).graphs (arc_value graphs.now).top [] ≡ [] }
-    requires ready { IsReady maker.old }
     ensures ends { EndsRun (arc_value graphs.now) streams.now.tokens.now iterations (O.written out.old) (O.written out.new) (O.faults out.old) (O.faults out.new) result }
     ensures never_falls { O.faults out.old ≤ O.faults out.new }
 {
@@ -141,17 +143,7 @@ fn run_some<O: Sink, K: Gate + Sync, R: Threads + Wait + Sync>(
         return RunEnd::Memory;
     };
     for number in 0..iterations {
-        match step(
-            rt,
-            alloc,
-            graphs,
-            streams,
-            number,
-            maker,
-            &mut delays,
-            gate,
-            out,
-        ) {
+        match step(alloc, graphs, streams, number, make, kept, &mut delays, out) {
             Ok(()) => {}
             Err(end) => return end,
         }
@@ -173,23 +165,20 @@ fn lengths(alloc: Global, streams: &[List<i64>]) -> Result<List<u64>, AllocError
     Ok(List::new(counts))
 }
 
-/// Runs so many iterations, each made by `maker`.
-fn run_by<O: Sink, K: Gate + Sync, R: Threads + Wait + Sync>(
-    rt: &R,
+/// Runs so many iterations, each made by `make`, which is given what it keeps from one to the next.
+fn run_by<O: Sink, S, F: Fn(&mut S, &mut Delays, &[List<i64>]) -> Made>(
     alloc: Global,
     graphs: &Arc<Graphs>,
     streams: &[List<i64>],
     iterations: u32,
-    maker: &mut Maker,
-    gate: &K,
+    make: &F,
+    kept: &mut S,
     out: &mut O,
 ) -> RunEnd
-    requires in_range { InRange (arc_value graphs.now) }
-    requires well_formed { WellFormed (arc_value graphs.now) }
-    requires kernels { KernelsFit (unnamed (K.kernels gate.now)) (arc_value graphs.now).graphs }
-    requires lengths { GiveLengths (unnamed (K.kernels gate.now)) }
+    requires valid { AreValid (arc_value graphs.now) }
+    requires may { MayMake (arc_value graphs.now) (F.pre make.now) }
+    requires makes { Makes (arc_value graphs.now) (F.post make.now) }
     requires fit { length streams.now ≡ length (top_of (arc_value graphs.now)).inputs }
-    requires ready { IsReady maker.old }
     ensures ends { EndsRun (arc_value graphs.now) streams.now iterations (O.written out.old) (O.written out.new) (O.faults out.old) (O.faults out.new) result }
     ensures never_falls { O.faults out.old ≤ O.faults out.new }
 {
@@ -210,7 +199,7 @@ fn run_by<O: Sink, K: Gate + Sync, R: Threads + Wait + Sync>(
         needs: needs.items(),
         tokens: streams,
     };
-    run_some(rt, alloc, graphs, &feed, iterations, maker, gate, out)
+    run_some(alloc, graphs, &feed, iterations, make, kept, out)
 }
 
 /// Runs so many iterations, each by 1 to 16 workers in threads, with a stream of tokens for each input of the top graph, whose
@@ -228,10 +217,7 @@ pub fn run_all<O: Sink, K: Gate + Sync, R: Threads + Wait + Sync>(
     gate: &K,
     out: &mut O,
 ) -> RunEnd
-    requires in_range { InRange (arc_value graphs.now) }
-    requires well_formed { WellFormed (arc_value graphs.now) }
-    requires kernels { KernelsFit (unnamed (K.kernels gate.now)) (arc_value graphs.now).graphs }
-    requires lengths { GiveLengths (unnamed (K.kernels gate.now)) }
+    requires valid { AreValidFor (unnamed (K.kernels gate.now)) (arc_value graphs.now) }
     requires fit { length streams.now ≡ length (top_of (arc_value graphs.now)).inputs }
     requires some { 0 < workers }
     requires few { workers ≤ 16 }
@@ -245,18 +231,19 @@ pub fn run_all<O: Sink, K: Gate + Sync, R: Threads + Wait + Sync>(
     let Ok(kept) = kept(alloc) else {
         return RunEnd::Memory;
     };
-    let mut maker = Maker::Workers {
-        count: workers,
-        kept: Some(kept),
-    };
-    run_by(
-        rt, alloc, graphs, streams, iterations, &mut maker, gate, out,
-    )
+    let mut kept = Some(kept);
+    let make = |kept: &mut Option<Kept>, delays: &mut Delays, ins: &[List<i64>]| -> Made
+        requires valid { AreValidFor (unnamed (K.kernels gate.now)) (arc_value graphs.now) }
+        requires some { 0 < workers }
+        requires few { workers ≤ 16 }
+        requires begins { MayBegin (arc_value graphs.now) delays.now.lists ins.now }
+        ensures { IsMade (arc_value graphs.entry.now) delays.entry.now.lists ins.entry.now delays.exit.now.lists result }
+    { make_by_workers(rt, alloc, graphs, delays, ins, workers, kept, gate) };
+    run_by(alloc, graphs, streams, iterations, &make, &mut kept, out)
 }
 
-/// As `run_all`, by one thread that fires over queues in place of workers.
-pub fn plain_run<O: Sink, K: Gate + Sync, R: Threads + Wait + Sync>(
-    rt: &R,
+/// As `run_all`, by one thread that fires over queues in place of workers. It waits for nobody.
+pub fn plain_run<O: Sink, K: Gate>(
     alloc: Global,
     graphs: &Arc<Graphs>,
     streams: &[List<i64>],
@@ -264,24 +251,17 @@ pub fn plain_run<O: Sink, K: Gate + Sync, R: Threads + Wait + Sync>(
     gate: &K,
     out: &mut O,
 ) -> RunEnd
-    requires in_range { InRange (arc_value graphs.now) }
-    requires well_formed { WellFormed (arc_value graphs.now) }
-    requires kernels { KernelsFit (unnamed (K.kernels gate.now)) (arc_value graphs.now).graphs }
-    requires lengths { GiveLengths (unnamed (K.kernels gate.now)) }
+    requires valid { AreValidFor (unnamed (K.kernels gate.now)) (arc_value graphs.now) }
     requires fit { length streams.now ≡ length (top_of (arc_value graphs.now)).inputs }
     ensures ends { EndsRun (arc_value graphs.now) streams.now iterations (O.written out.old) (O.written out.new) (O.faults out.old) (O.faults out.new) result }
     ensures only { (r : Run) → IsRun (arc_value graphs.now) streams.now iterations r → EndsLike (arc_value graphs.now) r (O.written out.old) (O.written out.new) (O.faults out.old) (O.faults out.new) result }
     ensures never_falls { O.faults out.old ≤ O.faults out.new }
 {
     one_meaning();
-    run_by(
-        rt,
-        alloc,
-        graphs,
-        streams,
-        iterations,
-        &mut Maker::Queues,
-        gate,
-        out,
-    )
+    let make = |_kept: &mut (), delays: &mut Delays, ins: &[List<i64>]| -> Made
+        requires valid { AreValidFor (unnamed (K.kernels gate.now)) (arc_value graphs.now) }
+        requires begins { MayBegin (arc_value graphs.now) delays.now.lists ins.now }
+        ensures { IsMade (arc_value graphs.entry.now) delays.entry.now.lists ins.entry.now delays.exit.now.lists result }
+    { make_by_queues(alloc, graphs, delays, ins, gate) };
+    run_by(alloc, graphs, streams, iterations, &make, &mut (), out)
 }

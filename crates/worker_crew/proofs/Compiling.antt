@@ -135,7 +135,7 @@ module _ (graphs : List Graph) (g : Graph) (job : Firing) (v : Values Answer) (t
 module _ (key : Key) (is : IsKey key) (lawful : Lawful (rules key) (rank key.graphs.graphs)) (meant : Meant (rules key) (meanings key.graphs.graphs)) where
   shallow_top : rank key.graphs.graphs (top_job key) < 8
   shallow_top =
-      let most = nested key.graphs is.in_range is.well_formed key.graphs.top (slice_get_within key.graphs.graphs key.graphs.top is.fit.g is.fit.here) in
+      let most = nested key.graphs is.valid.valid.in_range is.valid.valid.well_formed key.graphs.top (slice_get_within key.graphs.graphs key.graphs.top is.fit.g is.fit.here) in
       omega arith
 
   -- the open jobs are given what their graphs take
@@ -173,4 +173,4 @@ module _ (key : Key) (is : IsKey key) (lawful : Lawful (rules key) (rank key.gra
   compiles answered taken w firing left legal runs =
       let at = at_place (state_after key taken).marks runs.place (Work (words.Compiles firing left)) runs.task in
       let fit : IsFit key.graphs.graphs firing = subst (IsFit key.graphs.graphs) (sym at.3) (are_fit taken legal at.0 at.1 at.2) in
-      compiled key.graphs is.in_range is.well_formed answered firing fit.g fit.here fit.sound left
+      compiled key.graphs is.valid.valid.in_range is.valid.valid.well_formed answered firing fit.g fit.here fit.sound left

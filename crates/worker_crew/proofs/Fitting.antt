@@ -185,10 +185,10 @@ module _ (key : Key) (is : IsKey key) (laws : BoardLaws key) (kernels_fit : Task
         let fit = k.fits o.place f o.is_open in
         let sound = k.sound o.place f o.is_open in
         let at = is_node_from key.graphs.graphs g f nd read lens' v (configurations g) o.item o.is_task in
-        let level = level_so laws.jobs key.signatures key.graphs is.in_range is.well_formed laws.fit is.lengths (k.levels o.place) f v fit sound at.p at.prepared_so in
-        let job_is = is_job laws.jobs key.signatures key.graphs is.in_range is.well_formed laws.fit is.lengths (k.levels o.place) f v fit sound at.p at.prepared_so in
-        let ready = rule_so laws.jobs key.signatures key.graphs is.in_range is.well_formed laws.fit is.lengths (k.levels o.place) f v fit sound at.p at.prepared_so at.number (Work (words.Copies nd read lens')) at.node_so in
-        let answers = answered laws.jobs key.signatures key.graphs is.in_range is.well_formed laws.fit is.lengths (k.levels o.place) f v fit sound at.p at.prepared_so in
+        let level = level_so laws.jobs key.signatures key.graphs is.valid.valid.in_range is.valid.valid.well_formed laws.fit is.lengths (k.levels o.place) f v fit sound at.p at.prepared_so in
+        let job_is = is_job laws.jobs key.signatures key.graphs is.valid.valid.in_range is.valid.valid.well_formed laws.fit is.lengths (k.levels o.place) f v fit sound at.p at.prepared_so in
+        let ready = rule_so laws.jobs key.signatures key.graphs is.valid.valid.in_range is.valid.valid.well_formed laws.fit is.lengths (k.levels o.place) f v fit sound at.p at.prepared_so at.number (Work (words.Copies nd read lens')) at.node_so in
+        let answers = answered laws.jobs key.signatures key.graphs is.valid.valid.in_range is.valid.valid.well_formed laws.fit is.lengths (k.levels o.place) f v fit sound at.p at.prepared_so in
         let j : JobGraph ℤ = job_graph key.graphs.graphs g f at.p in
         let so = copies_so key.graphs.graphs g f nd read lens' (values_in g f at.p) (node_at j.nodes at.number) (inputs j (node_values key.graphs.graphs g f at.p v) at.number) (lens j at.number) ready.1 in
         let reads : lengths (inputs j (node_values key.graphs.graphs g f at.p v) at.number) ≡ in_lens j at.number = laws.jobs.lens_are at.p.schedule.counts at.p.schedule.order j _ (node_values key.graphs.graphs g f at.p v) at.number job_is answers ready.0 in
@@ -210,6 +210,6 @@ module _ (key : Key) (is : IsKey key) (laws : BoardLaws key) (kernels_fit : Task
   pub work_fits : (w : ℕ) (work : words.Work) → RunsWork key state_so w work → IsFitWork key.signatures work
   work_fits w (words.Fires spot asked) runs =
       let o = open_job_of key is laws.lawful laws.meant state_so.marks runs.place (Work (words.Fires spot asked)) runs.task in
-      kernels_fit key.signatures key.graphs is.in_range is.well_formed is.kernels o.job (values state_so.marks o.place) o.item spot asked ((known key is laws taken legal).fits o.place o.job o.is_open) o.is_task
+      kernels_fit key.signatures key.graphs is.valid o.job (values state_so.marks o.place) o.item spot asked ((known key is laws taken legal).fits o.place o.job o.is_open) o.is_task
   work_fits w (words.Copies nd read lens') runs = copies_fit nd read lens' (open_job_of key is laws.lawful laws.meant state_so.marks runs.place (Work (words.Copies nd read lens')) runs.task)
   work_fits w (words.Compiles firing left) runs = tt

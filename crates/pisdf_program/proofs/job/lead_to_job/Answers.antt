@@ -21,7 +21,7 @@ returns-in-Some-clause-ends g c =
     let tokens = c.args.streams.now.tokens.now in
     let lack : run.Lack = record { stream = c.in-Some.lack.stream; has = c.in-Some.lack.has; needs = c.in-Some.lack.needs } in
     let lacking : Checks graphs tokens (Ok (Some lack)) = subst (λ s. Checks graphs s (Ok (Some lack))) (rest_first (run.top_needs graphs) tokens)
-    (lacks graphs tokens c.args.streams.now.needs.now 0 lack c.requires.good.in_range.top c.requires.needs c.requires.sound c.in-Some.ensures) in
+    (lacks graphs tokens c.args.streams.now.needs.now 0 lack c.requires.good.valid.valid.in_range.top c.requires.needs c.requires.sound c.in-Some.ensures) in
     inl (subst (λ (s : Stop). EndsJob graphs tokens c.args.workers (Err s)) (sym c.from.ensures) lacking)
 
 pub returns-in-Some-clause-only : goal.returns-in-Some-clause-only
@@ -30,7 +30,7 @@ returns-in-Some-clause-only g c =
     let tokens = c.args.streams.now.tokens.now in
     let lack : run.Lack = record { stream = c.in-Some.lack.stream; has = c.in-Some.lack.has; needs = c.in-Some.lack.needs } in
     let lacking : Checks graphs tokens (Ok (Some lack)) = subst (λ s. Checks graphs s (Ok (Some lack))) (rest_first (run.top_needs graphs) tokens)
-    (lacks graphs tokens c.args.streams.now.needs.now 0 lack c.requires.good.in_range.top c.requires.needs c.requires.sound c.in-Some.ensures) in
+    (lacks graphs tokens c.args.streams.now.needs.now 0 lack c.requires.good.valid.valid.in_range.top c.requires.needs c.requires.sound c.in-Some.ensures) in
     λ end h. inl (ap (λ (s : Stop). let e : JobEnd = Err s in e) c.from.ensures ∙ short_only graphs tokens c.args.workers lack lacking end h)
 
 pub returns-in-Ok-top_level-clause-ends : goal.returns-in-Ok-top_level-clause-ends
@@ -39,7 +39,7 @@ returns-in-Ok-top_level-clause-ends g c =
     let tokens = c.args.streams.now.tokens.now in
     let needs = c.args.streams.now.needs.now in
     let set = c.in-Ok-top_level.set in
-    let top = top_there graphs c.requires.good.in_range.top in
+    let top = top_there graphs c.requires.good.valid.valid.in_range.top in
     let ins : c.as_slice.result.now ≡ first_inputs graphs tokens =
     c.as_slice.ensures.value ∙ c.in-Ok.ensures ∙ ap (λ n. run.taken n (rest_of 0 n tokens)) c.requires.needs ∙ ap (run.taken (run.top_needs graphs)) (rest_first (run.top_needs graphs) tokens) in
     let none : run.first_lack 0 (run.top_needs graphs) tokens ≡ None =
@@ -59,7 +59,7 @@ returns-in-Ok-top_level-clause-only g c =
     let graphs = c.args.graphs.now in
     let tokens = c.args.streams.now.tokens.now in
     let set = c.in-Ok-top_level.set in
-    let top = top_there graphs c.requires.good.in_range.top in
+    let top = top_there graphs c.requires.good.valid.valid.in_range.top in
     let lead = c.top_level.result in
     let ins : c.as_slice.result.now ≡ first_inputs graphs tokens =
     c.as_slice.ensures.value ∙ c.in-Ok.ensures ∙ ap (λ n. run.taken n (rest_of 0 n tokens)) c.requires.needs ∙ ap (run.taken (run.top_needs graphs)) (rest_first (run.top_needs graphs) tokens) in
@@ -76,7 +76,7 @@ pub returns-clause-ends : goal.returns-clause-ends
 returns-clause-ends g c =
     let graphs = c.args.graphs.now in
     let tokens = c.args.streams.now.tokens.now in
-    let top = top_there graphs c.requires.good.in_range.top in
+    let top = top_there graphs c.requires.good.valid.valid.in_range.top in
     let fault = c.in-Err.fault in
     let ins : c.as_slice.result.now ≡ first_inputs graphs tokens =
     c.as_slice.ensures.value ∙ c.in-Ok.ensures ∙ ap (λ n. run.taken n (rest_of 0 n tokens)) c.requires.needs ∙ ap (run.taken (run.top_needs graphs)) (rest_first (run.top_needs graphs) tokens) in
@@ -91,7 +91,7 @@ pub returns-clause-only : goal.returns-clause-only
 returns-clause-only g c =
     let graphs = c.args.graphs.now in
     let tokens = c.args.streams.now.tokens.now in
-    let top = top_there graphs c.requires.good.in_range.top in
+    let top = top_there graphs c.requires.good.valid.valid.in_range.top in
     let fault = c.in-Err.fault in
     let lead = c.top_level.result in
     let ins : c.as_slice.result.now ≡ first_inputs graphs tokens =

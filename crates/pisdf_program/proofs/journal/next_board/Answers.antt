@@ -13,7 +13,7 @@ returns-in-Some-clause-none g c =
     let graphs = arc_value c.args.graphs.now in
     let lack : run.Lack = record { stream = c.in-Some.lack.stream; has = c.in-Some.lack.has; needs = c.in-Some.lack.needs } in
     subst (HasNoBoard graphs (rest_of c.args.number (run.top_needs graphs) c.args.streams.now.tokens.now)) (sym c.from.ensures)
-    (lacks graphs c.args.streams.now.tokens.now c.args.streams.now.needs.now c.args.number lack c.requires.good.in_range.top c.requires.needs c.requires.sound c.in-Some.ensures)
+    (lacks graphs c.args.streams.now.tokens.now c.args.streams.now.needs.now c.args.number lack c.requires.good.valid.valid.in_range.top c.requires.needs c.requires.sound c.in-Some.ensures)
 
 pub run_iteration-requires-clause-inputs : goal.run_iteration-requires-clause-inputs
 run_iteration-requires-clause-inputs g c = λ lives within.

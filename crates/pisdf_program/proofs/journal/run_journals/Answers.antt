@@ -18,11 +18,11 @@ returns-in-Err-clause-ends g c =
     let had = g.O.Sink.written c.args.out.now in
     let faults = g.O.Sink.faults c.args.out.now in
     subst (λ e. EndsBoards graphs c.args.streams.now c.args.workers c.args.iterations had had faults faults (Err e)) (sym (c.from.ensures ∙ ap run_end c.from-stop.ensures))
-    (unchecked_boards graphs c.args.streams.now c.args.workers c.args.iterations had faults faults c.in-Err.fault (omega (arith, c.if-iterations-eq0.false)) c.requires.good.in_range.top (rw c.deref.ensures at c.in-Err.ensures.refused))
+    (unchecked_boards graphs c.args.streams.now c.args.workers c.args.iterations had faults faults c.in-Err.fault (omega (arith, c.if-iterations-eq0.false)) c.requires.good.valid.valid.in_range.top (rw c.deref.ensures at c.in-Err.ensures.refused))
 
 pub run_boards-requires-clause-fit : goal.run_boards-requires-clause-fit
 run_boards-requires-clause-fit g c = λ lives within.
     let graphs = arc_value c.args.graphs.now in
-    let top = top_there graphs c.requires.good.in_range.top in
+    let top = top_there graphs c.requires.good.valid.valid.in_range.top in
     ap length c.items.ensures ∙ (rw c.deref.ensures at c.in-Ok.ensures.fit) top.0 top.1
     ∙ sym (c.requires.fit ∙ ap (λ (t : Graph). length {A = Interface} t.inputs) (top_is graphs top.0 top.1))

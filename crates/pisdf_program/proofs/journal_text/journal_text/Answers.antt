@@ -1,6 +1,6 @@
 use Rattle.std.proofs.Common.{◌≡◌, ◌+◌, ◌++◌, ◌∷◌, append_assoc, ap, drop, string_bytes, sym, ◌∙◌}
 use Rattle.board_journal.specs.View.{entry_told}
-use Rattle.pisdf_program.specs.Boards.{entry_line, journal_text}
+use Rattle.quiescent_driver.specs.Journals.{entry_line, journal_text}
 use Rattle.pisdf_program.proofs.Rows.{item_next}
 use Rattle.pisdf_program.proofs.journal_text.journal_text.Goals as goal
 

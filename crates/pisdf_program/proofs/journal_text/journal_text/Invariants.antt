@@ -1,5 +1,5 @@
 use Rattle.std.proofs.Common.{◌≡◌, ◌++◌, drop, string_bytes}
-use Rattle.pisdf_program.specs.Boards.{journal_text}
+use Rattle.quiescent_driver.specs.Journals.{journal_text}
 use Rattle.pisdf_program.proofs.journal_text.journal_text.Given as goal
 
 -- the lines so far, and those of the entries that are left, are all

@@ -25,8 +25,9 @@ returns-in-Ok-clause-good c =
     let means = c.in-Ok.ensures.means in
     let stated = c.in-Ok.ensures.stated means.0 means.2.0 means.1 means.2.1 in
     record {
-      in_range = c.in-Ok.ensures.in_range;
-      well_formed = c.in-Ok.ensures.well_formed;
+      valid = record {
+        valid = record { in_range = c.in-Ok.ensures.in_range; well_formed = c.in-Ok.ensures.well_formed; named = c.in-Ok.ensures.named };
+        kernels = kernels_fit (map signature_view c.args.signatures.now) means.2.0 graphs stated.0 stated.1 c.requires;
+      };
       writable = c.in-Ok.ensures.writable;
-      kernels = kernels_fit (map signature_view c.args.signatures.now) means.2.0 graphs stated.0 stated.1 c.requires;
     }

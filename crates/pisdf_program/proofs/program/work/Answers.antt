@@ -10,8 +10,8 @@ use Rattle.pisdf_program.proofs.program.work.Goals as goal
 pub returns-in-Plain-clause-works : goal.returns-in-Plain-clause-works
 returns-in-Plain-clause-works g c =
     works_as (Some (words.Plain c.in-Plain.graph.now c.in-Plain.tokens.now c.in-Plain.iterations)) (command_of (map string_bytes c.args.words.now)) (g.S.Shelf.holds c.args.shelf.now)
-    (g.O.Sink.written c.args.out.now) (g.O.Sink.written c.run-in-Plain.new.out) (g.O.Sink.faults c.args.out.now) (g.O.Sink.faults c.run-in-Plain.new.out) c.run-in-Plain.result
-    (ap (λ (x : Here). Some (seen x)) (sym c.in-Plain.is) ∙ c.in-Some.ensures.command) c.run-in-Plain.ensures.works
+    (g.O.Sink.written c.args.out.now) (g.O.Sink.written c.plain.new.out) (g.O.Sink.faults c.args.out.now) (g.O.Sink.faults c.plain.new.out) c.plain.result
+    (ap (λ (x : Here). Some (seen x)) (sym c.in-Plain.is) ∙ c.in-Some.ensures.command) c.plain.ensures.works
 
 pub returns-in-Job-clause-works : goal.returns-in-Job-clause-works
 returns-in-Job-clause-works g c =

@@ -1,9 +1,7 @@
-use Rattle.std.proofs.Common.{List, ◌∷◌, [], Err, ap, sym, subst, ◌∙◌}
+use Rattle.std.proofs.Common.{◌∷◌, [], Err, ap, sym, subst, ◌∙◌}
 use Rattle.std.specs.Arc.{arc_value}
-use Rattle.kernel_gate.specs.Signed.{SignatureView, unnamed}
 use Rattle.kernel_gate.specs.Value.{lengths}
 use Rattle.pisdf_meaning.specs.Run.{top_needs}
-use Rattle.kernel_gate.specs.Laws.{GiveLengths}
 use Rattle.quiescent_driver.specs.Stepped.{StopsAt}
 use Rattle.quiescent_driver.specs.Stops.{workers_stop}
 use Rattle.quiescent_driver.specs.Streams.{rest_of}
@@ -37,6 +35,3 @@ returns-clause-enough g c =
 pub run_iteration-requires-clause-inputs : goal.run_iteration-requires-clause-inputs
 run_iteration-requires-clause-inputs g c = λ lives within.
     ap lengths (c.as_slice.ensures.value ∙ c.in-Ok.ensures) ∙ part_lengths c.args.number c.args.iteration ∙ sym c.requires.needs
-
-pub run_iteration-requires-clause-lengths : goal.run_iteration-requires-clause-lengths
-run_iteration-requires-clause-lengths g c = λ lives within. subst (λ (kernels : List SignatureView). GiveLengths (unnamed kernels)) (sym c.requires.kernels) c.lengths_given.ensures

@@ -13,6 +13,8 @@ returns-clause-only_refused g c = only_refused (arc_value c.args.graphs.now) c.a
 pub returns-clause-state : goal.returns-clause-state
 returns-clause-state g c =
     let graphs = arc_value c.args.graphs.now in
-    let fit = (c.runnable.ensures (unnamed (g.K.Gate.kernels c.args.gate.now)) graphs c.requires.in_range c.requires.well_formed c.requires.kernels).fit in
-    let keeps = c.sizes_kept.ensures (unnamed (g.K.Gate.kernels c.args.gate.now)) graphs c.requires.in_range c.requires.well_formed fit c.requires.lengths in
+    let kernels = unnamed (g.K.Gate.kernels c.args.gate.now) in
+    let valid = c.requires.valid in
+    let fit = (c.runnable.ensures kernels graphs valid).fit in
+    let keeps = c.sizes_kept.ensures kernels graphs valid.valid fit c.signatures-signatures.ensures.lengths in
     state_left graphs c.args.ins.now c.args.delays.now.lists keeps c.requires.sound c.requires.state c.iterate.result c.args.delays.now c.iterate.new.delays refl c.iterate.ensures.gives c.iterate.ensures.unchanged

@@ -13,7 +13,7 @@ start-requires g c =
     let P : Graphs → Type 0 = λ x. IsKey (key_from x c.signatures.result.now c.args.delays.now c.args.ins.now c.args.workers) in
     let r = c.requires in
     subst P (sym c.in_ok-clone.ensures.cases)
-    (is_key graphs c.signatures.result.now (g.K.Gate.kernels c.args.gate.now) c.args.delays.now c.args.ins.now c.args.workers c.signatures.ensures.kernels r.in_range r.well_formed r.kernels r.lengths r.sound r.inputs r.state r.some r.few)
+    (is_key graphs c.signatures.result.now (g.K.Gate.kernels c.args.gate.now) c.args.delays.now c.args.ins.now c.args.workers c.signatures.ensures.kernels r.valid c.signatures.ensures.lengths r.sound r.inputs r.state r.some r.few)
 
 pub returns-clause-key : goal.returns-clause-key
 returns-clause-key g c =

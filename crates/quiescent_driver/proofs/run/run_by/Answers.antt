@@ -19,10 +19,10 @@ returns-in-Err-top_needs-clause-ends g c =
     let had = g.O.Sink.written c.args.out.now in
     let faults = g.O.Sink.faults c.args.out.now in
     subst (λ e. EndsRun (arc_value c.args.graphs.now) c.args.streams.now c.args.iterations had had faults faults e) (sym (c.from.ensures ∙ ap run_end c.from-stop.ensures))
-    (unchecked (arc_value c.args.graphs.now) c.args.streams.now c.args.iterations had faults faults c.in-Err-top_needs.fault (omega (arith, c.if-iterations-eq0.false)) c.requires.in_range.top (rw c.deref.ensures at c.in-Err-top_needs.ensures.refused))
+    (unchecked (arc_value c.args.graphs.now) c.args.streams.now c.args.iterations had faults faults c.in-Err-top_needs.fault (omega (arith, c.if-iterations-eq0.false)) c.requires.valid.in_range.top (rw c.deref.ensures at c.in-Err-top_needs.ensures.refused))
 
 pub run_some-requires-clause-fit : goal.run_some-requires-clause-fit
-run_some-requires-clause-fit g c = λ lives within.
-    let top = top_there (arc_value c.args.graphs.now) c.requires.in_range.top in
+run_some-requires-clause-fit g c =
+    let top = top_there (arc_value c.args.graphs.now) c.requires.valid.in_range.top in
     ap length c.items.ensures ∙ (rw c.deref.ensures at c.in-Ok-top_needs.ensures.fit) top.0 top.1
     ∙ sym (c.requires.fit ∙ ap (λ (t : Graph). length {A = Interface} t.inputs) (top_is (arc_value c.args.graphs.now) top.0 top.1))

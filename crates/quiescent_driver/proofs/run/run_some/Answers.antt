@@ -14,7 +14,6 @@ loop-number-init g c =
       reached = starts (arc_value c.args.graphs.now) c.args.streams.now.tokens.now c.in-Ok.delays.lists (g.O.Sink.written c.args.out.now) first;
       never_falls = omega arith;
       state = ap lengths first;
-      ready = c.requires.ready;
     }
 
 pub loop-number-preserved : goal.loop-number-preserved
@@ -26,7 +25,6 @@ loop-number-preserved g c =
           c.loop-number.invariant.reached s.1 s.2;
       never_falls = omega (arith, c.loop-number.invariant.never_falls, c.step.ensures.never_falls);
       state = c.in-Ok-step.ensures.state;
-      ready = c.step.ensures.ready;
     }
 
 pub returns-in-Err-clause-ends : goal.returns-in-Err-clause-ends

@@ -1,7 +1,6 @@
 use Rattle.std.proofs.Common.{◌≤◌}
 use Rattle.std.specs.Arc.{arc_value}
 use Rattle.quiescent_driver.specs.Given.{IsTopState}
-use Rattle.quiescent_driver.specs.Making.{IsReady}
 use Rattle.quiescent_driver.proofs.Runs.{Reached}
 use Rattle.quiescent_driver.proofs.run.run_some.Given as goal
 
@@ -12,5 +11,4 @@ invariant-loop-number g l =
       reached : Reached (arc_value l.graphs) l.streams.tokens.now l.number l.delays.lists (sink.written l.fn.out) (sink.written l.out);
       never_falls : sink.faults l.fn.out ≤ sink.faults l.out;
       state : IsTopState (arc_value l.graphs) l.delays.lists;
-      ready : IsReady l.maker;
     }

@@ -2,4 +2,4 @@ use Rattle.worker_crew.proofs.Steps.{board_laws}
 use Rattle.worker_crew.proofs.laws.board_laws.Goals as goal
 
 pub returns : goal.returns
-returns c = λ key is. board_laws key is (c.rules_are_lawful.ensures key.graphs is.in_range is.well_formed) c.entries_tell_steps.ensures.steps
+returns c = λ key is. board_laws key is (c.rules_are_lawful.ensures key.graphs is.valid.valid) c.entries_tell_steps.ensures.steps

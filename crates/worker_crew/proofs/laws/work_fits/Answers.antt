@@ -6,9 +6,9 @@ pub returns : goal.returns
 returns c = λ key taken w work is legal runs.
     work_fits key is
     (board_laws key record {
-      lawful = c.rules_are_lawful.ensures key.graphs is.in_range is.well_formed;
-      meant = c.jobs_mean_firings.ensures key.signatures key.graphs is.in_range is.well_formed is.kernels is.lengths;
-      fit = (c.runnable.ensures key.signatures key.graphs is.in_range is.well_formed is.kernels).fit;
+      lawful = c.rules_are_lawful.ensures key.graphs is.valid.valid;
+      meant = c.jobs_mean_firings.ensures key.signatures key.graphs is.valid is.lengths;
+      fit = (c.runnable.ensures key.signatures key.graphs is.valid).fit;
       all = c.graphs_numbered.ensures.all;
       in_order = c.graphs_numbered.ensures.in_order;
       stages = c.graphs_numbered.ensures.stages;

@@ -1,7 +1,7 @@
 -- The journals of the boards of a run by many workers.
 use Rattle.std.specs.Prelude.{◌≡◌, ℕ, ℤ, ◌+◌, List, [], ◌∷◌, ◌++◌, length, codes}
 use Rattle.std.specs.Fmt.{decimal}
-use Rattle.kernel_gate.specs.Table.{the_signatures}
+use Rattle.kernel_gate.specs.Signed.{SignatureView}
 use Rattle.param_resolver.specs.EarlyCheck.{early_faults}
 use Rattle.pisdf_model.specs.declared.graph.Graphs.{Graphs}
 use Rattle.pisdf_meaning.specs.Run as run
@@ -34,18 +34,18 @@ journal_text n (entry ∷ entries) = entry_line n entry ++ journal_text n entrie
 
 -- ---- the journal of an iteration
 
--- the key of the board of iteration n, which begins with this state
-abbrev pub key_at : Graphs → List (List ℤ) → ℕ → ℕ → List (List ℤ) → Key
-key_at graphs streams workers n state =
-    key_with graphs the_signatures state (run.taken (run.top_needs graphs) (rest_of n (run.top_needs graphs) streams)) workers
+-- the key of the board of iteration n, over these kernels, which begins with this state
+abbrev pub key_at : Graphs → List SignatureView → List (List ℤ) → ℕ → ℕ → List (List ℤ) → Key
+key_at graphs kernels streams workers n state =
+    key_with graphs kernels state (run.taken (run.top_needs graphs) (rest_of n (run.top_needs graphs) streams)) workers
 
 -- the text of a legal journal that has ended, of the board of iteration n after the iterations before
-pub record IsJournalText (graphs : Graphs) (streams : List (List ℤ)) (workers n : ℕ) (text : List ℕ) : Type 0 where
+pub record IsJournalText (graphs : Graphs) (kernels : List SignatureView) (streams : List (List ℤ)) (workers n : ℕ) (text : List ℕ) : Type 0 where
   pub before : List Iteration
   pub state : List (List ℤ)
   pub done : HaveIterated graphs streams n before state
   pub entries : List Entry
-  pub whole : IsWhole (key_at graphs streams workers n state) entries
+  pub whole : IsWhole (key_at graphs kernels streams workers n state) entries
   pub text_is : text ≡ journal_text n entries
 
 -- ---- how many boards there are
