@@ -1,10 +1,12 @@
 // The calls, each with the driver that makes it.
-use crate::drivers::{
-    bounds, compilations, expressions, frames, kernels, leases, lines, made_levels, models,
-    orderings, placements, program, reading, resolving, schedules, solving, tokens, top_levels,
-    world,
+use crate::program;
+use case_rows::Trouble;
+use graph_calls::{
+    expressions, made_levels, models, reading, resolving, tokens, top_levels, world,
 };
-use crate::trouble::Trouble;
+use level_calls::{
+    bounds, compilations, frames, kernels, leases, lines, orderings, placements, schedules, solving,
+};
 use serde_json::Value;
 use std::alloc::Global;
 use std::sync::Wait;

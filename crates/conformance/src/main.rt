@@ -4,13 +4,8 @@
 #![tactic(auto)]
 
 mod answers;
-mod bases;
-mod drivers;
-mod lists;
-mod notation;
-mod row;
+mod program;
 mod table;
-mod trouble;
 
 use crate::answers::Call;
 use crate::table::{Table, run_table};

@@ -5,9 +5,8 @@ ghost use Rattle.conformance_boards.specs.Given.{AreSound};
 
 use crate::given::{graphs_of, streams_of};
 use crate::iterations::{Plan, run};
-use crate::row::{items, member, small, small_or, word};
 use crate::told::Told;
-use crate::trouble::Trouble;
+use case_rows::{Outcome, Table, Trouble, items, small, small_of, small_or, word};
 use job_compiler::kept;
 use pisdf_model::Graphs;
 use sdf_level::List;
@@ -21,15 +20,6 @@ const DRAWN: u32 = 20_000;
 
 /// The most jobs that may be open, where a case doesn't say it.
 const MOST_OPEN: u32 = 128;
-
-/// What became of a case.
-#[derive(Drop)]
-pub enum Outcome {
-    /// It gave the wanted answer.
-    Same,
-    /// It gave the second answer, where the first is wanted.
-    Different(String, String),
-}
 
 /// What is told of a run, beside the line of its refusal.
 #[derive(Clone, Copy, PartialEq, Eq)]
@@ -62,10 +52,7 @@ fn tells_of(case: &Value) -> Result<Tells, Trouble> {
 fn order_of(alloc: Global, case: &Value) -> Result<Vec<u32>, Trouble> {
     let mut order = Vec::new(alloc);
     for worker in items(case, "order")? {
-        match worker.as_u64().map(u32::try_from) {
-            Some(Ok(worker)) => order.push(worker)?,
-            _ => return Err(Trouble::Member("order")),
-        }
+        order.push(small_of(worker, "order")?)?;
     }
     Ok(order)
 }
@@ -137,22 +124,19 @@ fn outcome_of<R: Threads + Wait + Sync>(
     let mut told = Told::new(alloc, tells == Tells::Steps);
     run(rt, alloc, graphs, streams, &plan, &mut kept, &mut told)?;
     let answer = answer_of(alloc, case, tells, &told)?;
-    let wanted = member(case, "want")?;
-    if *wanted == answer {
-        return Ok(Outcome::Same);
-    }
-    Ok(Outcome::Different(wanted.to_string(alloc)?, answer.to_string(alloc)?))
+    case_rows::outcome_of(alloc, case, &answer)
 }
 
-/// What becomes of the `cases` of a line, which run the graphs of its `file`, in which `'` stands for `"`, on the `tokens` of a
+/// What becomes of the `cases` of the next line, which run the graphs of its `file`, in which `'` stands for `"`, on the `tokens` of a
 /// token file.
 pub fn outcomes<R: Threads + Wait + Sync>(
     rt: &R,
     alloc: Global,
+    table: &mut Table,
     line: &str,
 ) -> Result<Vec<Outcome>, Trouble> {
-    let Ok(row) = Value::from_str(alloc, line) else {
-        return Err(Trouble::Member("the line"));
+    let Some(row) = table.next_row(alloc, line)? else {
+        return Ok(Vec::new(alloc));
     };
     let graphs = Arc::new(alloc, graphs_of(alloc, word(&row, "file")?)?)?;
     let streams = streams_of(alloc, word(&row, "tokens")?, &graphs)?;

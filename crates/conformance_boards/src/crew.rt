@@ -9,7 +9,7 @@ use crate::giving_back::{compile, configure, copy, fire};
 use crate::held::Held;
 use crate::holding::{held_by, put, take};
 use crate::told::Told;
-use crate::trouble::Trouble;
+use case_rows::Trouble;
 use firing_board::{Board, Claim};
 use std::alloc::Global;
 use worker_crew::{board_laws, work_fits};

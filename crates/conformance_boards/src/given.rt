@@ -3,7 +3,7 @@ ghost use Rattle.std.specs.Prelude.{◌≡◌, IfOk};
 ghost use Rattle.kernel_gate.specs.Value.{lengths};
 ghost use Rattle.conformance_boards.specs.Given.{AreSound, IfTaken};
 
-use crate::trouble::Trouble;
+use case_rows::Trouble;
 use graph_reader::read;
 use kernel_gate::Gate;
 use kernel_library::Library;

@@ -5,7 +5,7 @@ ghost use Rattle.worker_crew.specs.Asked.{IsToCompile, IsToCopy, IsToFire};
 ghost use Rattle.conformance_boards.specs.Holding.{GivesBack, HasClaimed, HasOurKernels};
 
 use crate::told::Told;
-use crate::trouble::Trouble;
+use case_rows::Trouble;
 use firing_board::{Board, Ticket};
 use job_preparing::{CompileEnd, CompileTask};
 use kernel_gate::{Frame, Gate, KernelFault};

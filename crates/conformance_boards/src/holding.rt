@@ -3,7 +3,7 @@ ghost use Rattle.std.specs.Prelude.{◌≡◌, ◌<◌, length, replicate, slice
 ghost use Rattle.conformance_boards.specs.Holding.{held_by};
 
 use crate::held::Held;
-use crate::trouble::Trouble;
+use case_rows::Trouble;
 use firing_board::Claim;
 use std::alloc::Global;
 use std::mem;

@@ -10,11 +10,9 @@ mod giving_back;
 mod held;
 mod holding;
 mod iterations;
-mod row;
 mod table;
 mod texts;
 mod told;
-mod trouble;
 mod turns;
 
 use crate::table::run_table;

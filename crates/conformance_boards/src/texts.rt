@@ -1,7 +1,7 @@
 // Lines of iterations, refusals and journals, as the program writes them.
-use crate::trouble::Trouble;
 use board_journal::{EntryAt, Journal};
 use board_rules::Item;
+use case_rows::Trouble;
 use job_compiler::What;
 use param_resolver::Why;
 use pisdf_meaning::{Cause, Iteration, Left, Refusal};

@@ -3,7 +3,7 @@ ghost use Rattle.std.specs.Prelude.{◌^◌, ◌<◌, length};
 ghost use Rattle.conformance_boards.specs.Holding.{CopiesFew};
 
 use crate::held::Held;
-use crate::trouble::Trouble;
+use case_rows::Trouble;
 use job_preparing::CompileEnd;
 use kernel_gate::{Frame, KernelFault};
 use std::alloc::Global;

@@ -6,14 +6,11 @@
 ghost use Rattle.std.specs.Prelude.{◌≢◌, ℕ};
 ghost use Rattle.one_job.specs.Marks.{IsClaimed, phase};
 
-use crate::lists::answer_of;
 use crate::places::{end_frames, no_frames};
-use crate::row::{items, word};
 use crate::starting::started;
 use crate::steps::step_all;
-use crate::trouble::Trouble;
+use case_rows::{Trouble, answer_of_lists, items, word};
 use one_job::{Job, JobEnd};
-use sdf_level::List;
 use serde_json::Value;
 use std::alloc::Global;
 
@@ -26,14 +23,6 @@ fn ended(job: Job, asks: bool) -> Option<JobEnd>
     }
     job.end();
     None
-}
-
-fn answer_of_lists(alloc: Global, lists: &[List<i64>]) -> Result<Value, Trouble> {
-    let mut values = Vec::new(alloc);
-    for list in lists {
-        values.push(answer_of(alloc, list.items())?)?;
-    }
-    Ok(Value::from(values))
 }
 
 /// The answer that tells how a job ended: the tokens that the sinks keep and those that are left on the links; the node that

@@ -1,8 +1,7 @@
 // What frames hold.
 ghost use Rattle.std.specs.Prelude.{◌≡◌, ◌≤◌, length};
 
-use crate::lists::answer_of;
-use crate::trouble::Trouble;
+use case_rows::{Trouble, answer_of};
 use kernel_gate::{Frame, Lent};
 use sdf_level::List;
 use serde_json::Value;

@@ -6,8 +6,7 @@
 ghost use Rattle.std.specs.Prelude.{◌≡◌, ◌<◌, EachIndex, slice_index};
 ghost use Rattle.std.specs.Bool.{OnTrue};
 
-use crate::row::{items, small};
-use crate::trouble::Trouble;
+use case_rows::{Trouble, items, small};
 use ready_heap::GroupedHeaps;
 use serde_json::Value;
 use std::alloc::Global;

@@ -6,14 +6,10 @@
 mod ending;
 mod frames;
 mod heaps;
-mod levels;
-mod lists;
 mod places;
-mod row;
 mod starting;
 mod steps;
 mod table;
-mod trouble;
 
 use crate::table::{Subject, run_table};
 use std::io;

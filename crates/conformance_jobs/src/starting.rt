@@ -5,10 +5,7 @@ ghost use Rattle.kernel_gate.specs.Value.{lengths};
 ghost use Rattle.sdf_level.specs.LevelRun.{HaveDelays};
 ghost use Rattle.conformance_jobs.specs.Held.{HasNoneClaimed};
 
-use crate::levels::level_of;
-use crate::lists::numbers_of;
-use crate::row::{items, small};
-use crate::trouble::Trouble;
+use case_rows::{Trouble, items, level_of, lists, lists_of, small, small_of};
 use job_compiler::{Compiled, compile};
 use one_job::{Job, start};
 use sdf_level::{Link, List};
@@ -16,33 +13,28 @@ use serde_json::Value;
 use std::alloc::{AllocError, Global};
 use std::sync::Arc;
 
-/// The lists of the member of this name.
-pub(crate) fn lists(
+/// The row's lists of this name, as lists of tokens.
+pub(crate) fn token_lists(
     alloc: Global,
     row: &Value,
     name: &'static str,
 ) -> Result<List<List<i64>>, Trouble> {
-    let mut lists = Vec::new(alloc);
-    for item in items(row, name)? {
-        let Some(list) = item.as_array() else {
-            return Err(Trouble::Member(name));
-        };
-        lists.push(List::new(numbers_of(alloc, list.as_slice())?))?;
+    Ok(lists_of(alloc, lists(alloc, row, name)?.as_slice())?)
+}
+
+/// The place of a kernel, or none.
+fn kind_of(item: &Value) -> Result<Option<u32>, Trouble> {
+    if item.as_u64().is_none() {
+        return Ok(None);
     }
-    Ok(List::new(lists))
+    Ok(Some(small_of(item, "kinds")?))
 }
 
 /// The row's kinds: the place of a kernel for each actor, or none.
 fn kinds(alloc: Global, row: &Value) -> Result<List<Option<u32>>, Trouble> {
     let mut kinds = Vec::new(alloc);
     for item in items(row, "kinds")? {
-        kinds.push(match item.as_u64() {
-            Some(kind) => match u32::try_from(kind) {
-                Ok(kind) => Some(kind),
-                Err(_) => return Err(Trouble::Member("kinds")),
-            },
-            None => None,
-        })?;
+        kinds.push(kind_of(item)?)?;
     }
     Ok(List::new(kinds))
 }
@@ -96,9 +88,9 @@ pub(crate) fn started(alloc: Global, row: &Value) -> Result<Job, Trouble>
 {
     let compiled = compiled_of(alloc, row)?;
     let kinds = kinds(alloc, row)?;
-    let args = lists(alloc, row, "args")?;
-    let sources = lists(alloc, row, "sources")?;
-    let stored = lists(alloc, row, "stored")?;
+    let args = token_lists(alloc, row, "args")?;
+    let sources = token_lists(alloc, row, "sources")?;
+    let stored = token_lists(alloc, row, "stored")?;
     let level = compiled.level();
     let actors = level.actors as usize;
     if kinds.items().len() != actors || args.items().len() != actors {

@@ -14,9 +14,8 @@ ghost use Rattle.conformance_jobs.specs.Held.{Holds, KeepsHeld};
 
 use crate::frames::{Counted, copy_through, count_ports, told, write};
 use crate::places::{is_held, put_frame, take_frame};
-use crate::row::small;
-use crate::starting::lists;
-use crate::trouble::Trouble;
+use crate::starting::token_lists;
+use case_rows::{Trouble, small};
 use kernel_gate::{Frame, KernelFault};
 use one_job::Job;
 use sdf_level::Node;
@@ -151,7 +150,7 @@ fn finish(
     ensures { Holds job.new frames.new }
 {
     let node = node_of(job, step, "finish")?;
-    let outs = lists(alloc, step, "outs")?;
+    let outs = token_lists(alloc, step, "outs")?;
     let code = code_of(step)?;
     if !is_held(frames, node as usize) {
         return Err(Trouble::Member("finish"));

@@ -2,7 +2,7 @@
 ghost use Rattle.std.specs.Prelude.{◌≡◌, ◌≤◌, IfOk, IfSome};
 
 use crate::vectors::{Vector, that_solve, vectors_from};
-use level_cases::{NoLevel, level_between};
+use case_rows::{Trouble, level_between};
 use sdf_level::{InnerLink, Level};
 use std::alloc::{AllocError, Global};
 use std::io;
@@ -34,8 +34,8 @@ pub(crate) fn level_of(
 {
     match level_between(alloc, actors, links) {
         Ok(level) => Ok(Some(level)),
-        Err(NoLevel::Lines) => Ok(None),
-        Err(NoLevel::Memory) => Err(AllocError),
+        Err(Trouble::Member(_)) => Ok(None),
+        Err(Trouble::Memory) => Err(AllocError),
     }
 }
 

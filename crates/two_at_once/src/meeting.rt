@@ -1,41 +1,55 @@
 // Kernels that meet.
 use kernel_gate::{Frame, Gate, KernelFault, Signature};
 use kernel_library::Library;
-use std::hint;
 use std::sync::atomic::{AtomicBool, AtomicU32, Ordering};
+use std::{hint, thread};
 
-/// How many turns the first firing waits at most.
+/// How many turns a firing waits at most.
 const TURNS: u32 = 100_000_000;
 
-/// The library of kernels, of which the first that is fired waits until a second one is, or so many turns have passed.
+/// After so many turns another thread may run.
+const YIELDS: u32 = 16;
+
+/// The library of kernels, of which the first firings, one for each worker, wait until all of them have begun, or until one of
+/// them has waited so many turns.
 #[derive(Drop)]
 pub(crate) struct Meeting {
+    workers: u32,
     begun: AtomicU32,
     missed: AtomicBool,
 }
 
 impl Meeting {
-    pub(crate) fn new() -> Meeting {
+    /// A meeting of so many workers.
+    pub(crate) fn new(workers: u32) -> Meeting {
         Meeting {
+            workers,
             begun: AtomicU32::new(0),
             missed: AtomicBool::new(false),
         }
     }
 
-    /// Whether a second kernel was fired, and this before the first one's turns ran out.
-    pub(crate) fn has_met(&self) -> bool {
-        self.begun.load(Ordering::SeqCst) > 1 && !self.missed.load(Ordering::SeqCst)
+    /// Whether as many firings as there are workers have begun.
+    fn is_full(&self) -> bool {
+        self.begun.load(Ordering::SeqCst) >= self.workers
     }
 
+    /// Whether the firings of all workers met, before the turns of one of them ran out.
+    pub(crate) fn has_met(&self) -> bool {
+        self.is_full() && !self.missed.load(Ordering::SeqCst)
+    }
+
+    /// Waits until the meeting is full or missed.
     fn meet(&self) {
-        if self.begun.fetch_add(1, Ordering::SeqCst) > 0 {
-            return;
-        }
-        for _ in 0..TURNS {
-            if self.begun.load(Ordering::SeqCst) > 1 {
+        self.begun.fetch_add(1, Ordering::SeqCst);
+        for turn in 0..TURNS {
+            if self.is_full() || self.missed.load(Ordering::SeqCst) {
                 return;
             }
             hint::spin_loop();
+            if turn % YIELDS == 0 {
+                thread::yield_now();
+            }
         }
         self.missed.store(true, Ordering::SeqCst);
     }

@@ -1,6 +1,0 @@
-use Rattle.std.proofs.Common.{refl}
-use Rattle.pisdf_model.proofs.Referring.{each_refers_to_params}
-use Rattle.conformance.proofs.drivers.models.ranged.Goals as goal
-
-pub param_order-requires : goal.param_order-requires
-param_order-requires c = each_refers_to_params c.args.graphs.now (c.if-not-in_range.ensures.0 refl)

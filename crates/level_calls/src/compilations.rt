@@ -1,0 +1,125 @@
+// Compilations of levels, and how they are kept.
+use crate::schedules::{rows_of_edges, text_of_nodes, word_of};
+use crate::solving::text_of_turns;
+use case_rows::{Trouble, answer_of_smalls, items, level_of, level_with, numbers, small, small_or};
+use job_compiler::{CompileFault, Compiled, Kept, Key, compile, kept};
+use sdf_level::List;
+use serde_json::Value;
+use std::alloc::Global;
+use std::sync::Arc;
+
+/// The answer that tells why a level has no compilation: `rates`; or what is over its limit, with its count; or `deadlock`
+/// with the counts left.
+fn fault_of(alloc: Global, fault: CompileFault) -> Result<Value, Trouble> {
+    match fault {
+        CompileFault::Rates => Ok(Value::try_from_str(alloc, "rates")?),
+        CompileFault::Limit { what, value } => {
+            let word = word_of(what);
+            Ok(Value::from(format!(in alloc; "{word} {value}")?))
+        }
+        CompileFault::Deadlock { left } => {
+            let word = Value::try_from_str(alloc, "deadlock")?;
+            let left = answer_of_smalls(alloc, left.items())?;
+            let values = vec![in alloc; word, left]?;
+            Ok(Value::from(values))
+        }
+        CompileFault::Memory => Err(Trouble::Memory),
+    }
+}
+
+/// The parts of a compilation: order, nodes, counts, edges, ranks, offsets, height, homes, priorities, and the numbers of
+/// actors and workers that it was made for.
+fn parts_of(alloc: Global, compiled: &Compiled) -> Result<Value, Trouble> {
+    let order = text_of_turns(alloc, compiled.order())?;
+    let nodes = text_of_nodes(alloc, compiled.graph().nodes.items())?;
+    let mut priorities = Vec::new(alloc);
+    for priority in compiled.mapping().priority.items() {
+        priorities.push(Value::from(*priority))?;
+    }
+    let mut values = Vec::new(alloc);
+    values.push(Value::from(order))?;
+    values.push(Value::from(nodes))?;
+    values.push(answer_of_smalls(alloc, compiled.counts())?)?;
+    values.push(rows_of_edges(alloc, compiled.graph().edges.items())?)?;
+    values.push(answer_of_smalls(alloc, compiled.graph().ranks.items())?)?;
+    values.push(answer_of_smalls(alloc, compiled.placement().offsets.items())?)?;
+    values.push(Value::from(compiled.placement().height))?;
+    values.push(answer_of_smalls(alloc, compiled.mapping().home.items())?)?;
+    values.push(Value::from(priorities))?;
+    values.push(answer_of_smalls(alloc, &[compiled.level().actors, compiled.workers()])?)?;
+    Ok(Value::from(values))
+}
+
+/// The compilation of the row's level for so many workers, or why it has none.
+pub fn compilation(alloc: Global, row: &Value) -> Result<Value, Trouble> {
+    let level = level_of(alloc, row)?;
+    let workers = small(row, "workers")?;
+    if workers == 0 {
+        return Err(Trouble::Member("workers"));
+    }
+    match compile(alloc, &level, workers) {
+        Ok(compiled) => parts_of(alloc, &compiled),
+        Err(fault) => fault_of(alloc, fault),
+    }
+}
+
+/// The key of a step: its graph, which is the number given and so many more, its workers, 1 where it has none, and its values.
+fn key_of(alloc: Global, step: &Value, graph: u32, more: u32) -> Result<Key, Trouble> {
+    Ok(Key {
+        graph: graph.saturating_add(more),
+        workers: small_or(step, "workers", 1)?,
+        values: List::new(numbers(alloc, step, "values")?),
+    })
+}
+
+/// A compilation that is known by its number of actors.
+fn compiled_of(alloc: Global, actors: u32) -> Result<Arc<Compiled>, Trouble> {
+    let level = level_with(alloc, actors, &[])?;
+    match compile(alloc, &level, 1) {
+        Ok(compiled) => Ok(Arc::new(alloc, compiled)?),
+        Err(_) => Err(Trouble::Member("actors")),
+    }
+}
+
+/// Keeps a compilation with so many actors.
+fn keep_one(alloc: Global, kept: &mut Kept, key: Key, actors: u32) -> Result<(), Trouble> {
+    let compiled = compiled_of(alloc, actors)?;
+    kept.keep(key, compiled)?;
+    Ok(())
+}
+
+/// Keeps compilations, one after the other: each with a graph of one number more, and with one actor more.
+fn keep_all(alloc: Global, kept: &mut Kept, step: &Value) -> Result<(), Trouble> {
+    let graph = small(step, "keep")?;
+    let actors = small_or(step, "actors", 1)?;
+    for more in 0..small_or(step, "times", 1)? {
+        let key = key_of(alloc, step, graph, more)?;
+        keep_one(alloc, kept, key, actors.saturating_add(more))?;
+    }
+    Ok(())
+}
+
+/// The number of actors of the compilation that is found, -1 where none is.
+fn found_by(alloc: Global, kept: &mut Kept, step: &Value) -> Result<Value, Trouble> {
+    let key = key_of(alloc, step, small(step, "find")?, 0)?;
+    match kept.find(&key)? {
+        Some(compiled) => Ok(Value::from(compiled.level().actors)),
+        None => Ok(Value::from(-1i64)),
+    }
+}
+
+/// What is found by the row's steps. A step `keep` keeps a compilation with `actors` actors, 1 where it has none, under the
+/// key of that graph, its `workers` and `values`; with `times` so many of them, each with a graph of one number more, and one
+/// actor more. A step `find` looks one up.
+pub fn kept_by(alloc: Global, row: &Value) -> Result<Value, Trouble> {
+    let mut kept = kept(alloc)?;
+    let mut found = Vec::new(alloc);
+    for step in items(row, "steps")? {
+        if step.get("keep").is_some() {
+            keep_all(alloc, &mut kept, step)?;
+        } else {
+            found.push(found_by(alloc, &mut kept, step)?)?;
+        }
+    }
+    Ok(Value::from(found))
+}
