@@ -3,9 +3,7 @@ ghost use Rattle.std.specs.Prelude.{◌≡◌, ◌≤◌, IfOk, None, length, re
 ghost use Rattle.std.specs.Arc.{arc_value};
 ghost use Rattle.job_preparing.specs.View.{HasInherited};
 ghost use Rattle.job_rules.specs.Meant.{IsFit};
-ghost use Rattle.pisdf_model.specs.Range.{InRange};
-ghost use Rattle.pisdf_model.specs.WellFormed.{WellFormed};
-ghost use Rattle.pisdf_meaning.specs.Run.{top_firing};
+ghost use Rattle.pisdf_model.specs.Valid.{AreValid};
 ghost use Rattle.firing_board.specs.Beginning.{IsStartedOn};
 ghost use Rattle.firing_board.specs.Core.{HasRoom};
 
@@ -15,30 +13,10 @@ use crate::state::Core;
 use board_journal::Journal;
 use job_compiler::Key;
 use job_table::JobTable;
-use pisdf_meaning::{Delays, Firing, Path, copy_lists, copy_name};
-use pisdf_model::{Graph, Graphs};
-use sdf_level::List;
+use pisdf_meaning::Firing;
+use pisdf_model::Graphs;
 use std::alloc::{AllocError, Global};
 use std::sync::Arc;
-
-/// The firing of the top graph, which stands at a place, with these inputs and this state.
-pub(crate) fn top_firing(
-    alloc: Global,
-    top: &Graph,
-    place: u32,
-    delays: &Delays,
-    ins: &[List<i64>],
-) -> Result<Firing, AllocError>
-    ensures { IfOk result (λ firing. firing ≡ top_firing top.now place ins.now delays.now.lists) }
-{
-    Ok(Firing {
-        path: Path::new(alloc, copy_name(alloc, &top.name)?)?,
-        graph: place,
-        inherited: List::new(Vec::new(alloc)),
-        inputs: copy_lists(alloc, ins)?,
-        state: copy_lists(alloc, delays.lists.items())?,
-    })
-}
 
 /// No worker runs anything.
 pub(crate) fn nothing_runs(alloc: Global, workers: u32) -> Result<Vec<Option<Run>>, AllocError>
@@ -66,8 +44,7 @@ pub(crate) fn start_core(
     workers: u32,
     firing: Firing,
 ) -> Result<Core, AllocError>
-    requires range { InRange (arc_value graphs) }
-    requires well { WellFormed (arc_value graphs) }
+    requires valid { AreValid (arc_value graphs) }
     requires fit { IsFit (arc_value graphs).graphs firing }
     requires inherited { HasInherited (arc_value graphs).graphs firing }
     requires some { 1 ≤ workers }

@@ -164,7 +164,7 @@ module _ (f : Fixed) (stages : List Stage) (held : List Held) (rows : List (Vec 
     where
       few_of : (o : Option Graph) → slice_get G d.graph ≡ o → length (outputs_of o) ≤ 64
       few_of None is = omega arith
-      few_of (Some h) is = let m = (well_wired f.graphs keeps.set_up.well (resolvable f.graphs keeps.set_up.range keeps.set_up.well) d.graph h is).few_outputs in omega arith
+      few_of (Some h) is = let m = (well_wired f.graphs keeps.set_up.valid.well_formed (resolvable f.graphs keeps.set_up.valid.in_range keeps.set_up.valid.well_formed) d.graph h is).few_outputs in omega arith
 
   ready_then : IsReady (job_in f) (one.values j.marks) n
   ready_then = keeps.stand.ready n (λ free. let e : one.Free ≡ one.Claimed opened.told.frame.places = sym free ∙ claimed in absurd (cc))

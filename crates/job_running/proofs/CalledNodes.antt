@@ -174,7 +174,7 @@ module _ (f : Fixed) (stages : List Stage) (held : List Held) (rows : List (Vec 
         let at = placed g.actors c.a c.actor c.own in
         let inside_g : f.firing.graph < length G = slice_get_within G f.firing.graph g (here f stages held rows j keeps) in
         let there : at.place < length (get_or G f.firing.graph no_graph).actors = slice_get_within g.actors at.place c.actor at.is in
-        let fits = actor_fits f.graphs keeps.set_up.range keeps.set_up.well f.firing.graph no_graph inside_g at.place no_actor there in
+        let fits = actor_fits f.graphs keeps.set_up.valid.in_range keeps.set_up.valid.well_formed f.firing.graph no_graph inside_g at.place no_actor there in
         let same : get_or g.actors at.place no_actor ≡ c.actor = get_or_from_slice_get g.actors at.place c.actor no_actor at.is in
         let P : Body → Type 0 = λ b. body_fits (λ x. true) G b ≡ true in
         let own = subst P (ap (λ (x : Actor). x.body) same ∙ c.body_is) fits in

@@ -1,9 +1,9 @@
 -- What a running firing gives is as long as the early check of its graph says.
-use Rattle.std.proofs.Common.{◌≡◌, ℕ, zero, suc, ◌+◌, ◌*◌, ◌<◌, ◌≤◌, ⊎_elim, ℤ, true, false, List, [], ◌∷◌, ◌++◌, length, map, drop, slice_index, slice_index_or, Option, Some, None, Result, Ok, Err, refl, sym, ap, ap₂, ◌∙◌, subst, arith, nat_lt}
-use Rattle.std.specs.List.{AllByRecursion, filter}
+use Rattle.std.proofs.Common.{◌≡◌, ℕ, zero, suc, ◌+◌, ◌*◌, ◌<◌, ◌≤◌, ⊎_elim, ℤ, true, false, List, [], ◌∷◌, ◌++◌, length, map, slice_index, slice_index_or, Option, Some, None, Result, Ok, Err, refl, sym, ap, ap₂, ◌∙◌, arith}
+use Rattle.std.specs.List.{AllByRecursion}
 use Rattle.std.proofs.Math.Nat.{mul_comm}
-use Rattle.std.proofs.lemmas.Bool.{cases_Bool, cases_eq, cases_lt, ltb-false, ne_eqb}
-use Rattle.std.proofs.lemmas.List.{length-append, length-drop, map-append}
+use Rattle.std.proofs.lemmas.Bool.{cases_Bool, cases_eq, cases_lt, ne_eqb}
+use Rattle.std.proofs.lemmas.List.{length-append, length-drop}
 use Rattle.kernel_gate.specs.Value.{lengths}
 use Rattle.sdf_level.specs.View.{LevelView}
 use Rattle.sdf_level.specs.Firings.{actors_of, firings}
@@ -44,25 +44,17 @@ use Rattle.job_flow.proofs.Failures.{none-failed}
 use Rattle.job_flow.proofs.Flows.{IsNumbered, all-both}
 use Rattle.job_flow.proofs.Jobs.{graph-is, numbered}
 use Rattle.job_flow.proofs.Slots.{sized-below}
-use Rattle.param_resolver.specs.LevelOf.{fifo_links, link_of, links_of, state_link, state_links}
-use Rattle.param_resolver.specs.Numbering.{has_state, is_kept, state_size}
-use Rattle.pisdf_model.specs.Details.{from_number}
-use Rattle.pisdf_model.specs.Hold.{actor_state, initial, kept_tokens}
-use Rattle.pisdf_model.specs.InterfaceWires.{is_configuration}
-use Rattle.pisdf_model.specs.declared.actor.Actor.{Actor}
-use Rattle.pisdf_model.specs.declared.actor.Body.{Body}
-use Rattle.pisdf_model.specs.declared.actor.Body.TheVariants.{Kernel, Config, Child, ConfigChild}
+use Rattle.param_resolver.specs.LevelOf.{links_of}
+use Rattle.param_resolver.specs.Numbering.{is_kept}
 use Rattle.pisdf_model.specs.declared.fifo.Fifo.{Fifo}
-use Rattle.pisdf_model.specs.declared.fifo.Life.{Life}
-use Rattle.pisdf_model.specs.declared.fifo.Life.TheVariants as life
 use Rattle.pisdf_model.specs.declared.graph.Graph.{Graph}
-use Rattle.pisdf_meaning.specs.Configuring.{Configuration, configurations_from}
-use Rattle.pisdf_meaning.specs.Running.{actor_states, fifo_states, state_after, state_of_first}
+use Rattle.pisdf_meaning.specs.Configuring.{configurations_from}
+use Rattle.pisdf_meaning.specs.Running.{state_after}
 use Rattle.pisdf_meaning.specs.Sizes.{IsWired}
-use Rattle.pisdf_meaning.specs.States.{goes_on}
 use Rattle.pisdf_meaning.specs.declared.firing.Configured.{Configured}
 use Rattle.pisdf_meaning.proofs.LinkSizes.{no_delay}
-use Rattle.pisdf_meaning.proofs.StateSizes.{actor_size, fifo_size}
+use Rattle.pisdf_meaning.proofs.StateSizes as sizes
+use Rattle.pisdf_meaning.proofs.StateSizes.{StatesLong, actor_size, fifo_size}
 
 -- ---- what the sinks keep of lines (as in sdf_level)
 
@@ -220,114 +212,10 @@ module _ (known : GraphLaws) (one_flow : GraphsHaveOneFlow TokenName) (delivers 
 
 -- ---- the state that is left
 
-record Split (link : Link) (links : List Link) (left : List (List ℤ)) : Type 0 where
-  one : List ℤ
-  rest : List (List ℤ)
-  is : left ≡ one ∷ rest
-  long : length one ≡ link.delay
-  others : HaveDelays links rest
-
-split : (link : Link) (links : List Link) (left : List (List ℤ)) → HaveDelays (link ∷ links) left → Split link links left
-split link links [] f = absurd f
-split link links (l ∷ left) f = record { one = l; rest = left; is = refl; long = f.0; others = f.1 }
-
-goes_long : (l : Life) (delay left : List ℤ) → length left ≡ length delay → length (goes_on l left) ≡ length (kept_tokens l delay)
-goes_long life.Firing delay left e = refl
-goes_long life.Permanent delay left e = e
-
-no_tokens : (l : Life) (delay : List ℤ) → length delay ≡ 0 → 0 ≡ length (kept_tokens l delay)
-no_tokens life.Firing delay e = refl
-no_tokens life.Permanent delay e = sym e
-
-state_held : (graphs : List Graph) (body : Body) → nat_lt 0 (state_size graphs body) ≡ true → length (actor_state (initial graphs) body) ≡ state_size graphs body
-state_held graphs (Kernel kernel args ins outs) some = absurd (cc)
-state_held graphs (Config kernel args ins outs sets) some = absurd (cc)
-state_held graphs (Child place args) some = refl
-state_held graphs (ConfigChild place args sets) some = absurd (cc)
-
-no_held : (graphs : List Graph) (body : Body) → is_configuration body ≡ false → nat_lt 0 (state_size graphs body) ≡ false → length (actor_state (initial graphs) body) ≡ 0
-no_held graphs (Kernel kernel args ins outs) acts none = refl
-no_held graphs (Config kernel args ins outs sets) acts none = refl
-no_held graphs (Child place args) acts none = let least = ltb-false 0 (state_size graphs (Child place args)) none in omega arith
-no_held graphs (ConfigChild place args sets) acts none = absurd (cc)
-
-config_none : (graphs : List Graph) (body : Body) → is_configuration body ≡ true → nat_lt 0 (state_size graphs body) ≡ false
-config_none graphs (Kernel kernel args ins outs) is = absurd (cc)
-config_none graphs (Config kernel args ins outs sets) is = refl
-config_none graphs (Child place args) is = absurd (cc)
-config_none graphs (ConfigChild place args sets) is = refl
-
 module _ (graphs : List Graph) (g : Graph) (values : List ℤ) where
-  abbrev of_fifo : ℕ → Fifo → List Link
-  of_fifo i f = fifo_links graphs g values f
-
-  abbrev of_state : ℕ → Actor → List Link
-  of_state a x = state_links graphs g a x
-
-  fifos_left : (i : ℕ) (fifos : List Fifo) (links : List Link) (left : List (List ℤ)) → AllByRecursion (λ (f : Fifo). is_kept g f ≡ false → length f.delay ≡ 0) fifos → HaveDelays (from_number i of_fifo fifos ++ links) left →
-      (lengths (fifo_states g fifos left) ≡ map fifo_size fifos) × HaveDelays links (drop (length (filter (is_kept g) fifos)) left)
-  fifos_left i [] links left none here = (refl, here)
-  fifos_left i (f ∷ fifos) links left none here = ⊎_elim
-      (λ (kept : is_kept g f ≡ true).
-      let P : List Link → Type 0 = λ l. HaveDelays l left in
-      let first : from_number i of_fifo (f ∷ fifos) ++ links ≡ link_of graphs g values f ∷ (from_number (i + 1) of_fifo fifos ++ links) = rw kept refl in
-      let s = split (link_of graphs g values f) (from_number (i + 1) of_fifo fifos ++ links) left (subst P first here) in
-      let again = fifos_left (i + 1) fifos links s.rest none.1 s.others in
-      let head : length (goes_on f.life s.one) ≡ fifo_size f = goes_long f.life f.delay s.one s.long in
-      (rw (kept, s.is) (ap₂ (λ (n : ℕ) (l : List ℕ). n ∷ l) head again.0), rw (kept, s.is) again.1))
-      (λ (other : is_kept g f ≡ false).
-      let P : List Link → Type 0 = λ l. HaveDelays l left in
-      let first : from_number i of_fifo (f ∷ fifos) ++ links ≡ from_number (i + 1) of_fifo fifos ++ links = rw other refl in
-      let again = fifos_left (i + 1) fifos links left none.1 (subst P first here) in
-      let head : 0 ≡ fifo_size f = no_tokens f.life f.delay (none.0 other) in
-      (rw other (ap₂ (λ (n : ℕ) (l : List ℕ). n ∷ l) head again.0), rw other again.1))
-      (cases_Bool (is_kept g f))
-
-  abbrev StatesLong : List Configuration → List Configured → Type 0
-  StatesLong cs configured = map (λ (one : Configured). length one.state) configured ≡ map (λ (c : Configuration). length (actor_state (initial graphs) c.body)) cs
-
-  first_state : (size : ℕ) (rest : List ℕ) (configured : List Configured) → map (λ (one : Configured). length one.state) configured ≡ size ∷ rest → (length (state_of_first configured) ≡ size) × (map (λ (one : Configured). length one.state) (drop 1 configured) ≡ rest)
-  first_state size rest [] e = absurd (cc)
-  first_state size rest (one ∷ configured) e = (cc, cc)
-
-  actors_left : (c a : ℕ) (actors : List Actor) (configured : List Configured) (left : List (List ℤ)) → StatesLong (configurations_from c a actors) configured → HaveDelays (from_number a of_state actors) left → lengths (actor_states graphs actors configured left) ≡ map (actor_size graphs) actors
-  actors_left c a [] configured left all links = refl
-  actors_left c a (x ∷ actors) configured left all links =
-      let P : List Link → Type 0 = λ l. HaveDelays l left in
-      ⊎_elim
-      (λ (is : is_configuration x.body ≡ true).
-      let none : has_state graphs x ≡ false = config_none graphs x.body is in
-      let links' : HaveDelays (from_number (a + 1) of_state actors) left = let e : from_number a of_state (x ∷ actors) ≡ from_number (a + 1) of_state actors = rw none refl in subst P e links in
-      let first : configurations_from c a (x ∷ actors) ≡ record { number = c; place = a; name = x.name; body = x.body } ∷ configurations_from (c + 1) (a + 1) actors = rw is refl in
-      let s = first_state (actor_size graphs x) (map (λ (k : Configuration). length (actor_state (initial graphs) k.body)) (configurations_from (c + 1) (a + 1) actors)) configured (all ∙ ap (map (λ (k : Configuration). length (actor_state (initial graphs) k.body))) first) in
-      let again = actors_left (c + 1) (a + 1) actors (drop 1 configured) left s.1 links' in
-      rw is (ap₂ (λ (n : ℕ) (l : List ℕ). n ∷ l) s.0 again))
-      (λ (acts : is_configuration x.body ≡ false).
-      let others : configurations_from c a (x ∷ actors) ≡ configurations_from c (a + 1) actors = rw acts refl in
-      let all' : StatesLong (configurations_from c (a + 1) actors) configured = all ∙ ap (map (λ (k : Configuration). length (actor_state (initial graphs) k.body))) others in
-      ⊎_elim
-      (λ (has : has_state graphs x ≡ true).
-      let first : from_number a of_state (x ∷ actors) ≡ state_link graphs g a x.body ∷ from_number (a + 1) of_state actors = rw has refl in
-      let s = split (state_link graphs g a x.body) (from_number (a + 1) of_state actors) left (subst P first links) in
-      let head : length s.one ≡ actor_size graphs x = s.long ∙ sym (state_held graphs x.body has) in
-      let again = actors_left c (a + 1) actors configured s.rest all' s.others in
-      rw (acts, has, s.is) (ap₂ (λ (n : ℕ) (l : List ℕ). n ∷ l) head again))
-      (λ (none : has_state graphs x ≡ false).
-      let first : from_number a of_state (x ∷ actors) ≡ from_number (a + 1) of_state actors = rw none refl in
-      let head : 0 ≡ actor_size graphs x = sym (no_held graphs x.body acts none) in
-      let again = actors_left c (a + 1) actors configured left all' (subst P first links) in
-      rw (acts, none) (ap₂ (λ (n : ℕ) (l : List ℕ). n ∷ l) head again))
-      (cases_Bool (has_state graphs x)))
-      (cases_Bool (is_configuration x.body))
-
   skipped_empty : (fifos : List Fifo) → AllByRecursion (IsWired graphs g) fifos → AllByRecursion (λ (f : Fifo). is_kept g f ≡ false → length f.delay ≡ 0) fifos
   skipped_empty [] all = tt
   skipped_empty (f ∷ fifos) all = (no_delay graphs g f all.0, skipped_empty fifos all.1)
 
-  pub state_long : AllByRecursion (IsWired graphs g) g.fifos → (configured : List Configured) (left : List (List ℤ)) → StatesLong (configurations_from 0 0 g.actors) configured → HaveDelays (links_of graphs g values) left → lengths (state_after graphs g configured left) ≡ map fifo_size g.fifos ++ map (actor_size graphs) g.actors
-  state_long wired configured left all links =
-      let first = fifos_left 0 g.fifos (from_number 0 of_state g.actors) left (skipped_empty g.fifos wired) links in
-      let second = actors_left 0 0 g.actors configured (drop (length (filter (is_kept g) g.fifos)) left) all first.1 in
-      map-append (λ (l : List ℤ). length l) (fifo_states g g.fifos left) (actor_states graphs g.actors configured (drop (length (filter (is_kept g) g.fifos)) left))
-      ∙ ap (λ (l : List ℕ). l ++ lengths (actor_states graphs g.actors configured (drop (length (filter (is_kept g) g.fifos)) left))) first.0
-      ∙ ap (λ (l : List ℕ). map fifo_size g.fifos ++ l) second
+  pub state_long : AllByRecursion (IsWired graphs g) g.fifos → (configured : List Configured) (left : List (List ℤ)) → StatesLong graphs g values (configurations_from 0 0 g.actors) configured → HaveDelays (links_of graphs g values) left → lengths (state_after graphs g configured left) ≡ map fifo_size g.fifos ++ map (actor_size graphs) g.actors
+  state_long wired configured left all links = sizes.state_long graphs g values (skipped_empty g.fifos wired) configured left all links

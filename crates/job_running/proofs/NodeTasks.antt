@@ -199,7 +199,7 @@ module _ (f : Fixed) (stages : List Stage) (held : List Held) (rows : List (Vec 
   here = keeps.set_up.fit.here ∙ ap Some (sym (get_or_from_slice_get G f.firing.graph keeps.set_up.fit.g no_graph keeps.set_up.fit.here))
 
   pub lens_written : (n a k : ℕ) (actor : Actor) → node_at job.nodes n ≡ node.Firing a k → slice_get (acting g) a ≡ Some actor → lens job n ≡ out_rates G values actor.body ++ own_rate (has_state G actor) (state_size G actor.body)
-  lens_written n a k actor at is = ap (λ (x : Node). lengths_written job x n) at ∙ written f.graphs keeps.set_up.range keeps.set_up.well f.firing g here values a actor is
+  lens_written n a k actor at is = ap (λ (x : Node). lengths_written job x n) at ∙ written f.graphs keeps.set_up.valid.in_range keeps.set_up.valid.well_formed f.firing g here values a actor is
 
   pub kernel_lens : (n a k : ℕ) (actor : Actor) → node_at job.nodes n ≡ node.Firing a k → slice_get (acting g) a ≡ Some actor → has_state G actor ≡ false → lens job n ≡ out_rates G values actor.body
   kernel_lens n a k actor at is none = lens_written n a k actor at is ∙ ap (λ b. out_rates G values actor.body ++ own_rate b (state_size G actor.body)) none ∙ append-nil (out_rates G values actor.body)

@@ -9,8 +9,7 @@ use Rattle.kernel_gate.specs.Value.{lengths}
 use Rattle.param_resolver.specs.LevelOf.{AreOneEach, level_faults, links_of, sources_of}
 use Rattle.param_resolver.specs.Numbering.{acting}
 use Rattle.param_resolver.specs.Refusal as part
-use Rattle.pisdf_model.specs.Range.{InRange}
-use Rattle.pisdf_model.specs.WellFormed.{WellFormed}
+use Rattle.pisdf_model.specs.Valid.{AreValid}
 use Rattle.pisdf_model.specs.declared.graph.Graph.{Graph}
 use Rattle.pisdf_model.specs.declared.graph.Graphs.{Graphs}
 use Rattle.pisdf_meaning.specs.Causes.{unless_refused}
@@ -142,7 +141,7 @@ unrefused : (graphs : List Graph) (g : Graph) (path : List ℕ) (faults : List p
 unrefused graphs g path [] given values is = (refl, cc)
 unrefused graphs g path (refusal ∷ rest) given values is = absurd (cc)
 
-module _ (f : Fixed) (workers : ℕ) (values : List ℤ) (range : InRange f.graphs) (well : WellFormed f.graphs) (fit : IsFit f.graphs.graphs f.firing) (suits : LeftSuits f.graphs.graphs (fired f) f.firing f.left)
+module _ (f : Fixed) (workers : ℕ) (values : List ℤ) (valid : AreValid f.graphs) (fit : IsFit f.graphs.graphs f.firing) (suits : LeftSuits f.graphs.graphs (fired f) f.firing f.left)
     (compiled : IsReadyWith f.graphs.graphs workers f.firing f.left f.compilation f.set values) where
   abbrev G : List Graph
   G = f.graphs.graphs
@@ -166,7 +165,7 @@ module _ (f : Fixed) (workers : ℕ) (values : List ℤ) (range : InRange f.grap
   level_is = compiled.level_is ∙ set_is.level
 
   level : Levelled G f.firing.graph g
-  level = levelled f.graphs well f.firing.graph g here (levels_made f.graphs range well)
+  level = levelled f.graphs valid.well_formed f.firing.graph g here (levels_made f.graphs valid.in_range valid.well_formed)
 
   pub delays_fit : HaveDelays (links_of G g (values_of f)) (link_starts G g f.firing)
   delays_fit = starts_fit G g (values_of f) f.firing.state (state_fits G g f.firing.state (fit.state ∙ ap lengths level.begins))
@@ -216,8 +215,7 @@ module _ (f : Fixed) (workers : ℕ) (values : List ℤ) (range : InRange f.grap
 
       pub set_up : IsSetUp f record { compilation = f.compilation; kinds = kinds; args = args; sources = sources; stored = stored }
       set_up = record {
-        range = range;
-        well = well;
+        valid = valid;
         fit = fit;
         suits = suits;
         rated = rated_none;

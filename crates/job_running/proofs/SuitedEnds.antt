@@ -55,7 +55,7 @@ module _ (f : Fixed) (stages : List Stage) (held : List Held) (rows : List (Vec 
   g = fired f
 
   level : Levelled G f.firing.graph g
-  level = levelled f.graphs keeps.set_up.well f.firing.graph g (here f stages held rows j keeps) (levels_made f.graphs keeps.set_up.range keeps.set_up.well)
+  level = levelled f.graphs keeps.set_up.valid.well_formed f.firing.graph g (here f stages held rows j keeps) (levels_made f.graphs keeps.set_up.valid.in_range keeps.set_up.valid.well_formed)
 
   abbrev told : flow.Values ℤ ℕ
   told = one.values j.marks

@@ -11,8 +11,7 @@ use Rattle.kernel_gate.specs.Value.{FrameView, Places}
 use Rattle.param_resolver.specs.LevelOf.{level_args, level_faults}
 use Rattle.param_resolver.specs.Numbering.{acting, has_state}
 use Rattle.param_resolver.specs.declared.level_set.LevelSet.{LevelSet}
-use Rattle.pisdf_model.specs.Range.{InRange}
-use Rattle.pisdf_model.specs.WellFormed.{WellFormed}
+use Rattle.pisdf_model.specs.Valid.{AreValid}
 use Rattle.pisdf_model.specs.declared.actor.Actor.{Actor}
 use Rattle.pisdf_model.specs.declared.actor.Body.{Body}
 use Rattle.pisdf_model.specs.declared.actor.Body.TheVariants.{Kernel, Config, Child, ConfigChild}
@@ -101,8 +100,7 @@ job_in f = job_graph f.graphs.graphs (fired f) f.firing (prepared_of f)
 
 -- the job of leases is that of the firing
 pub record IsSetUp (f : Fixed) (s : Start) : Type 0 where
-  pub range : InRange f.graphs
-  pub well : WellFormed f.graphs
+  pub valid : AreValid f.graphs
   pub fit : IsFit f.graphs.graphs f.firing
   pub suits : LeftSuits f.graphs.graphs (fired f) f.firing f.left
   pub rated : level_faults f.graphs.graphs (fired f) (values_of f) ≡ []

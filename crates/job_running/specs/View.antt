@@ -1,10 +1,9 @@
 -- The nodes of one compiled firing as plain data, and what they are to do.
-use Rattle.std.specs.Prelude.{◌≡◌, ℕ, ℤ, Bool, List, length, slice_index, Option, Some, None, Ok, Err}
+use Rattle.std.specs.Prelude.{◌≡◌, ℕ, ℤ, Bool, List, length, Option, Some, None, Ok, Err}
 use Rattle.std.specs.Option.{option_map}
 use Rattle.nested_jobs.specs.Marks.{Free}
 use Rattle.nested_jobs.specs.Rules.{Task, Work, Call}
 use Rattle.nested_jobs.specs.Steps.{all_below, is_settled}
-use Rattle.param_resolver.specs.Numbering.{acting_places}
 use Rattle.pisdf_model.specs.declared.graph.Graph.{Graph}
 use Rattle.pisdf_model.specs.declared.graph.Graphs.{Graphs}
 use Rattle.pisdf_meaning.specs.Endings.{End}
@@ -68,18 +67,6 @@ pub record IsOfferedCall (v : RunningView) (n : ℕ) : Type 0 where
   pub free : mark_at v.marks n ≡ Free
   pub job : Firing
   pub task_is : task v n ≡ Some (Call job)
-
--- of a firing the place of its actor among all actors of the graph, and its number; of another node nothing is told
-abbrev pub step_of_node : Graph → Node → ℕ × ℕ
-step_of_node g (node.Source s) = (0, 0)
-step_of_node g (node.Init l) = (0, 0)
-step_of_node g (node.Firing a k) = (slice_index (acting_places g) a, k)
-step_of_node g (node.Broadcast l) = (0, 0)
-step_of_node g (node.Fork l i) = (0, 0)
-step_of_node g (node.Join l j) = (0, 0)
-step_of_node g (node.Round l) = (0, 0)
-step_of_node g (node.End l) = (0, 0)
-step_of_node g (node.Sink t) = (0, 0)
 
 -- ---- how it ends
 

@@ -1,9 +1,8 @@
 // How a firing ends.
 ghost use Rattle.std.specs.Prelude.{ℕ, ◌≡◌, ◌+◌, ◌<◌, ◌≤◌, ◌++◌, List as Seq, [], drop, length, map, vec_capacity, vec_len, slice_index_or, unwrap_or, if◌then◌else◌, IfOk, OnErr};
-ghost use Rattle.std.specs.List.{filter};
-ghost use Rattle.pisdf_meaning.specs.Running.{Traces, actor_states, child_rows, fifo_states, state_after, state_of_first};
-ghost use Rattle.pisdf_meaning.specs.States.{goes_on, tokens_at};
-ghost use Rattle.param_resolver.specs.Numbering.{acting, has_state, is_kept};
+ghost use Rattle.pisdf_meaning.specs.Running.{Traces, actor_states, child_rows, state_after, state_of_first};
+ghost use Rattle.pisdf_meaning.specs.States.{tokens_at};
+ghost use Rattle.param_resolver.specs.Numbering.{acting, has_state};
 ghost use Rattle.pisdf_model.specs.declared.graph.Graph.{Graph as GraphView};
 ghost use Rattle.job_preparing.specs.Handing.{with_traces};
 ghost use Rattle.job_running.specs.Parts.{HaveTraces, IsLong};
@@ -14,24 +13,13 @@ ghost use Rattle.pisdf_model.specs.declared.actor.Actor.{Actor as ActorView};
 use crate::tracing::append_traces;
 use job_preparing::{JobGiven, Left};
 use param_expr::Name;
-use pisdf_meaning::{Cause, Configured, Path, Refusal, TraceRow, is_kept};
-use pisdf_model::{Graph, Life, is_configuration};
+use pisdf_meaning::{Cause, Configured, Path, Refusal, TraceRow, next_list, push_fifo_states};
+use pisdf_model::{Graph, is_configuration};
 use sdf_level::{List, Node};
 use std::alloc::{AllocError, Global};
 use std::collections::{LinkedList, VecDeque};
 
 // ---- the state
-
-/// Takes the first of these lists, which is empty where there is none.
-fn next_list(alloc: Global, lists: &mut VecDeque<List<i64>>) -> List<i64>
-    ensures taken { result ≡ tokens_at lists.old.items 0 }
-    ensures rest { lists.new.items ≡ drop 1 lists.old.items }
-{
-    match lists.pop_front() {
-        Some(list) => list,
-        None => List::new(Vec::new(alloc)),
-    }
-}
 
 /// Takes the state of the first of these configuration actors.
 fn next_state(alloc: Global, left: &mut VecDeque<Configured>) -> List<i64>
@@ -53,39 +41,6 @@ fn kept_list(alloc: Global, keeps: bool, left: &mut VecDeque<List<i64>>) -> List
         next_list(alloc, left)
     } else {
         List::new(Vec::new(alloc))
-    }
-}
-
-/// What goes on of the tokens that are left on the link of a FIFO.
-fn goes_on(alloc: Global, life: Life, left: List<i64>) -> List<i64>
-    ensures { result ≡ goes_on life left }
-{
-    match life {
-        Life::Firing => List::new(Vec::new(alloc)),
-        Life::Permanent => left,
-    }
-}
-
-/// Adds what goes on of each FIFO, and takes from what is left on the links that of the FIFOs that become links.
-fn push_fifo_states(
-    alloc: Global,
-    graph: &Graph,
-    left: &mut VecDeque<List<i64>>,
-    state: &mut Vec<List<i64>>,
-)
-    requires room { vec_len state.old + length graph.now.fifos ≤ vec_capacity state.old }
-    ensures state { state.new.items ≡ state.old.items ++ fifo_states graph.now graph.now.fifos left.old.items }
-    ensures left { left.new.items ≡ drop (length (filter (is_kept graph.now) graph.now.fifos)) left.old.items }
-    ensures len { vec_len state.new ≡ vec_len state.old + length graph.now.fifos }
-    ensures capacity { vec_capacity state.new ≡ vec_capacity state.old }
-{
-    for fifo in graph.fifos.items() {
-        if is_kept(graph, fifo) {
-            let tokens = next_list(alloc, left);
-            state.push_reserved(goes_on(alloc, fifo.life, tokens));
-        } else {
-            state.push_reserved(List::new(Vec::new(alloc)));
-        }
     }
 }
 

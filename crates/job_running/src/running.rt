@@ -80,7 +80,8 @@ impl Model for Running {
 }
 
 impl Running {
-    ghost use Rattle.job_running.specs.View.{IsOfferedCall, IsOfferedWork, RunningView, graph_in, is_quiet, nodes_of, outcome_of, step_of_node, task};
+    ghost use Rattle.job_rules.specs.Items.{step_of_node};
+    ghost use Rattle.job_running.specs.View.{IsOfferedCall, IsOfferedWork, RunningView, graph_in, is_quiet, nodes_of, outcome_of, task};
     ghost use Rattle.job_running.specs.Calls.{HasLongTrace, IsEndOfCall, IsHanded, IsLeft, frame_of};
 
     /// The number of nodes.

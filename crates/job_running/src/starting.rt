@@ -7,8 +7,7 @@ ghost use Rattle.nested_jobs.specs.Marks.{Free};
 ghost use Rattle.one_job.specs.Marks.{Free as Unclaimed};
 ghost use Rattle.one_job.specs.Pick.{is_child};
 ghost use Rattle.param_resolver.specs.Numbering.{acting, acting_places, has_state};
-ghost use Rattle.pisdf_model.specs.Range.{InRange};
-ghost use Rattle.pisdf_model.specs.WellFormed.{WellFormed};
+ghost use Rattle.pisdf_model.specs.Valid.{AreValid};
 ghost use Rattle.pisdf_model.specs.declared.actor.Actor.{Actor as ActorView};
 ghost use Rattle.pisdf_meaning.specs.Running.{chosen_row, chosen_rows, link_starts, source_tokens, value_at};
 ghost use Rattle.job_rules.specs.Meant.{IsFit};
@@ -30,8 +29,8 @@ use one_job::{Job, start};
 use param_expr::Name;
 use param_resolver::{LevelSet, level_by_actor};
 use pisdf_meaning::{
-    Configured, Firing, Path, TraceRow, copy_lists, copy_name, has_state, holds_for, link_starts,
-    source_tokens,
+    Configured, Firing, Path, TraceRow, copy_lists, copy_name, exports_of, has_state, holds_for,
+    link_starts, source_tokens, value_at,
 };
 use pisdf_model::{Body, Graph, Graphs, Param, ParamKind};
 use sdf_level::List;
@@ -98,27 +97,6 @@ fn keeps_at(
 }
 
 // ---- the values of parameters
-
-/// The value at a place, or 0 past the end.
-fn value_at(values: &[i64], place: usize) -> i64
-    ensures { result ≡ value_at values.now place }
-{
-    match values.get(place) {
-        Some(value) => *value,
-        None => 0,
-    }
-}
-
-/// The values of the graph's exports.
-fn exports_of(alloc: Global, graph: &Graph, values: &[i64]) -> Result<List<i64>, AllocError>
-    ensures { IfOk result (λ exports. exports ≡ map (value_at values.now) graph.now.exports) }
-{
-    let mut exports = Vec::new(alloc);
-    for place in graph.exports.items() {
-        exports.push(value_at(values, *place as usize))?;
-    }
-    Ok(List::new(exports))
-}
 
 /// Adds the row of a parameter with this value, if it is a chosen one.
 fn push_chosen(
@@ -378,8 +356,7 @@ pub fn run(
     values: List<i64>,
 ) -> Result<Running, AllocError>
     requires graphs { arc_value graphs ≡ preparing.now.graphs }
-    requires in_range { InRange (arc_value graphs) }
-    requires well_formed { WellFormed (arc_value graphs) }
+    requires valid { AreValid (arc_value graphs) }
     requires fit { IsFit (arc_value graphs).graphs preparing.now.firing }
     requires ready { IsReady preparing.now }
     requires suits { LeftSuits (arc_value graphs).graphs (graph_in preparing.now) preparing.now.firing (left_by preparing.now) }

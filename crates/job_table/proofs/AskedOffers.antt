@@ -1,5 +1,5 @@
 -- What a job offers first is what boards ask of its row.
-use Rattle.std.proofs.Common.{◌≡◌, ℕ, Bool, true, false, nat_lt, not, ◌&&◌, Option, Some, None, List, refl, sym, ◌∙◌, subst}
+use Rattle.std.proofs.Common.{◌≡◌, ℕ, Bool, true, false, nat_lt, Option, Some, None, List, refl, sym, ◌∙◌, subst}
 use Rattle.board_rules.specs.Asking as board
 use Rattle.board_rules.specs.Asking.{IsFirstIn, IsHomed, IsOffered, JobRow}
 use Rattle.board_rules.specs.Keys.{Key}
@@ -25,17 +25,8 @@ use Rattle.job_table.specs.declared.row.Row.{Row}
 
 -- ---- the order
 
-urgent_same : (a b : Option ℕ) → job.is_more_urgent a b ≡ picks.is_more_urgent a b
-urgent_same None None = refl
-urgent_same None (Some q) = refl
-urgent_same (Some p) None = refl
-urgent_same (Some p) (Some q) = refl
-
 before_same : (a b : board.Offer) → job.goes_first a.away a.urgency a.item b.away b.urgency b.item ≡ board.goes_first a b
-before_same a b =
-    let one = urgent_same a.urgency b.urgency in
-    let other = urgent_same b.urgency a.urgency in
-    λ x. job.decide (not a.away && b.away) (a.away && not b.away) (job.decide (one x) (other x) (nat_lt a.item b.item))
+before_same a b = refl
 
 module _ (key : Key) (m : Marks Firing Answer) (w : ℕ) (row : Row) (graphs_are : row.job.graphs ≡ key.graphs) (workers_are : row.job.workers ≡ key.workers) where
   abbrev G : List Graph

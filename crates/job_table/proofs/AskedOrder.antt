@@ -6,7 +6,8 @@ use Rattle.std.specs.Cmp.Lexicographic.{slice_cmp}
 use Rattle.std.specs.Ordering.{bool_cmp, is_lt, nat_cmp, ordering_then}
 use Rattle.std.specs.declared.cmp.Ordering.{Ordering}
 use Rattle.std.specs.declared.cmp.Ordering.TheVariants.{Less, Equal, Greater}
-use Rattle.board_rules.specs.Picks.{decide, goes_before, is_lesser_path, is_more_urgent}
+use Rattle.nested_jobs.specs.Pick.{decide, is_more_urgent}
+use Rattle.board_rules.specs.Picks.{goes_before, is_lesser_path}
 use Rattle.job_table.specs.AskedRows.{ordering_by}
 
 numbers_by : (x y : ℕ) → nat_cmp x y ≡ ordering_by (nat_lt x y) (nat_lt y x)

@@ -1,10 +1,8 @@
 -- The path of an open job stays while items are marked.
-use Rattle.std.proofs.Common.{◌≡◌, ◌⊎◌, ⊎_elim, inl, inr, ℕ, zero, suc, ◌-◌, ◌<◌, nat_lt, List, [], ◌∷◌, ◌++◌, length, map, slice_index, Option, Some, None, if◌then◌else◌, refl, sym, ap, ◌∙◌, arith}
-use Rattle.job_flow.specs.Graphs.{node_at}
-use Rattle.job_rules.specs.Items.{Prepared, compile_number, compile_rule, graph_of, left_in, node_base, node_rule, nodes_in, prepared_in, rule, rule_from}
+use Rattle.std.proofs.Common.{◌≡◌, ◌⊎◌, ⊎_elim, inl, inr, ℕ, zero, suc, ◌-◌, ◌<◌, List, [], ◌∷◌, ◌++◌, length, Option, Some, None, refl, sym, ap, ◌∙◌, arith}
+use Rattle.job_rules.specs.Items.{Prepared, compile_rule, graph_of, left_in, node_rule, prepared_in, rule, rule_from}
 use Rattle.job_rules.specs.Meant.{rank}
 use Rattle.job_rules.specs.Words.{Answer}
-use Rattle.job_running.specs.View as running
 use Rattle.nested_jobs.proofs.Nesting.{grown, of_open}
 use Rattle.nested_jobs.proofs.Places.{one_open, put_at}
 use Rattle.nested_jobs.specs.Kept.{Nested}
@@ -16,31 +14,17 @@ use Rattle.pisdf_meaning.specs.Configuring.{Configuration, configurations}
 use Rattle.pisdf_meaning.specs.declared.firing.Configured.{Configured}
 use Rattle.pisdf_meaning.specs.declared.firing.Firing.{Firing}
 use Rattle.pisdf_model.specs.declared.graph.Graph.{Graph}
-use Rattle.sdf_level.specs.declared.node.Node.{Node}
-use Rattle.sdf_level.specs.declared.node.Node.TheVariants as node
 use Rattle.board_rules.proofs.Staying.{prepared_stays}
 use Rattle.board_rules.proofs.Steps.{config_step}
 use Rattle.board_rules.specs.Keys.{Key, rules, top_job}
-use Rattle.board_rules.specs.Picks.{step_in, step_of_item, step_of_node, steps_to}
+use Rattle.board_rules.specs.Picks.{step_in, step_of_item, steps_to}
 
 -- ---- an open job tells the step as its board does
-
-same_node : (g : Graph) (nd : Node) → running.step_of_node g nd ≡ step_of_node g nd
-same_node g (node.Source s) = refl
-same_node g (node.Init l) = refl
-same_node g (node.Firing a k) = refl
-same_node g (node.Broadcast l) = refl
-same_node g (node.Fork l i) = refl
-same_node g (node.Join l j) = refl
-same_node g (node.Round l) = refl
-same_node g (node.End l) = refl
-same_node g (node.Sink t) = refl
 
 module _ (key : Key) where
   pub same_step : (g : Graph) (firing : Firing) (i : ℕ) (o : Option Prepared) → job.step_of_item key.graphs.graphs g firing i o ≡ step_of_item key g firing i o
   same_step g firing i None = refl
-  same_step g firing i (Some p) =
-      ap (λ (s : ℕ × ℕ). if nat_lt i (compile_number g) then (slice_index (map (λ (c : Configuration). c.place) (configurations g)) i, 0) else s) (same_node g (node_at (nodes_in key.graphs.graphs g firing p) (i - node_base g)))
+  same_step g firing i (Some p) = refl
 
   -- ---- an item that calls a job is a configuration actor, or its job is compiled
 

@@ -1,6 +1,7 @@
 // What the rows of a table offer a worker.
 ghost use Rattle.std.specs.Prelude.{◌≡◌, ◌<◌, false, true, length, IfSome, IsSome};
-ghost use Rattle.board_rules.specs.Picks.{goes_before, is_more_urgent};
+ghost use Rattle.board_rules.specs.Picks.{goes_before};
+ghost use Rattle.nested_jobs.specs.Pick.{is_more_urgent};
 ghost use Rattle.open_job.specs.Offers.{IsPick};
 ghost use Rattle.job_table.specs.Asked.{IsAskedOf};
 ghost use Rattle.job_table.specs.AskedRows.{IsBestOf, IsFirstOf, IsOfferedAs, ordering_by, row_in, standing_of};

@@ -53,8 +53,7 @@ impl JobTable {
     ghost use Rattle.job_rules.specs.Meant.{IsFit};
     ghost use Rattle.nested_jobs.specs.Marks.{Busy, Done, Free};
     ghost use Rattle.nested_jobs.specs.Rules.{Call};
-    ghost use Rattle.pisdf_model.specs.Range.{InRange};
-    ghost use Rattle.pisdf_model.specs.WellFormed.{WellFormed};
+    ghost use Rattle.pisdf_model.specs.Valid.{AreValid};
     ghost use Rattle.open_job.specs.Calls.{IsHanded, IsSoundFor, frame_of};
     ghost use Rattle.open_job.specs.View.{IsOfferedCall, IsOfferedCompilation, IsOfferedWork, compilation_of, left_by, task};
     ghost use Rattle.job_table.specs.Asked.{IsAsked};
@@ -73,8 +72,7 @@ impl JobTable {
         workers: u32,
         firing: Firing,
     ) -> Result<JobTable, AllocError>
-        requires range { InRange (arc_value graphs) }
-        requires well { WellFormed (arc_value graphs) }
+        requires valid { AreValid (arc_value graphs) }
         requires fit { IsFit (arc_value graphs).graphs firing }
         requires inherited { HasInherited (arc_value graphs).graphs firing }
         requires some { 1 ≤ workers }
@@ -147,8 +145,7 @@ impl JobTable {
         row: usize,
         item: usize,
     ) -> Result<usize, AllocError>
-        requires range { InRange self.old.graphs }
-        requires well { WellFormed self.old.graphs }
+        requires valid { AreValid self.old.graphs }
         requires some { 1 ≤ self.old.workers }
         requires offered { HasJob (λ job. (job.graphs ≡ self.old.graphs) × IsOfferedCall job item) self.old row }
         requires fit { HasJob (λ job. (firing : Firing) → task job item ≡ Some (Call firing) → IsFit job.graphs.graphs firing) self.old row }

@@ -101,7 +101,7 @@ module _ (c : ConfiguringView) (workers : ℕ) (stage : Stage) (keeps : KeepsWit
       ∙ ap key_in is
 
   pub claim_keeps : preparing.IsReady c → KeepsWith c workers Compiling
-  claim_keeps ready = record { range = keeps.range; well = keeps.well; fit = keeps.fit; some = keeps.some; marks_many = keeps.marks_many; lent_many = keeps.lent_many; gave = keeps.gave; stage_fits = ready }
+  claim_keeps ready = record { valid = keeps.valid; fit = keeps.fit; some = keeps.some; marks_many = keeps.marks_many; lent_many = keeps.lent_many; gave = keeps.gave; stage_fits = ready }
 
   pub claim_view : stage ≡ Waiting → view_with c workers Compiling ≡ with_mark v (compilation_of v) Busy
   claim_view same =
@@ -121,8 +121,8 @@ module _ (c : ConfiguringView) (workers : ℕ) (stage : Stage) (keeps : KeepsWit
     pub finish_keeps : (next : Stage) → GoesOnWith c workers end next → KeepsWith c workers next
     finish_keeps Waiting went = absurd went
     finish_keeps Compiling went = absurd went
-    finish_keeps (Refused refusal) went = record { range = keeps.range; well = keeps.well; fit = keeps.fit; some = keeps.some; marks_many = keeps.marks_many; lent_many = keeps.lent_many; gave = keeps.gave; stage_fits = ready_now }
-    finish_keeps (Nodes r) went = record { range = keeps.range; well = keeps.well; fit = keeps.fit; some = keeps.some; marks_many = keeps.marks_many; lent_many = keeps.lent_many; gave = keeps.gave; stage_fits = went.runs }
+    finish_keeps (Refused refusal) went = record { valid = keeps.valid; fit = keeps.fit; some = keeps.some; marks_many = keeps.marks_many; lent_many = keeps.lent_many; gave = keeps.gave; stage_fits = ready_now }
+    finish_keeps (Nodes r) went = record { valid = keeps.valid; fit = keeps.fit; some = keeps.some; marks_many = keeps.marks_many; lent_many = keeps.lent_many; gave = keeps.gave; stage_fits = went.runs }
 
     -- all but the compilation is as before
     module _ (next : Stage) (free : (n : ℕ) → mark_at (node_marks next) n ≡ Free) (unlent : (n : ℕ) → lent_at (node_lent next) n ≡ None) (few : free_in (node_marks next) ≤ nodes_by end) where

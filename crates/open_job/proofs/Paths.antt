@@ -16,7 +16,7 @@ use Rattle.job_rules.specs.Items.{Prepared, compile_number, graph_of, no_graph, 
 use Rattle.job_rules.specs.Meant.{IsFit}
 use Rattle.job_preparing.specs.View as preparing
 use Rattle.job_preparing.specs.View.{ConfiguringView}
-use Rattle.job_running.specs.View.{step_of_node}
+use Rattle.job_rules.specs.Items.{step_of_node}
 use Rattle.job_running.specs.View as running
 use Rattle.open_job.specs.View.{OpenView, answered, task}
 use Rattle.open_job.specs.Paths.{IsCall, step_of, step_of_item}
@@ -96,7 +96,7 @@ module _ (c : ConfiguringView) (workers : ℕ) (stage : Stage) (keeps : KeepsWit
     pub place_few : place < 64
     place_few =
         let inside = place_below (preparing.graph_in c) item below in
-        let few = few_actors c.graphs c.firing keeps.range keeps.well keeps.fit in
+        let few = few_actors c.graphs c.firing keeps.valid.in_range keeps.valid.well_formed keeps.fit in
         omega arith
 
     pub actor_step : (place, 0) ≡ step_of v item

@@ -10,7 +10,8 @@ use Rattle.job_running.specs.View.{RunningView}
 use Rattle.one_job.specs.Pick as one
 use Rattle.worker_mapping.specs.Schedule.{GoesFirst}
 use Rattle.open_job.specs.View.{IsOfferedCall, IsOfferedWork, OpenView, answered}
-use Rattle.open_job.specs.Offers.{GoesBefore, IsFirst, IsPick, ItemStands, NodeStands, Stands, StandsAsNode, decide}
+use Rattle.nested_jobs.specs.Pick.{decide}
+use Rattle.open_job.specs.Offers.{GoesBefore, IsFirst, IsPick, ItemStands, NodeStands, Stands, StandsAsNode}
 use Rattle.open_job.specs.Kept.{view_with}
 use Rattle.open_job.specs.Running.{RunsFor}
 use Rattle.open_job.specs.Stages.{IsFirstActor, IsFirstCallWaiting, IsFirstNode, IsFirstWaiting, IsNodeFirst, early_offer, node_offer, offer_before}

@@ -83,8 +83,7 @@ module _ (c : ConfiguringView) (workers : ℕ) (stage : Stage) (keeps : KeepsWit
   module _ (unfinished : mark.answer_of (mark_at c.marks i) ≡ None) (m : Mark Firing Answer) (none : (s : LevelSchedule) → m ≢ Done (Schedules s)) where
     pub keeps_item : (p : Option Places) → KeepsWith (with_actor m p) workers stage
     keeps_item p = record {
-      range = keeps.range;
-      well = keeps.well;
+      valid = keeps.valid;
       fit = keeps.fit;
       some = keeps.some;
       marks_many = length-set c.marks i m ∙ keeps.marks_many;
@@ -95,8 +94,7 @@ module _ (c : ConfiguringView) (workers : ℕ) (stage : Stage) (keeps : KeepsWit
 
     pub keeps_mark : KeepsWith (with_actor_mark m) workers stage
     keeps_mark = record {
-      range = keeps.range;
-      well = keeps.well;
+      valid = keeps.valid;
       fit = keeps.fit;
       some = keeps.some;
       marks_many = length-set c.marks i m ∙ keeps.marks_many;
@@ -129,8 +127,7 @@ module _ (c : ConfiguringView) (workers : ℕ) (r : RunningView) (keeps : KeepsW
   keeps_node m p =
       let runs : RunsFor c workers r = keeps.stage_fits in
       record {
-        range = keeps.range;
-        well = keeps.well;
+        valid = keeps.valid;
         fit = keeps.fit;
         some = keeps.some;
         marks_many = keeps.marks_many;
@@ -151,8 +148,7 @@ module _ (c : ConfiguringView) (workers : ℕ) (r : RunningView) (keeps : KeepsW
   keeps_node_mark m =
       let runs : RunsFor c workers r = keeps.stage_fits in
       record {
-        range = keeps.range;
-        well = keeps.well;
+        valid = keeps.valid;
         fit = keeps.fit;
         some = keeps.some;
         marks_many = keeps.marks_many;

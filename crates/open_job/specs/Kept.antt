@@ -8,8 +8,7 @@ use Rattle.job_rules.specs.Items.{compile_number}
 use Rattle.job_rules.specs.Meant.{IsFit}
 use Rattle.job_rules.specs.Words.{Answer, Schedules, Refuses}
 use Rattle.nested_jobs.specs.Marks.{Mark, Free, Busy, Done}
-use Rattle.pisdf_model.specs.Range.{InRange}
-use Rattle.pisdf_model.specs.WellFormed.{WellFormed}
+use Rattle.pisdf_model.specs.Valid.{AreValid}
 use Rattle.pisdf_meaning.specs.declared.firing.Firing.{Firing}
 use Rattle.open_job.specs.Running.{RunsFor}
 use Rattle.open_job.specs.View.{OpenView}
@@ -57,8 +56,7 @@ StageFits c workers (Refused refusal) = preparing.IsReady c
 StageFits c workers (Nodes running) = RunsFor c workers running
 
 pub record KeepsWith (c : ConfiguringView) (workers : ℕ) (stage : Stage) : Type 0 where
-  pub range : InRange c.graphs
-  pub well : WellFormed c.graphs
+  pub valid : AreValid c.graphs
   pub fit : IsFit c.graphs.graphs c.firing
   pub some : 1 ≤ workers
   pub marks_many : length c.marks ≡ compile_number (preparing.graph_in c)

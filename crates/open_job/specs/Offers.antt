@@ -1,7 +1,8 @@
 -- Which of the items that a job offers goes first: one at home before one whose home is another worker, then the more urgent,
 -- then the one of the lesser number.
-use Rattle.std.specs.Prelude.{◌≡◌, ◌≢◌, ℕ, ◌-◌, ◌==◌, nat_lt, Bool, true, false, not, ◌&&◌, List, [], Option, Some, None, slice_index, if◌then◌else◌}
+use Rattle.std.specs.Prelude.{◌≡◌, ◌≢◌, ℕ, ◌-◌, ◌==◌, nat_lt, Bool, true, false, not, ◌&&◌, List, [], Option, Some, None, slice_index}
 use Rattle.job_compiler.specs.Compilation.{IsMapped}
+use Rattle.nested_jobs.specs.Pick.{decide, is_more_urgent}
 use Rattle.job_rules.specs.Items.{Prepared, edges_in, node_base, nodes_in, prepared_in}
 use Rattle.pisdf_model.specs.declared.graph.Graph.{Graph}
 use Rattle.pisdf_meaning.specs.declared.firing.Firing.{Firing}
@@ -36,16 +37,6 @@ abbrev pub Stands : OpenView → ℕ → ℕ → Bool → Option ℕ → Type 0
 Stands v w i away urgency = ItemStands v.graphs.graphs v.workers (graph_in v) v.firing (prepared_in (graph_in v) (answered v)) w i away urgency
 
 -- ---- the order
-
--- goes first by one rule, or doesn't, and else by the rules after it
-abbrev pub decide : (first second rest : Bool) → Bool
-decide first second rest = if first then true else (if second then false else rest)
-
-abbrev pub is_more_urgent : Option ℕ → Option ℕ → Bool
-is_more_urgent None None = false
-is_more_urgent None (Some q) = true
-is_more_urgent (Some p) None = false
-is_more_urgent (Some p) (Some q) = nat_lt q p
 
 -- item i, which stands so, goes before item j, which stands so
 abbrev pub goes_first : (away : Bool) (urgency : Option ℕ) (i : ℕ) (other_away : Bool) (other_urgency : Option ℕ) (j : ℕ) → Bool

@@ -5,7 +5,7 @@ use Rattle.pisdf_model.specs.declared.graph.Graph.{Graph}
 use Rattle.pisdf_meaning.specs.declared.firing.Firing.{Firing}
 use Rattle.job_flow.specs.Graphs.{node_at}
 use Rattle.job_rules.specs.Items.{Prepared, compile_number, node_base, nodes_in, prepared_in}
-use Rattle.job_running.specs.View.{step_of_node}
+use Rattle.job_rules.specs.Items.{step_of_node}
 use Rattle.open_job.specs.Places.{config_places}
 use Rattle.open_job.specs.View.{OpenView, answered, graph_in, task}
 

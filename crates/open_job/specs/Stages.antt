@@ -11,7 +11,8 @@ use Rattle.job_preparing.specs.declared.handing.JobGiven.{JobGiven}
 use Rattle.job_flow.specs.Graphs.{node_at}
 use Rattle.job_running.specs.Calls.{IsEndOfCall}
 use Rattle.job_running.specs.View as running
-use Rattle.job_running.specs.View.{RunningView, step_of_node}
+use Rattle.job_rules.specs.Items.{step_of_node}
+use Rattle.job_running.specs.View.{RunningView}
 use Rattle.job_running.specs.declared.handed.Handed as handed
 use Rattle.job_running.specs.declared.handed.Handed.TheVariants.{Fire as Fired, Copy as Copied}
 use Rattle.one_job.specs.View.{IsFiring}

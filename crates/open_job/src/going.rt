@@ -5,8 +5,7 @@ ghost use Rattle.job_preparing.specs.Handing.{IsNothingLent, answers};
 ghost use Rattle.job_preparing.specs.View as preparing;
 ghost use Rattle.job_rules.specs.Items.{compile_number, first_refusal};
 ghost use Rattle.job_rules.specs.Meant.{IsFit};
-ghost use Rattle.pisdf_model.specs.Range.{InRange};
-ghost use Rattle.pisdf_model.specs.WellFormed.{WellFormed};
+ghost use Rattle.pisdf_model.specs.Valid.{AreValid};
 ghost use Rattle.open_job.specs.Kept.{node_lent};
 ghost use Rattle.open_job.specs.Stages.{GoesOnWith, HasNoNodes};
 
@@ -38,8 +37,7 @@ pub(crate) fn next_stage(
     workers: u32,
     end: CompileEnd,
 ) -> Result<Stage, AllocError>
-    requires range { InRange configuring.now.graphs }
-    requires well { WellFormed configuring.now.graphs }
+    requires valid { AreValid configuring.now.graphs }
     requires fit { IsFit configuring.now.graphs.graphs configuring.now.firing }
     requires ready { preparing.IsReady configuring.now }
     requires end { IsEndOf configuring.now.graphs.graphs workers configuring.now.firing (preparing.left_by configuring.now) end }

@@ -4,8 +4,7 @@ ghost use Rattle.job_preparing.specs.View.{HasInherited};
 ghost use Rattle.job_rules.specs.Items.{compile_number, graph_of};
 ghost use Rattle.job_rules.specs.Meant.{IsFit};
 ghost use Rattle.nested_jobs.specs.Marks.{Free};
-ghost use Rattle.pisdf_model.specs.Range.{InRange};
-ghost use Rattle.pisdf_model.specs.WellFormed.{WellFormed};
+ghost use Rattle.pisdf_model.specs.Valid.{AreValid};
 
 use crate::job::OpenJob;
 use crate::stage::Stage;
@@ -26,8 +25,7 @@ pub fn open(
     workers: u32,
     firing: Firing,
 ) -> Result<OpenJob, AllocError>
-    requires range { InRange (arc_value graphs) }
-    requires well { WellFormed (arc_value graphs) }
+    requires valid { AreValid (arc_value graphs) }
     requires fit { IsFit (arc_value graphs).graphs firing }
     requires inherited { HasInherited (arc_value graphs).graphs firing }
     requires some { 1 ≤ workers }

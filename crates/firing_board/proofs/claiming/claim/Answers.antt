@@ -30,7 +30,7 @@ returns-in_err-run-clause-refused c =
     let mid = c.find.new.core in
     let kept = c.in_err-run.ensures.kept in
     on_err_by c.from_residual.result ((key : Key) → MayClaim key old c.args.worker → StarvesOn key old mid)
-    (λ key may. starves c.boards_keep.ensures.held key (c.rules_are_lawful.ensures key.graphs may.keeps.is_key.in_range may.keeps.is_key.well_formed) old mid may.keeps kept.lasts kept.lent (ap (λ rs. rs.items) kept.running_is) kept.entries_are
+    (λ key may. starves c.boards_keep.ensures.held key (c.rules_are_lawful.ensures key.graphs may.keeps.is_key.valid.valid) old mid may.keeps kept.lasts kept.lent (ap (λ rs. rs.items) kept.running_is) kept.entries_are
     kept.more)
 
 pub returns-in_err-run-clause-licensed : goal.returns-in_err-run-clause-licensed
@@ -75,7 +75,7 @@ returns-in-Some-clause-refused c =
     let kept = c.in_ok-run.ensures.kept in
     on_err c.hand_out.result (new ≡ mid) ((key : Key) → MayClaim key old c.args.worker → StarvesOn key old new)
     (λ (e : new ≡ mid). λ key may.
-    starves c.boards_keep.ensures.held key (c.rules_are_lawful.ensures key.graphs may.keeps.is_key.in_range may.keeps.is_key.well_formed) old new may.keeps
+    starves c.boards_keep.ensures.held key (c.rules_are_lawful.ensures key.graphs may.keeps.is_key.valid.valid) old new may.keeps
     (subst (λ (x : Core). Lasts old.table x.table) (sym e) kept.lasts)
     (subst (λ (x : Core). LendsAsBefore old.table x.table) (sym e) kept.lent)
     (ap (λ (x : Core). x.running.items) e ∙ ap (λ rs. rs.items) kept.running_is) (ap (λ (x : Core). x.journal.entries) e ∙ kept.entries_are)

@@ -26,7 +26,7 @@ open_way-requires t c =
     let b = c.in-Call.ensures in
     let is = subst (λ (r : Row). task r.job 0 ≡ Some (Call b.2.0)) (the_same (row_at mid child) b.0 o.child b.1 o.added) b.2.1 in
     let one = c.boards_keep.ensures.one_more_opened in
-    let less = rank_falls one c.tables_suit.ensures.opens c.tables_suit.ensures.opening c.calls_are_fit.ensures.first key m old at calls child mid o (c.rules_are_lawful.ensures key.graphs calls.suits.is_key.in_range calls.suits.is_key.well_formed) in
+    let less = rank_falls one c.tables_suit.ensures.opens c.tables_suit.ensures.opening c.calls_are_fit.ensures.first key m old at calls child mid o (c.rules_are_lawful.ensures key.graphs calls.suits.is_key.valid.valid) in
     let here : rank_of mid (row_at mid child) ≡ rank mid.graphs.graphs o.child.job.firing = ap (rank_of mid) o.added in
     let there : rank_of old (row_at old at.row) ≡ rank old.graphs.graphs o.upper.job.firing = ap (rank_of old) o.here in (
       omega (arith, c.decreases, less, here, there),

@@ -28,4 +28,4 @@ returns-in_err-run-in-Some-clause-wants c =
     on_err_by c.from_residual.result ((key : Key) (taken : List Step) → HasNoWork key taken old → PicksInNew key (state_after key taken) w)
     (λ key taken h.
     let is_key = h.stands.suits.is_key in
-    call_wants c.paths_stay.ensures.apart key taken old h.stands c.workers_are_answered.ensures.picked (c.rules_are_lawful.ensures key.graphs is_key.in_range is_key.well_formed) h.none w c.in-Some.asked c.in-Some.ensures)
+    call_wants c.paths_stay.ensures.apart key taken old h.stands c.workers_are_answered.ensures.picked (c.rules_are_lawful.ensures key.graphs is_key.valid.valid) h.none w c.in-Some.asked c.in-Some.ensures)

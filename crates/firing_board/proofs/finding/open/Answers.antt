@@ -3,6 +3,7 @@ use Rattle.job_preparing.specs.Handing.{mark_at}
 use Rattle.job_rules.specs.Meant.{IsFit}
 use Rattle.open_job.specs.View.{OpenView, compilation_of}
 use Rattle.pisdf_meaning.specs.declared.firing.Firing.{Firing}
+use Rattle.pisdf_model.specs.Valid.{AreValid}
 use Rattle.pisdf_model.specs.declared.graph.Graphs.{Graphs}
 use Rattle.board_journal.specs.View.{JournalView}
 use Rattle.job_table.specs.View.{row_at}
@@ -10,6 +11,11 @@ use Rattle.job_table.specs.declared.row.Row.{Row}
 use Rattle.firing_board.proofs.Rows.{opens_lasts, spoils_lasts, the_same}
 use Rattle.firing_board.proofs.Openings.{numbered_so}
 use Rattle.firing_board.proofs.finding.open.Goals as goal
+
+pub open_child-requires-clause-valid : goal.open_child-requires-clause-valid
+open_child-requires-clause-valid c =
+    let suits = c.requires.calls.suits in
+    subst (λ (g : Graphs). AreValid g) (sym suits.graphs_are) suits.is_key.valid.valid
 
 pub open_child-requires-clause-offered : goal.open_child-requires-clause-offered
 open_child-requires-clause-offered c =

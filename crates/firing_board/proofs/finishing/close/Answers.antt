@@ -9,7 +9,7 @@ returns-then-not-quiet-clause-closed c =
     let here = c.job.ensures in
     record {
       end = None;
-      closes = stops (λ key is. c.rules_are_lawful.ensures key.graphs is.in_range is.well_formed) c.boards_keep.ensures.stop c.args.core.now.table c.args.row here.0 here.1
+      closes = stops (λ key is. c.rules_are_lawful.ensures key.graphs is.valid.valid) c.boards_keep.ensures.stop c.args.core.now.table c.args.row here.0 here.1
           (λ quiet. let told = c.quiet.ensures.1 (subst IsQuiet (sym here.2) quiet) in let not = c.if-not-quiet.true in cc);
       end_is = refl;
     }

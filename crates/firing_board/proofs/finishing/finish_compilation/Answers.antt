@@ -26,7 +26,7 @@ leave-run-requires-clause-runs c =
       tell = c.entries_tell_steps.ensures.steps;
       suit = c.tables_suit.ensures.finish;
       marks = c.tables_suit.ensures.marks;
-      lawful = c.rules_are_lawful.ensures key.graphs may.keeps.is_key.in_range may.keeps.is_key.well_formed;
+      lawful = c.rules_are_lawful.ensures key.graphs may.keeps.is_key.valid.valid;
     } in
     let i = compilation key c.args.end may.runs.work may.runs.so in
     let runs = runs_at laws.tell key old c.args.starved may.keeps w (MayEnd key c.args.end) may.runs in
@@ -49,7 +49,7 @@ leave-run-requires-clause-room c =
       tell = c.entries_tell_steps.ensures.steps;
       suit = c.tables_suit.ensures.finish;
       marks = c.tables_suit.ensures.marks;
-      lawful = c.rules_are_lawful.ensures key.graphs may.keeps.is_key.in_range may.keeps.is_key.well_formed;
+      lawful = c.rules_are_lawful.ensures key.graphs may.keeps.is_key.valid.valid;
     } in
     let i = compilation key c.args.end may.runs.work may.runs.so in
     let runs = runs_at laws.tell key old c.args.starved may.keeps w (MayEnd key c.args.end) may.runs in
@@ -71,7 +71,7 @@ returns-then-starved-clause-finished c = λ key was.
       tell = c.entries_tell_steps.ensures.steps;
       suit = c.tables_suit.ensures.finish;
       marks = c.tables_suit.ensures.marks;
-      lawful = c.rules_are_lawful.ensures key.graphs may.keeps.is_key.in_range may.keeps.is_key.well_formed;
+      lawful = c.rules_are_lawful.ensures key.graphs may.keeps.is_key.valid.valid;
     } in
     let i = compilation key c.args.end may.runs.work may.runs.so in
     let runs = runs_at laws.tell key old c.args.starved may.keeps w (MayEnd key c.args.end) may.runs in
@@ -94,7 +94,7 @@ take_compilation-requires-clause-item c =
       tell = c.entries_tell_steps.ensures.steps;
       suit = c.tables_suit.ensures.finish;
       marks = c.tables_suit.ensures.marks;
-      lawful = c.rules_are_lawful.ensures key.graphs may.keeps.is_key.in_range may.keeps.is_key.well_formed;
+      lawful = c.rules_are_lawful.ensures key.graphs may.keeps.is_key.valid.valid;
     } in
     let i = compilation key c.args.end may.runs.work may.runs.so in
     let runs = runs_at laws.tell key old false may.keeps w (MayEnd key c.args.end) may.runs in
@@ -117,7 +117,7 @@ take_compilation-requires-clause-room c =
       tell = c.entries_tell_steps.ensures.steps;
       suit = c.tables_suit.ensures.finish;
       marks = c.tables_suit.ensures.marks;
-      lawful = c.rules_are_lawful.ensures key.graphs may.keeps.is_key.in_range may.keeps.is_key.well_formed;
+      lawful = c.rules_are_lawful.ensures key.graphs may.keeps.is_key.valid.valid;
     } in
     let i = compilation key c.args.end may.runs.work may.runs.so in
     let runs = runs_at laws.tell key old false may.keeps w (MayEnd key c.args.end) may.runs in
@@ -140,7 +140,7 @@ close-requires c =
       tell = c.entries_tell_steps.ensures.steps;
       suit = c.tables_suit.ensures.finish;
       marks = c.tables_suit.ensures.marks;
-      lawful = c.rules_are_lawful.ensures key.graphs may.keeps.is_key.in_range may.keeps.is_key.well_formed;
+      lawful = c.rules_are_lawful.ensures key.graphs may.keeps.is_key.valid.valid;
     } in
     let i = compilation key c.args.end may.runs.work may.runs.so in
     let runs = runs_at laws.tell key old false may.keeps w (MayEnd key c.args.end) may.runs in
@@ -165,7 +165,7 @@ returns-in-Ok-clause-finished c = λ key was.
       tell = c.entries_tell_steps.ensures.steps;
       suit = c.tables_suit.ensures.finish;
       marks = c.tables_suit.ensures.marks;
-      lawful = c.rules_are_lawful.ensures key.graphs may.keeps.is_key.in_range may.keeps.is_key.well_formed;
+      lawful = c.rules_are_lawful.ensures key.graphs may.keeps.is_key.valid.valid;
     } in
     let i = compilation key c.args.end may.runs.work may.runs.so in
     let runs = runs_at laws.tell key old false may.keeps w (MayEnd key c.args.end) may.runs in
@@ -197,7 +197,7 @@ returns-in-Err-clause-finished c = λ key was.
       tell = c.entries_tell_steps.ensures.steps;
       suit = c.tables_suit.ensures.finish;
       marks = c.tables_suit.ensures.marks;
-      lawful = c.rules_are_lawful.ensures key.graphs may.keeps.is_key.in_range may.keeps.is_key.well_formed;
+      lawful = c.rules_are_lawful.ensures key.graphs may.keeps.is_key.valid.valid;
     } in
     let i = compilation key c.args.end may.runs.work may.runs.so in
     let runs = runs_at laws.tell key old false may.keeps w (MayEnd key c.args.end) may.runs in

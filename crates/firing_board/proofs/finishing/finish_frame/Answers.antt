@@ -20,7 +20,7 @@ take_back-row-requires-clause-item c =
     let may = c.requires.1 in
     let old = c.args.core.now in
     let w = c.args.worker in
-    let lawful = c.rules_are_lawful.ensures key.graphs may.keeps.is_key.in_range may.keeps.is_key.well_formed in
+    let lawful = c.rules_are_lawful.ensures key.graphs may.keeps.is_key.valid.valid in
     let runs = runs_at c.entries_tell_steps.ensures.steps key old c.args.starved may.keeps w (MayComeBack key c.args.frame c.args.answer (IsOk c.args.answer)) may.runs in
     may_return key (state_after key may.keeps.taken) old w may.runs.work (mine c.boards_keep.ensures.held key lawful c.args.starved old may.keeps w may.runs.is_worker may.runs.work runs) c.args.frame (IsOk c.args.answer) may.lent may.runs.so.sound_so
 
@@ -30,7 +30,7 @@ take_back-row-requires-clause-room c =
     let may = c.requires.1 in
     let old = c.args.core.now in
     let w = c.args.worker in
-    let lawful = c.rules_are_lawful.ensures key.graphs may.keeps.is_key.in_range may.keeps.is_key.well_formed in
+    let lawful = c.rules_are_lawful.ensures key.graphs may.keeps.is_key.valid.valid in
     let runs = runs_at c.entries_tell_steps.ensures.steps key old c.args.starved may.keeps w (MayComeBack key c.args.frame c.args.answer (IsOk c.args.answer)) may.runs in
     has_room key (state_after key may.keeps.taken) old c.args.starved may.keeps w may.runs.work (mine c.boards_keep.ensures.held key lawful c.args.starved old may.keeps w may.runs.is_worker may.runs.work runs)
 
@@ -48,7 +48,7 @@ close-requires c =
       tell = c.entries_tell_steps.ensures.steps;
       suit = c.tables_suit.ensures.finish;
       marks = c.tables_suit.ensures.marks;
-      lawful = c.rules_are_lawful.ensures key.graphs may.keeps.is_key.in_range may.keeps.is_key.well_formed;
+      lawful = c.rules_are_lawful.ensures key.graphs may.keeps.is_key.valid.valid;
     } in
     let runs = runs_at laws.tell key old false may.keeps w (MayComeBack key c.args.frame c.args.answer (IsOk c.args.answer)) may.runs in
     let a = mine laws.held key laws.lawful false old may.keeps w may.runs.is_worker may.runs.work runs in
@@ -68,7 +68,7 @@ returns-then-starved-clause-finished c = λ key may.
       tell = c.entries_tell_steps.ensures.steps;
       suit = c.tables_suit.ensures.finish;
       marks = c.tables_suit.ensures.marks;
-      lawful = c.rules_are_lawful.ensures key.graphs may.keeps.is_key.in_range may.keeps.is_key.well_formed;
+      lawful = c.rules_are_lawful.ensures key.graphs may.keeps.is_key.valid.valid;
     } in
     let runs = runs_at laws.tell key old c.args.starved may.keeps w (MayComeBack key c.args.frame c.args.answer (IsOk c.args.answer)) may.runs in
     let a = mine laws.held key laws.lawful c.args.starved old may.keeps w may.runs.is_worker may.runs.work runs in
@@ -92,7 +92,7 @@ returns-else-starved-clause-finished c = λ key was.
       tell = c.entries_tell_steps.ensures.steps;
       suit = c.tables_suit.ensures.finish;
       marks = c.tables_suit.ensures.marks;
-      lawful = c.rules_are_lawful.ensures key.graphs may.keeps.is_key.in_range may.keeps.is_key.well_formed;
+      lawful = c.rules_are_lawful.ensures key.graphs may.keeps.is_key.valid.valid;
     } in
     let runs = runs_at laws.tell key old false may.keeps w P may.runs in
     let a = mine laws.held key laws.lawful false old may.keeps w may.runs.is_worker may.runs.work runs in
@@ -132,7 +132,7 @@ returns-else-starved-clause-live c = λ live after key was.
       tell = c.entries_tell_steps.ensures.steps;
       suit = c.tables_suit.ensures.finish;
       marks = c.tables_suit.ensures.marks;
-      lawful = c.rules_are_lawful.ensures key.graphs may.keeps.is_key.in_range may.keeps.is_key.well_formed;
+      lawful = c.rules_are_lawful.ensures key.graphs may.keeps.is_key.valid.valid;
     } in
     let runs = runs_at laws.tell key old false may.keeps w P may.runs in
     let a = mine laws.held key laws.lawful false old may.keeps w may.runs.is_worker may.runs.work runs in

@@ -33,7 +33,7 @@ start_job-requires-clause-sources c =
     let made_with : Firing → List Configured → Compilation → Fixed = λ d before compilation. record { graphs = gs; firing = d; left = before; compilation = compilation; set = c.args.set; place = c.firing-firing.result.now.graph; path = c.in_ok-own.own.path; keeps = c.in_ok-parts.parts.keeps.items; names = c.in_ok-parts.parts.names.items; rows = c.in_ok-own.own.rows; exports = c.in_ok-own.own.exports; state = c.in_ok-parts.parts.state } in
     let f = made_with firing left (arc_value c.args.compiled) in
     let suits = suits_here gs c.args.preparing.now.graphs c.requires.graphs firing left c.requires.suits in
-    sources_asked f (arc_value c.args.compiled).workers c.args.values c.requires.in_range c.requires.well_formed c.requires.fit suits c.requires.compiled c.in_ok-lists.lists.sources c.in_ok-lists.lists.stored given
+    sources_asked f (arc_value c.args.compiled).workers c.args.values c.requires.valid c.requires.fit suits c.requires.compiled c.in_ok-lists.lists.sources c.in_ok-lists.lists.stored given
 
 pub start_job-requires-clause-stored : goal.start_job-requires-clause-stored
 start_job-requires-clause-stored c =
@@ -46,7 +46,7 @@ start_job-requires-clause-stored c =
     let made_with : Firing → List Configured → Compilation → Fixed = λ d before compilation. record { graphs = gs; firing = d; left = before; compilation = compilation; set = c.args.set; place = c.firing-firing.result.now.graph; path = c.in_ok-own.own.path; keeps = c.in_ok-parts.parts.keeps.items; names = c.in_ok-parts.parts.names.items; rows = c.in_ok-own.own.rows; exports = c.in_ok-own.own.exports; state = c.in_ok-parts.parts.state } in
     let f = made_with firing left (arc_value c.args.compiled) in
     let suits = suits_here gs c.args.preparing.now.graphs c.requires.graphs firing left c.requires.suits in
-    stored_asked f (arc_value c.args.compiled).workers c.args.values c.requires.in_range c.requires.well_formed c.requires.fit suits c.requires.compiled c.in_ok-lists.lists.sources c.in_ok-lists.lists.stored given
+    stored_asked f (arc_value c.args.compiled).workers c.args.values c.requires.valid c.requires.fit suits c.requires.compiled c.in_ok-lists.lists.sources c.in_ok-lists.lists.stored given
 
 pub invariant_of-result : goal.invariant_of-result
 invariant_of-result c =
@@ -64,11 +64,11 @@ invariant_of-result c =
     let nodes_are : c.items-4.result.now ≡ (arc_value c.args.compiled).graph.nodes = c.items-4.ensures ∙ ap (λ (x : SingleRate). x.nodes) (c.graph.ensures.value ∙ ap (λ (x : Compilation). x.graph) c.deref-3.ensures) in
     let stages_are : c.in_ok-free.free.stages.items ≡ replicate (length (arc_value c.args.compiled).graph.nodes) Free = c.in_ok-free.ensures.stages ∙ ap (λ (l : List Node). replicate (length l) Free) nodes_are in
     let kinds_are : c.in_ok-lists.lists.kinds ≡ map kind_of_actor (acting (graph_of gs.graphs firing)) = c.in_ok-lists.ensures.kinds ∙ (λ k. map kind_of_actor (acting (here k))) in
-    let values_same : c.items.result.now ≡ values_of f = c.items.ensures ∙ sym (values_are f (arc_value c.args.compiled).workers c.args.values c.requires.in_range c.requires.well_formed c.requires.fit suits c.requires.compiled) in
+    let values_same : c.items.result.now ≡ values_of f = c.items.ensures ∙ sym (values_are f (arc_value c.args.compiled).workers c.args.values c.requires.valid c.requires.fit suits c.requires.compiled) in
     let parts : AreParts f = record {
       place_is = ap (λ (d : Firing). d.graph) c.firing-firing.ensures;
       path_is = c.in_ok-own.ensures.path ∙ ap (λ (d : Firing). d.path) c.firing-firing.ensures;
-      set_is = set_is f (arc_value c.args.compiled).workers c.args.values c.requires.in_range c.requires.well_formed c.requires.fit suits c.requires.compiled;
+      set_is = set_is f (arc_value c.args.compiled).workers c.args.values c.requires.valid c.requires.fit suits c.requires.compiled;
       keeps_are = c.in_ok-parts.ensures.keeps ∙ (λ k. map (has_state (all_is k)) (acting (here k)));
       names_are = c.in_ok-parts.ensures.names ∙ (λ k. map (λ (a : Actor). a.name) (acting (here k)));
       rows_are = c.in_ok-own.ensures.rows ∙ (λ k. chosen_rows (c.firing-firing.ensures k).path (values_same k) 0 (here k).params);
@@ -84,7 +84,7 @@ invariant_of-result c =
     let rows_are : (a : ℕ) → row_at c.in_ok-free.free.traces.items a ≡ replicate (call_count c.in_ok-job.field-0.job.kinds (arc_value c.args.compiled).counts a) [] =
     λ a. c.in_ok-free.ensures.traces a ∙ ap₂ (λ kinds counts. let none : List (List TraceRow) = replicate (call_count kinds counts a) [] in none) kinds_same counts_are in
     subst (λ (x : Fixed). KeepsAll x c.in_ok-free.free.stages.items c.in_ok-job.field-0.held.items c.in_ok-free.free.traces.items c.in_ok-job.field-0.job) same
-    (keeps_at_start f (arc_value c.args.compiled).workers c.args.values c.requires.in_range c.requires.well_formed c.requires.fit suits c.requires.compiled c.in_ok-lists.lists.sources c.in_ok-lists.lists.stored given c.in_ok-lists.lists.kinds c.in_ok-lists.lists.args kinds_are c.in_ok-lists.ensures.args
+    (keeps_at_start f (arc_value c.args.compiled).workers c.args.values c.requires.valid c.requires.fit suits c.requires.compiled c.in_ok-lists.lists.sources c.in_ok-lists.lists.stored given c.in_ok-lists.lists.kinds c.in_ok-lists.lists.args kinds_are c.in_ok-lists.ensures.args
     c.in_ok-job.field-0.job started c.in_ok-job.ensures.given.0 c.in_ok-job.ensures.free c.in_ok-free.free.stages.items stages_are c.in_ok-job.field-0.held.items c.in_ok-job.ensures.nothing c.in_ok-job.ensures.few c.in_ok-job.ensures.room c.in_ok-free.free.traces.items (c.in_ok-free.ensures.many ∙ ap length counts_are) rows_are parts)
 
 pub returns-clause-free : goal.returns-clause-free
@@ -100,7 +100,7 @@ returns-clause-free c =
     let nodes_are : c.items-4.result.now ≡ (arc_value c.args.compiled).graph.nodes = c.items-4.ensures ∙ ap (λ (x : SingleRate). x.nodes) (c.graph.ensures.value ∙ ap (λ (x : Compilation). x.graph) c.deref-3.ensures) in
     let stages_are : c.in_ok-free.free.stages.items ≡ replicate (length (arc_value c.args.compiled).graph.nodes) Free = c.in_ok-free.ensures.stages ∙ ap (λ (l : List Node). replicate (length l) Free) nodes_are in
     subst (λ (x : Fixed). (view_with x c.in_ok-free.free.stages.items).marks ≡ replicate (length (nodes_of (view_with x c.in_ok-free.free.stages.items))) mark.Free) same
-    (marks_start f (arc_value c.args.compiled).workers c.args.values c.requires.in_range c.requires.well_formed c.requires.fit suits c.requires.compiled c.in_ok-free.free.stages.items stages_are)
+    (marks_start f (arc_value c.args.compiled).workers c.args.values c.requires.valid c.requires.fit suits c.requires.compiled c.in_ok-free.free.stages.items stages_are)
 
 pub returns-clause-nothing : goal.returns-clause-nothing
 returns-clause-nothing c =
@@ -115,4 +115,4 @@ returns-clause-nothing c =
     let nodes_are : c.items-4.result.now ≡ (arc_value c.args.compiled).graph.nodes = c.items-4.ensures ∙ ap (λ (x : SingleRate). x.nodes) (c.graph.ensures.value ∙ ap (λ (x : Compilation). x.graph) c.deref-3.ensures) in
     let stages_are : c.in_ok-free.free.stages.items ≡ replicate (length (arc_value c.args.compiled).graph.nodes) Free = c.in_ok-free.ensures.stages ∙ ap (λ (l : List Node). replicate (length l) Free) nodes_are in
     subst (λ (x : Fixed). (view_with x c.in_ok-free.free.stages.items).lent ≡ replicate (length (nodes_of (view_with x c.in_ok-free.free.stages.items))) None) same
-    (lents_start f (arc_value c.args.compiled).workers c.args.values c.requires.in_range c.requires.well_formed c.requires.fit suits c.requires.compiled c.in_ok-free.free.stages.items stages_are)
+    (lents_start f (arc_value c.args.compiled).workers c.args.values c.requires.valid c.requires.fit suits c.requires.compiled c.in_ok-free.free.stages.items stages_are)

@@ -10,9 +10,9 @@ use Rattle.job_table.proofs.laws.calls_are_fit.Goals as goal
 
 laws_of : (c : goal.After-edges_have_ports) → JobsHaveLaws
 laws_of c = λ key is. record {
-  lawful = c.rules_are_lawful.ensures key.graphs is.in_range is.well_formed;
-  meant = c.jobs_mean_firings.ensures key.signatures key.graphs is.in_range is.well_formed is.kernels is.lengths;
-  fit = (c.runnable.ensures key.signatures key.graphs is.in_range is.well_formed is.kernels).fit;
+  lawful = c.rules_are_lawful.ensures key.graphs is.valid.valid;
+  meant = c.jobs_mean_firings.ensures key.signatures key.graphs is.valid is.lengths;
+  fit = (c.runnable.ensures key.signatures key.graphs is.valid).fit;
   all = c.graphs_numbered.ensures.all;
   in_order = c.graphs_numbered.ensures.in_order;
   stages = c.graphs_numbered.ensures.stages;

@@ -17,15 +17,15 @@ pub returns-clause-keys : goal.returns-clause-keys
 returns-clause-keys c = keys_are
 
 pub returns-clause-start : goal.returns-clause-start
-returns-clause-start c = λ key v is s. start_suits key (c.rules_are_lawful.ensures key.graphs is.in_range is.well_formed) v is s
+returns-clause-start c = λ key v is s. start_suits key (c.rules_are_lawful.ensures key.graphs is.valid.valid) v is s
 
 pub returns-clause-opening : goal.returns-clause-opening
-returns-clause-opening c = λ key m k item l old new o suits. open_suits key (c.rules_are_lawful.ensures key.graphs suits.is_key.in_range suits.is_key.well_formed) m k item l old new o suits
+returns-clause-opening c = λ key m k item l old new o suits. open_suits key (c.rules_are_lawful.ensures key.graphs suits.is_key.valid.valid) m k item l old new o suits
 
 pub returns-clause-claim : goal.returns-clause-claim
 returns-clause-claim c = λ key m k item old new o offered suits.
-    claim_suits key (c.rules_are_lawful.ensures key.graphs suits.is_key.in_range suits.is_key.well_formed) m k item _ old new o suits offered.work refl offered.free offered.task_is
+    claim_suits key (c.rules_are_lawful.ensures key.graphs suits.is_key.valid.valid) m k item _ old new o suits offered.work refl offered.free offered.task_is
 
 pub returns-clause-finish : goal.returns-clause-finish
 returns-clause-finish c = λ key m k item answer old new o busy suits.
-    finish_suits key (c.rules_are_lawful.ensures key.graphs suits.is_key.in_range suits.is_key.well_formed) m k item _ old new o suits answer refl busy
+    finish_suits key (c.rules_are_lawful.ensures key.graphs suits.is_key.valid.valid) m k item _ old new o suits answer refl busy

@@ -6,22 +6,16 @@ use Rattle.job_preparing.specs.declared.compiling.CompileEnd.{CompileEnd}
 use Rattle.job_rules.specs.Items.{Prepared}
 use Rattle.job_rules.specs.Meant.{IsFit}
 use Rattle.job_rules.specs.Words.{Schedules}
-use Rattle.pisdf_model.specs.Range.{InRange}
-use Rattle.pisdf_model.specs.WellFormed.{WellFormed}
+use Rattle.pisdf_model.specs.Valid.{AreValid}
 use Rattle.pisdf_model.specs.declared.graph.Graphs.{Graphs}
 use Rattle.open_job.specs.Calls.{compile_answer, nodes_by}
 use Rattle.open_job.proofs.Compiling.{many, runs_for}
 use Rattle.open_job.proofs.going.next_stage.Goals as goal
 
-pub run-requires-clause-in_range : goal.run-requires-clause-in_range
-run-requires-clause-in_range c =
+pub run-requires-clause-valid : goal.run-requires-clause-valid
+run-requires-clause-valid c =
     let same : arc_value c.in_ok-graphs-in-Ready.graphs ≡ c.args.configuring.now.graphs = c.in_ok-graphs-in-Ready.ensures ∙ c.graphs.ensures in
-    subst InRange (sym same) c.requires.range
-
-pub run-requires-clause-well_formed : goal.run-requires-clause-well_formed
-run-requires-clause-well_formed c =
-    let same : arc_value c.in_ok-graphs-in-Ready.graphs ≡ c.args.configuring.now.graphs = c.in_ok-graphs-in-Ready.ensures ∙ c.graphs.ensures in
-    subst WellFormed (sym same) c.requires.well
+    subst (λ (x : Graphs). AreValid x) (sym same) c.requires.valid
 
 pub run-requires-clause-fit : goal.run-requires-clause-fit
 run-requires-clause-fit c =

@@ -22,10 +22,13 @@ firing_so graphs key g found firing one two here is =
     is ∙ (ap (λ (x : Graphs). top_firing g x.top key.ins key.delays) (one ∙ two)
     ∙ ap (λ (x : Graph). top_firing x key.graphs.top key.ins key.delays) (sym here ∙ ap (λ (x : Graphs). Rattle.std.specs.Prelude.slice_index_or x.graphs x.top no_graph) two))
 
+pub start_core-requires-clause-valid : goal.start_core-requires-clause-valid
+start_core-requires-clause-valid c = c.requires.valid.valid
+
 pub start_core-requires-clause-inherited : goal.start_core-requires-clause-inherited
 start_core-requires-clause-inherited c =
     let key = key_from (arc_value c.args.graphs) c.args.signatures.now c.args.delays.now c.args.ins.now c.args.workers in
-    let run = c.runnable.ensures key.signatures key.graphs c.requires.in_range c.requires.well_formed c.requires.kernels in
+    let run = c.runnable.ensures key.signatures key.graphs c.requires.valid in
     let at : c.in_ok-firing.firing.graph ≡ key.graphs.top = ap (λ (f : Firing). f.graph) c.in_ok-firing.ensures ∙ ap (λ (x : Graphs). x.top) c.deref-3.ensures in
     record {
       one_each = ap (λ (f : Firing). length f.inherited) c.in_ok-firing.ensures ∙ (sym run.none_inherited ∙ ap (λ (p : ℕ). inherited_count (Rattle.std.specs.Prelude.slice_get key.graphs.graphs p)) (sym at));

@@ -26,7 +26,7 @@ returns-then-not-is_quiet-clause-closed t c =
     let k = c.args.row in
     let read : c.index.result.now ≡ get_or now.rows k c.index.result.now = c.index.ensures ∙ ap (λ (x : TableView). get_or x.rows k c.index.result.now) c.self.view_is in
     let is = slot_row now k c.requires.row c.index.result.now c.requires.here read in
-    stops (λ key is. c.rules_are_lawful.ensures key.graphs is.in_range is.well_formed) c.boards_keep.ensures.stop now k c.requires.row c.requires.here
+    stops (λ key is. c.rules_are_lawful.ensures key.graphs is.valid.valid) c.boards_keep.ensures.stop now k c.requires.row c.requires.here
     (unquiet_by c.requires.row c.index.result.now c.is_quiet.result is c.is_quiet.ensures (λ e. let f = c.if-not-is_quiet.true in cc))
 
 pub outcome-requires : goal.outcome-requires
@@ -55,7 +55,7 @@ returns-in_err-end-clause-stay t c =
     let here : row_at now k ≡ Some row = c.requires.here ∙ (sym (slot_row now k c.requires.row slot c.requires.here read) ∙ c.take_row-job.ensures.taken) in
     let first = c.index.result.now in
     let quiet = quiet_by row first c.is_quiet.result (slot_row now k row first here (c.index.ensures ∙ ap (λ (x : TableView). get_or x.rows k first) e)) c.is_quiet.ensures c.if-not-is_quiet.false in
-    let lawful : AllLawful = λ key is. c.rules_are_lawful.ensures key.graphs is.in_range is.well_formed in
+    let lawful : AllLawful = λ key is. c.rules_are_lawful.ensures key.graphs is.valid.valid in
     let rest : TableView = record { graphs = arc_value s.graphs; workers = s.workers; rows = set s.rows.items k c.take_row-job.new.slot } in
     let graphs : rest.graphs ≡ now.graphs = ap (λ (x : TableView). x.graphs) e in
     let workers : rest.workers ≡ now.workers = ap (λ (x : TableView). x.workers) e in
@@ -76,7 +76,7 @@ returns-in-None-clause-closed t c =
     let here : row_at now k ≡ Some row = c.requires.here ∙ (sym (slot_row now k c.requires.row slot c.requires.here read) ∙ c.take_row-job.ensures.taken) in
     let first = c.index.result.now in
     let quiet = quiet_by row first c.is_quiet.result (slot_row now k row first here (c.index.ensures ∙ ap (λ (x : TableView). get_or x.rows k first) e)) c.is_quiet.ensures c.if-not-is_quiet.false in
-    let lawful : AllLawful = λ key is. c.rules_are_lawful.ensures key.graphs is.in_range is.well_formed in
+    let lawful : AllLawful = λ key is. c.rules_are_lawful.ensures key.graphs is.valid.valid in
     let rest : TableView = record { graphs = arc_value s.graphs; workers = s.workers; rows = set s.rows.items k c.take_row-job.new.slot } in
     let graphs : rest.graphs ≡ now.graphs = ap (λ (x : TableView). x.graphs) e in
     let workers : rest.workers ≡ now.workers = ap (λ (x : TableView). x.workers) e in
@@ -97,7 +97,7 @@ returns-in-None-clause-stay t c =
     let here : row_at now k ≡ Some row = c.requires.here ∙ (sym (slot_row now k c.requires.row slot c.requires.here read) ∙ c.take_row-job.ensures.taken) in
     let first = c.index.result.now in
     let quiet = quiet_by row first c.is_quiet.result (slot_row now k row first here (c.index.ensures ∙ ap (λ (x : TableView). get_or x.rows k first) e)) c.is_quiet.ensures c.if-not-is_quiet.false in
-    let lawful : AllLawful = λ key is. c.rules_are_lawful.ensures key.graphs is.in_range is.well_formed in
+    let lawful : AllLawful = λ key is. c.rules_are_lawful.ensures key.graphs is.valid.valid in
     let rest : TableView = record { graphs = arc_value s.graphs; workers = s.workers; rows = set s.rows.items k c.take_row-job.new.slot } in
     let graphs : rest.graphs ≡ now.graphs = ap (λ (x : TableView). x.graphs) e in
     let workers : rest.workers ≡ now.workers = ap (λ (x : TableView). x.workers) e in
@@ -118,7 +118,7 @@ index_mut-requires-in-Some t c =
     let here : row_at now k ≡ Some row = c.requires.here ∙ (sym (slot_row now k c.requires.row slot c.requires.here read) ∙ c.take_row-job.ensures.taken) in
     let first = c.index.result.now in
     let quiet = quiet_by row first c.is_quiet.result (slot_row now k row first here (c.index.ensures ∙ ap (λ (x : TableView). get_or x.rows k first) e)) c.is_quiet.ensures c.if-not-is_quiet.false in
-    let lawful : AllLawful = λ key is. c.rules_are_lawful.ensures key.graphs is.in_range is.well_formed in
+    let lawful : AllLawful = λ key is. c.rules_are_lawful.ensures key.graphs is.valid.valid in
     let rest : TableView = record { graphs = arc_value s.graphs; workers = s.workers; rows = set s.rows.items k c.take_row-job.new.slot } in
     let graphs : rest.graphs ≡ now.graphs = ap (λ (x : TableView). x.graphs) e in
     let workers : rest.workers ≡ now.workers = ap (λ (x : TableView). x.workers) e in
@@ -145,7 +145,7 @@ calling_item-requires t c =
     let here : row_at now k ≡ Some row = c.requires.here ∙ (sym (slot_row now k c.requires.row slot c.requires.here read) ∙ c.take_row-job.ensures.taken) in
     let first = c.index.result.now in
     let quiet = quiet_by row first c.is_quiet.result (slot_row now k row first here (c.index.ensures ∙ ap (λ (x : TableView). get_or x.rows k first) e)) c.is_quiet.ensures c.if-not-is_quiet.false in
-    let lawful : AllLawful = λ key is. c.rules_are_lawful.ensures key.graphs is.in_range is.well_formed in
+    let lawful : AllLawful = λ key is. c.rules_are_lawful.ensures key.graphs is.valid.valid in
     let rest : TableView = record { graphs = arc_value s.graphs; workers = s.workers; rows = set s.rows.items k c.take_row-job.new.slot } in
     let graphs : rest.graphs ≡ now.graphs = ap (λ (x : TableView). x.graphs) e in
     let workers : rest.workers ≡ now.workers = ap (λ (x : TableView). x.workers) e in
@@ -169,7 +169,7 @@ finish_call_in-requires t c =
     let here : row_at now k ≡ Some row = c.requires.here ∙ (sym (slot_row now k c.requires.row slot c.requires.here read) ∙ c.take_row-job.ensures.taken) in
     let first = c.index.result.now in
     let quiet = quiet_by row first c.is_quiet.result (slot_row now k row first here (c.index.ensures ∙ ap (λ (x : TableView). get_or x.rows k first) e)) c.is_quiet.ensures c.if-not-is_quiet.false in
-    let lawful : AllLawful = λ key is. c.rules_are_lawful.ensures key.graphs is.in_range is.well_formed in
+    let lawful : AllLawful = λ key is. c.rules_are_lawful.ensures key.graphs is.valid.valid in
     let rest : TableView = record { graphs = arc_value s.graphs; workers = s.workers; rows = set s.rows.items k c.take_row-job.new.slot } in
     let graphs : rest.graphs ≡ now.graphs = ap (λ (x : TableView). x.graphs) e in
     let workers : rest.workers ≡ now.workers = ap (λ (x : TableView). x.workers) e in
@@ -196,7 +196,7 @@ close_from-requires t c =
     let here : row_at now k ≡ Some row = c.requires.here ∙ (sym (slot_row now k c.requires.row slot c.requires.here read) ∙ c.take_row-job.ensures.taken) in
     let first = c.index.result.now in
     let quiet = quiet_by row first c.is_quiet.result (slot_row now k row first here (c.index.ensures ∙ ap (λ (x : TableView). get_or x.rows k first) e)) c.is_quiet.ensures c.if-not-is_quiet.false in
-    let lawful : AllLawful = λ key is. c.rules_are_lawful.ensures key.graphs is.in_range is.well_formed in
+    let lawful : AllLawful = λ key is. c.rules_are_lawful.ensures key.graphs is.valid.valid in
     let rest : TableView = record { graphs = arc_value s.graphs; workers = s.workers; rows = set s.rows.items k c.take_row-job.new.slot } in
     let graphs : rest.graphs ≡ now.graphs = ap (λ (x : TableView). x.graphs) e in
     let workers : rest.workers ≡ now.workers = ap (λ (x : TableView). x.workers) e in
@@ -224,7 +224,7 @@ returns-clause-closed t c =
     let here : row_at now k ≡ Some row = c.requires.here ∙ (sym (slot_row now k c.requires.row slot c.requires.here read) ∙ c.take_row-job.ensures.taken) in
     let first = c.index.result.now in
     let quiet = quiet_by row first c.is_quiet.result (slot_row now k row first here (c.index.ensures ∙ ap (λ (x : TableView). get_or x.rows k first) e)) c.is_quiet.ensures c.if-not-is_quiet.false in
-    let lawful : AllLawful = λ key is. c.rules_are_lawful.ensures key.graphs is.in_range is.well_formed in
+    let lawful : AllLawful = λ key is. c.rules_are_lawful.ensures key.graphs is.valid.valid in
     let rest : TableView = record { graphs = arc_value s.graphs; workers = s.workers; rows = set s.rows.items k c.take_row-job.new.slot } in
     let graphs : rest.graphs ≡ now.graphs = ap (λ (x : TableView). x.graphs) e in
     let workers : rest.workers ≡ now.workers = ap (λ (x : TableView). x.workers) e in
@@ -252,7 +252,7 @@ returns-clause-stay t c =
     let here : row_at now k ≡ Some row = c.requires.here ∙ (sym (slot_row now k c.requires.row slot c.requires.here read) ∙ c.take_row-job.ensures.taken) in
     let first = c.index.result.now in
     let quiet = quiet_by row first c.is_quiet.result (slot_row now k row first here (c.index.ensures ∙ ap (λ (x : TableView). get_or x.rows k first) e)) c.is_quiet.ensures c.if-not-is_quiet.false in
-    let lawful : AllLawful = λ key is. c.rules_are_lawful.ensures key.graphs is.in_range is.well_formed in
+    let lawful : AllLawful = λ key is. c.rules_are_lawful.ensures key.graphs is.valid.valid in
     let rest : TableView = record { graphs = arc_value s.graphs; workers = s.workers; rows = set s.rows.items k c.take_row-job.new.slot } in
     let graphs : rest.graphs ≡ now.graphs = ap (λ (x : TableView). x.graphs) e in
     let workers : rest.workers ≡ now.workers = ap (λ (x : TableView). x.workers) e in
@@ -283,7 +283,7 @@ returns-in_err-end-clause-fewer t c =
     let here : row_at now k ≡ Some row = c.requires.here ∙ (sym (slot_row now k c.requires.row slot c.requires.here read) ∙ c.take_row-job.ensures.taken) in
     let first = c.index.result.now in
     let quiet = quiet_by row first c.is_quiet.result (slot_row now k row first here (c.index.ensures ∙ ap (λ (x : TableView). get_or x.rows k first) e)) c.is_quiet.ensures c.if-not-is_quiet.false in
-    let lawful : AllLawful = λ key is. c.rules_are_lawful.ensures key.graphs is.in_range is.well_formed in
+    let lawful : AllLawful = λ key is. c.rules_are_lawful.ensures key.graphs is.valid.valid in
     let rest : TableView = record { graphs = arc_value s.graphs; workers = s.workers; rows = set s.rows.items k c.take_row-job.new.slot } in
     let graphs : rest.graphs ≡ now.graphs = ap (λ (x : TableView). x.graphs) e in
     let workers : rest.workers ≡ now.workers = ap (λ (x : TableView). x.workers) e in
@@ -302,7 +302,7 @@ returns-in-None-clause-fewer t c =
     let here : row_at now k ≡ Some row = c.requires.here ∙ (sym (slot_row now k c.requires.row slot c.requires.here read) ∙ c.take_row-job.ensures.taken) in
     let first = c.index.result.now in
     let quiet = quiet_by row first c.is_quiet.result (slot_row now k row first here (c.index.ensures ∙ ap (λ (x : TableView). get_or x.rows k first) e)) c.is_quiet.ensures c.if-not-is_quiet.false in
-    let lawful : AllLawful = λ key is. c.rules_are_lawful.ensures key.graphs is.in_range is.well_formed in
+    let lawful : AllLawful = λ key is. c.rules_are_lawful.ensures key.graphs is.valid.valid in
     let rest : TableView = record { graphs = arc_value s.graphs; workers = s.workers; rows = set s.rows.items k c.take_row-job.new.slot } in
     let graphs : rest.graphs ≡ now.graphs = ap (λ (x : TableView). x.graphs) e in
     let workers : rest.workers ≡ now.workers = ap (λ (x : TableView). x.workers) e in
@@ -321,7 +321,7 @@ returns-clause-fewer t c =
     let here : row_at now k ≡ Some row = c.requires.here ∙ (sym (slot_row now k c.requires.row slot c.requires.here read) ∙ c.take_row-job.ensures.taken) in
     let first = c.index.result.now in
     let quiet = quiet_by row first c.is_quiet.result (slot_row now k row first here (c.index.ensures ∙ ap (λ (x : TableView). get_or x.rows k first) e)) c.is_quiet.ensures c.if-not-is_quiet.false in
-    let lawful : AllLawful = λ key is. c.rules_are_lawful.ensures key.graphs is.in_range is.well_formed in
+    let lawful : AllLawful = λ key is. c.rules_are_lawful.ensures key.graphs is.valid.valid in
     let rest : TableView = record { graphs = arc_value s.graphs; workers = s.workers; rows = set s.rows.items k c.take_row-job.new.slot } in
     let graphs : rest.graphs ≡ now.graphs = ap (λ (x : TableView). x.graphs) e in
     let workers : rest.workers ≡ now.workers = ap (λ (x : TableView). x.workers) e in
@@ -365,7 +365,7 @@ returns-clause-long t c =
     let here : row_at now k ≡ Some row = c.requires.here ∙ (sym (slot_row now k c.requires.row slot c.requires.here read) ∙ c.take_row-job.ensures.taken) in
     let first = c.index.result.now in
     let quiet = quiet_by row first c.is_quiet.result (slot_row now k row first here (c.index.ensures ∙ ap (λ (x : TableView). get_or x.rows k first) e)) c.is_quiet.ensures c.if-not-is_quiet.false in
-    let lawful : AllLawful = λ key is. c.rules_are_lawful.ensures key.graphs is.in_range is.well_formed in
+    let lawful : AllLawful = λ key is. c.rules_are_lawful.ensures key.graphs is.valid.valid in
     let rest : TableView = record { graphs = arc_value s.graphs; workers = s.workers; rows = set s.rows.items k c.take_row-job.new.slot } in
     let graphs : rest.graphs ≡ now.graphs = ap (λ (x : TableView). x.graphs) e in
     let workers : rest.workers ≡ now.workers = ap (λ (x : TableView). x.workers) e in
