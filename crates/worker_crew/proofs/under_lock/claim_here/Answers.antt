@@ -1,4 +1,4 @@
-use Rattle.std.proofs.Common.{ℕ, sym, subst}
+use Rattle.std.proofs.Common.{ℕ, refl, sym, subst}
 use Rattle.board_lock.specs.Passes.{known_after}
 use Rattle.firing_board.specs.Claims.{Claims}
 use Rattle.firing_board.specs.Locking.{board_meant}
@@ -22,8 +22,8 @@ claim-claim-requires c =
     let idle = found_idle p y found c.board_laws.ensures sound may.1.some c.requires.idle (found_worker may.0 p y found may.1) in
     subst (λ (b : BoardView). IsIdle b c.number-worker.result) (sym c.deref_mut.ensures.value) (subst (IsIdle y) (sym c.number-worker.ensures) idle)
 
-pub returns-clause-leave : goal.returns-clause-leave
-returns-clause-leave c =
+pub returns : goal.returns
+returns c =
     let k = c.args.held.turn.known in
     let y = c.args.held.state.value in
     let p = known_after board_meant k y in
@@ -33,30 +33,9 @@ returns-clause-leave c =
     let z = c.claim-claim.new.self in
     let claims : Claims y z k.number c.claim-claim.result = subst (λ (n : ℕ). Claims y z n c.claim-claim.result) c.number-worker.ensures (subst (λ (b : BoardView). Claims b z c.number-worker.result c.claim-claim.result) c.deref_mut.ensures.value c.claim-claim.ensures.claims) in
     let t = turns c.board_laws.ensures c.work_fits.ensures p y z found sound may.1.some (found_worker may.0 p y found may.1) c.claim-claim.result claims in
-    may_leave_then k c.args.held.turn.found y z t.more c.requires.leave t.changes
-
-pub returns-clause-found : goal.returns-clause-found
-returns-clause-found c =
-    let k = c.args.held.turn.known in
-    let y = c.args.held.state.value in
-    let p = known_after board_meant k y in
-    let found = c.requires.found in
-    let sound : IsSound y = subst IsSound c.deref.ensures c.journal-journal.ensures.sound in
-    let may = c.requires.may in
-    let z = c.claim-claim.new.self in
-    let claims : Claims y z k.number c.claim-claim.result = subst (λ (n : ℕ). Claims y z n c.claim-claim.result) c.number-worker.ensures (subst (λ (b : BoardView). Claims b z c.number-worker.result c.claim-claim.result) c.deref_mut.ensures.value c.claim-claim.ensures.claims) in
-    let t = turns c.board_laws.ensures c.work_fits.ensures p y z found sound may.1.some (found_worker may.0 p y found may.1) c.claim-claim.result claims in
-    found_then k c.args.held.turn.found y z t.more c.requires.leave t.changes found
-
-pub returns-clause-asked : goal.returns-clause-asked
-returns-clause-asked c =
-    let k = c.args.held.turn.known in
-    let y = c.args.held.state.value in
-    let p = known_after board_meant k y in
-    let found = c.requires.found in
-    let sound : IsSound y = subst IsSound c.deref.ensures c.journal-journal.ensures.sound in
-    let may = c.requires.may in
-    let z = c.claim-claim.new.self in
-    let claims : Claims y z k.number c.claim-claim.result = subst (λ (n : ℕ). Claims y z n c.claim-claim.result) c.number-worker.ensures (subst (λ (b : BoardView). Claims b z c.number-worker.result c.claim-claim.result) c.deref_mut.ensures.value c.claim-claim.ensures.claims) in
-    let t = turns c.board_laws.ensures c.work_fits.ensures p y z found sound may.1.some (found_worker may.0 p y found may.1) c.claim-claim.result claims in
-    subst (λ (q : BoardPass). Asked p q c.claim-claim.result) (sym (left_then k c.args.held.turn.found y z t.more c.requires.leave t.changes)) t.asked
+    record {
+      turn = refl;
+      leave = may_leave_then k c.args.held.turn.found y z t.more c.requires.leave t.changes;
+      found = found_then k c.args.held.turn.found y z t.more c.requires.leave t.changes found;
+      asked = subst (λ (q : BoardPass). Asked p q c.claim-claim.result) (sym (left_then k c.args.held.turn.found y z t.more c.requires.leave t.changes)) t.asked;
+    }

@@ -30,8 +30,8 @@ finish_fire-requires-clause-runs c =
     let here : Runs y c.args.ticket.worker (MayComeBack y.key frame done (IsOk done)) = subst (λ (n : ℕ). Runs y n (MayComeBack y.key frame done (IsOk done))) (sym c.requires.ticket) runs in
     subst (λ (b : BoardView). Runs b c.args.ticket.worker (MayComeBack b.key frame done (IsOk done))) (sym c.deref_mut.ensures.value) here
 
-pub returns-clause-leave : goal.returns-clause-leave
-returns-clause-leave c =
+pub returns : goal.returns
+returns c =
     let k = c.args.held.turn.known in
     let y = c.args.held.state.value in
     let p = known_after board_meant k y in
@@ -42,32 +42,9 @@ returns-clause-leave c =
     let finishes : Finishes y z p.number = subst (λ (n : ℕ). Finishes y z n) c.requires.ticket (subst (λ (b : BoardView). Finishes b z c.args.ticket.worker) c.deref_mut.ensures.value c.finish_fire.ensures.finishes) in
     let starved : y.starved ≡ true → z.starved ≡ true = subst (λ (b : BoardView). b.starved ≡ true → z.starved ≡ true) c.deref_mut.ensures.value c.finish_fire.ensures.starved in
     let changes = gives_back p y z (Some frame.places) (λ key. MayComeBack key frame done (IsOk done)) c.board_laws.ensures c.requires.found sound back (λ work may. (answer_with (Some (nested.Work work)) frame done, may.answered)) finishes starved in
-    may_leave_then k c.args.held.turn.found y z (Finish p.number ∷ []) c.requires.leave changes
-
-pub returns-clause-found : goal.returns-clause-found
-returns-clause-found c =
-    let k = c.args.held.turn.known in
-    let y = c.args.held.state.value in
-    let p = known_after board_meant k y in
-    let sound : IsSound y = subst IsSound c.deref.ensures c.journal-journal.ensures.sound in
-    let frame : FrameView = c.run_special.new.frame in
-    let back = copies_back p c.args.node c.args.frame frame done c.requires.claimed refl c.run_special.ensures.same c.run_special.ensures.copied in
-    let z = c.finish_fire.new.self in
-    let finishes : Finishes y z p.number = subst (λ (n : ℕ). Finishes y z n) c.requires.ticket (subst (λ (b : BoardView). Finishes b z c.args.ticket.worker) c.deref_mut.ensures.value c.finish_fire.ensures.finishes) in
-    let starved : y.starved ≡ true → z.starved ≡ true = subst (λ (b : BoardView). b.starved ≡ true → z.starved ≡ true) c.deref_mut.ensures.value c.finish_fire.ensures.starved in
-    let changes = gives_back p y z (Some frame.places) (λ key. MayComeBack key frame done (IsOk done)) c.board_laws.ensures c.requires.found sound back (λ work may. (answer_with (Some (nested.Work work)) frame done, may.answered)) finishes starved in
-    found_then k c.args.held.turn.found y z (Finish p.number ∷ []) c.requires.leave changes c.requires.found
-
-pub returns-clause-added : goal.returns-clause-added
-returns-clause-added c =
-    let k = c.args.held.turn.known in
-    let y = c.args.held.state.value in
-    let p = known_after board_meant k y in
-    let sound : IsSound y = subst IsSound c.deref.ensures c.journal-journal.ensures.sound in
-    let frame : FrameView = c.run_special.new.frame in
-    let back = copies_back p c.args.node c.args.frame frame done c.requires.claimed refl c.run_special.ensures.same c.run_special.ensures.copied in
-    let z = c.finish_fire.new.self in
-    let finishes : Finishes y z p.number = subst (λ (n : ℕ). Finishes y z n) c.requires.ticket (subst (λ (b : BoardView). Finishes b z c.args.ticket.worker) c.deref_mut.ensures.value c.finish_fire.ensures.finishes) in
-    let starved : y.starved ≡ true → z.starved ≡ true = subst (λ (b : BoardView). b.starved ≡ true → z.starved ≡ true) c.deref_mut.ensures.value c.finish_fire.ensures.starved in
-    let changes = gives_back p y z (Some frame.places) (λ key. MayComeBack key frame done (IsOk done)) c.board_laws.ensures c.requires.found sound back (λ work may. (answer_with (Some (nested.Work work)) frame done, may.answered)) finishes starved in
-    added_then k c.args.held.turn.found y z (Finish p.number ∷ []) c.requires.leave changes c.requires.found
+    record {
+      turn = refl;
+      leave = may_leave_then k c.args.held.turn.found y z (Finish p.number ∷ []) c.requires.leave changes;
+      found = found_then k c.args.held.turn.found y z (Finish p.number ∷ []) c.requires.leave changes c.requires.found;
+      added = added_then k c.args.held.turn.found y z (Finish p.number ∷ []) c.requires.leave changes c.requires.found;
+    }
