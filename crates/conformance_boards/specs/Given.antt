@@ -2,18 +2,14 @@
 use Rattle.std.specs.Prelude.{ℤ, List}
 use Rattle.kernel_gate.specs.Signed.{unnamed}
 use Rattle.kernel_gate.specs.Table.{the_signatures}
-use Rattle.pisdf_model.specs.Range.{InRange}
-use Rattle.pisdf_model.specs.WellFormed.{WellFormed}
 use Rattle.pisdf_model.specs.declared.graph.Graphs.{Graphs}
-use Rattle.pisdf_meaning.specs.Sound.{KernelsFit}
+use Rattle.pisdf_meaning.specs.Sound.{AreValidFor}
 use Rattle.conformance_boards.specs.declared.given.Taken.{Taken}
 use Rattle.conformance_boards.specs.declared.given.Taken.TheVariants.{All, Short}
 
 -- graphs that can be run over the library's kernels
-pub record AreSound (graphs : Graphs) : Type 0 where
-  pub in_range : InRange graphs
-  pub well_formed : WellFormed graphs
-  pub kernels : KernelsFit (unnamed the_signatures) graphs.graphs
+abbrev pub AreSound : Graphs → Type 0
+AreSound graphs = AreValidFor (unnamed the_signatures) graphs
 
 -- this holds of the tokens, where there are enough
 abbrev pub IfTaken : (List (List ℤ) → Type 0) → Taken → Type 0

@@ -4,6 +4,7 @@ ghost use Rattle.kernel_gate.specs.Value.{lengths};
 ghost use Rattle.conformance_boards.specs.Given.{AreSound, IfTaken};
 
 use case_rows::Trouble;
+use graph_laws::kernels_fit;
 use graph_reader::read;
 use kernel_gate::Gate;
 use kernel_library::Library;
@@ -19,6 +20,7 @@ use token_text::read_tokens;
 pub(crate) fn graphs_of(alloc: Global, file: &str) -> Result<Graphs, Trouble>
     ensures { IfOk result AreSound }
 {
+    kernels_fit();
     let file = String::from_str(alloc, file)?.replace(alloc, '\'', "\"")?;
     match read(alloc, file.as_bytes(), Library.signatures()) {
         Ok(graphs) => Ok(graphs),

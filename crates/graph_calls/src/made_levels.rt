@@ -1,8 +1,7 @@
 // The levels of graphs, and the state with which a run of them begins.
 ghost use Rattle.std.specs.Prelude.{ℤ, ◌≡◌, ◌<◌, List as Seq, length};
 ghost use Rattle.param_resolver.specs.EarlyCheck.{early_of};
-ghost use Rattle.pisdf_model.specs.Range.{InRange};
-ghost use Rattle.pisdf_model.specs.WellFormed.{WellFormed};
+ghost use Rattle.pisdf_model.specs.Valid.{AreValid};
 
 use crate::resolving::{
     answer_of_early, answer_of_rates, graphs_read, inherited_of, text_of_cause, text_of_fault,
@@ -123,8 +122,7 @@ fn level_told(
     early: &Early,
     chosen: &[i64],
 ) -> Result<Value, Trouble>
-    requires in_range { InRange graphs.now }
-    requires well_formed { WellFormed graphs.now }
+    requires valid { AreValid graphs.now }
     requires there { place < length graphs.now.graphs }
     requires early { (inherited : Seq ℤ) × (early.now ≡ early_of graphs.now.graphs place inherited) }
 {

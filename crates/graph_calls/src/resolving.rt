@@ -2,8 +2,7 @@
 ghost use Rattle.std.specs.Prelude.{◌≡◌, ◌<◌, IfOk, length, slice_get};
 ghost use Rattle.std.specs.List.{count_by};
 ghost use Rattle.pisdf_model.specs.Ports.{inherited_count, is_inherited};
-ghost use Rattle.pisdf_model.specs.Range.{InRange};
-ghost use Rattle.pisdf_model.specs.WellFormed.{WellFormed};
+ghost use Rattle.pisdf_model.specs.Valid.{AreValid};
 
 use crate::signatures::signatures_of;
 use case_rows::{Trouble, answer_of, answer_of_lists, answer_of_smalls, numbers, quoted, small_or};
@@ -31,8 +30,7 @@ pub(crate) fn inherited_of(params: &[Param]) -> usize
 
 /// The graphs of the row's file, which has `'` in the place of `"`.
 pub(crate) fn graphs_read(alloc: Global, row: &Value) -> Result<Graphs, Trouble>
-    ensures in_range { IfOk result (λ graphs. InRange graphs) }
-    ensures well_formed { IfOk result (λ graphs. WellFormed graphs) }
+    ensures { IfOk result AreValid }
 {
     let file = quoted(alloc, row, "file")?;
     let signatures = signatures_of(alloc, row)?;
@@ -126,8 +124,7 @@ fn values_resolved(
     early: &Early,
     chosen: &[i64],
 ) -> Result<Value, Trouble>
-    requires in_range { InRange graphs.now }
-    requires well_formed { WellFormed graphs.now }
+    requires valid { AreValid graphs.now }
     requires there { place < length graphs.now.graphs }
 {
     graphs_resolvable();

@@ -3,13 +3,12 @@ ghost use Rattle.std.specs.Prelude.{◌≡◌, [], IfOk};
 ghost use Rattle.kernel_gate.specs.Signed.{unnamed};
 ghost use Rattle.kernel_gate.specs.Table.{the_signatures};
 ghost use Rattle.param_resolver.specs.EarlyCheck.{early_faults};
-ghost use Rattle.pisdf_meaning.specs.Sound.{KernelsFit};
-ghost use Rattle.pisdf_model.specs.Range.{InRange};
-ghost use Rattle.pisdf_model.specs.WellFormed.{WellFormed};
+ghost use Rattle.pisdf_meaning.specs.Sound.{AreValidFor};
 
 use crate::made_levels::answer_of_level;
 use crate::resolving::text_of_cause;
 use case_rows::{Trouble, lists, lists_of, quoted, text};
+use graph_laws::kernels_fit;
 use graph_reader::read;
 use kernel_gate::Gate;
 use kernel_library::Library;
@@ -26,10 +25,9 @@ use std::fmt::Write;
 
 /// The graphs of the row's file, which has `'` in the place of `"`, over the library's kernels.
 fn graphs_fitting(alloc: Global, row: &Value) -> Result<Graphs, Trouble>
-    ensures in_range { IfOk result (λ graphs. InRange graphs) }
-    ensures well_formed { IfOk result (λ graphs. WellFormed graphs) }
-    ensures kernels { IfOk result (λ graphs. KernelsFit (unnamed the_signatures) graphs.graphs) }
+    ensures { IfOk result (AreValidFor (unnamed the_signatures)) }
 {
+    kernels_fit();
     let file = quoted(alloc, row, "file")?;
     match read(alloc, file.as_slice(), Library.signatures()) {
         Ok(graphs) => Ok(graphs),
@@ -124,9 +122,7 @@ fn level_told(
     delays: &Delays,
     ins: &[List<i64>],
 ) -> Result<Value, Trouble>
-    requires in_range { InRange graphs.now }
-    requires well_formed { WellFormed graphs.now }
-    requires kernels { KernelsFit (unnamed the_signatures) graphs.now.graphs }
+    requires valid { AreValidFor (unnamed the_signatures) graphs.now }
     requires sound { early_faults graphs.now.graphs graphs.now.top [] ≡ [] }
 {
     match top_level(alloc, graphs, delays, ins, &Library) {

@@ -14,7 +14,7 @@ start-requires c =
     let P : Graphs → Type 0 = λ x. IsKey (key_from x c.signatures.result.now c.args.delays.now c.args.ins.now c.args.workers) in
     let r = c.requires in
     subst P (sym c.in_ok-clone.ensures.cases)
-    (is_key graphs c.signatures.result.now the_signatures c.args.delays.now c.args.ins.now c.args.workers c.signatures.ensures.kernels r.sound.in_range r.sound.well_formed r.sound.kernels c.lengths_given.ensures r.early r.inputs r.state r.some r.few)
+    (is_key graphs c.signatures.result.now the_signatures c.args.delays.now c.args.ins.now c.args.workers c.signatures.ensures.kernels r.sound c.lengths_given.ensures r.early r.inputs r.state r.some r.few)
 
 pub returns-clause-key : goal.returns-clause-key
 returns-clause-key c =
