@@ -20,7 +20,7 @@ pub fn one_meaning()
 {}
 
 /// A firing of a graph has an end, if the graph is there and its early check finds nothing: what it gives, or the refusal.
-/// And a run has one, whatever its streams hold. This holds of well-formed graphs whose numbers refer to parts, and of any
+/// And a run has one, whatever its streams hold. This holds of valid graphs, and of any
 /// inputs, states and kernels, whether or not there is memory to work it out. With `one_meaning` it is exactly one.
 pub fn meanings_exist()
     ensures firings { (graphs : Graphs) → AreValid graphs → HasMeanings graphs.graphs }
@@ -32,7 +32,7 @@ pub fn meanings_exist()
 
 /// A firing of a graph that is done gives each output as many tokens as its rate, and leaves a state whose lists are as
 /// long as those with which the graph begins, if the firing began with lists of these lengths. It asks nothing of the
-/// lengths of its inputs. So it is in well-formed graphs whose kernels fit signatures of kernels that give outputs of the
+/// lengths of its inputs. So it is in valid graphs whose kernels fit signatures of kernels that give outputs of the
 /// lengths that they are asked for.
 pub fn sizes_kept()
     ensures { (signatures : Seq Counts) (graphs : Graphs) → AreValid graphs → AllFit signatures graphs.graphs → GiveLengths signatures → KeepsSizes graphs.graphs }

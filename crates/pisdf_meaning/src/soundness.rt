@@ -6,7 +6,7 @@ ghost use Rattle.pisdf_meaning.specs.Sound.{AreRunnable, AreValidFor};
 
 use param_resolver::early_unfolds;
 
-/// Well-formed graphs, whose numbers refer to parts and whose actors' kernels fit the signatures of a gate, can be run.
+/// Valid graphs, whose actors' kernels fit the signatures of a gate, can be run.
 pub fn runnable()
     ensures { (signatures : Seq Counts) (graphs : Graphs) → AreValidFor signatures graphs → AreRunnable signatures graphs }
 {

@@ -7,7 +7,8 @@ use Rattle.pisdf_model.specs.WellFormed.{WellFormed}
 use Rattle.pisdf_model.specs.declared.graph.Graphs.{Graphs}
 use Rattle.pisdf_model.specs.declared.names.ScopedName.{ScopedName}
 
--- each name of a graph, a parameter, an interface, an actor and a port is a name: a letter or _, and then letters, digits and _
+-- each name of a graph, a parameter, an interface, an actor and a port is a name: a letter or _, and then letters, digits and _,
+-- 1 to 64 bytes, and not min and not max
 abbrev pub AreNamed : Graphs → Type 0
 AreNamed graphs = All (λ (name : ScopedName). IsName name.name) (names_of graphs)
 

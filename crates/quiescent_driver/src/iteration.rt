@@ -136,6 +136,7 @@ pub fn run_iteration<K: Gate + Sync, R: Threads + Wait + Sync>(
     one_meaning();
     sizes_kept();
     runnable();
+    // Its clause says that the kernels give outputs of the lengths that they are asked for.
     let _signatures = gate.signatures();
     iterate(rt, alloc, graphs, delays, ins, workers, kept, gate)
 }

@@ -34,6 +34,7 @@ pub(crate) fn make_by_queues<K: Gate>(
 {
     runnable();
     sizes_kept();
+    // Its clause says that the kernels give outputs of the lengths that they are asked for.
     let _signatures = gate.signatures();
     match plain_iteration(alloc, graphs, delays, ins, gate) {
         Ok(iteration) => Ok(iteration),
