@@ -1,0 +1,4 @@
+//! Laws of unfolded levels: several iterations of a level as one, which has the rates of its sources and sinks multiplied.
+//! The functions do nothing; their contracts are the laws. They hold for tokens of any type, for faults of any type, and
+//! for any relation between a firing's inputs and its answer.
+#![tactic(auto)]
