@@ -1,5 +1,5 @@
 -- Laws of unfolding, over any tokens, faults and firings.
-use Rattle.std.specs.Prelude.{◌≡◌, ℕ, zero, suc, ◌*◌, ◌≤◌, ◌↔◌, List, [], map, Ok}
+use Rattle.std.specs.Prelude.{◌≡◌, ℕ, suc, ◌≤◌, ◌↔◌, List, [], map, Ok}
 use Rattle.std.specs.List.{AllByRecursion}
 use Rattle.sdf_level.specs.View.{LevelView}
 use Rattle.sdf_level.specs.Kept.{IsLevel, rate_limit}

@@ -8,7 +8,7 @@ use Rattle.sdf_level.specs.declared.link.Tail.{Tail}
 use Rattle.sdf_level.specs.declared.link.Head.{Head}
 use Rattle.sdf_level.specs.declared.link.Tail.TheVariants as tail
 use Rattle.sdf_level.specs.declared.link.Head.TheVariants as head
-use Rattle.level_laws.specs.Unfolded.{multiplied, unfolded, copies}
+use Rattle.level_laws.specs.Unfolded.{multiplied, unfolded}
 
 -- the sources hold the tokens of so many iterations
 abbrev pub HaveTokens : {T : Type 0} → ℕ → LevelView → List (List T) → Type 0

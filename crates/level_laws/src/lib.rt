@@ -2,3 +2,7 @@
 //! The functions do nothing; their contracts are the laws. They hold for tokens of any type, for faults of any type, and
 //! for any relation between a firing's inputs and its answer.
 #![tactic(auto)]
+
+mod counts;
+
+pub use counts::{copies_admissible, counts_multiplied, unfolded_level, unfolded_scheduled};
