@@ -56,7 +56,7 @@ moved c p d x y f g h t heads tails even has =
     omega arith
 
 module _ (level : LevelView) (q one : List ℕ) (counts : (a : ℕ) → firings a one ≡ slice_index q a) (balanced : EachInner (IsBalanced q) level.links) where
-  firings_moved : (a : ℕ) (before : List ℕ) → firings a (one ++ before) ≡ slice_index q a + firings a before
+  pub firings_moved : (a : ℕ) (before : List ℕ) → firings a (one ++ before) ≡ slice_index q a + firings a before
   firings_moved a before = let e = firings-append a one before in let c = counts a in omega arith
 
   ready_moved : (before : List ℕ) (b : ℕ) (t : Tail) (h : Head) (d : ℕ) → OfInner (IsBalanced q) t h d → OfInner (IsReady (λ a. firings a before) b) t h d → OfInner (IsReady (λ a. firings a (one ++ before)) b) t h d

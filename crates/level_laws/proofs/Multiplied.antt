@@ -182,11 +182,33 @@ module _ (times : ℕ) (level : LevelView) (q : List ℕ) (some : 1 ≤ times) (
     multiplied = record { one_each = length-multiplied times q ∙ is.repetition.multiplied.one_each; entries = multiplied_entry };
   }
 
--- ---- what an exact level has
+-- ---- all firings move just as many tokens as a source or sink has
 
-met_always : (q : List ℕ) (link : Outer) → AgreesOnZero link → IsMetExactly q link → slice_index q link.actor * link.rate ≡ link.outside
+abbrev pub IsMet : List ℕ → Outer → Type 0
+IsMet q link = slice_index q link.actor * link.rate ≡ link.outside
+
+met_always : (q : List ℕ) (link : Outer) → AgreesOnZero link → IsMetExactly q link → IsMet q link
 met_always q link agrees met = go link.rate refl
   where
-    go : (r : ℕ) → link.rate ≡ r → slice_index q link.actor * link.rate ≡ link.outside
+    go : (r : ℕ) → link.rate ≡ r → IsMet q link
     go zero e = let z : slice_index q link.actor * 0 ≡ 0 = omega arith in ap (λ n. slice_index q link.actor * n) e ∙ z ∙ sym (agrees.1 e)
     go (suc r) e = met (omega arith)
+
+met_one : (level : LevelView) (q : List ℕ) (t : Tail) (h : Head) → OfOuter AgreesOnZero level t h → OfOuter (IsMetExactly q) level t h → OfOuter (IsMet q) level t h
+met_one level q (tail.Source s) (head.Sink k) agrees met = tt
+met_one level q (tail.Source s) (head.Port b j c) agrees met = met_always q record { outside = slice_index level.sources s; actor = b; rate = c } agrees met
+met_one level q (tail.Port a i r) (head.Sink k) agrees met = met_always q record { outside = slice_index level.sinks k; actor = a; rate = r } agrees met
+met_one level q (tail.Port a i r) (head.Port b j c) agrees met = tt
+
+met_each : (level : LevelView) (q : List ℕ) (links : List Link) → EachOuter AgreesOnZero level links → EachOuter (IsMetExactly q) level links → EachOuter (IsMet q) level links
+met_each level q [] agrees met = tt
+met_each level q (link ∷ links) agrees met = (met_one level q link.tail link.head agrees.0 met.0, met_each level q links agrees.1 met.1)
+
+pub all_met : (level : LevelView) (q : List ℕ) → IsExactLevel level q → EachOuter (IsMet q) level level.links
+all_met level q is = met_each level q level.links is.repetition.agree is.met
+
+-- so it is in the unfolded level
+pub all_met_widened : (times : ℕ) (level : LevelView) (q : List ℕ) → IsExactLevel level q → EachOuter (IsMet (multiplied times q)) (unfolded times level) level.links
+all_met_widened times level q is =
+    each_widened times level (IsMet q) (IsMet (multiplied times q))
+    (λ link met. ap (λ n. n * link.rate) (at_multiplied times q link.actor) ∙ mul_assoc times (slice_index q link.actor) link.rate ∙ ap (λ n. times * n) met) level.links (all_met level q is)

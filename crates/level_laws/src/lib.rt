@@ -4,5 +4,7 @@
 #![tactic(auto)]
 
 mod counts;
+mod runs;
 
 pub use counts::{copies_admissible, counts_multiplied, unfolded_level, unfolded_scheduled};
+pub use runs::{copies_run, ends_joined, level_runs_cut, runs_cut, runs_like, tokens_cut};
