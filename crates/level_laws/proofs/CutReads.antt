@@ -12,10 +12,10 @@ use Rattle.sdf_level.specs.declared.link.Tail.{Tail}
 use Rattle.sdf_level.specs.declared.link.Head.{Head}
 use Rattle.sdf_level.specs.declared.link.Tail.TheVariants as tail
 use Rattle.sdf_level.specs.declared.link.Head.TheVariants as head
-use Rattle.sdf_level.specs.Kept.{how_many, is_into_port}
+use Rattle.sdf_level.specs.Kept.{is_into_port}
 use Rattle.sdf_level.specs.Links.{OfOuter, EachOuter}
 use Rattle.sdf_level.specs.Interfaces.{repeated}
-use Rattle.sdf_level.specs.Run.{added, head_rate, input, inputs, inputs_below, is_into_actor, put, read}
+use Rattle.sdf_level.specs.Run.{added, head_rate, input, inputs_below, put, read}
 use Rattle.sdf_level.proofs.Windows.{window-append}
 use Rattle.level_laws.specs.Unfolded.{multiplied, IsMetExactly}
 use Rattle.level_laws.specs.Pieces.{HaveTokens, first_tokens, joined, other_tokens}

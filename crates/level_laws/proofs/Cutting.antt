@@ -1,5 +1,5 @@
 -- A run over copies of a list is a run over the first and one over the others.
-use Rattle.std.proofs.Common.{◌≡◌, ℕ, suc, ◌+◌, ◌*◌, ◌<◌, ◌≤◌, List, [], ◌∷◌, ◌++◌, length, slice_index, take, Result, Ok, refl, ap, sym, ◌∙◌, subst, append_assoc, arith}
+use Rattle.std.proofs.Common.{◌≡◌, ℕ, suc, ◌+◌, ◌*◌, ◌<◌, ◌≤◌, List, [], ◌∷◌, ◌++◌, length, slice_index, Ok, refl, ap, sym, ◌∙◌, subst, append_assoc, arith}
 use Rattle.std.specs.List.{AllByRecursion}
 use Rattle.std.proofs.lemmas.List.{append-nil, length-append, length-take-le, take-append-drop}
 use Rattle.std.proofs.Math.Nat.{mul_comm}
@@ -14,7 +14,7 @@ use Rattle.sdf_level.specs.Links.{OfInner, EachInner}
 use Rattle.sdf_level.specs.Balance.{IsBalanced}
 use Rattle.sdf_level.specs.Firings.{firings}
 use Rattle.sdf_level.specs.Orders.{IsAdmissible}
-use Rattle.sdf_level.specs.Run.{Fire, RunsFrom, Runs, is_into_actor, put}
+use Rattle.sdf_level.specs.Run.{Fire, RunsFrom, Runs, is_into_actor}
 use Rattle.sdf_level.specs.LevelRun.{GivesRates, HasRate, HaveDelays, HaveRates, left_of, left_on}
 use Rattle.sdf_level.specs.Told.{Made, line_of, lines_of, sent}
 use Rattle.sdf_level.proofs.Balanced.{repetition_balanced}
@@ -100,8 +100,7 @@ module _ {T F : Type 0} (times : ℕ) (level : LevelView) (fire : Fire T F) (sou
   first_alike : (before rest : List ℕ) → ((a : ℕ) → firings a before + firings a rest ≤ slice_index q a) → AllAlike level fire fire sources firsts same Any before before rest
   first_alike before [] within = tt
   first_alike before (b ∷ rest) within =
-      let early : firings b before < slice_index q b = let own = firings-own b rest in let w = within b in omega arith in
-      (
+      let early : firings b before < slice_index q b = let own = firings-own b rest in let w = within b in omega arith in (
         record {
           reads = λ lines any. inputs_alike sources firsts b (firings b before) level.links lines (how_many (is_into_actor b) level.links) (firsts_alike times level sources holds q b (firings b before) early level.links is.met);
           forth = λ ins answer f. f;
@@ -118,8 +117,7 @@ module _ {T F : Type 0} (times : ℕ) (level : LevelView) (fire : Fire T F) (sou
       let number : firings b (list ++ before) ≡ slice_index q b + firings b before = firings_moved level q list counts (repetition_balanced level q is.is_level is.repetition) b before in
       let P : ℕ → Type 0 = λ n. AllByRecursion (λ link. ReadAlike sources rest_of b n (firings b before) link.tail link.head) level.links in
       let alike = subst P (sym number) (laters_alike times level sources holds q b (firings b before) early level.links is.met) in
-      let Q : List ℕ → Type 0 = λ l. AllAlike level fire (later q fire) sources rest_of (joined all) (AreUsed q level.links all) l (before ++ b ∷ []) rest in
-      (
+      let Q : List ℕ → Type 0 = λ l. AllAlike level fire (later q fire) sources rest_of (joined all) (AreUsed q level.links all) l (before ++ b ∷ []) rest in (
         record {
           reads = λ lines used. inputs_moved q sources rest_of b (firings b (list ++ before)) (firings b before) number level.links all lines (how_many (is_into_actor b) level.links) used alike;
           forth = λ ins answer f. let R : ℕ → Type 0 = λ n. fire b n ins answer in subst R number f;

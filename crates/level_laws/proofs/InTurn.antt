@@ -1,12 +1,12 @@
 -- The run of one thread through an unfolded level is the runs of the iterations, one after another.
-use Rattle.std.proofs.Common.{◌≡◌, ℕ, zero, suc, ◌+◌, List, slice_index, Ok, refl, ap, sym, subst}
+use Rattle.std.proofs.Common.{ℕ, zero, suc, ◌+◌, List, slice_index, Ok, ap, sym, subst}
 use Rattle.sdf_level.specs.View.{LevelView}
 use Rattle.sdf_level.specs.Orders.{IsAdmissible}
 use Rattle.sdf_level.specs.Run.{Fire}
-use Rattle.sdf_level.specs.LevelRun.{Ended, GivesRates, HaveDelays, IsLevelRun, left_of}
+use Rattle.sdf_level.specs.LevelRun.{Ended, GivesRates, HaveDelays, IsLevelRun}
 use Rattle.sdf_level.proofs.KeptLengths.{leaves_delays}
 use Rattle.level_laws.specs.Unfolded.{IsExactLevel, multiplied, unfolded}
-use Rattle.level_laws.specs.Pieces.{GoInTurn, HaveTokens, IsCutRun, first_tokens, later, one_and_others, other_tokens}
+use Rattle.level_laws.specs.Pieces.{GoInTurn, HaveTokens, first_tokens, later, other_tokens}
 use Rattle.level_laws.proofs.CutReads.{tokens_cut}
 use Rattle.level_laws.proofs.LevelCuts.{came, level_cut, level_uncut, none_run, run_none}
 

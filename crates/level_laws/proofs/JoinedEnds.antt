@@ -1,5 +1,5 @@
 -- What a run over copies keeps and leaves.
-use Rattle.std.proofs.Common.{◌≡◌, ◌≢◌, ℕ, zero, suc, ◌+◌, ◌-◌, ◌*◌, ◌<◌, true, false, ⊎_elim, List, [], ◌∷◌, ◌++◌, length, slice_index, drop, if◌then◌else◌, Ok, refl, ap, sym, ◌∙◌, subst, arith}
+use Rattle.std.proofs.Common.{◌≡◌, ◌≢◌, ℕ, suc, ◌+◌, ◌-◌, ◌*◌, ◌<◌, true, false, ⊎_elim, List, [], ◌∷◌, ◌++◌, length, slice_index, drop, Ok, refl, ap, sym, ◌∙◌, subst, arith}
 use Rattle.std.specs.List.{AllByRecursion}
 use Rattle.std.proofs.lemmas.Bool.{cases_Bool, cases_eq, ne_eqb}
 use Rattle.std.proofs.lemmas.List.{length-append}
@@ -27,7 +27,7 @@ use Rattle.level_laws.specs.Pieces.{IsCut, first_tokens, joined, later, one_and_
 use Rattle.level_laws.proofs.Copies.{copies_admissible, suc_times}
 use Rattle.level_laws.proofs.CutReads.{AreUsed, IsUsed, sum_times}
 use Rattle.level_laws.proofs.Cutting.{done}
-use Rattle.level_laws.proofs.Multiplied.{IsMet, all_met, all_met_widened, at_multiplied, length-multiplied}
+use Rattle.level_laws.proofs.Multiplied.{IsMet, all_met, all_met_widened, at_multiplied}
 
 -- ---- what is written to a sink is just its rate
 
