@@ -7,3 +7,4 @@ pub mod JoinedEnds
 pub mod LevelCuts
 pub mod InTurn
 pub mod WiderRuns
+pub mod EqualParts

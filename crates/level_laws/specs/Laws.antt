@@ -13,6 +13,7 @@ use Rattle.level_schedule.specs.Schedules.{IsScheduled}
 use Rattle.level_schedule.specs.declared.scheduling.LevelSchedule.{LevelSchedule}
 use Rattle.level_laws.specs.Unfolded.{multiplied, unfolded, copies, IsExactLevel}
 use Rattle.level_laws.specs.Pieces.{GoInTurn, HaveTokens, IsCut, IsCutRun, first_tokens, one_and_others, other_tokens}
+use Rattle.level_laws.specs.Parts.{GoByParts, GoesAtOnce, parts}
 
 -- where its rates are within the limit, the unfolded level is one
 abbrev pub UnfoldedIsLevel : Type 0
@@ -74,6 +75,20 @@ IterationsGoInTurn T F R =
     (times : ℕ) (level : LevelView) (firing : R → Firing T F) (sources starts : List (List T)) (q list : List ℕ) (end : Ended T) →
     IsExactLevel level q → GivesRates level (among firing) → HaveDelays level.links starts → HaveTokens times level sources → IsAdmissible level q list →
     IsLevelRun (unfolded times level) (multiplied times q) sources starts (among firing) (Ok end) ↔ GoInTurn level (among firing) q times sources starts end
+
+-- each with its part of the tokens at the sources and at the sinks
+abbrev pub IterationsHaveParts : Type 0 → Type 0 → Type 0 → Type 0
+IterationsHaveParts T F R =
+    (times : ℕ) (level : LevelView) (firing : R → Firing T F) (sources starts : List (List T)) (q list : List ℕ) (end : Ended T) →
+    IsExactLevel level q → GivesRates level (among firing) → HaveDelays level.links starts → HaveTokens times level sources → IsAdmissible level q list →
+    IsLevelRun (unfolded times level) (multiplied times q) sources starts (among firing) (Ok end) → GoByParts level (among firing) q (parts times sources) starts (parts times end.outs) end.left
+
+-- and iterations with their parts are the unfolded run
+abbrev pub PartsGoAtOnce : Type 0 → Type 0 → Type 0 → Type 0
+PartsGoAtOnce T F R =
+    (times : ℕ) (level : LevelView) (firing : R → Firing T F) (sources starts : List (List T)) (q list : List ℕ) (outs : List (List (List T))) (left : List (List T)) →
+    IsExactLevel level q → GivesRates level (among firing) → HaveDelays level.links starts → HaveTokens times level sources → IsAdmissible level q list →
+    GoByParts level (among firing) q (parts times sources) starts outs left → GoesAtOnce times level (among firing) q sources starts outs left
 
 -- a run stays one where each of its firings is one of other firings
 abbrev pub RunsHaveLike : Type 0 → Type 0 → Type 0 → Type 0 → Type 0

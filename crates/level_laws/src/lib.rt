@@ -7,4 +7,6 @@ mod counts;
 mod runs;
 
 pub use counts::{copies_admissible, counts_multiplied, unfolded_level, unfolded_scheduled};
-pub use runs::{copies_run, ends_joined, level_runs_cut, runs_cut, runs_like, tokens_cut};
+pub use runs::{
+    copies_run, ends_joined, level_runs_cut, parts_run, runs_cut, runs_like, tokens_cut,
+};

@@ -1,6 +1,6 @@
 // Laws of the runs of an unfolded level. Each asks that a firing gives each output port as many tokens as its rate, and
 // that each link starts with as many as its delay.
-ghost use Rattle.level_laws.specs.Laws.{CopiesTakeItsPlace, EndsAreJoined, IterationsGoInTurn, LevelRunsAreCut, RunsAreCut, RunsHaveLike, TokensAreCut};
+ghost use Rattle.level_laws.specs.Laws.{CopiesTakeItsPlace, EndsAreJoined, IterationsGoInTurn, IterationsHaveParts, LevelRunsAreCut, PartsGoAtOnce, RunsAreCut, RunsHaveLike, TokensAreCut};
 
 /// The tokens of an unfolded level don't depend on the order: its run of one thread ends as the run over copies of any
 /// admissible list of one iteration.
@@ -26,6 +26,13 @@ pub fn ends_joined<T, F, R>()
 pub fn level_runs_cut<T, F, R>()
     ensures one { LevelRunsAreCut T F R }
     ensures all { IterationsGoInTurn T F R }
+{}
+
+/// The run of one thread through an unfolded level is the runs of the iterations, each from its equal part of the tokens of
+/// each source, and each keeping its equal part of the tokens at each sink.
+pub fn parts_run<T, F, R>()
+    ensures there { IterationsHaveParts T F R }
+    ensures back { PartsGoAtOnce T F R }
 {}
 
 /// The sources that hold the tokens of several iterations hold those of one, and then those of the others.
