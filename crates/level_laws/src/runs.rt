@@ -1,5 +1,5 @@
-// Laws of the runs of an unfolded level. Each asks that a firing gives each output port as many tokens as its rate, and
-// that each link starts with as many as its delay.
+// Laws of the runs of an unfolded level. All but the last two ask that a firing gives each output port as many tokens as
+// its rate, and that each link starts with as many as its delay.
 ghost use Rattle.level_laws.specs.Laws.{CopiesTakeItsPlace, EndsAreJoined, IterationsGoInTurn, IterationsHaveParts, LevelRunsAreCut, PartsGoAtOnce, RunsAreCut, RunsHaveLike, TokensAreCut};
 
 /// The tokens of an unfolded level don't depend on the order: its run of one thread ends as the run over copies of any
