@@ -24,7 +24,7 @@ use Rattle.pisdf_meaning.specs.declared.firing.Firing.{Firing}
 use Rattle.pisdf_meaning.specs.declared.firing.Given.{Given}
 use Rattle.pisdf_meaning.specs.declared.outcome.TraceRow.{TraceRow}
 use Rattle.pisdf_meaning.specs.declared.refusal.Refusal.{Refusal}
-use Rattle.firing_laws.specs.Moving.{AreMoved, DifferAt, IsBelow, IsMoved, at_path}
+use Rattle.firing_laws.specs.Moving.{AreMoved, DifferAt, GoesDown, IsBelow, IsMoved, at_path}
 use Rattle.firing_laws.proofs.Checks.{early_same, has_state_same, initial_same, input_count_same, out_rates_same, state_in_same}
 use Rattle.firing_laws.proofs.Moved.{moved_above, moved_empty}
 
@@ -48,6 +48,9 @@ AreLeftMoved path other (left ∷ all) (moved ∷ more) = IsLeftMoved path other
 -- the path of a child, past that of its parent
 abbrev pub child_end : List ℕ → ℕ → List ℕ
 child_end name k = codes "/" ++ (name ++ (codes ":" ++ decimal k))
+
+pub child_goes_down : (name : List ℕ) (k : ℕ) (rest : List ℕ) → GoesDown (child_end name k ++ rest)
+child_goes_down name k rest = refl
 
 module _ (top : ℕ) (one other : List Graph) (differ : DifferAt top one other) (ends again : Ends) (moves : EndsMove (IsBelow one top) ends again) (firing : Firing) (path : List ℕ) where
   abbrev Names : Body → Type 0
@@ -97,7 +100,7 @@ module _ (top : ℕ) (one other : List Graph) (differ : DifferAt top one other) 
       (
         refl,
         kernel_moved actor.name k j outs (the_value kernel args read (out_rates one values actor.body) 0) fires.1
-        ∙ ap (λ (rates : List ℕ). kernel_fires path actor.name j (the_value kernel args read rates 0)) (sym (out_rates_same top one other differ values actor.body names)),
+            ∙ ap (λ (rates : List ℕ). kernel_fires path actor.name j (the_value kernel args read rates 0)) (sym (out_rates_same top one other differ values actor.body names)),
       ),
       moved_empty (child_path firing.path actor.name k) (child_path path actor.name j) trace [] fires.0 refl,
     )
@@ -141,7 +144,7 @@ module _ (top : ℕ) (one other : List Graph) (differ : DifferAt top one other) 
           moved,
           (Ok m.0, subst (λ (f : Firing). again f (Ok m.0)) (sym (config_firing_same c place below names)) m.1, refl),
           subst (λ (l : Configured). IsLeftMoved firing.path path l moved) (sym e)
-          record { outs = m.2.outs; sets = m.2.exports; state = ap in_line m.2.state; trace = moved_above firing.path path (child_end c.name 0) given.trace m.0.trace m.2.trace },
+              record { outs = m.2.outs; sets = m.2.exports; state = ap in_line m.2.state; trace = moved_above firing.path path (child_end c.name 0) given.trace m.0.trace (child_goes_down c.name 0) m.2.trace },
         )
 
     config_answer_same : (c : Configuration) (kernel ins sets : ℕ) → config_answer other g (at_path path firing) c kernel ins sets ≡ config_answer one g firing c kernel ins sets

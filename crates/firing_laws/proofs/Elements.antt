@@ -31,6 +31,10 @@ module _ {A : Type 0} (P : A → Type 0) where
   holds_chosen test [] all = tt
   holds_chosen test (x ∷ xs) all = holds_or_not (test x) x (filter test xs) all.0 (holds_chosen test xs all.1)
 
+  pub all_both : (xs ys : List A) → AllByRecursion P xs → AllByRecursion P ys → AllByRecursion P (xs ++ ys)
+  all_both [] ys some more = more
+  all_both (x ∷ xs) ys some more = (some.0, all_both xs ys some.1 more)
+
 -- what is asked of nothing holds
 pub asks_nothing : {A : Type 0} (xs : List A) → AllByRecursion (λ (x : A). Unit {0}) xs
 asks_nothing [] = tt

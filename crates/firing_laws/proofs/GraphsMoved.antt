@@ -74,7 +74,7 @@ sets_same path path' (c ∷ cs) (x ∷ all) (y ∷ more) are =
     ap (λ (sets : List ℤ). zip (sets_of c.body) sets ++ values_set cs more) are.0.sets ∙ ap (λ (sets : List (ℕ × ℤ)). zip (sets_of c.body) x.sets ++ sets) (sets_same path path' cs all more are.1)
 
 module _ (top : ℕ) (one other : List Graph) (differ : DifferAt top one other) (ends again : Ends) (moves : EndsMove (IsBelow one top) ends again) (firing : Firing) (path : List ℕ)
-         (g : Graph) (names : NameWithin (IsBelow one top) g.actors) (low : IsBelow one top firing.graph) where
+    (g : Graph) (names : NameWithin (IsBelow one top) g.actors) (low : IsBelow one top firing.graph) where
   abbrev there : Firing
   there = at_path path firing
 
@@ -132,8 +132,8 @@ module _ (top : ℕ) (one other : List Graph) (differ : DifferAt top one other) 
         let chosen : chosen_values g more ≡ chosen_values g configured = ap (λ (sets : List (ℕ × ℤ)). chosen_from sets 0 g.params) (sets_same firing.path path (configurations g) configured more left) in
         let known : List ℤ → List (Option ℤ) = λ values. given_to g.params firing.inherited values in
         let is : resolved other g there more ≡ Ok step.one =
-            ap (λ (values : List ℤ). unless_refused other g path (map as_refusal (param_faults g.params (known values))) (numbers (values_of g.params (known values)))) chosen
-            ∙ not_refused one other g firing.path path (map as_refusal (param_faults g.params (known (chosen_values g configured)))) (numbers (values_of g.params (known (chosen_values g configured)))) step.one step.is in
+        ap (λ (values : List ℤ). unless_refused other g path (map as_refusal (param_faults g.params (known values))) (numbers (values_of g.params (known values)))) chosen
+        ∙ not_refused one other g firing.path path (map as_refusal (param_faults g.params (known (chosen_values g configured)))) (numbers (values_of g.params (known (chosen_values g configured)))) step.one step.is in
         (m.0, then_ok (ResolvedOther more) (resolved other g there more) step.one (Ok m.0) is m.1, m.2)
 
   configured_moved : (given : Given) (all : Result (List Configured) Refusal) → Configures one ends g firing all → Then ConfiguredOne all (Ok given) → Gives (FiresGraph other again g there) given

@@ -6,3 +6,5 @@ pub mod Moved
 pub mod ActorsMoved
 pub mod RunsMoved
 pub mod GraphsMoved
+pub mod Nesting
+pub mod TopsAlike

@@ -2,16 +2,14 @@
 use Rattle.std.proofs.Common.{◌≡◌, ℕ, zero, suc, ◌+◌, ◌<◌, Bool, true, false, if◌then◌else◌, ℤ, List, [], ◌∷◌, ◌++◌, length, map, drop, refl, ap, ◌∙◌, sym, subst, append_assoc, append-nil, arith}
 use Rattle.std.proofs.lemmas.List.{map-append}
 use Rattle.std.proofs.Math.Seq.{drop-append_seam}
+use Rattle.std.specs.List.{AllByRecursion}
 use Rattle.pisdf_model.specs.declared.param.Param.{Param}
 use Rattle.pisdf_model.specs.declared.param.ParamKind.{ParamKind}
 use Rattle.pisdf_model.specs.declared.param.ParamKind.TheVariants.{Inherited, Derived, Chosen}
 use Rattle.pisdf_meaning.specs.Running.{chosen_row, chosen_rows, traces_below, value_at}
 use Rattle.pisdf_meaning.specs.declared.outcome.TraceRow.{TraceRow}
-use Rattle.firing_laws.specs.Moving.{AreMoved, under}
-
--- the row, with `other` in place of the path with which it begins
-abbrev pub moved_row : List ℕ → List ℕ → TraceRow → TraceRow
-moved_row path other row = record { path = other ++ drop (length path) row.path; name = row.name; value = row.value }
+use Rattle.firing_laws.specs.Moving.{AreMoved, GoesDown, moved_row, under}
+use Rattle.firing_laws.proofs.Elements.{all_both}
 
 under_twice : (path more : List ℕ) (rows : List TraceRow) → map (under (path ++ more)) rows ≡ map (under path) (map (under more) rows)
 under_twice path more [] = refl
@@ -29,24 +27,30 @@ moved_under path other (row ∷ rows) =
 pub moved_is : (path other : List ℕ) (rows moved : List TraceRow) → AreMoved path other rows moved → moved ≡ map (moved_row path other) rows
 moved_is path other rows moved are = are.moved_are ∙ sym (ap (map (moved_row path other)) are.rows_are ∙ moved_under path other are.below)
 
--- paths that go on alike
-pub moved_above : (path other more : List ℕ) (rows moved : List TraceRow) → AreMoved (path ++ more) (other ++ more) rows moved → AreMoved path other rows moved
-moved_above path other more rows moved are = record {
+all_down : (more : List ℕ) → ((rest : List ℕ) → GoesDown (more ++ rest)) → (rows : List TraceRow) → AllByRecursion (λ (row : TraceRow). GoesDown row.path) (map (under more) rows)
+all_down more down [] = tt
+all_down more down (row ∷ rows) = (down row.path, all_down more down rows)
+
+-- paths that go on alike, and down
+pub moved_above : (path other more : List ℕ) (rows moved : List TraceRow) → ((rest : List ℕ) → GoesDown (more ++ rest)) → AreMoved (path ++ more) (other ++ more) rows moved → AreMoved path other rows moved
+moved_above path other more rows moved down are = record {
   below = map (under more) are.below;
+  down = all_down more down are.below;
   rows_are = are.rows_are ∙ under_twice path more are.below;
   moved_are = are.moved_are ∙ under_twice other more are.below;
 }
 
 module _ (path other : List ℕ) where
   pub moved_none : AreMoved path other [] []
-  moved_none = record { below = []; rows_are = refl; moved_are = refl }
+  moved_none = record { below = []; down = tt; rows_are = refl; moved_are = refl }
 
   pub moved_empty : (rows moved : List TraceRow) → rows ≡ [] → moved ≡ [] → AreMoved path other rows moved
-  moved_empty rows moved e f = record { below = []; rows_are = e; moved_are = f }
+  moved_empty rows moved e f = record { below = []; down = tt; rows_are = e; moved_are = f }
 
   pub moved_both : (rows more rows' more' : List TraceRow) → AreMoved path other rows rows' → AreMoved path other more more' → AreMoved path other (rows ++ more) (rows' ++ more')
   moved_both rows more rows' more' a b = record {
     below = a.below ++ b.below;
+    down = all_both (λ (row : TraceRow). GoesDown row.path) a.below b.below a.down b.down;
     rows_are = ap (λ (r : List TraceRow). r ++ more) a.rows_are ∙ ap (λ (r : List TraceRow). map (under path) a.below ++ r) b.rows_are ∙ sym (map-append (under path) a.below b.below);
     moved_are = ap (λ (r : List TraceRow). r ++ more') a.moved_are ∙ ap (λ (r : List TraceRow). map (under other) a.below ++ r) b.moved_are ∙ sym (map-append (under other) a.below b.below);
   }
@@ -60,7 +64,7 @@ module _ (path other : List ℕ) where
   chosen_moved name value (Derived expr) = moved_none
   chosen_moved name value Chosen =
       let row : List ℕ → List TraceRow = λ p. record { path = p; name = name; value = value } ∷ [] in
-      record { below = row []; rows_are = ap row (sym (append-nil path)); moved_are = ap row (sym (append-nil other)) }
+      record { below = row []; down = (tt, tt); rows_are = ap row (sym (append-nil path)); moved_are = ap row (sym (append-nil other)) }
 
   pub choices_moved : (values : List ℤ) (n : ℕ) (params : List Param) → AreMoved path other (chosen_rows path values n params) (chosen_rows other values n params)
   choices_moved values n [] = moved_none

@@ -25,15 +25,38 @@ use Rattle.pisdf_meaning.specs.declared.firing.Firing.{Firing}
 use Rattle.pisdf_meaning.specs.declared.firing.Given.{Given}
 use Rattle.pisdf_meaning.specs.declared.outcome.TraceRow.{TraceRow}
 use Rattle.pisdf_meaning.specs.declared.refusal.Refusal.{Refusal}
-use Rattle.firing_laws.specs.Moving.{AreMoved, DifferAt, IsBelow, IsMoved, at_path}
+use Rattle.firing_laws.specs.Moving.{AreMoved, DifferAt, IsBelow, IsMoved, at_path, moved_row}
 use Rattle.firing_laws.proofs.Elements.{holds_at, holds_chosen}
 use Rattle.firing_laws.proofs.Belows.{NameWithin}
 use Rattle.firing_laws.proofs.Checks.{has_state_same}
 use Rattle.firing_laws.proofs.LevelsAlike.{links_same}
-use Rattle.firing_laws.proofs.Moved.{below_moved, choices_moved, moved_above, moved_both, moved_either, moved_is, moved_none, moved_row}
-use Rattle.firing_laws.proofs.ActorsMoved.{AreLeftMoved, EndsMove, body_moved, child_end}
+use Rattle.firing_laws.proofs.Moved.{below_moved, choices_moved, moved_above, moved_both, moved_either, moved_is, moved_none}
+use Rattle.firing_laws.proofs.ActorsMoved.{AreLeftMoved, EndsMove, body_moved, child_end, child_goes_down}
 
 -- ---- what the configuration actors left
+
+-- the same states
+abbrev pub HaveStates : List Configured → List Configured → Type 0
+HaveStates [] [] = Unit {0}
+HaveStates [] (y ∷ more) = ⊥
+HaveStates (x ∷ all) [] = ⊥
+HaveStates (x ∷ all) (y ∷ more) = (y.state ≡ x.state) × HaveStates all more
+
+pub have_own : (all : List Configured) → HaveStates all all
+have_own [] = tt
+have_own (x ∷ all) = (refl, have_own all)
+
+rest_states : (all more : List Configured) → HaveStates all more → HaveStates (drop 1 all) (drop 1 more)
+rest_states [] [] have = tt
+rest_states [] (y ∷ more) have = absurd have
+rest_states (x ∷ all) [] have = absurd have
+rest_states (x ∷ all) (y ∷ more) have = have.1
+
+first_state : (all more : List Configured) → HaveStates all more → state_of_first more ≡ state_of_first all
+first_state [] [] have = refl
+first_state [] (y ∷ more) have = absurd have
+first_state (x ∷ all) [] have = absurd have
+first_state (x ∷ all) (y ∷ more) have = have.0
 
 module _ (path other : List ℕ) where
   rest_left : (all more : List Configured) → AreLeftMoved path other all more → AreLeftMoved path other (drop 1 all) (drop 1 more)
@@ -42,11 +65,11 @@ module _ (path other : List ℕ) where
   rest_left (x ∷ all) [] are = absurd are
   rest_left (x ∷ all) (y ∷ more) are = are.1
 
-  first_state : (all more : List Configured) → AreLeftMoved path other all more → state_of_first more ≡ state_of_first all
-  first_state [] [] are = refl
-  first_state [] (y ∷ more) are = absurd are
-  first_state (x ∷ all) [] are = absurd are
-  first_state (x ∷ all) (y ∷ more) are = are.0.state
+  same_states : (all more : List Configured) → AreLeftMoved path other all more → HaveStates all more
+  same_states [] [] are = tt
+  same_states [] (y ∷ more) are = absurd are
+  same_states (x ∷ all) [] are = absurd are
+  same_states (x ∷ all) (y ∷ more) are = (are.0.state, same_states all more are.1)
 
   first_trace : (all more : List Configured) → AreLeftMoved path other all more → AreMoved path other (trace_of_first all) (trace_of_first more)
   first_trace [] [] are = moved_none path other
@@ -91,28 +114,28 @@ module _ (top : ℕ) (one other : List Graph) (differ : DifferAt top one other) 
   pub link_starts_same : (firing : Firing) (path : List ℕ) → NameWithin (IsBelow one top) g.actors → link_starts other g (at_path path firing) ≡ link_starts one g firing
   link_starts_same firing path names = ap (λ (lists : List (List ℤ)). fifo_starts g firing.state 0 g.fifos ++ lists) (starts_same firing.state 0 g.actors names)
 
-  states_left : (path path' : List ℕ) (actors : List Actor) → NameWithin (IsBelow one top) actors → (all more : List Configured) → AreLeftMoved path path' all more → (left : List (List ℤ)) → actor_states other actors more left ≡ actor_states one actors all left
-  states_left path path' [] names all more are left = refl
-  states_left path path' (a ∷ actors) names all more are left =
+  states_left : (actors : List Actor) → NameWithin (IsBelow one top) actors → (all more : List Configured) → HaveStates all more → (left : List (List ℤ)) → actor_states other actors more left ≡ actor_states one actors all left
+  states_left [] names all more are left = refl
+  states_left (a ∷ actors) names all more are left =
       let made : List ℤ → List (List ℤ) → Bool → List (List ℤ) → List (List ℤ) → List (List ℤ) = λ state conf has some none.
       if is_configuration a.body then state ∷ conf else (if has then tokens_at left 0 ∷ some else [] ∷ none) in
-      let conf = states_left path path' actors names.1 (drop 1 all) (drop 1 more) (rest_left path path' all more are) left in
-      let some = states_left path path' actors names.1 all more are (drop 1 left) in
-      let none = states_left path path' actors names.1 all more are left in
-      ap (λ s. made s (actor_states other actors (drop 1 more) left) (has_state other a) (actor_states other actors more (drop 1 left)) (actor_states other actors more left)) (first_state path path' all more are)
+      let conf = states_left actors names.1 (drop 1 all) (drop 1 more) (rest_states all more are) left in
+      let some = states_left actors names.1 all more are (drop 1 left) in
+      let none = states_left actors names.1 all more are left in
+      ap (λ s. made s (actor_states other actors (drop 1 more) left) (has_state other a) (actor_states other actors more (drop 1 left)) (actor_states other actors more left)) (first_state all more are)
       ∙ ap (λ c. made (state_of_first all) c (has_state other a) (actor_states other actors more (drop 1 left)) (actor_states other actors more left)) conf
       ∙ ap (λ h. made (state_of_first all) (actor_states one actors (drop 1 all) left) h (actor_states other actors more (drop 1 left)) (actor_states other actors more left)) (has_state_same top one other differ a names.0)
       ∙ ap (λ s. made (state_of_first all) (actor_states one actors (drop 1 all) left) (has_state one a) s (actor_states other actors more left)) some
       ∙ ap (λ n. made (state_of_first all) (actor_states one actors (drop 1 all) left) (has_state one a) (actor_states one actors all (drop 1 left)) n) none
 
-  pub state_after_same : (path path' : List ℕ) → NameWithin (IsBelow one top) g.actors → (all more : List Configured) → AreLeftMoved path path' all more → (left : List (List ℤ)) → state_after other g more left ≡ state_after one g all left
-  state_after_same path path' names all more are left =
-      ap (λ (lists : List (List ℤ)). fifo_states g g.fifos left ++ lists) (states_left path path' g.actors names all more are (drop (length (filter (is_kept g) g.fifos)) left))
+  pub state_after_same : NameWithin (IsBelow one top) g.actors → (all more : List Configured) → HaveStates all more → (left : List (List ℤ)) → state_after other g more left ≡ state_after one g all left
+  state_after_same names all more are left =
+      ap (λ (lists : List (List ℤ)). fifo_states g g.fifos left ++ lists) (states_left g.actors names all more are (drop (length (filter (is_kept g) g.fifos)) left))
 
 -- ---- the run
 
 module _ (top : ℕ) (one other : List Graph) (differ : DifferAt top one other) (ends again : Ends) (moves : EndsMove (IsBelow one top) ends again) (firing : Firing) (path : List ℕ)
-         (g : Graph) (names : NameWithin (IsBelow one top) g.actors) (values : List ℤ) (traces : Traces) where
+    (g : Graph) (names : NameWithin (IsBelow one top) g.actors) (values : List ℤ) (traces : Traces) where
   -- where the traces of firings go
   abbrev moved : Traces
   moved b k = map (moved_row firing.path path) (traces b k)
@@ -126,7 +149,7 @@ module _ (top : ℕ) (one other : List Graph) (differ : DifferAt top one other) 
     actor_moved None some fires = absurd fires
     actor_moved (Some a) some fires =
         let m = body_moved top one other differ ends again moves firing path values (tokens_at (level_args g values) b) a k k (traces b k) read outs a.body (some a refl) (some a refl) fires in
-        let above = moved_above firing.path path (child_end a.name k) (traces b k) m.0 m.2 in
+        let above = moved_above firing.path path (child_end a.name k) (traces b k) m.0 (child_goes_down a.name k) m.2 in
         let same = moved_is firing.path path (traces b k) m.0 above in (
           subst (λ (t : List TraceRow). FiresActor other again (at_path path firing) values (tokens_at (level_args g values) b) (Some a) k t read (Ok outs)) same m.1,
           subst (λ (t : List TraceRow). AreMoved firing.path path (traces b k) t) same above,
@@ -161,13 +184,13 @@ module _ (top : ℕ) (one other : List Graph) (differ : DifferAt top one other) 
   each_below counts list whole each b =
       below_moved firing.path path (traces b) (moved b) (slice_index counts b)
       (λ k less.
-          let count = whole b in
-          let found = firing_at IsTraceMoved [] list b k each (omega arith) (omega arith) in
-          subst (λ (j : ℕ). AreMoved firing.path path (traces b j) (moved b j)) found.1 found.2)
+      let count = whole b in
+      let found = firing_at IsTraceMoved [] list b k each (omega arith) (omega arith) in
+      subst (λ (j : ℕ). AreMoved firing.path path (traces b j) (moved b j)) found.1 found.2)
 
 module _ (top : ℕ) (one other : List Graph) (differ : DifferAt top one other) (ends again : Ends) (moves : EndsMove (IsBelow one top) ends again) (firing : Firing) (path : List ℕ)
-         (g : Graph) (names : NameWithin (IsBelow one top) g.actors) (low : early_in other (at_path path firing) ≡ early_in one firing)
-         (configured more : List Configured) (left : AreLeftMoved firing.path path configured more) (values : List ℤ) (counts : List ℕ) where
+    (g : Graph) (names : NameWithin (IsBelow one top) g.actors) (low : early_in other (at_path path firing) ≡ early_in one firing)
+    (configured more : List Configured) (left : AreLeftMoved firing.path path configured more) (values : List ℤ) (counts : List ℕ) where
   pub level_in_same : level_in other g (at_path path firing) values ≡ level_in one g firing values
   level_in_same =
       ap (λ (e : EarlyView). level_at other g e values) low
@@ -198,7 +221,7 @@ module _ (top : ℕ) (one other : List Graph) (differ : DifferAt top one other) 
     given_moved : (ended : Ended ℤ) → EachFiring (IsTraceMoved top one other differ ends again moves firing path g names values traces) [] list → IsMoved firing.path path (given_here ended) (given_there ended)
     given_moved ended each = record {
       outs = refl;
-      state = state_after_same top one other differ g firing.path path names configured more left ended.left;
+      state = state_after_same top one other differ g names configured more (same_states firing.path path configured more left) ended.left;
       exports = refl;
       trace =
           moved_both firing.path path (chosen_rows firing.path values 0 g.params) (child_rows counts traces 0 g.actors configured) (chosen_rows path values 0 g.params) (child_rows counts moved' 0 g.actors more)

@@ -1,5 +1,6 @@
 -- Firings that are moved: to another path, and to graphs that differ from these in one graph alone, which isn't fired.
-use Rattle.std.specs.Prelude.{◌≡◌, ◌≢◌, ℕ, List, ◌++◌, map, slice_get, Ok}
+use Rattle.std.specs.Prelude.{◌≡◌, ◌≢◌, ℕ, List, [], ◌∷◌, ◌++◌, drop, length, map, slice_get, Ok}
+use Rattle.std.specs.List.{AllByRecursion}
 use Rattle.pisdf_model.specs.Arrows.{Reaches}
 use Rattle.pisdf_model.specs.Nesting.{children}
 use Rattle.pisdf_model.specs.declared.graph.Graph.{Graph}
@@ -29,10 +30,20 @@ at_path path firing = record { path = path; graph = firing.graph; inherited = fi
 abbrev pub under : List ℕ → TraceRow → TraceRow
 under path row = record { path = path ++ row.path; name = row.name; value = row.value }
 
--- Row for row these are the same, but that each path begins with `path` in the one and with `other` in the other, and goes
--- on alike.
+-- the row, with `other` in place of the path with which its own begins
+abbrev pub moved_row : List ℕ → List ℕ → TraceRow → TraceRow
+moved_row path other row = record { path = other ++ drop (length path) row.path; name = row.name; value = row.value }
+
+-- what follows on a path in one of a firing below it: nothing, or what begins with `/`, which has code 47
+abbrev pub GoesDown : List ℕ → Type 0
+GoesDown [] = Unit {0}
+GoesDown (code ∷ rest) = code ≡ 47
+
+-- Row for row these are the same, but that each path begins with `path` in the one and with `other` in the other. There it
+-- ends, or it goes down alike.
 pub record AreMoved (path other : List ℕ) (rows moved : List TraceRow) : Type 0 where
   pub below : List TraceRow
+  pub down : AllByRecursion (λ (row : TraceRow). GoesDown row.path) below
   pub rows_are : rows ≡ map (under path) below
   pub moved_are : moved ≡ map (under other) below
 
