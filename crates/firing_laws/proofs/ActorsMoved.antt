@@ -1,12 +1,12 @@
 -- One firing of an actor, of a level or of configuration, that is moved to another path and among the other graphs.
-use Rattle.std.proofs.Common.{◌≡◌, ℕ, zero, suc, ◌+◌, Bool, if◌then◌else◌, codes, ℤ, List, [], ◌∷◌, ◌++◌, length, map, take, slice_get, slice_index_or, Option, Some, None, Result, Ok, Err, IfOk, refl, ap, ◌∙◌, sym, subst}
+use Rattle.std.proofs.Common.{◌≡◌, ℕ, Bool, if◌then◌else◌, codes, ℤ, List, [], ◌∷◌, ◌++◌, length, take, slice_index_or, Result, Ok, Err, IfOk, refl, ap, ◌∙◌, sym, subst}
 use Rattle.std.specs.List.{AllByRecursion}
 use Rattle.std.specs.Fmt.{decimal}
 use Rattle.kernel_gate.specs.Value.{Answer, Gives, Faults}
 use Rattle.kernel_gate.specs.Table.{the_value}
 use Rattle.param_expr.specs.Tree.{Tree}
 use Rattle.param_resolver.specs.EarlyView.{EarlyView}
-use Rattle.param_resolver.specs.LevelOf.{level_args, out_rates}
+use Rattle.param_resolver.specs.LevelOf.{out_rates}
 use Rattle.param_resolver.specs.Numbering.{has_state}
 use Rattle.pisdf_model.specs.Hold.{in_line, initial}
 use Rattle.pisdf_model.specs.Parts.{input_count}
@@ -14,7 +14,7 @@ use Rattle.pisdf_model.specs.declared.actor.Actor.{Actor}
 use Rattle.pisdf_model.specs.declared.actor.Body.{Body}
 use Rattle.pisdf_model.specs.declared.actor.Body.TheVariants.{Kernel, Config, Child, ConfigChild}
 use Rattle.pisdf_model.specs.declared.graph.Graph.{Graph}
-use Rattle.pisdf_meaning.specs.Configuring.{Configuration, LeaveAll, Leaves, child_leaves, config_answer, config_firing, config_rates, early_in, fed_to, kernel_leaves, with_first}
+use Rattle.pisdf_meaning.specs.Configuring.{Configuration, LeaveAll, Leaves, child_leaves, config_answer, config_firing, early_in, fed_to, kernel_leaves, with_first}
 use Rattle.pisdf_meaning.specs.Endings.{End, Ends, Then, child_path}
 use Rattle.pisdf_meaning.specs.Running.{FiresBody, child_fires, child_firing, kernel_fires}
 use Rattle.pisdf_meaning.specs.Sound.{ChildWithin}

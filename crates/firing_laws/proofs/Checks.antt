@@ -2,13 +2,12 @@
 use Rattle.std.proofs.Common.{◌≡◌, ℕ, zero, suc, ℤ, List, [], ◌∷◌, ◌++◌, length, map, slice_get, Option, Some, None, refl, ap, ◌∙◌, nat_lt}
 use Rattle.std.specs.List.{flat_map}
 use Rattle.pisdf_model.specs.Hold.{actor_state, graph_state, in_line, initial, initial_to, kept_in}
-use Rattle.pisdf_model.specs.Details.{of_each}
 use Rattle.pisdf_model.specs.Parts.{input_count, input_names, inputs_of, interface_names, output_names, outputs_of}
 use Rattle.pisdf_model.specs.declared.actor.Actor.{Actor}
 use Rattle.pisdf_model.specs.declared.actor.Body.{Body}
 use Rattle.pisdf_model.specs.declared.actor.Body.TheVariants.{Kernel, Config, Child, ConfigChild}
 use Rattle.pisdf_model.specs.declared.graph.Graph.{Graph}
-use Rattle.param_resolver.specs.EarlyCheck.{Checked, check_by, check_of, check_to, config_args, config_children, config_faults, config_outs, early_faults, early_numbers, early_of, early_under, early_values, faults_under, rated_faults, unfed_inputs}
+use Rattle.param_resolver.specs.EarlyCheck.{Checked, check_by, check_to, config_args, config_children, config_faults, config_outs, early_faults, early_numbers, early_of, early_under, early_values, faults_under, rated_faults, unfed_inputs}
 use Rattle.param_resolver.specs.EarlyView.{EarlyView, whole}
 use Rattle.param_resolver.specs.LevelOf.{acting_faults, in_rates, out_rates}
 use Rattle.param_resolver.specs.Numbering.{has_state, output_count, state_size}

@@ -1,5 +1,5 @@
 -- The level of a graph whose actors name graphs below is the same among the other graphs, also where its own interfaces have other rates.
-use Rattle.std.proofs.Common.{◌≡◌, ℕ, zero, suc, ◌+◌, ◌-◌, ℤ, Bool, not, if◌then◌else◌, List, [], ◌∷◌, ◌++◌, length, map, slice_get, slice_index, Option, Some, None, refl, ap, ◌∙◌}
+use Rattle.std.proofs.Common.{◌≡◌, ℕ, ◌-◌, ℤ, Bool, not, if◌then◌else◌, List, [], ◌∷◌, ◌++◌, length, map, slice_get, slice_index, Option, Some, None, refl, ap, ◌∙◌}
 use Rattle.std.specs.List.{filter, range_with_len}
 use Rattle.pisdf_model.specs.Details.{of_each}
 use Rattle.pisdf_model.specs.InterfaceWires.{is_at_configuration, is_configuration}
@@ -15,7 +15,7 @@ use Rattle.sdf_level.specs.declared.link.Head.TheVariants as head
 use Rattle.sdf_level.specs.declared.link.Link.{Link}
 use Rattle.sdf_level.specs.declared.link.Tail.{Tail}
 use Rattle.sdf_level.specs.declared.link.Tail.TheVariants as tail
-use Rattle.param_resolver.specs.LevelOf.{acting_faults, fifo_links, head_of, in_rates, input_port, level_faults, link_of, links_of, out_rates, output_port, state_links, tail_of}
+use Rattle.param_resolver.specs.LevelOf.{acting_faults, fifo_links, head_of, input_port, level_faults, links_of, out_rates, output_port, state_links, tail_of}
 use Rattle.param_resolver.specs.Numbering.{actor_number, config_ends, feeds_configuration, has_state, is_kept, output_count, place_among, source_ends, source_inputs, state_size}
 use Rattle.pisdf_meaning.specs.Sound.{ChildWithin}
 use Rattle.firing_laws.specs.Moving.{DifferAt, IsBelow}

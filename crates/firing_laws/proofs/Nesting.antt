@@ -1,17 +1,12 @@
 -- Paths over graphs: in valid graphs no graph holds itself; and a graph below is below among the other graphs too.
-use Rattle.std.proofs.Common.{◌≡◌, ⊎_elim, ℕ, zero, suc, ◌+◌, ◌<◌, ◌≤◌, List, [], ◌∷◌, length, map, slice_get, Option, Some, refl, ap, ◌∙◌, sym, subst, arith, get_or, Contains, unwrap_or, option_map}
-use Rattle.std.specs.List.{AllByRecursion}
-use Rattle.std.proofs.lemmas.Bool.{cases_lt}
-use Rattle.std.proofs.lemmas.List.{get_or_past, length-map}
+use Rattle.std.proofs.Common.{◌≡◌, ℕ, zero, suc, ◌+◌, ◌<◌, ◌≤◌, List, [], ◌∷◌, length, map, slice_get, Option, Some, refl, ap, ◌∙◌, sym, subst, arith, get_or, Contains, unwrap_or, option_map}
 use Rattle.std.proofs.lemmas.Option.{slice_get-map, slice_get_within, unwrap_or-slice_get}
 use Rattle.pisdf_model.specs.Arrows.{Leads, to_of}
 use Rattle.pisdf_model.specs.Nesting.{children, greatest, nesting_to}
 use Rattle.pisdf_model.specs.Valid.{AreValid}
-use Rattle.pisdf_model.specs.declared.actor.Actor.{Actor}
 use Rattle.pisdf_model.specs.declared.graph.Graph.{Graph}
 use Rattle.pisdf_model.specs.declared.graph.Graphs.{Graphs}
 use Rattle.param_resolver.proofs.Sound.{nested}
-use Rattle.pisdf_meaning.specs.Sound.{ChildWithin}
 use Rattle.firing_laws.specs.Moving.{DifferAt, IsBelow}
 use Rattle.firing_laws.proofs.Belows.{NameWithin, child_below, children_at, name_within}
 

@@ -1,5 +1,5 @@
 -- The run of a level that is moved to another path and among the other graphs.
-use Rattle.std.proofs.Common.{◌≡◌, ⊎_elim, ℕ, zero, suc, ◌+◌, ◌<◌, ◌≤◌, ◌≢◌, Bool, if◌then◌else◌, ℤ, List, [], ◌∷◌, ◌++◌, length, map, drop, slice_get, slice_index, Option, Some, None, Result, Ok, Err, refl, ap, ◌∙◌, sym, subst, arith}
+use Rattle.std.proofs.Common.{◌≡◌, ℕ, ◌+◌, Bool, if◌then◌else◌, ℤ, List, [], ◌∷◌, ◌++◌, length, map, drop, slice_get, slice_index, Option, Some, None, Result, Ok, Err, refl, ap, ◌∙◌, sym, subst, arith}
 use Rattle.std.specs.List.{filter, flat_map}
 use Rattle.param_resolver.specs.EarlyView.{EarlyView}
 use Rattle.param_resolver.specs.LevelOf.{level_args, level_at}
@@ -15,7 +15,7 @@ use Rattle.sdf_level.specs.Orders.{IsOrder}
 use Rattle.sdf_level.specs.Run.{GoesOn, Runs, RunsFrom, inputs, put}
 use Rattle.sdf_level.proofs.FiringLists.{firing_at}
 use Rattle.pisdf_meaning.specs.Configuring.{early_in}
-use Rattle.pisdf_meaning.specs.Endings.{End, Ends, Then, child_path}
+use Rattle.pisdf_meaning.specs.Endings.{End, Ends, Then}
 use Rattle.pisdf_meaning.specs.Preparing.{level_in}
 use Rattle.pisdf_meaning.specs.Running.{Fires, FiresActor, RunsLevel, Traces, actor_starts, actor_states, child_rows, chosen_rows, fifo_starts, fifo_states, given_by, link_starts, source_tokens, state_after, state_of_first, trace_of_first, traces_below}
 use Rattle.pisdf_meaning.specs.Sound.{ChildWithin}

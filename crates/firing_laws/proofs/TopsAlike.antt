@@ -1,12 +1,8 @@
 -- The graph at `top` itself among the other graphs, where its interfaces have other rates.
-use Rattle.std.proofs.Common.{◌≡◌, ℕ, zero, suc, ℤ, List, length, map, slice_get, Option, Some, None, refl, ap, ◌∙◌, sym, subst}
+use Rattle.std.proofs.Common.{◌≡◌, ℕ, zero, suc, List, length, slice_get, Option, Some, refl, ap, ◌∙◌, sym, subst}
 use Rattle.pisdf_model.specs.Hold.{graph_state, initial, initial_to}
 use Rattle.pisdf_model.specs.declared.graph.Graph.{Graph}
 use Rattle.pisdf_model.specs.declared.graph.Interface as interface
-use Rattle.pisdf_meaning.specs.Sound.{ChildWithin}
-use Rattle.pisdf_meaning.specs.Running.{link_starts, state_after}
-use Rattle.pisdf_meaning.specs.declared.firing.Configured.{Configured}
-use Rattle.pisdf_meaning.specs.declared.firing.Firing.{Firing}
 use Rattle.firing_laws.specs.Alike.{IsLevelAlike, with_interfaces}
 use Rattle.firing_laws.specs.Moving.{DifferAt, IsBelow}
 use Rattle.firing_laws.proofs.Belows.{NameWithin}

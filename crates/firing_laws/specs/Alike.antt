@@ -1,5 +1,5 @@
 -- Graphs that are read alike among others: what a level is made from, where the interfaces of the graph have other rates.
-use Rattle.std.specs.Prelude.{◌≡◌, ℕ, ℤ, List, slice_get, Some, Ok}
+use Rattle.std.specs.Prelude.{◌≡◌, ℕ, ℤ, List, Some, Ok}
 use Rattle.std.specs.List.{AllByRecursion}
 use Rattle.pisdf_model.specs.declared.actor.Actor.{Actor}
 use Rattle.pisdf_model.specs.declared.graph.Graph.{Graph}
