@@ -8,3 +8,4 @@ pub mod RunsMoved
 pub mod GraphsMoved
 pub mod Nesting
 pub mod TopsAlike
+pub mod NumberedRuns

@@ -10,6 +10,7 @@ ghost use Rattle.pisdf_model.specs.declared.graph.Graphs.{Graphs};
 ghost use Rattle.pisdf_model.specs.declared.graph.Interface.{Interface};
 ghost use Rattle.pisdf_meaning.specs.declared.outcome.TraceRow.{TraceRow};
 ghost use Rattle.firing_laws.specs.Alike.{ActorsMove, HoldsBelow, IsLevelAlike, with_interfaces};
+ghost use Rattle.firing_laws.specs.Runs.{LevelFirings, RunsMove};
 ghost use Rattle.firing_laws.specs.Moving.{AreMoved, DifferAt, FiringsMove, IsBelow, moved_row};
 
 /// A firing of a graph depends neither on its path nor on a graph that it doesn't hold: among graphs that differ from
@@ -22,6 +23,12 @@ pub fn firings_move()
 /// So it is of one firing of an actor of a level, which may also have another number: what it gives depends on neither.
 pub fn actors_move()
     ensures { (n : ℕ) (top : ℕ) (one other : Seq Graph) → DifferAt top one other → ActorsMove n top one other }
+{}
+
+/// So it is of a whole run of a level: where each firing is moved to another number, to another path and among the other
+/// graphs, the run goes the same way, and the trace of each firing is the same, moved.
+pub fn level_runs_move()
+    ensures { (n : ℕ) (top : ℕ) (one other : LevelFirings) → RunsMove n top one other }
 {}
 
 /// There is only one trace to which a trace can be moved.
