@@ -5,7 +5,7 @@ use Rattle.param_resolver.specs.LevelOf.{acting_args, level_args}
 use Rattle.param_resolver.specs.Numbering.{acting, fires}
 use Rattle.pisdf_model.specs.declared.actor.Actor.{Actor}
 use Rattle.sdf_level.specs.Firings.{EachFiring, firings}
-use Rattle.sdf_level.specs.LevelRun.{Ended, IsEnd, IsLevelRun, end_of}
+use Rattle.sdf_level.specs.LevelRun.{Ended, IsEnd, IsLevelRun}
 use Rattle.sdf_level.specs.Orders.{IsOrder}
 use Rattle.sdf_level.specs.Run.{GoesOn, Runs, RunsFrom, inputs, put}
 use Rattle.sdf_level.specs.View.{LevelView}
