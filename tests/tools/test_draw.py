@@ -139,7 +139,7 @@ class Charts(unittest.TestCase):
             memory.write(f"height,8\nordered,20\n{offsets}order,0,0\n")
             memory.flush()
             told = [shape.find(f"{SVG}title").text for shape in self.shapes("cells", PLAN, memory.name).iter(f"{SVG}rect") if shape.get("class") == "box"]
-        self.assertIn("edge 3: cells 6 to 7, from node 1 to node 4", told)
+        self.assertIn("edge 3: cells 6 to 6, from node 1 to node 4", told)
 
     def test_a_memory_of_another_graph(self):
         self.assertEqual(draw("cells", PLAN, MEMORY)[::2], (2, "draw: the memory has no offset for edge 4 of the plan: they are of two graphs\n"))
