@@ -133,6 +133,12 @@ class Charts(unittest.TestCase):
         self.assertIn("edge 0: cells 0 to 3, from node 0 to node 3", told)
         self.assertEqual(len(told), 6)
 
+    def test_a_buffer_lives_from_its_writer_to_its_reader(self):
+        # The order of one worker is 0, 3, 1, 2, 4, 5: the buffer from node 3 to node 2 lives in the steps 1 to 3 of 6.
+        drawn = self.shapes("cells", PLAN)
+        box, = [shape for shape in drawn.iter(f"{SVG}rect") if "node 3 to node 2" in (shape.findtext(f"{SVG}title") or "")]
+        self.assertEqual((box.get("x"), box.get("width")), ("220", "450"))
+
     def test_the_cells_of_a_memory(self):
         offsets = "".join(f"offset,{number},{2 * number}\n" for number in range(6))
         with tempfile.NamedTemporaryFile("w") as memory:

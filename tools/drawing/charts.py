@@ -1,4 +1,6 @@
 """Charts of schedules, of cells, of what workers did, and of values."""
+import heapq
+
 from drawing.inputs import Refused
 from drawing.parts import node_label
 from drawing.svg import colour, element, image, marks, picture, text, title
@@ -44,8 +46,27 @@ def gantt(schedule, plan=None):
 # ---- cells
 
 
-def places(plan, offsets=None):
-    """For each buffer the nodes between which it lives, by their places in the order of all nodes, and its cells; one without cells is left out."""
+def order_of(plan):
+    """For each node its place in an order in which one worker could run them: always the one of the least number that waits for nothing."""
+    waiting, behind = {int(row[0]): 0 for row in plan["node"]}, {}
+    for _, tail, head, _, _ in plan.get("edge", []):
+        waiting[int(head)] += 1
+        behind.setdefault(int(tail), []).append(int(head))
+    ready = [node for node, count in waiting.items() if not count]
+    heapq.heapify(ready)
+    place = {}
+    while ready:
+        node = heapq.heappop(ready)
+        place[node] = len(place)
+        for head in behind.get(node, []):
+            waiting[head] -= 1
+            if not waiting[head]:
+                heapq.heappush(ready, head)
+    return place
+
+
+def buffers_of(plan, offsets=None):
+    """Each buffer: its number, the node that writes it and the node that reads it, and its cells. One without cells is left out."""
     found = []
     for number, tail, head, size, offset in plan.get("edge", []):
         if offsets is not None and number not in offsets:
@@ -57,35 +78,38 @@ def places(plan, offsets=None):
 
 
 def cells(plan, memory=None):
-    """Which buffer lies in which cells, from its tail to its head in the order of the numbers of nodes."""
+    """Which buffer lies in which cells, and for how long, where one worker runs the nodes."""
     offsets = {row[0]: row[1] for row in memory["offset"]} if memory else None
     height = int((memory["ordered"] if memory else plan["height"])[0][0])
-    buffers, nodes = places(plan, offsets), len(plan["node"])
+    buffers, nodes, place = buffers_of(plan, offsets), len(plan["node"]), order_of(plan)
     across, up = WIDTH / max(1, nodes), 420 / max(1, height)
-    label = f"{len(buffers)} buffers in {height} cells over {nodes} nodes"
+    label = f"{len(buffers)} buffers in {height} cells over {nodes} steps of one worker"
     if len(buffers) > MOST_BUFFERS:
-        drawn = [cells_image(buffers, nodes, height)]
+        drawn = [cells_image(buffers, place, height)]
     else:
-        drawn = [cell(buffer, across, up) for buffer in buffers]
+        drawn = [cell(buffer, place, across, up) for buffer in buffers]
     scale = [part for mark in marks(height, 9) for part in (text(MARGIN - 8, MARGIN + mark * up + 4, str(mark), "small end"),)]
-    heads = [text(MARGIN, 24, label + "; a buffer lives from the node that writes it to the node that reads it", "wide"), text(8, 50, "cell / node")]
+    heads = [text(MARGIN, 24, label + "; a buffer lives from the node that writes it to the node that reads it", "wide"), text(8, 50, "cell / step")]
     frame = element("rect", x=MARGIN, y=MARGIN, width=WIDTH, height=420, class_="frame")
     return picture(WIDTH + 2 * MARGIN, MARGIN + 440, label, [*heads, *grid(nodes, across, MARGIN, MARGIN + 420), *scale, *drawn, frame])
 
 
-def cell(buffer, across, up):
+def cell(buffer, place, across, up):
     number, tail, head, offset, size = buffer
+    first, last = place[tail], place[head]
     words = f"edge {number}: cells {offset} to {offset + size - 1}, from node {tail} to node {head}"
-    box = {"x": MARGIN + tail * across, "y": MARGIN + offset * up, "width": max(1.0, (head - tail + 1) * across), "height": max(1.0, size * up)}
+    box = {"x": MARGIN + first * across, "y": MARGIN + offset * up, "width": max(1.0, (last - first + 1) * across), "height": max(1.0, size * up)}
     return element("rect", title(words), fill=colour(number), fill_opacity="0.75", class_="box", **box)
 
 
-def cells_image(buffers, nodes, height):
-    """The same as an image: a cell is darker at a node the more of its time it holds a token of some buffer."""
+def cells_image(buffers, place, height):
+    """The same as an image, in three greys."""
+    nodes = len(place)
     wide, high = min(WIDTH, nodes), min(420, height)
     rows = [bytearray(b"\xf4" * wide) for _ in range(high)]
     for number, tail, head, offset, size in buffers:
-        left, right = tail * wide // nodes, max(tail * wide // nodes + 1, (head + 1) * wide // nodes)
+        left = place[tail] * wide // nodes
+        right = max(left + 1, (place[head] + 1) * wide // nodes)
         top, bottom = offset * high // height, max(offset * high // height + 1, (offset + size) * high // height)
         shade = bytes([120 + 40 * (number % 3)]) * (right - left)
         for y in range(top, min(bottom, high)):
