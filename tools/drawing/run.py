@@ -1,4 +1,5 @@
 """What the program says of a graph: the answers of its commands, read into lists."""
+import concurrent.futures
 import csv
 import io
 import subprocess
@@ -41,8 +42,10 @@ class Run:
         self.top, self.graphs = None, {}
         if self.run.status not in (2, 5):
             self.top, self.graphs = graphs_in(text_of(graph), graph)
-        self.plan, self.schedule, self.memory = (self.call(command, graph, tokens, workers) for command in ("plan", "schedule", "memory"))
-        self.journal = self.call("journal", graph, tokens, str(min(1, int(iterations))), workers)
+        calls = [(command, graph, tokens, workers) for command in ("plan", "schedule", "memory")]
+        calls.append(("journal", graph, tokens, str(min(1, int(iterations))), workers))
+        with concurrent.futures.ThreadPoolExecutor() as pool:
+            self.plan, self.schedule, self.memory, self.journal = pool.map(lambda words: self.call(*words), calls)
 
     def call(self, *words):
         try:
