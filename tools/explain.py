@@ -39,7 +39,7 @@ def explained(program, words, status, errors):
 
 
 def main(words):
-    if len(words) < 2:
+    if not words:
         print(__doc__.strip(), file=sys.stderr)
         return 1
     program, words = words[0], words[1:]

@@ -211,7 +211,9 @@ def place_words(root, pointer):
             words.append(step_words(above, value, int(step)))
         elif value.kind == "object" and step in value.value:
             value = value.value[step].value
-            if value.kind != "list" or step in ("delay",):
+            if step == "name":
+                continue
+            if value.kind != "list" or step == "delay":
                 words.append(f"member `{step}`")
             elif pointer.strip("/").endswith(step):
                 words.append(f"list `{step}`")

@@ -5,7 +5,7 @@ from . import graph_file as parts
 from .expressions import ExpressionFault, parse
 from .faults import Faults
 from .limits import NAME_BYTES, PARAMETER_HIGH, VERSIONS, is_whole
-from .wording import joined, listed, named, nearest, quoted, shortened
+from .wording import joined, listed, named, nearest, quoted, sentence, shortened
 
 NAME = re.compile(r"[A-Za-z_][A-Za-z0-9_]*")
 RESERVED = ("min", "max")
@@ -60,7 +60,7 @@ class GraphReading:
     def members(self, value, pointer, what, required, optional=()):
         """The values of an object's members by name, of those that are there. None where it is no object."""
         if value.kind != "object":
-            self.shape(pointer, value, f"{what.capitalize()} is an object, and {shown(value)} stands here.")
+            self.shape(pointer, value, f"{sentence(what)} is an object, and {shown(value)} stands here.")
             return None
         found = {name: member.value for name, member in value.value.items()}
         missing = [name for name in required if name not in found]
@@ -80,8 +80,8 @@ class GraphReading:
                 found[meant] = found[name]
                 missing = [other for other in missing if other != meant]
         if missing:
-            sentences.append(f"{what.capitalize()} lacks {named(missing)}. {self.lack_words(missing)}")
-        members = f"{what.capitalize()} has {named(required)}"
+            sentences += [f"{sentence(what)} lacks {named(missing)}.", self.lack_words(missing)]
+        members = f"{sentence(what)} has {named(required)}"
         sentences.append(members + (f", and may have {named(optional)}." if optional else "."))
         self.shape(pointer, value, *sentences, start=start, end=end)
 
@@ -96,7 +96,7 @@ class GraphReading:
             return "Only a parameter of the kind `is` has a member `expr`. The others get their values from elsewhere."
         if name == "rate" and "configuration" in what:
             return "The input of a configuration actor states no rate: it takes what its interface gives."
-        return f"{what.capitalize()} has no member {quoted(name)}." + (f" Do you mean {quoted(meant)}?" if meant else "")
+        return f"{sentence(what)} has no member {quoted(name)}." + (f" Do you mean {quoted(meant)}?" if meant else "")
 
     def lack_words(self, missing):
         lists = [name for name in missing if name in LISTS]
@@ -220,7 +220,7 @@ class GraphReading:
     def version_fault(self, value):
         self.faults.add(3, f"version {value.value}", "/pisdf", value.start, value.end,
                         f"The file says that it has version {value.value} of the format. There are the versions 1, 2 and 3. "
-                        "For a new graph write `\"pisdf\":3`. Of such a file nothing else is looked at: what stands below is found as in version 3.")
+                        "For a new graph write `\"pisdf\":3`. What else is told of this file is found as in version 3.")
 
     def graph(self, value, pointer):
         required = ("name", "params", "inputs", "outputs", "actors", "fifos") + (("exports",) if self.version == 3 else ())
@@ -266,7 +266,7 @@ class GraphReading:
             self.shape(pointer, value, f"The kind is {shown(kind)}, and the parameter has an `expr`.", meaning,
                        start=kind.start, end=kind.end)
         else:
-            self.shape(f"{pointer}/kind", kind, f"{shown(kind).capitalize()} is no kind of parameter.", meaning)
+            self.shape(f"{pointer}/kind", kind, f"{sentence(shown(kind))} is no kind of parameter.", meaning)
 
     def interface(self, value, pointer):
         return self.port_with(value, pointer, "an interface" if pointer.count("/") == 4 else "a port")
@@ -332,7 +332,7 @@ class GraphReading:
         meant = nearest(kind, known) if kind else None
         if meant is None:
             meant = self.kind_by_members(value.value)
-        sentences = [f"{shown(stated.value).capitalize()} is no kind of actor." if stated else "The actor lacks the member `kind`.", all_kinds]
+        sentences = [f"{sentence(shown(stated.value))} is no kind of actor." if stated else "The actor lacks the member `kind`.", all_kinds]
         return meant, sentences + [f"Do you mean {quoted(meant)}?" if meant else ""]
 
     def kind_by_members(self, members):
@@ -356,7 +356,7 @@ class GraphReading:
             return [self.delay_token(token, f"{pointer}/{place}") for place, token in enumerate(value.value)]
         if value.kind == "integer" and 0 <= value.value and is_whole(value.value):
             return value.value
-        self.shape(pointer, value, f"A delay is a number of zeros from 0 on, as `2`, or a list of whole numbers, as `[5,-6]`. {shown(value).capitalize()} stands here.")
+        self.shape(pointer, value, f"A delay is a number of zeros from 0 on, as `2`, or a list of whole numbers, as `[5,-6]`. {sentence(shown(value))} stands here.")
         return 0
 
     def delay_token(self, value, pointer):

@@ -1,6 +1,6 @@
 """Faults of names and counts: duplicates, unknown names, kernels, and numbers of arguments and ports (faults 4 to 7)."""
 from . import expressions, kernels
-from .wording import counted, joined, listed, named, quoted
+from .wording import counted, joined, listed, named, quoted, with_names
 
 COUNT_WORDS = {"args": ("argument", "arguments"), "ins": ("input", "inputs"), "outs": ("output", "outputs"),
                "sets": ("parameter that it sets", "parameters that it sets")}
@@ -97,7 +97,7 @@ class NameFaults:
         known = [graph.name.text for graph in self.file.graphs]
         meant = self.faults.near(word.text, known)
         self.add(5, f"unknown {word.text}", word, f"There is no graph {quoted(word.text)}.", rule,
-                 f"The graphs of this file are {named(known)}." if known else "This file has no graph.", self.ask(meant))
+                 f"This file has {with_names('graph', known)}." if known else "This file has no graph.", self.ask(meant))
         return self.meaning(word, meant)
 
     def ask(self, meant):
@@ -126,7 +126,7 @@ class NameFaults:
     def unknown_param(self, name, graph, rule):
         known = [param.name.text for param in graph.params]
         others = [other.name.text for other in self.file.graphs if other is not graph and other.param(name)]
-        has = f"Graph {quoted(graph.name.text)} has the parameters {named(known)}." if known else f"Graph {quoted(graph.name.text)} has no parameters."
+        has = f"Graph {quoted(graph.name.text)} has {with_names('parameter', known)}." if known else f"Graph {quoted(graph.name.text)} has no parameters."
         elsewhere = ""
         if others:
             elsewhere = (f"Graph {quoted(others[0])} has one of that name. A graph gets values from the graph around it by a "
@@ -183,7 +183,7 @@ class NameFaults:
             return f"{quoted(name)} is a parameter. No FIFO leads to a parameter or comes from one: name it in an expression."
         known = [actor.name.text for actor in graph.actors] if port else [part.name.text for part in graph.inputs + graph.outputs]
         what = "actor" if port else "interface"
-        has = f"It has the {what}s {named(known)}." if known else f"It has no {what}s."
+        has = f"It has {with_names(what, known)}." if known else f"It has no {what}s."
         return f"{label} has no {what} {quoted(name)}. {has}"
 
     def any_port(self, actor):
@@ -192,9 +192,9 @@ class NameFaults:
 
     def port_list(self, actor, ins, outs):
         owner = f"They are those of its graph {quoted(actor.child.text)}." if actor.is_hierarchical and actor.child else ""
-        lists = [f"{counted(len(ports), what).split(' ')[1]} {named(port.name.text for port in ports)}"
+        lists = [with_names(what, (port.name.text for port in ports))
                  for what, ports in (("input", ins), ("output", outs)) if ports]
-        return joined([f"It has the {listed(lists)}." if lists else "It has no ports.", owner])
+        return joined([f"It has {listed(lists)}." if lists else "It has no ports.", owner])
 
     # ---- kernels and counts
 

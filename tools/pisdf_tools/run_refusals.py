@@ -50,7 +50,7 @@ class RunRefusals:
         param, more = self.refused.part, self.refused.more
         name = quoted(param.name.text)
         if "why" in more:
-            return self.at(param.expression, f"The parameter {name} has no value: {more['why'].text}{values_words(param.expression, self.values)}.",
+            return self.at(param.expression, f"The parameter {name} has no value{values_words(param.expression, self.values)}: {more['why'].text}.",
                            "Write the expression so that it has a value for all values of the parameters in it, as by `max(1,n)` under a `/`.")
         value, advice = more["value"], f"Widen the range, which is {param.low} to {param.high}, or mend what gives the value."
         if param.kind == "is":
@@ -114,7 +114,7 @@ class RunRefusals:
             sentences.append(f"{counted(len(found.conflicts) - 4, 'FIFO')} more can't hold either.")
         for actor in found.large[:3] if not found.conflicts else []:
             least = min(found.base, key=lambda other: (found.base[other], other))
-            sentences.append(f"The rates let {quoted(actor)} fire {grouped(found.base[actor])} times for {times(found.base[least])} of {quoted(least)}. "
+            sentences.append(f"The rates let {quoted(actor)} fire {times(found.base[actor])} for {times(found.base[least])} of {quoted(least)}. "
                              f"The balance may ask for {grouped(BASE_ENTRY)} firings of an actor. Take rates that are nearer to each other.")
         part = self.graph.fifos[found.conflicts[0].link.fifo] if found.conflicts and found.conflicts[0].link.fifo is not None else self.graph.name
         return self.at(part, "No numbers of firings fit the rates of this graph.", *sentences, self.env_words())
@@ -148,7 +148,7 @@ class RunRefusals:
         head = f"One firing of the graph {quoted(self.graph.name.text)} has {grouped(count)} {what}, and {grouped(limit)} are allowed."
         if what == "firings":
             parts = sorted(counts.items(), key=lambda pair: -pair[1])[:4]
-            most = listed([f"{quoted(actor)} {grouped(found)} times" for actor, found in parts])
+            most = listed([f"{quoted(actor)} {times(found)}" for actor, found in parts])
             return self.at(self.graph.name, head, f"Most often fire {most}.", self.driver_words(level, counts, parts[0][0]),
                            "Give the ports of these actors greater rates, so that a firing works on more tokens.", self.env_words())
         measure = balance.link_count if what == "links" else balance.token_count
@@ -215,8 +215,8 @@ class RunRefusals:
             else:
                 high = middle
         now = f" more, {link.delay + high} in all," if link.delay else ""
-        return (f"A delay of {counted(high, 'token')}{now} on FIFO {link.fifo} is enough: `\"delay\":{link.delay + high}`. "
-                "With `\"life\":\"permanent\"` its tokens go on to the next firing of the graph.")
+        life = "With `\"life\":\"permanent\"` its tokens go on to the next firing of the graph." if self.reading.file.version > 1 else ""
+        return joined([f"A delay of {counted(high, 'token')}{now} on FIFO {link.fifo} is enough: `\"delay\":{link.delay + high}`.", life])
 
     # ---- kernels
 

@@ -1,6 +1,6 @@
 """What can be told of a graph file without a fault and without tokens: interfaces, parameters, repetition vectors, hierarchy."""
 from . import balance
-from .expressions import bounds
+from .expressions import bounds, names
 from .firing import Runner, TooLong
 from .levels import Refused
 from .limits import PARAMETER_HIGH
@@ -35,7 +35,6 @@ class Ranges:
         return self.found[graph.pointer]
 
     def names(self, param):
-        from .expressions import names
         return [name.name for name in names(param.expression.tree)]
 
     def rate_words(self, rate, graph):

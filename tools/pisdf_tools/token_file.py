@@ -3,7 +3,7 @@ import re
 from dataclasses import dataclass
 
 from .limits import GREATEST_WHOLE, LEAST_WHOLE, TOKEN_FILE_BYTES, is_whole
-from .wording import counted, grouped, joined, named, nearest, quoted, shortened
+from .wording import counted, grouped, joined, nearest, quoted, shortened, with_names
 
 MARK = b"\xef\xbb\xbf"
 LINE_END = re.compile(rb"[\r\n]")
@@ -127,7 +127,7 @@ class TokenFaults:
 
     def name(self, record, row, _):
         name = record.fields[0].decode("utf-8", "replace")
-        known = f"The top graph has the inputs {named(self.inputs)}." if self.inputs else "The top graph has no inputs, so its token file is empty."
+        known = f"The top graph has {with_names('input', self.inputs)}." if self.inputs else "The top graph has no inputs, so its token file is empty."
         meant, stripped = nearest(name, self.inputs), name.strip()
         hints = []
         if stripped != name and stripped in self.inputs:
@@ -187,4 +187,5 @@ def short_words(path, data, name, has, needs, iteration_rates):
     if iteration_rates:
         others = " Each iteration takes " + ", ".join(f"{rate} of {quoted(other)}" for other, rate in iteration_rates) + "."
     return (f"{place}{given}. Each iteration takes {rate}, so {counted(done, 'iteration')} had enough. Iteration {done}, counted from 0, "
-            f"begins with {has}, and lacks {lacks}.{others} Add tokens to the row of {quoted(name)}, or call for {counted(done, 'iteration')}.")
+            f"begins with {has}, and lacks {lacks}.{others} {'Add' if place else 'Add a row with'} tokens {'to the row ' if place else ''}of {quoted(name)}"
+            + (f", or call for {counted(done, 'iteration')}." if done else "."))

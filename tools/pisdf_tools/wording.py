@@ -50,9 +50,20 @@ def nearest(name, known):
     return by_lower[found[0]] if found else None
 
 
+def with_names(thing, names):
+    """Things with their names, as `the inputs `x` and `y``."""
+    names = list(names)
+    return f"the {thing if len(names) == 1 else thing + 's'} {named(names)}"
+
+
 def times(count):
     """How often, as `once` or `3 times`."""
-    return {1: "once", 2: "twice"}.get(count, f"{count} times")
+    return {1: "once", 2: "twice"}.get(count, f"{grouped(count)} times")
+
+
+def sentence(text):
+    """A text with a great first letter."""
+    return text[:1].upper() + text[1:]
 
 
 def joined(sentences):

@@ -71,4 +71,6 @@ def explain_usage(words):
     if len(given) < len(wanted):
         sentences.append(f"{' and '.join(wanted[len(given):])} {'is' if len(wanted) == len(given) + 1 else 'are'} missing at the end, or a word before.")
     sentences += [number_trouble(name, word) for name, word in zip(wanted, given) if name in NUMBERS]
+    if not any(sentences):
+        sentences = ["The words have the form that is wanted, so the program that was called is older than this command."]
     return joined(sentences + [f"The call is {usage(command)}."])
