@@ -132,9 +132,10 @@ class RunRefusals:
     def conflict_words(self, conflict):
         link = conflict.link
         own = (f"On {self.fifo_words(link)}, {quoted(link.tail_port)} gives {counted(link.production, 'token')} a firing and {quoted(link.head_port)} "
-               f"takes {link.consumption}, so {self.ratio_words(link, conflict.wanted)}")
+               f"takes {link.consumption}")
         if link.tail == link.head:
             return f"{own}. Both ends are of one actor, so the rates must be equal."
+        own += f", so {self.ratio_words(link, conflict.wanted)}"
         way = listed([f"FIFO {other.fifo} ({other.production} to {other.consumption})" for other in conflict.way if other.fifo is not None])
         return f"{own}. But by {way} {self.ratio_words(link, conflict.forced)}. Change a rate so that both agree."
 
@@ -223,7 +224,7 @@ class RunRefusals:
     def kernel(self):
         more, actor = self.refused.more, self.refused.part
         fault, row = more["fault"], table()[actor.kernel.text]
-        args = f" with the arguments {', '.join(map(str, more['args']))}" if more["args"] else ""
+        args = f" with {'the argument' if len(more['args']) == 1 else 'the arguments'} {', '.join(map(str, more['args']))}" if more["args"] else ""
         reads = listed([f"{quoted(port.name.text)} read {counted(len(tokens), 'token')}: {tokens_words(tokens)}" for port, tokens in zip(actor.ins, more["ins"])])
         gives = listed([f"{quoted(port.name.text)} has the rate {rate}" for port, rate in zip(actor.outs, more["outs"])])
         about = {1: "Overflow", 2: "Division", 3: "Rates", 4: "Value"}[fault.code]
