@@ -1,0 +1,73 @@
+"""`check`: all faults of a file, and what is told of a file without one."""
+import os
+import unittest
+
+from support import TOP, WHOLE, call, changed, needs_program, read_text
+
+SPOILED = changed(WHOLE, ('"kernel":"gain"', '"kernel":"gian"'), ('"rate":"4"', '"rate":4'), ('"to":"a.i"', '"to":"a.k"'))
+
+
+def example(name):
+    with open(os.path.join(TOP, "examples", name, "g.json"), encoding="utf-8") as file:
+        return file.read()
+
+
+class Summaries(unittest.TestCase):
+    def lines(self, text):
+        from pisdf_tools.summary import Summary
+        return list(Summary(read_text(text)).lines())
+
+    def test_interfaces_parameters_and_hierarchy(self):
+        lines = self.lines(WHOLE)
+        for line in ("graph g: depth 0, the top graph, fired once in each iteration", "  input x: rate 4", "  output y: rate 2*k = 4",
+                     "  parameter n: set by a configuration actor, 1 to 8", "  parameter m: = n+1, 2 to 9", "  parameter k: = 2, 2",
+                     "  3 kernel actors, 1 configuration actor and 1 hierarchical actor, 7 FIFOs, keeps 1 token from firing to firing",
+                     "  repetition: a 4, s 4, d 4, b 2", "graph h: depth 1, fired in `g` by its actor `b`", "  parameter p: from an argument, any value from 0 on"):
+            self.assertIn(line, lines)
+
+    def test_each_value_of_a_parameter(self):
+        lines = self.lines(example("adaptive-mean"))
+        self.assertIn("  repetition: m 1 where n = 8", lines)
+        self.assertTrue(any("x of rate 8 is read 3 x 3 = 9, from the front again" in line and line.endswith("where n = 3") for line in lines), lines)
+
+    def test_a_graph_that_no_actor_names(self):
+        text = changed(WHOLE, (' {"name":"h","params"', ' {"name":"z","params":[],"inputs":[],"outputs":[],"actors":[],"fifos":[],"exports":[]},\n {"name":"h","params"'))
+        self.assertIn("No actor names the graph `z`, so it is never fired.", self.lines(text))
+
+    def test_runs_that_are_refused_whatever_the_tokens(self):
+        from pisdf_tools.summary import certain_refusal
+        refused, text = certain_refusal(read_text(example("ring-without-delay")))
+        self.assertEqual(refused.line, "run: g deadlock s 2 d 2")
+        self.assertIn("A delay of 1 token on FIFO 3 is enough", text)
+        self.assertIsNone(certain_refusal(read_text(example("running-sum"))))
+        self.assertIsNone(certain_refusal(read_text(WHOLE)))
+
+
+@needs_program
+class Calls(unittest.TestCase):
+    def test_all_faults_of_a_file(self):
+        done = call(["g.json"], {"g.json": SPOILED}, "check.py")
+        text = done.stdout.decode()
+        self.assertEqual(done.returncode, 2)
+        self.assertTrue(text.startswith("graph: 2 shape /graphs/0/inputs/1/rate\n"))
+        self.assertIn("2 more faults can be seen", text)
+        for line in ("\ngraph: 5 unknown a.k\n", "\ngraph: 6 kernel gian\n"):
+            self.assertIn(line, text)
+
+    def test_status(self):
+        for text, status in ((WHOLE, 0), (example("ring-without-delay"), 4), ("{", 2)):
+            self.assertEqual(call(["g.json"], {"g.json": text}, "check.py").returncode, status)
+        done = call(["h.json"], {"g.json": WHOLE}, "check.py")
+        self.assertEqual(done.returncode, 5)
+        self.assertIn("Do you mean `g.json`?", done.stdout.decode())
+
+    def test_each_example_is_told_of(self):
+        for name in sorted(os.listdir(os.path.join(TOP, "examples"))):
+            if os.path.isdir(os.path.join(TOP, "examples", name)):
+                done = call(["g.json"], {"g.json": example(name)}, "check.py")
+                self.assertIn("the file has no fault", done.stdout.decode())
+                self.assertEqual(done.stderr, b"")
+
+
+if __name__ == "__main__":
+    unittest.main()

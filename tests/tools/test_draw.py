@@ -1,0 +1,162 @@
+"""Pictures of graph files, plans, schedules and cells."""
+import json
+import os
+import subprocess
+import sys
+import tempfile
+import time
+import unittest
+import xml.etree.ElementTree as xml
+
+TOP = os.path.realpath(os.path.join(os.path.dirname(__file__), "..", ".."))
+DRAW = os.path.join(TOP, "tools", "draw.py")
+SVG = "{http://www.w3.org/2000/svg}"
+PLAN, SCHEDULE, MEMORY = (os.path.join(TOP, "tests", "commands", name, "stdout") for name in ("plan", "schedule", "memory"))
+
+
+def draw(*words, stdin=""):
+    done = subprocess.run([sys.executable, "-B", DRAW, *words], input=stdin, capture_output=True, text=True, timeout=60)
+    return done.returncode, done.stdout, done.stderr
+
+
+def example(name):
+    return os.path.join(TOP, "examples", name, "g.json")
+
+
+def spoiled(change):
+    """A graph file of an example with a change."""
+    with open(example("adaptive-mean"), encoding="utf-8") as file:
+        graph = json.load(file)
+    change(graph)
+    return json.dumps(graph)
+
+
+class Graphs(unittest.TestCase):
+    def test_ports_rates_and_ranges(self):
+        status, out, error = draw("graph", example("adaptive-mean"))
+        self.assertEqual((status, error), (0, ""))
+        self.assertIn('"g/x" -> "g/m" [taillabel="8", headlabel="i n"];', out)
+        self.assertIn('"g/n" [label="n\\n1 to 8"', out)
+
+    def test_who_sets_and_who_uses_a_parameter(self):
+        out = draw("graph", example("adaptive-mean"))[1]
+        self.assertIn('"g/c" -> "g/n" [style=dashed', out)
+        self.assertIn('"g/n" -> "g/m" [style=dashed', out)
+        self.assertEqual(out.count("style=dashed"), 2)
+
+    def test_a_delay_with_its_tokens_and_its_life(self):
+        out = draw("graph", example("running-sum"))[1]
+        self.assertIn('label=" delay 0, permanent "', out)
+        self.assertIn('label=" delay 0 "', out)
+
+    def test_a_long_delay_is_counted(self):
+        def change(graph):
+            graph["graphs"][0]["fifos"][0]["delay"] = [1, 2, 3, 4, 5, 6]
+
+        self.assertIn("delay 1, 2, 3, 4, .. (6 tokens)", draw("graph", "-", stdin=spoiled(change))[1])
+
+    def test_all_examples(self):
+        for name in os.listdir(os.path.join(TOP, "examples")):
+            if os.path.exists(example(name)):
+                status, out, error = draw("graph", example(name))
+                self.assertEqual((status, error), (0, ""))
+                self.assertTrue(out.startswith("digraph {"))
+
+    def refused(self, stdin, words):
+        status, out, error = draw("graph", "-", stdin=stdin)
+        self.assertEqual((status, out, error), (2, "", f"draw: {words}\n"))
+
+    def test_bad_graphs_are_answered_with_a_line(self):
+        self.refused("{", "- is no JSON: Expecting property name enclosed in double quotes: line 1 column 2 (char 1)")
+        self.refused("[]", "/ has to be an object")
+        self.refused("{}", "/ has no member 'top'")
+        self.refused(spoiled(lambda graph: graph["graphs"][0].pop("fifos")), "/graphs/0 has no member 'fifos'")
+        self.refused(spoiled(lambda graph: graph["graphs"][0]["inputs"][0].update(rate=1)), "/graphs/0/inputs/0/rate has to be a text")
+        self.refused(spoiled(lambda graph: graph["graphs"][0]["actors"][0].update(kind="actor")), "/graphs/0/actors/0/kind is 'actor', and has to be one of kernel, config, graph, setgraph")
+        self.refused(spoiled(lambda graph: graph["graphs"][0]["fifos"][0].update(to="m.k")), "/graphs/0/fifos/0/to: 'm.k' is no interface and no port of this graph")
+        self.refused(spoiled(lambda graph: graph.update(top="h")), "/top: the file has no graph 'h'")
+
+    def test_files_that_cant_be_read(self):
+        self.assertEqual(draw("graph", "/nowhere/g.json")[::2], (2, "draw: /nowhere/g.json can't be read: No such file or directory\n"))
+        with tempfile.NamedTemporaryFile() as file:
+            file.write(b"\xff")
+            file.flush()
+            self.assertEqual(draw("graph", file.name)[2], f"draw: {file.name} is no text in UTF-8: byte 0 begins no letter\n")
+
+    def test_words(self):
+        self.assertEqual(draw()[0], 1)
+        self.assertEqual(draw("tree", "x")[0], 1)
+
+
+class Plans(unittest.TestCase):
+    def test_a_box_for_each_node(self):
+        status, out, error = draw("plan", PLAN, SCHEDULE)
+        self.assertEqual((status, error), (0, ""))
+        self.assertEqual(out.count("priority"), 6)
+        self.assertEqual(out.count(" -> "), 6)
+        self.assertIn("penwidth=3", out)
+        self.assertIn('n0 -> n3 [label="4 at 0"', out)
+
+    def test_a_large_plan_is_drawn_by_actors_in_a_second(self):
+        nodes = [f"node,{number},firing,a:{number},0,1" for number in range(1000)] + [f"node,{number},firing,b:{number - 1000},0,1" for number in range(1000, 2000)]
+        edges = [f"edge,{number},{number},{number + 1000},3,{3 * number}" for number in range(1000)]
+        begun = time.monotonic()
+        out = draw("plan", "-", stdin="\n".join([*nodes, *edges, "height,3000"]))[1]
+        self.assertLess(time.monotonic() - begun, 5)
+        self.assertEqual(out.count("1000 nodes"), 2)
+        self.assertIn('label="1000 edges, 3000 tokens"', out)
+
+    def test_what_is_no_plan(self):
+        self.assertEqual(draw("plan", "-", stdin="tokens,0,y,5\n")[2], "draw: -, line 1: no row of a plan, a schedule or a memory begins with 'tokens'\n")
+        self.assertEqual(draw("plan", "-", stdin="height,5\n")[2], "draw: - has no row 'node'\n")
+        self.assertEqual(draw("plan", "-", stdin="node,1,firing\n")[2], "draw: -, line 1: a row 'node' has 5 fields after it, and this one has 2\n")
+        self.assertEqual(draw("plan", "-", stdin="node,0,firing,a:0,0,1\nedge,0,0,7,1,0\n")[2], "draw: -: edge 0 names node 7, and no row has it\n")
+        self.assertEqual(draw("plan", "-", stdin="height,many\n")[2], "draw: -, line 1: a field that has to be a number isn't one\n")
+
+
+class Charts(unittest.TestCase):
+    def shapes(self, *words):
+        status, out, error = draw(*words)
+        self.assertEqual((status, error), (0, ""))
+        return xml.fromstring(out)
+
+    def test_a_bar_for_each_node(self):
+        drawn = self.shapes("gantt", SCHEDULE, PLAN)
+        bars = [shape for shape in drawn.iter(f"{SVG}rect") if "box" in shape.get("class", "")]
+        self.assertEqual(len(bars), 6)
+        told = [shape.find(f"{SVG}title").text for shape in bars]
+        self.assertTrue(any(words.startswith("a:0: from ") for words in told), told)
+
+    def test_a_box_of_cells_for_each_buffer(self):
+        drawn = self.shapes("cells", PLAN)
+        told = [shape.find(f"{SVG}title").text for shape in drawn.iter(f"{SVG}rect") if shape.get("class") == "box"]
+        self.assertIn("edge 0: cells 0 to 3, from node 0 to node 3", told)
+        self.assertEqual(len(told), 6)
+
+    def test_a_buffer_lives_from_its_writer_to_its_reader(self):
+        # The order of one worker is 0, 3, 1, 2, 4, 5: the buffer from node 3 to node 2 lives in the steps 1 to 3 of 6.
+        drawn = self.shapes("cells", PLAN)
+        box, = [shape for shape in drawn.iter(f"{SVG}rect") if "node 3 to node 2" in (shape.findtext(f"{SVG}title") or "")]
+        self.assertEqual((box.get("x"), box.get("width")), ("220", "450"))
+
+    def test_the_cells_of_a_memory(self):
+        offsets = "".join(f"offset,{number},{2 * number}\n" for number in range(6))
+        with tempfile.NamedTemporaryFile("w") as memory:
+            memory.write(f"height,8\nordered,20\n{offsets}order,0,0\n")
+            memory.flush()
+            told = [shape.find(f"{SVG}title").text for shape in self.shapes("cells", PLAN, memory.name).iter(f"{SVG}rect") if shape.get("class") == "box"]
+        self.assertIn("edge 3: cells 6 to 6, from node 1 to node 4", told)
+
+    def test_a_memory_of_another_graph(self):
+        self.assertEqual(draw("cells", PLAN, MEMORY)[::2], (2, "draw: the memory has no offset for edge 4 of the plan: they are of two graphs\n"))
+
+    def test_very_many_buffers_are_an_image(self):
+        nodes = [f"node,{number},firing,a:{number},0,1" for number in range(5000)]
+        edges = [f"edge,{number},{number},{number + 1},1,{number}" for number in range(4999)]
+        status, out, error = draw("cells", "-", stdin="\n".join([*nodes, *edges, "height,4999"]))
+        self.assertEqual((status, error), (0, ""))
+        self.assertEqual(len(list(xml.fromstring(out).iter(f"{SVG}image"))), 1)
+
+
+if __name__ == "__main__":
+    unittest.main()

@@ -1,0 +1,102 @@
+"""`explain` as it is called: output and status byte for byte, words that are none, files that can't be read, lost tokens, journals."""
+import os
+import subprocess
+import sys
+import unittest
+
+from support import PROGRAM, TOOLS, TOP, WHOLE, call, changed, needs_program
+
+PASS = ('{"pisdf":1,"top":"g","graphs":[{"name":"g","params":[],"inputs":[{"name":"x","rate":"8"}],"outputs":[{"name":"y","rate":"7"}],"actors":'
+        '[{"name":"a","kind":"kernel","kernel":"pass","args":[],"ins":[{"name":"i","rate":"7"}],"outs":[{"name":"o","rate":"7"}]}],'
+        '"fifos":[{"from":"x","to":"a.i"},{"from":"a.o","to":"y"}]}]}')
+JOURNAL = b"claim,0,0,g,compile,0\nfinish,0,0\nclaim,0,0,g,node,0\nfinish,0,0\n"
+
+
+class Words(unittest.TestCase):
+    def test_what_is_wrong_with_words(self):
+        from pisdf_tools.words import explain_usage
+        rows = [([], ["No command is named", "`run`", "`upgrade`"]), (["rnu", "g", "t"], ["`rnu` is no command", "`./pisdf run GRAPH TOKENS ITERATIONS WORKERS`"]),
+                (["g.json", "t.csv"], ["The first word is the command"]), (["run", "g", "t", "1"], ["takes 4 words more, and here are 3", "WORKERS is missing"]),
+                (["plain", "g", "t", "1", "1"], ["takes 3 words more, and here are 4"]), (["run", "g", "t", "65537", "1"], ["from 0 to 65536", "`65537`"]),
+                (["run", "g", "t", "1", "17"], ["from 1 to 16", "`17`"]), (["run", "g", "t", "one", "1"], ["in decimal digits", "`one`"]),
+                (["unfold", "65", "g", "t", "1", "1"], ["TIMES is a number from 1 to 64"]), (["soak", "65536", "1"], ["NUMBER is a number from 0 to 65535"])]
+        for words, wanted in rows:
+            with self.subTest(words):
+                for word in wanted:
+                    self.assertIn(word, explain_usage(words))
+
+    def test_the_commands_are_those_of_the_page(self):
+        from pisdf_tools.words import COMMANDS
+        with open(os.path.join(TOP, "docs", "FORMATS.md"), encoding="utf-8") as file:
+            rows = [line.split("`")[1].split(" ") for line in file if line.startswith("| `") and line.split("`")[1].split(" ")[0] in COMMANDS]
+        for command, *words in rows:
+            self.assertEqual(COMMANDS[command], tuple(words))
+        self.assertGreaterEqual(len(rows), 8)
+
+
+class Unread(unittest.TestCase):
+    def test_why_a_file_is_not_read(self):
+        from pisdf_tools.refusals import why_unread
+        self.assertIn("Do you mean", why_unread(os.path.join(TOP, "examples", "first", "g.jsn")))
+        self.assertIn("This is a folder", why_unread(os.path.join(TOP, "examples", "first")))
+        self.assertIn("There is no folder", why_unread("no-such-folder/g.json"))
+
+
+class Journals(unittest.TestCase):
+    def text(self, data, line, workers=1, legal=None):
+        from pisdf_tools.journal_file import JournalFaults
+        return JournalFaults("j.csv", data, workers, 1, legal).line(line)
+
+    def test_lines_that_are_wrong(self):
+        lines = JOURNAL.splitlines()
+        rows = [(lines[0:2] + [lines[3], lines[2]], 3, ["finishes, and it runs nothing"]), (lines[0:1] + [lines[2]], 2, ["still runs the one that it claimed in line 1"]),
+                ([b"claim,0,1,g,compile,0"], 1, ["The worker is 1", "workers are 0 to 0"]), ([b"claim,1,0,g,compile,0"], 1, ["The iteration is 1"]),
+                ([b"claim,0,00,g,compile,0"], 1, ["leading zeros"]), ([b"begin,0"], 1, ["none of a journal", "`finish,ITERATION,WORKER`"]),
+                ([lines[0] + b"\r"], 1, ["without a carriage return"]), (lines[:1], 2, ["ends after line 1, too early", "finish of the worker 0 is missing"]),
+                ([b"claim,0,0,g,node,5"], 1, ["isn't the one that the rules hand it"])]
+        for found, number, words in rows:
+            with self.subTest(words[0]):
+                text = self.text(b"\n".join(found) + b"\n", number)
+                for word in words:
+                    self.assertIn(word, text)
+        self.assertIn("no line feed", self.text(JOURNAL[:-1], 4))
+        self.assertIn("its line 2 is `finish,0,0`", self.text(JOURNAL, 2, 1, JOURNAL.splitlines()))
+
+
+@needs_program
+class Calls(unittest.TestCase):
+    def test_output_and_status_are_those_of_the_program(self):
+        for words, files in ((["run", "g.json", "t.csv", "2", "2"], {"g.json": WHOLE, "t.csv": "w,2,3\nx,1,2,3,4,5,6,7,8\n"}),
+                             (["run", "g.json", "t.csv", "2", "2"], {"g.json": WHOLE, "t.csv": "w,2,9\nx,1,2,3,4,5,6,7,8\n"}),
+                             (["plan", "g.json", "t.csv", "2"], {"g.json": WHOLE, "t.csv": "w,2\nx,1,2,3,4\n"}), (["nonsense"], {}), ([], {}),
+                             (["upgrade", "g.json"], {"g.json": "{"}), (["run", "g.json", "t.csv", "1", "1"], {"g.json": WHOLE})):
+            with self.subTest(words):
+                plain, told = call(words, files), call(words, files, "explain.py")
+                self.assertEqual((told.returncode, told.stdout), (plain.returncode, plain.stdout))
+                self.assertTrue(told.stderr.startswith(plain.stderr))
+                self.assertNotIn(b"Traceback", told.stderr)
+                if plain.returncode:
+                    self.assertGreater(len(told.stderr), len(plain.stderr))
+
+    def test_tokens_that_an_interface_loses_or_repeats(self):
+        done = call(["run", "g.json", "t.csv", "1", "1"], {"g.json": PASS, "t.csv": "x,1,2,3,4,5,6,7,8,9\n"}, "explain.py")
+        text = done.stderr.decode()
+        self.assertEqual(done.returncode, 0)
+        for word in ("The input `x` has 8 tokens", "fires twice and reads 7 each time, 14 in all, so 6 tokens are read again", "keeps the last 7 tokens",
+                     "the first 7 are lost", "`x` has 1 token left, and an iteration takes 8"):
+            self.assertIn(word, text)
+        done = call(["run", "g.json", "t.csv", "1", "1"], {"g.json": changed(PASS, ('"8"', '"7"')), "t.csv": "x,1,2,3,4,5,6,7\n"}, "explain.py")
+        self.assertEqual(done.stderr, b"")
+
+    def test_a_closed_output_and_an_error_output_that_is_full(self):
+        command = [sys.executable, os.path.join(TOOLS, "explain.py"), PROGRAM, "nonsense"]
+        with open("/dev/full", "wb") as full:
+            self.assertEqual(subprocess.run(command, stdout=subprocess.DEVNULL, stderr=full).returncode, 6)
+
+    def test_a_program_that_is_not_there(self):
+        done = subprocess.run([sys.executable, os.path.join(TOOLS, "explain.py"), "/nowhere/pisdf", "run"], capture_output=True)
+        self.assertEqual((done.returncode, b"can't be called" in done.stderr), (127, True))
+
+
+if __name__ == "__main__":
+    unittest.main()

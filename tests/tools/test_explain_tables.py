@@ -1,0 +1,122 @@
+"""The tables of the tools against the documents and the rows by which the program is tested."""
+import json
+import os
+import re
+import unittest
+
+from support import TOP, read_text
+
+DATA = os.path.join(TOP, "crates", "conformance", "data")
+MOST = 60_000
+
+
+def rows_of(name):
+    with open(os.path.join(DATA, name), encoding="utf-8") as file:
+        return [json.loads(line) for line in file]
+
+
+def text_of(text):
+    """A text of a row, where parts are repeated or numbered."""
+    if isinstance(text, str):
+        return text
+    if isinstance(text, list):
+        return "".join(text_of(part) for part in text)
+    if "each" in text:
+        return text.get("between", "").join(text["each"].replace("#", str(place)).replace("@", str(place + 1)) for place in range(text["times"]))
+    return text.get("between", "").join([text_of(text["of"])] * text["times"])
+
+
+def page(name):
+    with open(os.path.join(TOP, "docs", name), encoding="utf-8") as file:
+        return file.read()
+
+
+class Limits(unittest.TestCase):
+    def test_limits_are_those_of_the_page(self):
+        from pisdf_tools import limits
+        formats = page("FORMATS.md")
+        for name, limit in {**limits.PARTS, "delay": limits.DELAY, "hold": limits.HOLD, "graphs": limits.GRAPHS}.items():
+            self.assertRegex(formats, rf"\| `{name}` \| {limit:,} ")
+        for words in (f"at most {limits.GRAPH_FILE_BYTES:,} bytes", f"at most {limits.TOKEN_FILE_BYTES:,} bytes", f"nest up to {limits.JSON_NESTING} deep",
+                      f"It has 1 to {limits.NAME_BYTES} bytes", f"up to {limits.EXPRESSION_BYTES:,} bytes", f"At most {limits.OPEN_PARENTHESES} parentheses",
+                      f"from 0 to {limits.PARAMETER_HIGH}", f"nested more than {limits.NESTED_GRAPHS} deep", f"| a rate | {limits.RATE:,} |",
+                      f"1 to {limits.BASE_ENTRY:,} | `rates`", f"| {limits.FIRINGS:,} | `limit firings N`", f"| {limits.LINKS:,} | `limit links N`",
+                      f"| {limits.TOKENS:,} | `limit tokens N`", f"ITERATIONS is 0 to {limits.ITERATIONS:,}", f"WORKERS is 1 to {limits.WORKERS},",
+                      f"NUMBER is 0 to {limits.SOAK_NUMBER:,}"):
+            self.assertIn(words, formats)
+
+
+class Kernels(unittest.TestCase):
+    def test_each_kernel_of_the_page_is_known(self):
+        from pisdf_tools.kernel_work import FIRES
+        from pisdf_tools.kernels import code_meaning, table
+        self.assertEqual(set(table()), set(FIRES))
+        self.assertEqual(len(table()), page("KERNELS.md").count("\n### "))
+        self.assertEqual([name for name, row in table().items() if row.is_config], ["read_param", "pick", "spread"])
+        self.assertTrue(all(code_meaning(code) for code in (1, 2, 3, 4)))
+
+    def test_kernels_give_what_the_rows_want(self):
+        from pisdf_tools.kernel_work import KernelFault, fire
+        codes, tried = {1: "overflow", 2: "division", 3: "shape", 4: "value"}, 0
+        for row in rows_of("kernels.jsonl"):
+            if any(isinstance(token, dict) for tokens in row.get("ins", []) for token in tokens) or "times" in json.dumps(row["want"]):
+                continue
+            try:
+                found = [list(part) for part in fire(row["kernel"], row.get("args", []), row.get("ins", []), row.get("outs", []), row.get("sets", 0))]
+            except KernelFault as fault:
+                found = codes[fault.code]
+            self.assertEqual(found, row["want"], row)
+            tried += 1
+        self.assertGreater(tried, 250)
+
+
+class Readings(unittest.TestCase):
+    def test_expressions_are_read_as_the_rows_want(self):
+        from pisdf_tools.expressions import ExpressionFault, NoValue, evaluate, names, parse
+        for row in rows_of("expressions.jsonl"):
+            text, want = text_of(row["text"]), text_of(row["want"])
+            known = [text_of(name) for name in row["names"]]
+            try:
+                unknown = [name.name for name in names(parse(text)) if name.name not in known]
+                found = f"unknown {unknown[0]}" if unknown else "read"
+            except ExpressionFault as fault:
+                found = fault.kind if fault.kind in ("deep", "long") else f"{fault.kind} {fault.at}"
+            is_fault = re.match(r"(syntax|large|unknown) \S+$|deep$|long$", want)
+            if found == "deep":
+                self.assertTrue(is_fault, text[:80])
+            else:
+                self.assertEqual(found, want if is_fault else "read", text[:80])
+        for row in rows_of("values.jsonl"):
+            try:
+                found = evaluate(parse(text_of(row["text"])), dict(zip(row["names"], row["values"])))
+            except NoValue as fault:
+                found = fault.why
+            self.assertEqual(found, row["want"], row)
+
+    def test_the_first_fault_of_each_file_is_the_one_of_the_rows(self):
+        bases, tried = {}, 0
+        for name in ("faults.jsonl", "faults_of_versions.jsonl"):
+            for row in rows_of(name):
+                if "base" in row:
+                    bases[row["base"]] = text_of(row["file"])
+                text = self.file_of(row, bases)
+                # The rows name a part of the table of kernels alone, in which these two are no kernels.
+                if text is None or row["want"] in ("6 kernel max", "6 kernel sub"):
+                    continue
+                faults = read_text(text.replace("'", '"')).faults
+                self.assertEqual(faults[0].line if faults else "ok", "ok" if row["want"] == "ok" else "graph: " + text_of(row["want"]))
+                tried += 1
+        self.assertGreater(tried, 450)
+
+    def file_of(self, row, bases):
+        """The file of a row, None where the row has none or a very long one."""
+        if "want" not in row or ("of" in row and "changes" not in row) or not ("of" in row or "file" in row):
+            return None
+        text = bases[row["of"]] if "of" in row else text_of(row["file"])
+        for old, new in row.get("changes", []) if "of" in row else []:
+            text = text.replace(text_of(old), text_of(new), 1)
+        return text if len(text) < MOST else None
+
+
+if __name__ == "__main__":
+    unittest.main()

@@ -1,0 +1,40 @@
+"""The kernels as the launcher tells of them."""
+import os
+import subprocess
+import sys
+import unittest
+
+TOP = os.path.realpath(os.path.join(os.path.dirname(__file__), "..", ".."))
+
+
+def call(*words):
+    done = subprocess.run([sys.executable, "-B", os.path.join(TOP, "tools", "kernels.py"), *words], capture_output=True, text=True, timeout=60)
+    return done.returncode, done.stdout, done.stderr
+
+
+class Kernels(unittest.TestCase):
+    def test_all(self):
+        status, out, error = call()
+        self.assertEqual((status, error), (0, ""))
+        rows = out.split("\n\n")[0].split("\n")
+        self.assertEqual(len(rows), 27)
+        self.assertRegex(rows[0], r"^Kernel +Arguments +Inputs +Outputs +Parameters set +In short$")
+        self.assertIn("fir          1 to 16    1       1        0               a filter of finite impulse response", rows)
+
+    def test_each_has_a_section(self):
+        for row in call()[1].split("\n\n")[0].split("\n")[1:]:
+            name = row.split()[0]
+            status, out, error = call(name)
+            self.assertEqual((status, error), (0, ""))
+            self.assertTrue(out.startswith(f"{name}\n\n"))
+            self.assertIn("Example: ", out)
+            self.assertNotIn("###", out)
+
+    def test_a_name_that_is_none(self):
+        self.assertEqual(call("medain"), (1, "", "kernels: no kernel has the name 'medain': the nearest name is 'median'\n"))
+        self.assertEqual(call("zzzzz"), (1, "", "kernels: no kernel has the name 'zzzzz': ./pisdf kernels lists them\n"))
+        self.assertEqual(call("fir", "dot")[0], 1)
+
+
+if __name__ == "__main__":
+    unittest.main()

@@ -1,0 +1,217 @@
+"""The launcher over a small tree of its own, with a program that tells its words and a toolchain that only seems to build."""
+import os
+import shutil
+import stat
+import subprocess
+import tempfile
+import time
+import unittest
+
+TOP = os.path.realpath(os.path.join(os.path.dirname(__file__), "..", ".."))
+
+# Tells each word in brackets, and ends with status 3.
+PROGRAM = """#!/bin/bash
+for word in "$@"; do printf '[%s]' "$word"; done
+echo
+exit 3
+"""
+
+# Notes each call. `rt run` writes the program, and waits before that where the tree says so.
+TOOLCHAIN = """#!/bin/bash
+echo "$*" >>"$(dirname "$0")/calls"
+case $1 in
+  version) echo 'toolchain 7' ;;
+  all) echo '== low'; echo '== pisdf'; echo '== summary' ;;
+  run) [ -f "$(dirname "$0")/slow" ] && sleep 1
+    cp "$(dirname "$0")/program" out/pisdf && chmod +x out/pisdf && echo 'rt: running it' ;;
+esac
+"""
+
+# All that the launcher calls, but for the toolchain.
+COMMANDS = "bash cat cp cut dirname find flock git head mkdir mv nproc python3 readlink sha256sum sleep sort stat tail touch xargs grep chmod".split()
+
+
+def write(path, text, executable=False):
+    os.makedirs(os.path.dirname(path), exist_ok=True)
+    with open(path, "w", encoding="utf-8") as file:
+        file.write(text)
+    if executable:
+        os.chmod(path, os.stat(path).st_mode | stat.S_IXUSR)
+
+
+class Launcher(unittest.TestCase):
+    def setUp(self):
+        room = tempfile.TemporaryDirectory()
+        self.addCleanup(room.cleanup)
+        self.room = room.name
+        self.tree = os.path.join(self.room, "a tree")
+        os.makedirs(self.tree)
+        shutil.copy(os.path.join(TOP, "pisdf"), self.tree)
+        write(self.path("crates.txt"), "# crates\nlow:\npisdf may_wait=1: low std_io\n")
+        write(self.path("crates/low/src/lib.rt"), "one")
+        write(self.path("crates/pisdf/src/main.rt"), "two")
+        self.plain = os.path.join(self.room, "plain")
+        os.makedirs(self.plain)
+        for command in COMMANDS:
+            os.symlink(shutil.which(command), os.path.join(self.plain, command))
+        self.kit = os.path.join(self.room, "kit")
+        write(os.path.join(self.kit, "rt"), TOOLCHAIN, executable=True)
+        write(os.path.join(self.kit, "program"), PROGRAM)
+
+    def path(self, name):
+        return os.path.join(self.tree, name)
+
+    def call(self, *words, kit=True, tree=None, launcher=None):
+        """The status and the two outputs of a call, with the toolchain or without."""
+        environment = {"PATH": (self.kit + ":" if kit else "") + self.plain}
+        launcher = launcher or os.path.join(tree or self.tree, "pisdf")
+        done = subprocess.run([launcher, *words], env=environment, cwd=self.room, capture_output=True, timeout=60)
+        return done.returncode, done.stdout.decode(errors="replace"), done.stderr.decode(errors="replace")
+
+    def builds(self):
+        """How often the toolchain was asked to build."""
+        try:
+            with open(os.path.join(self.kit, "calls"), encoding="utf-8") as file:
+                return sum(line == "run\n" for line in file)
+        except FileNotFoundError:
+            return 0
+
+    def built(self):
+        self.assertEqual(self.call("run")[:2], (3, "[run]\n"))
+        self.assertEqual(self.builds(), 1)
+
+    def runs_without_the_toolchain(self, tree=None):
+        self.assertEqual(self.call("run", kit=False, tree=tree), (3, "[run]\n", ""))
+
+    # ---- words
+
+    def test_words_go_on_as_they_stand(self):
+        self.built()
+        status, out, error = self.call("plan", "", "two words", "*", "--help", b"\xff\xfe".decode(errors="surrogateescape"))
+        self.assertEqual((status, error), (3, ""))
+        self.assertEqual(out, "[plan][][two words][*][--help][\ufffd\ufffd]\n")
+
+    def test_no_words(self):
+        self.built()
+        self.assertEqual(self.call()[:2], (3, "\n"))
+
+    def test_help_needs_nothing(self):
+        status, out, error = self.call("--help", kit=False)
+        self.assertEqual((status, error), (0, ""))
+        for word in "run plain plan schedule memory journal soak upgrade explain check report draw kernels".split():
+            self.assertRegex(out, rf"(?m)^  {word} ")
+        self.assertEqual(self.builds(), 0)
+
+    def test_version(self):
+        self.assertIn("isn't built yet", self.call("--version", kit=False)[1])
+        self.built()
+        self.assertIn("toolchain 7", self.call("--version", kit=False)[1])
+
+    def test_a_link_from_elsewhere(self):
+        self.built()
+        link = os.path.join(self.room, "link")
+        os.symlink(self.path("pisdf"), link)
+        self.assertEqual(self.call("run", launcher=link, kit=False), (3, "[run]\n", ""))
+
+    def test_scripts_get_the_program(self):
+        self.built()
+        write(self.path("tools/explain.py"), "import sys\nprint(sys.argv[1:])\n")
+        self.assertEqual(self.call("explain", "run", "x")[1], f"{[self.path('crates/pisdf/out/pisdf'), 'run', 'x']}\n")
+
+    # ---- whether the program is current
+
+    def test_a_newer_time_alone_builds_nothing(self):
+        self.built()
+        for _ in range(2):
+            os.utime(self.path("crates/low/src/lib.rt"), (time.time() + 5, time.time() + 5))
+            self.runs_without_the_toolchain()
+
+    def test_a_copied_tree_runs(self):
+        self.built()
+        copy = os.path.join(self.room, "copy")
+        shutil.copytree(self.tree, copy, copy_function=shutil.copyfile)
+        for name in ("pisdf", "crates/pisdf/out/pisdf"):
+            os.chmod(os.path.join(copy, name), 0o755)
+        self.runs_without_the_toolchain(copy)
+
+    def test_another_content_is_built(self):
+        self.built()
+        write(self.path("crates/low/src/lib.rt"), "three")
+        os.utime(self.path("crates/low/src/lib.rt"), (time.time() + 5, time.time() + 5))
+        status, out, error = self.call("run", kit=False)
+        self.assertEqual((status, out), (127, ""))
+        self.assertIn("Rattle toolchain", error)
+        self.assertIn("'rt'", error)
+        self.assertEqual(self.call("run")[:2], (3, "[run]\n"))
+        self.assertEqual(self.builds(), 2)
+
+    def test_a_copy_of_a_changed_tree_is_built(self):
+        self.built()
+        write(self.path("crates/low/src/lib.rt"), "three")
+        copy = os.path.join(self.room, "copy")
+        shutil.copytree(self.tree, copy)
+        late = time.time() + 5
+        os.utime(os.path.join(copy, "crates/pisdf/out/pisdf"), (late, late))
+        self.assertEqual(self.call("run", kit=False, tree=copy)[0], 127)
+
+    def test_a_new_file_and_a_lost_one_are_built(self):
+        self.built()
+        write(self.path("crates/low/src/more.rt"), "")
+        self.assertEqual(self.call("run")[0], 3)
+        self.assertEqual(self.builds(), 2)
+        os.remove(self.path("crates/low/src/more.rt"))
+        self.assertEqual(self.call("run")[0], 3)
+        self.assertEqual(self.builds(), 3)
+
+    def test_a_program_of_the_toolchain_itself_is_taken(self):
+        write(self.path("crates/pisdf/out/pisdf"), PROGRAM, executable=True)
+        self.runs_without_the_toolchain()
+        os.utime(self.path("crates.txt"), (time.time() + 5, time.time() + 5))
+        self.runs_without_the_toolchain()
+
+    def test_a_source_that_changes_during_the_build(self):
+        write(os.path.join(self.kit, "slow"), "")
+        call = subprocess.Popen([self.path("pisdf"), "run"], env={"PATH": self.kit + ":" + self.plain}, stdout=subprocess.PIPE, stderr=subprocess.PIPE)
+        while not os.path.exists(os.path.join(self.kit, "calls")):
+            time.sleep(0.02)
+        time.sleep(0.2)
+        write(self.path("crates/low/src/lib.rt"), "three")
+        call.communicate(timeout=60)
+        os.remove(os.path.join(self.kit, "slow"))
+        self.assertEqual(self.call("run")[0], 3)
+        self.assertEqual(self.builds(), 2)
+
+    # ---- the build
+
+    def test_two_calls_build_once(self):
+        write(os.path.join(self.kit, "slow"), "")
+        environment = {"PATH": self.kit + ":" + self.plain}
+        calls = [subprocess.Popen([self.path("pisdf"), "run"], env=environment, stdout=subprocess.PIPE, stderr=subprocess.PIPE) for _ in range(2)]
+        errors = []
+        for call in calls:
+            out, error = call.communicate(timeout=60)
+            self.assertEqual((call.returncode, out), (3, b"[run]\n"))
+            errors.append(error)
+        self.assertEqual(self.builds(), 1)
+        self.assertTrue(any(b"this one waits" in error for error in errors))
+
+    def test_a_build_tells_how_far_it_is(self):
+        error = self.call("run")[2]
+        self.assertIn("1 of 2 crates done", error)
+        self.assertIn("2 of 2 crates done", error)
+
+    def test_a_build_that_fails(self):
+        write(os.path.join(self.kit, "rt"), "#!/bin/bash\necho 'what went wrong'\nexit 1\n", executable=True)
+        status, out, error = self.call("run")
+        self.assertEqual((status, out), (127, ""))
+        self.assertIn("what went wrong", error)
+
+    def test_a_number_of_jobs_that_is_none(self):
+        environment = {"PATH": self.kit + ":" + self.plain, "PISDF_JOBS": "many"}
+        done = subprocess.run([self.path("pisdf"), "run"], env=environment, capture_output=True, timeout=60)
+        self.assertEqual(done.returncode, 127)
+        self.assertIn(b"PISDF_JOBS must be a number from 1 to 99", done.stderr)
+
+
+if __name__ == "__main__":
+    unittest.main()

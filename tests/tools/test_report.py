@@ -1,0 +1,148 @@
+"""The page of a report, over a program that answers from stored texts."""
+import os
+import subprocess
+import sys
+import tempfile
+import unittest
+import xml.etree.ElementTree as xml
+
+TOP = os.path.realpath(os.path.join(os.path.dirname(__file__), "..", ".."))
+REPORT = os.path.join(TOP, "tools", "report.py")
+XHTML = "{http://www.w3.org/2000/svg}"
+
+GRAPH = os.path.join(TOP, "examples", "adaptive-mean", "g.json")
+PLAN = "repetition,m,2\norder,m,0\norder,m,1\nnode,0,source,x,0,20\nnode,1,firing,m:0,0,6\nnode,2,firing,m:1,1,6\nnode,3,fork,0,0,16\nnode,4,join,1,0,4\nnode,5,sink,y,0,2\n"
+PLAN += "edge,0,0,3,8,0\nedge,1,3,1,4,8\nedge,2,3,2,4,12\nedge,3,1,4,1,0\nedge,4,2,4,1,1\nedge,5,4,5,1,2\nheight,16\n"
+SCHEDULE = "critical,20\nwork,24\nlength,20\npath,0,3,1,4,5\nstart,0,0,0,5\nstart,1,0,5,9\nstart,2,1,5,9\nstart,3,0,9,12\nstart,4,0,12,15\nstart,5,0,15,20\n"
+MEMORY = "height,16\nordered,14\n" + "".join(f"offset,{number},{number}\n" for number in range(6)) + "order,0,0,3,1,4,5\norder,1,2\n"
+JOURNAL = "claim,0,0,g,configure,0\nfinish,0,0\nclaim,0,1,g,compile,0\nfinish,0,1\nclaim,0,0,g,node,0\nclaim,0,1,g,node,2\nfinish,0,0\nfinish,0,1\n"
+RUN = "param,0,g,n,4\ntokens,0,y,6\nparam,1,g,n,8\ntokens,1,y,4\n"
+
+# Answers each command with the text that the file of its name holds, and with the status and the line that stand there.
+PROGRAM = """#!{python}
+import os, sys
+room = os.path.dirname(os.path.abspath(__file__))
+def text(name):
+    path = os.path.join(room, name)
+    return open(path).read() if os.path.exists(path) else ""
+word = sys.argv[1]
+sys.stdout.write(text(word))
+sys.stderr.write(text(word + ".line"))
+sys.exit(int(text(word + ".status") or 0))
+"""
+
+
+class Report(unittest.TestCase):
+    def setUp(self):
+        room = tempfile.TemporaryDirectory()
+        self.addCleanup(room.cleanup)
+        self.room = room.name
+        self.put("program", PROGRAM.format(python=sys.executable))
+        os.chmod(os.path.join(self.room, "program"), 0o755)
+        for name, text in (("run", RUN), ("plan", PLAN), ("schedule", SCHEDULE), ("memory", MEMORY), ("journal", JOURNAL)):
+            self.put(name, text)
+
+    def put(self, name, text):
+        with open(os.path.join(self.room, name), "w", encoding="utf-8") as file:
+            file.write(text)
+
+    def call(self, graph=GRAPH, iterations="2", target=None):
+        target = target or os.path.join(self.room, "page.html")
+        words = [os.path.join(self.room, "program"), graph, "t.csv", iterations, "2", target]
+        done = subprocess.run([sys.executable, "-B", REPORT, *words], capture_output=True, text=True, timeout=60)
+        return done.returncode, done.stdout + done.stderr
+
+    def page(self, **words):
+        self.assertEqual(self.call(**words), (0, ""))
+        with open(os.path.join(self.room, "page.html"), encoding="utf-8") as file:
+            text = file.read()
+        return text, xml.fromstring(text.split("\n", 1)[1])
+
+    def labelled(self, page, label):
+        return [part for part in page.iter("div") if part.get("aria-label") == label]
+
+    def test_all_parts(self):
+        text, page = self.page()
+        self.assertEqual([part.get("id") for part in page.iter("section")], ["graph", "plan", "schedule", "cells", "workers", "parameters", "tokens", "counts"])
+        links = {link.get("href") for link in page.iter("a")}
+        self.assertTrue({f"#{part.get('id')}" for part in page.iter("section")} <= links)
+        self.assertEqual(len(list(page.iter(f"{XHTML}svg"))), 8)
+
+    def test_nothing_from_outside(self):
+        text, page = self.page()
+        for part in page.iter():
+            for name in ("src", "href"):
+                address = part.get(name, "#")
+                self.assertTrue(address.startswith(("#", "data:")), address)
+        self.assertNotIn("@import", text)
+        self.assertNotIn("<script", text)
+
+    def test_numbers_of_nodes_edges_and_bars(self):
+        _, page = self.page()
+        plan, = self.labelled(page, "The plan")
+        self.assertEqual(len([part for part in plan.iter(f"{XHTML}rect")]), 6)
+        self.assertEqual(len([part for part in plan.iter(f"{XHTML}path") if part.get("class") == "edge"]), 6)
+        schedule, = self.labelled(page, "The schedule")
+        self.assertEqual(len([part for part in schedule.iter(f"{XHTML}rect") if "box" in part.get("class")]), 6)
+        workers, = self.labelled(page, "What the workers did")
+        self.assertEqual(len([part for part in workers.iter(f"{XHTML}rect") if "box" in part.get("class")]), 4)
+
+    def test_counts(self):
+        text, page = self.page()
+        rows = {row[0].text: row[1].text for row in page.iter("tr") if len(row) == 2}
+        self.assertEqual((rows["Nodes"], rows["Edges"], rows["Cells of the plan"], rows["Cells under fixed orders"]), ("6", "6", "16", "14"))
+        self.assertEqual((rows["Firings of m"], rows["Critical path"], rows["Tokens of y"]), ("2", "20", "2"))
+        self.assertIn("nor than the work divided by the workers, 12.", text)
+
+    def test_a_picture_can_be_moved_by_the_keyboard(self):
+        _, page = self.page()
+        figures = [part for part in page.iter("div") if part.get("class") == "figure"]
+        self.assertTrue(figures and all(part.get("tabindex") == "0" and part.get("role") == "region" and part.get("aria-label") for part in figures))
+        self.assertTrue(all(picture.get("aria-label") for picture in page.iter(f"{XHTML}svg")))
+
+    def test_many_tokens_are_an_image(self):
+        self.put("run", "".join(f"tokens,{number},y,{','.join(str(number * at % 256) for at in range(64))}\n" for number in range(64)))
+        _, page = self.page(iterations="64")
+        drawn, = self.labelled(page, "Tokens of y")
+        image, = drawn.iter(f"{XHTML}image")
+        self.assertTrue(image.get("href").startswith("data:image/png;base64,"))
+
+    def test_a_refused_run(self):
+        for name in ("run", "journal"):
+            self.put(f"{name}.status", "4")
+            self.put(f"{name}.line", "run: g param n value 9 range 1 8\n")
+        text, _ = self.page(iterations="3")
+        self.assertIn("run: g param n value 9 range 1 8", text)
+        self.assertIn("2 iterations were done before.", text)
+
+    def test_a_refused_plan(self):
+        for name in ("run", "plan", "schedule", "memory", "journal"):
+            self.put(name, "")
+            self.put(f"{name}.status", "4")
+            self.put(f"{name}.line", "run: g deadlock s 2\n")
+        text, page = self.page()
+        self.assertIn("run: g deadlock s 2", text)
+        self.assertEqual(len(self.labelled(page, "The graph g")), 1)
+
+    def test_a_refused_graph_file(self):
+        self.put("run", "")
+        self.put("run.status", "2")
+        self.put("run.line", "graph: 1 json\n")
+        self.put("g.json", "{")
+        text, page = self.page(graph=os.path.join(self.room, "g.json"))
+        self.assertIn("graph: 1 json", text)
+        self.assertEqual(list(page.iter("section")), [])
+
+    def test_words_and_files(self):
+        self.assertEqual(self.call(target="/nowhere/page.html"), (2, "report: /nowhere/page.html can't be written: No such file or directory\n"))
+        self.put("run.status", "1")
+        self.assertEqual(self.call(iterations="x")[0], 2)
+        done = subprocess.run([sys.executable, "-B", REPORT, "x"], capture_output=True, text=True, timeout=60)
+        self.assertEqual((done.returncode, done.stderr), (1, "report: give GRAPH TOKENS ITERATIONS WORKERS FILE.html\n"))
+        words = ["/nowhere/program", GRAPH, "t.csv", "1", "1", "page.html"]
+        done = subprocess.run([sys.executable, "-B", REPORT, *words], capture_output=True, text=True, timeout=60)
+        self.assertEqual((done.returncode, done.stderr), (2, "report: the program /nowhere/program can't be called: No such file or directory\n"))
+
+
+if __name__ == "__main__":
+    unittest.main()

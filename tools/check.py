@@ -1,0 +1,107 @@
+#!/usr/bin/env python3
+"""Tells all of a graph file that can be told without tokens.
+
+    check.py PROGRAM GRAPH
+
+Of a file that the program refuses: its line, and each fault that can be seen, with its place and what to do. Of a file without a
+fault: its graphs with their interfaces, parameters and repetition vectors. It ends with 0 where the file is read and a run may
+be done, with 4 where every run would be refused, and else with the program's status.
+"""
+import os
+import subprocess
+import sys
+
+sys.dont_write_bytecode = True
+
+from pisdf_tools import reading
+from pisdf_tools.refusals import why_unread
+from pisdf_tools.source import read_source
+from pisdf_tools.summary import Summary, certain_refusal
+from pisdf_tools.wording import counted, quoted
+
+MOST_FAULTS = 20
+RUN_REFUSED = 4
+
+
+def first_answer(program, path):
+    """The program's status and its line on the file."""
+    done = subprocess.run([program, "upgrade", path], stdout=subprocess.DEVNULL, stderr=subprocess.PIPE, stdin=subprocess.DEVNULL)
+    return done.returncode, done.stderr.decode("utf-8", "replace").strip()
+
+
+def refused_lines(found, line):
+    """The program's fault first, then the further ones."""
+    first = found.fault_of(line)
+    others = [fault for fault in found.faults if fault is not first]
+    yield line
+    yield ""
+    yield found.text_of(first) if first else "This tool finds no more about it. docs/FORMATS.md has the table of the faults."
+    if others:
+        yield ""
+        yield f"{counted(len(others), 'more fault')} can be seen. One that follows from another goes with it."
+    for fault in others[:MOST_FAULTS]:
+        yield ""
+        yield fault.line
+        yield found.text_of(fault)
+    if len(others) > MOST_FAULTS:
+        yield f"\n{len(others) - MOST_FAULTS} more aren't shown."
+
+
+def sound_lines(found, path):
+    """What is known of a file without a fault."""
+    refusal = certain_refusal(found)
+    if refusal:
+        yield f"{path}: the file has no fault, and every run of it is refused:"
+        yield ""
+        yield refusal[0].line
+        yield refusal[1]
+        yield ""
+    else:
+        yield f"{path}: the file has no fault. It has version {found.file.version}."
+    yield from Summary(found).lines()
+
+
+def check(program, path):
+    """The status of the check. Its lines are written as they come."""
+    status, line = first_answer(program, path)
+    if status not in (0, 2):
+        print(line)
+        if status == 5:
+            print(f"\nThe graph file is {quoted(path)}. {why_unread(path)}")
+        return status
+    found = reading.read(read_source(path))
+    if status == 2:
+        print("\n".join(refused_lines(found, line)))
+        return status
+    refusal = certain_refusal(found)
+    print("\n".join(sound_lines(found, path)))
+    return RUN_REFUSED if refusal else 0
+
+
+def main(words):
+    if len(words) != 2:
+        print(__doc__.strip(), file=sys.stderr)
+        return 1
+    sys.stdout.reconfigure(errors="backslashreplace")
+    try:
+        status = check(*words)
+        sys.stdout.flush()
+        return status
+    except BrokenPipeError:
+        os.dup2(os.open(os.devnull, os.O_WRONLY), sys.stdout.fileno())
+        return 6
+    except OSError as fault:
+        print(f"check: {fault.strerror or fault}.", file=sys.stderr)
+        return 5
+    except Exception as fault:
+        if os.environ.get("PISDF_TOOLS_TRACE"):
+            raise
+        print(f"More can't be told of this file ({type(fault).__name__}). docs/FORMATS.md has all faults.", file=sys.stderr)
+        return 2
+
+
+if __name__ == "__main__":
+    try:
+        sys.exit(main(sys.argv[1:]))
+    except KeyboardInterrupt:
+        sys.exit(130)

@@ -1,0 +1,115 @@
+"""Graph files and plans as text for Graphviz."""
+from drawing.inputs import rates_of
+from drawing.parts import actor_lines, delay_label, end_label, group_of, node_label, param_lines, uses
+from drawing.svg import colour
+
+LOOKS = {
+    "kernel": 'shape=box, fillcolor="#eaf1f8"',
+    "config": 'shape=box, style="rounded,filled", fillcolor="#fde3c0"',
+    "graph": 'shape=box3d, margin="0.16,0.06", fillcolor="#e3f1dc"',
+    "setgraph": 'shape=box3d, margin="0.16,0.06", fillcolor="#fde3c0"',
+    "interface": 'shape=cds, fillcolor="#ffffff"',
+    "param": 'shape=house, fillcolor="#d6e4ff", fontsize=11, margin="0.03,0.01", height=0.3',
+}
+FONT = 'fontname="Helvetica,Arial,sans-serif"'
+# A plan with more nodes is drawn with a node for each actor.
+MOST_NODES = 200
+
+
+def quoted(text):
+    return '"' + text.replace("\\", "\\\\").replace('"', '\\"').replace("\n", "\\n") + '"'
+
+
+# ---- graph files
+
+
+def node(graph, name):
+    return quoted(f"{graph['name']}/{name}")
+
+
+def fifo_line(graph, fifo, rates):
+    ends = [fifo["from"], fifo["to"]]
+    tail, head = (node(graph, end.split(".")[0]) for end in ends)
+    delay = delay_label(fifo)
+    label = f"label={quoted(' ' + delay + ' ')}, " if delay else ""
+    tail_label, head_label = (quoted(end_label(end, rates[end])) for end in ends)
+    return f"    {tail} -> {head} [{label}taillabel={tail_label}, headlabel={head_label}];"
+
+
+def cluster_lines(graph, graphs):
+    name = graph["name"]
+    exports = f", exports {', '.join(graph['exports'])}" if graph.get("exports") else ""
+    yield f"  subgraph {quoted('cluster_' + name)} {{"
+    yield f"    label={quoted(f'graph {name}{exports}')}; labeljust=l; color=\"#8094a8\"; style=rounded;"
+    for part in graph["inputs"] + graph["outputs"]:
+        yield f"    {node(graph, part['name'])} [label={quoted(part['name'])}, {LOOKS['interface']}];"
+    for actor in graph["actors"]:
+        yield f"    {node(graph, actor['name'])} [label={quoted(chr(10).join(actor_lines(actor)))}, {LOOKS[actor['kind']]}];"
+    for param in graph["params"]:
+        yield f"    {node(graph, param['name'])} [label={quoted(chr(10).join(param_lines(param)))}, {LOOKS['param']}];"
+    for one, other in uses(graph):
+        yield f'    {node(graph, one)} -> {node(graph, other)} [style=dashed, color="#5577bb", arrowsize=0.6];'
+    rates = rates_of(graph, graphs)
+    for fifo in graph["fifos"]:
+        yield fifo_line(graph, fifo, rates)
+    yield "  }"
+
+
+def graph_dot(top, graphs):
+    yield "digraph {"
+    yield f"  rankdir=LR; ranksep=0.7; nodesep=0.35; {FONT}; fontsize=13;"
+    yield f'  node [style=filled, {FONT}, fontsize=13, height=0.45, color="#445566"];'
+    yield f'  edge [{FONT}, fontsize=11, labelfontsize=11, labeldistance=1.7, labelangle=22, arrowsize=0.7, color="#445566"];'
+    # Graphviz draws the boxes from below.
+    for graph in sorted(graphs.values(), key=lambda graph: graph["name"] == top):
+        yield from cluster_lines(graph, graphs)
+    yield "}"
+
+
+# ---- plans
+
+PLAN_HEAD = f"  rankdir=LR; node [shape=box, style=filled, {FONT}, fontsize=12]; edge [{FONT}, fontsize=11, arrowsize=0.7];"
+
+
+def plan_dot(rows, critical=()):
+    """A node for each node of the single-rate graph, or for each actor where there are many. The nodes of the critical path are bold."""
+    if len(rows["node"]) > MOST_NODES:
+        yield from grouped_dot(rows)
+        return
+    steps = set(zip(critical, critical[1:]))
+    yield "digraph {"
+    yield PLAN_HEAD
+    for number, kind, name, home, priority in rows["node"]:
+        label = f"{node_label(kind, name)}\nworker {home}\npriority {priority}"
+        bold = ", penwidth=3" if number in critical else ""
+        yield f"  n{number} [label={quoted(label)}, fillcolor={quoted(colour(int(home)))}{bold}];"
+    for _, tail, head, size, offset in rows.get("edge", []):
+        bold = ", penwidth=3" if (tail, head) in steps else ""
+        yield f"  n{tail} -> n{head} [label={quoted(f'{size} at {offset}')}{bold}];"
+    yield "}"
+
+
+def groups_of(rows):
+    """The nodes and edges by actors: how many nodes each group has, and how many edges and tokens lead from one to another."""
+    place, counts, flows = {}, {}, {}
+    for number, kind, name, _, _ in rows["node"]:
+        place[number] = group_of(kind, name)
+        counts[place[number]] = counts.get(place[number], 0) + 1
+    for _, tail, head, size, _ in rows.get("edge", []):
+        ends = place[tail], place[head]
+        edges, tokens = flows.get(ends, (0, 0))
+        flows[ends] = edges + 1, tokens + int(size)
+    return counts, flows
+
+
+def grouped_dot(rows):
+    counts, flows = groups_of(rows)
+    numbers = {name: number for number, name in enumerate(counts)}
+    yield "digraph {"
+    yield PLAN_HEAD
+    yield f"  label={quoted(str(len(rows['node'])) + ' nodes, one box for those of an actor or a link')}; {FONT};"
+    for name, count in counts.items():
+        yield f"  g{numbers[name]} [label={quoted(f'{name}{chr(10)}{count} nodes')}, fillcolor=\"#eaf1f8\"];"
+    for (tail, head), (edges, tokens) in flows.items():
+        yield f"  g{numbers[tail]} -> g{numbers[head]} [label={quoted(f'{edges} edges, {tokens} tokens')}];"
+    yield "}"

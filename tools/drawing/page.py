@@ -1,0 +1,191 @@
+"""The page of a report."""
+from html import escape
+
+from drawing import charts
+from drawing.graphs import graph_picture, plan_picture
+from drawing.words import KINDS_OF_ANSWERS
+
+# So many pictures of one kind stand on a page; the rest is counted.
+MOST_SERIES = 12
+# More tokens of an output are drawn as an image.
+MOST_POINTS = 1500
+MOST_VALUES = 20000
+
+STYLE = """
+:root { color-scheme: light dark; --paper: #ffffff; --ink: #1a222b; --soft: #55626f; --line: #8094a8; --grid: #dfe4e9; --use: #4667ad; --value: #1f6fb2; --panel: #f4f6f8; --bad: #a40000; }
+@media (prefers-color-scheme: dark) { :root { --paper: #14191f; --ink: #e6ebf0; --soft: #a7b3bf; --line: #6d7f91; --grid: #2b343d; --use: #8fb0f0; --value: #6bb3ee; --panel: #1c232b; --bad: #ff8f87; } }
+body { margin: 0 auto; padding: 1rem; max-width: 76rem; background: var(--paper); color: var(--ink); font: 16px/1.5 Helvetica, Arial, sans-serif; }
+h1 { font-size: 1.6rem; margin: 0.5rem 0; } h2 { font-size: 1.25rem; margin: 2rem 0 0.5rem; } h3 { font-size: 1rem; margin: 1rem 0 0.3rem; }
+a { color: var(--value); } nav ul { display: flex; flex-wrap: wrap; gap: 0.3rem 1rem; padding: 0; list-style: none; }
+.skip { position: absolute; left: -99rem; } .skip:focus { position: static; }
+.figure { overflow-x: auto; background: var(--panel); border: 1px solid var(--grid); border-radius: 4px; padding: 0.5rem; }
+.figure:focus-visible, a:focus-visible, summary:focus-visible { outline: 3px solid var(--value); outline-offset: 2px; }
+.figure svg { display: block; } .note { color: var(--soft); } .bad { color: var(--bad); font-weight: bold; }
+.table { overflow-x: auto; } table { border-collapse: collapse; } caption { text-align: left; color: var(--soft); }
+th, td { padding: 0.25rem 0.8rem 0.25rem 0; text-align: left; border-bottom: 1px solid var(--grid); vertical-align: top; } td.number { text-align: right; font-variant-numeric: tabular-nums; }
+code { font: 0.9em ui-monospace, Consolas, monospace; overflow-wrap: anywhere; }
+"""
+
+
+def figure(picture, label):
+    """A picture that can be moved to and fro by the keyboard where it is wider than the page."""
+    return f'<div class="figure" role="region" tabindex="0" aria-label="{escape(label)}">{picture}</div>'
+
+
+def note(words):
+    return f'<p class="note">{escape(words)}</p>'
+
+
+def table(caption, heads, rows):
+    head = "".join(f'<th scope="col">{escape(word)}</th>' for word in heads)
+    body = "".join(f'<tr><th scope="row">{escape(str(row[0]))}</th>' + "".join(field(value) for value in row[1:]) + "</tr>" for row in rows)
+    return f'<div class="table"><table><caption>{escape(caption)}</caption><thead><tr>{head}</tr></thead><tbody>{body}</tbody></table></div>'
+
+
+def field(value):
+    return f'<td class="number">{value:,}</td>' if isinstance(value, int) else f"<td>{escape(str(value))}</td>"
+
+
+def refusal(answer):
+    return f'<p class="bad">{escape(answer.line or "It was refused without a line.")}</p>' + note(f"Exit code {answer.status}: {KINDS_OF_ANSWERS[answer.status]}. ./pisdf explain tells more.")
+
+
+# ---- the parts of the page
+
+
+def summary(run):
+    made = len({row[0] for row in run.run.of("tokens")}) if run.graphs and run.graphs[run.top]["outputs"] else None
+    words = f"{run.iterations} iterations were asked for, by {run.workers} workers."
+    done = "<p>The run is done.</p>" if run.run.status == 0 else refusal(run.run)
+    counted = "" if made is None or run.run.status == 0 else note(f"{made} iterations were done before.")
+    return f"<p>{escape(words)}</p>{done}{counted}"
+
+
+def graph_part(run):
+    for name in ordered(run.top, run.graphs):
+        yield f"<h3>{'The top graph ' if name == run.top else 'The graph '}<code>{escape(name)}</code></h3>"
+        yield figure(graph_picture(run.graphs[name], run.graphs), f"The graph {name}")
+
+
+def ordered(top, graphs):
+    """The graphs from the top downwards, each after one that it stands in."""
+    found = [top]
+    for name in found:
+        found += [actor["graph"] for actor in graphs[name]["actors"] if "graph" in actor and actor["graph"] not in found]
+    return list(dict.fromkeys(found)) + [name for name in graphs if name not in found]
+
+
+def plan_part(run):
+    if run.plan.status:
+        return refusal(run.plan)
+    return figure(plan_picture(run.plan.by_kind()), "The plan") + note("A colour is a worker of the list schedule. An edge has its size in tokens, and where its buffer begins.")
+
+
+def schedule_part(run):
+    if run.schedule.status:
+        return refusal(run.schedule)
+    rows = run.schedule.by_kind()
+    critical, work, length = (int(rows[name][0][0]) for name in ("critical", "work", "length"))
+    share = -(-work // int(run.workers))
+    words = f"No schedule is shorter than the critical path, {critical}, nor than the work divided by the workers, {share}. This one has the length {length}. A node costs 1 and the tokens at its edges."
+    return figure(charts.gantt(rows, run.plan.by_kind()), "The schedule") + note(words)
+
+
+def cells_part(run):
+    if run.plan.status or run.memory.status:
+        return refusal(run.plan if run.plan.status else run.memory)
+    plan, memory = run.plan.by_kind(), run.memory.by_kind()
+    parts = [figure(charts.cells(plan), "The cells of the plan")]
+    if not run.memory.status:
+        parts.append("<details><summary>The cells as they would be if each worker kept a fixed order</summary>" + figure(charts.cells(plan, memory), "The cells under fixed orders") + "</details>")
+    return "".join(parts)
+
+
+def workers_part(run):
+    if not run.journal.rows:
+        return note("There is no board: no iteration began.")
+    steps = run.steps()
+    label = f"The journal of the first iteration: {len(run.journal.rows)} lines, {run.workers} workers"
+    told = table("What each worker was handed", ["Worker", "Items", "Share of the items"], [(f"worker {worker}", *shares(steps, worker)) for worker in range(int(run.workers))])
+    return figure(charts.work(steps, int(run.workers), label), "What the workers did") + note("A bar goes from a claim to its finish. The places are those of lines in the journal; they say nothing of time.") + told
+
+
+def shares(steps, worker):
+    own = sum(1 for step in steps if step[0] == worker)
+    return own, f"{100 * own // max(1, len(steps))} %"
+
+
+def parameter_part(run):
+    series = run.parameters()
+    if not series:
+        yield note("No parameter was chosen in this run.")
+    for name, values in list(series.items())[:MOST_SERIES]:
+        numbers = [value for _, value in values][:MOST_VALUES]
+        yield figure(charts.line(numbers, f"{name}: {len(values)} values, from {min(numbers)} to {max(numbers)}", 100), f"Values of {name}")
+    if len(series) > MOST_SERIES:
+        yield note(f"{len(series) - MOST_SERIES} more parameters of other firings aren't drawn.")
+
+
+def token_part(run):
+    outputs = run.outputs()
+    if not outputs:
+        yield note("No tokens came out.")
+    for name, rows in outputs.items():
+        values = [token for row in rows for token in row]
+        if not values:
+            yield note(f"{name} gave no tokens.")
+        elif len(values) <= MOST_POINTS:
+            yield figure(charts.line(values, f"{name}: {len(values)} tokens of {len(rows)} iterations, from {min(values)} to {max(values)}"), f"Tokens of {name}")
+        else:
+            yield figure(charts.grey_image(lines_of(rows), name), f"Tokens of {name}")
+
+
+def lines_of(rows):
+    """The tokens of iterations as the lines of an image: a line each, or the lines of a square where there is one iteration."""
+    if len(rows) > 1:
+        return [row for row in rows if row][:2000]
+    side = max(1, int(len(rows[0]) ** 0.5))
+    return [rows[0][at:at + side] for at in range(0, len(rows[0]), side)]
+
+
+def counts(run):
+    rows = [("Graphs in the file", len(run.graphs))]
+    for name in ordered(run.top, run.graphs):
+        graph = run.graphs[name]
+        rows.append((f"Graph {name}", f"{len(graph['actors'])} actors, {len(graph['fifos'])} FIFOs, {len(graph['params'])} parameters"))
+    if not run.plan.status:
+        rows += [(f"Firings of {name}", int(count)) for name, count in run.plan.of("repetition")]
+        rows += [("Nodes", len(run.plan.of("node"))), ("Edges", len(run.plan.of("edge"))), ("Cells of the plan", int(run.plan.of("height")[0][0]))]
+    if not run.memory.status:
+        rows.append(("Cells under fixed orders", int(run.memory.of("ordered")[0][0])))
+    if not run.schedule.status:
+        rows += [(words, int(run.schedule.of(kind)[0][0])) for kind, words in (("critical", "Critical path"), ("work", "Work"), ("length", "Length of the schedule"))]
+    rows += [(f"Tokens of {name}", sum(len(row) for row in lists)) for name, lists in run.outputs().items()]
+    rows += [(f"Tokens left of {name}", count) for name, count in run.left()]
+    return table("Sizes and counts", ["What", "How many"], rows)
+
+
+PARTS = [
+    ("graph", "The graph", lambda run: "".join(graph_part(run))),
+    ("plan", "The plan of the first iteration", plan_part),
+    ("schedule", "The list schedule", schedule_part),
+    ("cells", "The map of cells", cells_part),
+    ("workers", "What each worker did", workers_part),
+    ("parameters", "Values of parameters", lambda run: "".join(parameter_part(run))),
+    ("tokens", "Output tokens", lambda run: "".join(token_part(run))),
+    ("counts", "Sizes and counts", counts),
+]
+
+
+def page(run):
+    """The whole page. Where the graph file is refused there is nothing but that."""
+    name = f"{run.graph_file} with {run.token_file}"
+    parts = PARTS if run.graphs else []
+    links = "".join(f'<li><a href="#{key}">{escape(title)}</a></li>' for key, title, _ in parts)
+    sections = "".join(f'<section id="{key}"><h2>{escape(title)}</h2>{make(run)}</section>' for key, title, make in parts)
+    return (
+        f'<!DOCTYPE html>\n<html lang="en"><head><meta charset="utf-8"/><meta name="viewport" content="width=device-width, initial-scale=1"/>'
+        f"<title>Report: {escape(name)}</title><style>{STYLE}</style></head><body>"
+        f'<a class="skip" href="#main">To the report</a><header><h1>Report</h1><p><code>{escape(name)}</code></p></header>'
+        f'<nav aria-label="Parts of the report"><ul>{links}</ul></nav><main id="main">{summary(run)}{sections}</main></body></html>\n'
+    )

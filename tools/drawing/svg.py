@@ -1,0 +1,62 @@
+"""Pictures as SVG: elements, colours, and images of many points."""
+import base64
+import struct
+import zlib
+from xml.sax.saxutils import escape, quoteattr
+
+COLOURS = ["#a6cee3", "#b2df8a", "#fdbf6f", "#cab2d6", "#fb9a99", "#ffff99", "#d9d9d9", "#80cdc1"]
+STYLE = (
+    "text{font:12px Helvetica,Arial,sans-serif;fill:var(--ink,#1a222b)} .small{font-size:11px} .middle{text-anchor:middle} .end{text-anchor:end}"
+    " .frame{fill:none;stroke:var(--line,#8094a8)} .grid{stroke:var(--grid,#d5dbe1)} .edge{fill:none;stroke:var(--ink,#445566)}"
+    " .head{fill:var(--ink,#445566)} .on{fill:#1a222b} .box{stroke:#445566} .critical{stroke:#c00000;stroke-width:2.5}"
+    " .use{fill:none;stroke:var(--use,#5577bb);stroke-dasharray:4 3} .value{fill:none;stroke:var(--value,#1f6fb2);stroke-width:1.5}"
+)
+
+
+def colour(worker):
+    return COLOURS[worker % len(COLOURS)]
+
+
+def element(name, text=None, **attributes):
+    """An element; attributes are written with - where a name of Python's has _, and without the _ at its end."""
+    words = "".join(f" {key.rstrip('_').replace('_', '-')}={quoteattr(number(value))}" for key, value in attributes.items())
+    return f"<{name}{words}/>" if text is None else f"<{name}{words}>{text}</{name}>"
+
+
+def number(value):
+    return f"{value:.1f}".removesuffix(".0") if isinstance(value, float) else str(value)
+
+
+def text(x, y, words, class_="small"):
+    return element("text", escape(words), x=x, y=y, class_=class_)
+
+
+def title(words):
+    return element("title", escape(words))
+
+
+def picture(width, height, label, parts):
+    """A whole picture. The label tells what it shows to whoever doesn't see it."""
+    head = element("title", escape(label)) + element("style", STYLE)
+    size = {"width": number(width), "height": number(height), "viewBox": f"0 0 {number(width)} {number(height)}"}
+    return element("svg", head + "".join(parts), xmlns="http://www.w3.org/2000/svg", role="img", aria_label=label, **size)
+
+
+def marks(length, count):
+    """Round numbers from 0 to a length, at most so many of them."""
+    step = 1
+    while length // step >= count:
+        step *= 5 if str(step)[0] == "2" else 2
+        step = int(str(step)[0] + "0" * (len(str(step)) - 1))
+    return range(0, length + 1, step)
+
+
+def image(rows):
+    """Rows of grey values from 0 to 255 as an address of a PNG image that stands in the page itself."""
+    def chunk(name, data):
+        return struct.pack(">I", len(data)) + name + data + struct.pack(">I", zlib.crc32(name + data))
+
+    header = struct.pack(">IIBBBBB", len(rows[0]), len(rows), 8, 0, 0, 0, 0)
+    data = zlib.compress(b"".join(b"\0" + bytes(row) for row in rows), 6)
+    png = b"\x89PNG\r\n\x1a\n" + chunk(b"IHDR", header) + chunk(b"IDAT", data) + chunk(b"IEND", b"")
+    return "data:image/png;base64," + base64.b64encode(png).decode()

@@ -1,0 +1,45 @@
+"""Reads a graph file whole: its graphs as far as they can be told, and all faults that can be seen, by number and walk."""
+from dataclasses import dataclass
+
+from . import name_faults, wiring_faults
+from .faults import Fault, Faults, fault_text
+from .graph_file import GraphFile
+from .graph_reading import read_graphs
+from .json_file import JsonFault, read_json
+from .limits import GRAPH_FILE_BYTES
+from .source import Source
+from .wording import grouped
+
+
+@dataclass
+class Reading:
+    """What was read of a graph file. `file` is None where the file is no JSON or no object."""
+    source: Source
+    root: object
+    file: GraphFile | None
+    faults: list
+
+    def text_of(self, fault):
+        return fault_text(self.source, self.root, fault)
+
+    def fault_of(self, line):
+        """The fault with the program's line, or None."""
+        return next((fault for fault in self.faults if fault.line == line), None)
+
+
+def read(source):
+    """All that can be told of a graph file."""
+    if len(source.data) > GRAPH_FILE_BYTES:
+        text = f"The file has {grouped(len(source.data))} bytes. A graph file may have {grouped(GRAPH_FILE_BYTES)}."
+        return Reading(source, None, None, [Fault(0, "length", "", 0, 1, text)])
+    try:
+        root = read_json(source)
+    except JsonFault as fault:
+        return Reading(source, None, None, [Fault(1, "json", "", fault.start, fault.end, f"The file is no JSON. {fault.text}")])
+    file, shapes = read_graphs(source, root)
+    faults = Faults(source, root)
+    if file:
+        name_faults.find(file, faults)
+        wiring_faults.find(file, faults)
+    found = sorted(shapes + faults.found, key=lambda fault: fault.number)
+    return Reading(source, root, file, found)

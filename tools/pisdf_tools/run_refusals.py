@@ -1,0 +1,234 @@
+"""What a refusal of a run means: the values that led to it, where they come from, and what to do."""
+from . import balance
+from .expressions import names
+from .kernels import code_meaning, table
+from .limits import BASE_ENTRY, FIRINGS, LINKS, RATE, TOKENS
+from .wording import counted, grouped, joined, listed, named, quoted, shortened, times
+
+MOST_SHOWN = 8
+
+
+def tokens_words(tokens):
+    """Tokens in a row, of many only the first."""
+    shown = ", ".join(str(token) for token in tokens[:MOST_SHOWN])
+    return f"{shown}, .." if len(tokens) > MOST_SHOWN else shown or "no tokens"
+
+
+def values_words(expression, values):
+    """The values of the parameters in an expression, as ` with `n` = 3`."""
+    found = dict.fromkeys(name.name for name in names(expression.tree) if name.name in values)
+    return f" with {listed([f'{quoted(name)} = {values[name]}' for name in found])}" if found else ""
+
+
+class RunRefusals:
+    """Tells of one refusal. `reading` is the graph file, `refused` what the firing rules found."""
+
+    def __init__(self, reading, refused, iteration):
+        self.reading, self.source, self.refused, self.iteration = reading, reading.source, refused, iteration
+        self.graph, self.values = refused.graph, refused.values
+
+    def text(self):
+        tell = {"param": self.param, "rate": self.rate, "rates": self.rates, "limit": self.limit, "deadlock": self.deadlock,
+                "kernel": self.kernel}[self.refused.kind]
+        return tell()
+
+    def at(self, part, *sentences):
+        """A paragraph that stands at a part of the file."""
+        value = part.value
+        start, end = value.start, value.end if value.kind not in ("object", "list") else value.start + 1
+        where = self.reading.file.place_of(part.pointer)
+        return (f"{self.source.place(start)}, in {where}, in the firing {quoted(self.refused.path)} of iteration {self.iteration}:\n"
+                f"{self.source.snippet(start, end)}\n{joined(sentences)}")
+
+    def line_of(self, part):
+        line, column = self.source.position(part.value.start)
+        return f"line {line}, column {column}"
+
+    # ---- parameters and rates
+
+    def param(self):
+        param, more = self.refused.part, self.refused.more
+        name = quoted(param.name.text)
+        if "why" in more:
+            return self.at(param.expression, f"The parameter {name} has no value{values_words(param.expression, self.values)}: {more['why'].text}.",
+                           "Write the expression so that it has a value for all values of the parameters in it, as by `max(1,n)` under a `/`.")
+        value, advice = more["value"], f"Widen the range, which is {param.low} to {param.high}, or mend what gives the value."
+        if param.kind == "is":
+            came = f"The value of \"{shortened(param.expression.text)}\"{values_words(param.expression, self.values)} is {value}."
+        elif param.kind == "in":
+            came = f"An argument gives {name} the value {value}.{self.argument_place()}"
+        else:
+            came = f"The parameter {name} is set to {value} by {self.setter_words(param)}."
+            advice = f"Keep what is set within {param.low} to {param.high}, or widen the range."
+        return self.at(param, came, f"Its range is {param.low} to {param.high}.", advice)
+
+    def argument_place(self):
+        """Where the actor stands whose argument gives an inherited parameter."""
+        part = self.refused.part
+        for graph in self.reading.file.graphs:
+            for actor in graph.actors:
+                if actor.is_hierarchical and self.reading.file.child_of(actor) is self.graph:
+                    place = [param.name.text for param in self.graph.of_kind("in")].index(part.name.text)
+                    return f" It is argument {place} of the actor {quoted(actor.name.text)}, at {self.line_of(actor.args[place])}."
+        return ""
+
+    def setter_words(self, param):
+        for actor in self.graph.actors:
+            if any(word.text == param.name.text for word in actor.sets or []):
+                if actor.kind == "setgraph":
+                    return f"what the graph {quoted(actor.child.text)} exports, by the actor {quoted(actor.name.text)}"
+                ends = [fifo.tail.text for fifo in self.graph.fifos if fifo.head.text.startswith(actor.name.text + ".")]
+                fed = f", which reads the input {quoted(ends[0])}" if ends else ""
+                return f"the configuration actor {quoted(actor.name.text)} ({actor.kernel.text}){fed}"
+        return "a configuration actor"
+
+    def rate(self):
+        more, expression = self.refused.more, self.refused.more.get("expression")
+        if "interface" in more:
+            return self.at(more["port"], f"The input {quoted(more['port'].name.text)} of the graph {quoted(more['child'].name.text)} has the rate {more['value']}. "
+                           f"The actor {quoted(self.refused.part.name.text)} is fed by the input interface {quoted(more['interface'])}, whose rate is {more['interface_rate']}.",
+                           "A configuration actor reads the whole interface once, so both rates must be equal.")
+        shown = f"\"{shortened(expression.text)}\"{values_words(expression, self.values)}"
+        what = "argument" if "/args/" in expression.pointer else "rate"
+        if "why" in more:
+            return self.at(expression, f"The {what} {shown} has no value: {more['why'].text}.",
+                           "Bound the parameter by `low` and `high`, or write the expression with `min` or `max` so that it always has one.")
+        value = more["value"]
+        wrong = f"A rate may be {grouped(RATE)} at most" if value > RATE else "A rate can't be below 0"
+        return self.at(expression, f"The rate {shown} is {value}. {wrong}.",
+                       "Let the actor fire more often on fewer tokens." if value > RATE else "")
+
+    # ---- balance
+
+    def fifo_words(self, link):
+        if link.fifo is None:
+            return f"the state of the graph of {quoted(link.tail)}"
+        fifo = self.graph.fifos[link.fifo]
+        return f"FIFO {link.fifo} ({self.line_of(fifo)}), from {quoted(fifo.tail.text)} to {quoted(fifo.head.text)}"
+
+    def rates(self):
+        found, sentences = self.refused.more["balance"], []
+        for conflict in found.conflicts[:4]:
+            sentences.append(self.zero_words(conflict.link) if conflict.kind == "zero" else self.conflict_words(conflict))
+        if len(found.conflicts) > 4:
+            sentences.append(f"{counted(len(found.conflicts) - 4, 'FIFO')} more can't hold either.")
+        for actor in found.large[:3] if not found.conflicts else []:
+            least = min(found.base, key=lambda other: (found.base[other], other))
+            sentences.append(f"The rates let {quoted(actor)} fire {times(found.base[actor])} for {times(found.base[least])} of {quoted(least)}. "
+                             f"The balance may ask for {grouped(BASE_ENTRY)} firings of an actor. Take rates that are nearer to each other.")
+        part = self.graph.fifos[found.conflicts[0].link.fifo] if found.conflicts and found.conflicts[0].link.fifo is not None else self.graph.name
+        return self.at(part, "No numbers of firings fit the rates of this graph.", *sentences, self.env_words())
+
+    def env_words(self):
+        """The values of the parameters, where there are some."""
+        if not self.values:
+            return ""
+        return f"The parameters have the values {listed([f'{quoted(name)} = {value}' for name, value in list(self.values.items())[:12]])}."
+
+    def zero_words(self, link):
+        gives, takes = f"{quoted(link.tail_port)} gives {link.production}", f"{quoted(link.head_port)} takes {link.consumption}"
+        return f"On {self.fifo_words(link)}, {gives} and {takes}. Where one rate is 0 the other must be 0 as well."
+
+    def conflict_words(self, conflict):
+        link = conflict.link
+        own = (f"On {self.fifo_words(link)}, {quoted(link.tail_port)} gives {counted(link.production, 'token')} a firing and {quoted(link.head_port)} "
+               f"takes {link.consumption}")
+        if link.tail == link.head:
+            return f"{own}. Both ends are of one actor, so the rates must be equal."
+        own += f", so {self.ratio_words(link, conflict.wanted)}"
+        way = listed([f"FIFO {other.fifo} ({other.production} to {other.consumption})" for other in conflict.way if other.fifo is not None])
+        return f"{own}. But by {way} {self.ratio_words(link, conflict.forced)}. Change a rate so that both agree."
+
+    def ratio_words(self, link, ratio):
+        """How often the head fires for so many firings of the tail."""
+        return f"{quoted(link.head)} has to fire {times(ratio.numerator)} for {'each firing' if ratio.denominator == 1 else f'{ratio.denominator} firings'} of {quoted(link.tail)}"
+
+    def limit(self):
+        what, count, limit = self.refused.more["limit"]
+        level, counts = self.refused.more["level"], self.refused.more["counts"]
+        head = f"One firing of the graph {quoted(self.graph.name.text)} has {grouped(count)} {what}, and {grouped(limit)} are allowed."
+        if what == "firings":
+            parts = sorted(counts.items(), key=lambda pair: -pair[1])[:4]
+            most = listed([f"{quoted(actor)} {times(found)}" for actor, found in parts])
+            return self.at(self.graph.name, head, f"Most often fire {most}.", self.driver_words(level, counts, parts[0][0]),
+                           "Give the ports of these actors greater rates, so that a firing works on more tokens.", self.env_words())
+        measure = balance.link_count if what == "links" else balance.token_count
+        parts = sorted(level.links, key=lambda link: -measure(link, counts))[:3]
+        most = listed([f"{self.fifo_words(link)} with {grouped(measure(link, counts))}" for link in parts])
+        rule = ("A link counts the firings at both of its ends, and 2." if what == "links" else "A link counts the tokens that are put on it in all firings, and its delay.")
+        advice = "Give ports greater rates, so that there are fewer firings." if what == "links" else "Split the work: let an iteration take fewer tokens."
+        return self.at(self.graph.name, head, rule, f"The most have {most}.", advice, self.env_words())
+
+    def driver_words(self, level, counts, actor):
+        """The interface that makes an actor fire so often."""
+        for link in level.links:
+            if link.head == actor and link.source is not None:
+                return f"The interface {quoted(link.source)} has {grouped(link.production)} tokens, of which a firing of {quoted(actor)} reads {link.consumption}."
+            if link.tail == actor and link.sink is not None:
+                return f"The interface {quoted(link.sink)} wants {grouped(link.consumption)} tokens, of which a firing of {quoted(actor)} gives {link.production}."
+        return ""
+
+    # ---- deadlock
+
+    def deadlock(self):
+        more = self.refused.more
+        level, stuck = more["level"], more["stuck"]
+        waits = {}
+        for place, link in enumerate(level.links):
+            if link.is_inner and link.head in stuck.left and stuck.on_link[place] < link.consumption:
+                waits.setdefault(link.head, []).append((place, link))
+        ring = self.ring_of_waits(waits)
+        sentences = [f"No firing is possible any more. Firings are left of {listed([f'{quoted(actor)} ({count})' for actor, count in stuck.left.items()][:8])}."]
+        for place, link in ring[:6]:
+            sentences.append(f"{quoted(link.head)} waits for {counted(link.consumption, 'token')} on {self.fifo_words(link)}, which has {stuck.on_link[place]}.")
+        sentences.append("These actors wait for each other in a ring." if len(ring) > 1 else "The actor waits for itself.")
+        place, link = self.best_place(ring)
+        sentences.append(self.delay_advice(level, more["counts"], place, link))
+        part = self.graph.fifos[link.fifo] if link.fifo is not None else self.graph.name
+        return self.at(part, *sentences, self.env_words())
+
+    def ring_of_waits(self, waits):
+        """Links in a ring, each of which lacks tokens from the actor that waits for the next."""
+        actor, way, seen = next(iter(waits)), [], {}
+        while actor not in seen:
+            seen[actor] = len(way)
+            place, link = next(((place, link) for place, link in waits[actor] if link.tail in waits), waits[actor][0])
+            way.append((place, link))
+            actor = link.tail
+        return way[seen[actor]:]
+
+    def best_place(self, ring):
+        """Where a delay is most likely meant: where one stands already, else at the FIFO that leads back in the file."""
+        order = {actor.name.text: place for place, actor in enumerate(self.graph.actors)}
+        inner = [pair for pair in ring if pair[1].fifo is not None] or ring
+        return max(inner, key=lambda pair: (pair[1].delay > 0, order[pair[1].tail] >= order[pair[1].head], pair[1].fifo or 0))
+
+    def delay_advice(self, level, counts, place, link):
+        """How long a delay on one link lets all fire, found by trying."""
+        high = min(link.consumption * counts[link.head], TOKENS)
+        if isinstance(balance.order_of(level, counts, {place: high}), balance.Stuck):
+            return "More than one FIFO needs a delay: begin with this one."
+        low = 0
+        while high - low > 1:
+            middle = (low + high) // 2
+            if isinstance(balance.order_of(level, counts, {place: middle}), balance.Stuck):
+                low = middle
+            else:
+                high = middle
+        now = f" more, {link.delay + high} in all," if link.delay else ""
+        life = "With `\"life\":\"permanent\"` its tokens go on to the next firing of the graph." if self.reading.file.version > 1 else ""
+        return joined([f"A delay of {counted(high, 'token')}{now} on FIFO {link.fifo} is enough: `\"delay\":{link.delay + high}`.", life])
+
+    # ---- kernels
+
+    def kernel(self):
+        more, actor = self.refused.more, self.refused.part
+        fault, row = more["fault"], table()[actor.kernel.text]
+        args = f" with {'the argument' if len(more['args']) == 1 else 'the arguments'} {', '.join(map(str, more['args']))}" if more["args"] else ""
+        reads = listed([f"{quoted(port.name.text)} read {counted(len(tokens), 'token')}: {tokens_words(tokens)}" for port, tokens in zip(actor.ins, more["ins"])])
+        gives = listed([f"{quoted(port.name.text)} has the rate {rate}" for port, rate in zip(actor.outs, more["outs"])])
+        about = {1: "Overflow", 2: "Division", 3: "Rates", 4: "Value"}[fault.code]
+        rule = row.sentence(about)
+        return self.at(actor.kernel, f"Firing {more['firing']} of the actor {quoted(actor.name.text)} met code {fault.code}: {code_meaning(fault.code)}.",
+                       f"The kernel {quoted(row.name)}{args} gives {row.short}. Here {fault.text}.", f"{reads[:1].upper()}{reads[1:]}." if reads else "",
+                       f"{gives[:1].upper()}{gives[1:]}." if gives else "", f"{about} of {quoted(row.name)}: {rule}" if rule else "", self.env_words())

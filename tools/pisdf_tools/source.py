@@ -1,0 +1,47 @@
+"""A file as it was read, with the lines and columns of its places."""
+from dataclasses import dataclass, field
+
+SNIPPET_WIDTH = 100
+
+
+@dataclass
+class Source:
+    """The bytes of a file and their text. A byte that is no UTF-8 stands in the text as a code from U+DC80 on."""
+    path: str
+    data: bytes
+    text: str = field(init=False, repr=False)
+
+    def __post_init__(self):
+        self.text = self.data.decode("utf-8", "surrogateescape")
+
+    def position(self, offset):
+        """The line and the column of a place, both counted from 1, columns in characters."""
+        line = self.text.count("\n", 0, offset) + 1
+        return line, offset - (self.text.rfind("\n", 0, offset) + 1) + 1
+
+    def place(self, offset):
+        """A place in words, as `g.json, line 3, column 5`."""
+        line, column = self.position(offset)
+        return f"{self.path}, line {line}, column {column}"
+
+    def snippet(self, start, end):
+        """The line around a place, cut where it is long, and below it marks under the place."""
+        first = self.text.rfind("\n", 0, start) + 1
+        last = self.text.find("\n", start)
+        last = len(self.text) if last < 0 else last
+        end = max(start + 1, min(end, last))
+        left = first
+        if last - first > SNIPPET_WIDTH:
+            left = max(first, min(start - SNIPPET_WIDTH // 3, last - SNIPPET_WIDTH))
+        right = min(last, left + SNIPPET_WIDTH)
+        end = min(end, max(right, start + 1))
+        before, after = (".." if left > first else ""), (".." if right < last else "")
+        line = "".join(letter if letter.isprintable() else " " for letter in self.text[left:right])
+        marks = " " * (len(before) + start - left) + "^" * (end - start)
+        return f"    {before}{line.rstrip()}{after}\n    {marks}"
+
+
+def read_source(path):
+    """The file of this name. An OSError goes to the caller."""
+    with open(path, "rb") as file:
+        return Source(path, file.read())

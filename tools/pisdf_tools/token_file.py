@@ -1,0 +1,191 @@
+"""The token file: its records and fields with their places, read as the program reads them, and its faults."""
+import re
+from dataclasses import dataclass
+
+from .limits import GREATEST_WHOLE, LEAST_WHOLE, TOKEN_FILE_BYTES, is_whole
+from .wording import counted, grouped, joined, nearest, quoted, shortened, with_names
+
+MARK = b"\xef\xbb\xbf"
+LINE_END = re.compile(rb"[\r\n]")
+TOKEN = re.compile(rb"-?[0-9]+")
+
+
+@dataclass
+class Record:
+    """A record of the file: its fields, and for each where it begins, in bytes."""
+    fields: list
+    starts: list
+
+
+def quoted_record(data, start):
+    """A record with quotes in it, and where the next one begins."""
+    fields, starts, at, end = [], [], start, len(data)
+    while True:
+        starts.append(at)
+        field = bytearray()
+        if data[at:at + 1] == b'"':
+            at = quoted_part(data, at + 1, field)
+        while at < end and data[at:at + 1] not in (b",", b"\r", b"\n"):
+            field += data[at:at + 1]
+            at += 1
+        fields.append(bytes(field))
+        if data[at:at + 1] != b",":
+            return Record(fields, starts), at + 1
+        at += 1
+
+
+def quoted_part(data, at, field):
+    """Takes what stands in quotes into the field. Two quotes in a row stand for one. Gives the place after it."""
+    while at < len(data):
+        stop = data.find(b'"', at)
+        stop = len(data) if stop < 0 else stop
+        field += data[at:stop]
+        at = stop + 1
+        if data[at:at + 1] != b'"':
+            return at
+        field += b'"'
+        at += 1
+    return len(data)
+
+
+def records(data):
+    """The records of a file from the front. Empty lines are none."""
+    at = len(MARK) if data.startswith(MARK) else 0
+    while at < len(data):
+        match = LINE_END.search(data, at)
+        stop = match.start() if match else len(data)
+        if stop == at:
+            at = stop + 1
+        elif data.find(b'"', at, stop) < 0:
+            fields = data[at:stop].split(b",")
+            starts, place = [], at
+            for field in fields:
+                starts.append(place)
+                place += len(field) + 1
+            yield Record(fields, starts)
+            at = stop + 1
+        else:
+            record, at = quoted_record(data, at)
+            yield record
+
+
+def record_number(data, row):
+    """The record of this number, from 1, or None."""
+    for number, record in enumerate(records(data), 1):
+        if number == row:
+            return record
+    return None
+
+
+def place_of(path, data, offset, row, field):
+    """Where a field stands: as line and column, counted from 1, columns in bytes, and as row and field."""
+    line = data.count(b"\n", 0, offset) + 1
+    column = offset - (data.rfind(b"\n", 0, offset) + 1) + 1
+    return f"{path}, line {line}, column {column} (row {row}, field {field}):"
+
+
+def field_text(field):
+    return shortened(field.decode("utf-8", "replace"))
+
+
+def snippet(record, number):
+    """The fields around one, with marks below it."""
+    shown = [field_text(field) for field in record.fields[max(0, number - 4):number + 4]]
+    before = min(number, 4)
+    left = ("..," if number > 4 else "") + "".join(field + "," for field in shown[:before])
+    tail = "".join("," + field for field in shown[before + 1:]) + (",.." if len(record.fields) > number + 4 else "")
+    return f"    {left}{shown[before]}{tail}\n    {' ' * len(left)}{'^' * max(1, len(shown[before]))}"
+
+
+def streams(data, names):
+    """The fields of the tokens of each input by name, as bytes."""
+    found = {name: [] for name in names}
+    for record in records(data):
+        name = record.fields[0].decode("utf-8", "replace")
+        if name in found and not found[name]:
+            found[name] = record.fields[1:]
+    return found
+
+
+class TokenFaults:
+    """Tells of the faults of a token file. `inputs` has the names of the top graph's inputs."""
+
+    def __init__(self, path, data, inputs):
+        self.path, self.data, self.inputs = path, data, inputs
+
+    def explain(self, words):
+        """A paragraph on the fault that the program's line tells of, by its words after `tokens:`, or None."""
+        if words == ["length"]:
+            return (f"{self.path} has {grouped(len(self.data))} bytes. A token file may have {grouped(TOKEN_FILE_BYTES)}. "
+                    "Split the run: each part takes a token file of its own.")
+        row, field = int(words[1]), int(words[2]) if len(words) > 2 else 1
+        record = record_number(self.data, row)
+        if record is None or field > len(record.fields):
+            return None
+        text = {"name": self.name, "repeated": self.repeated, "number": self.number}[words[0]](record, row, field)
+        return f"{place_of(self.path, self.data, record.starts[field - 1], row, field)}\n{snippet(record, field - 1)}\n{text}"
+
+    def name(self, record, row, _):
+        name = record.fields[0].decode("utf-8", "replace")
+        known = f"The top graph has {with_names('input', self.inputs)}." if self.inputs else "The top graph has no inputs, so its token file is empty."
+        meant, stripped = nearest(name, self.inputs), name.strip()
+        hints = []
+        if stripped != name and stripped in self.inputs:
+            hints.append("A blank belongs to the name: take it away.")
+        elif meant:
+            hints.append(f"Do you mean {quoted(meant)}?")
+        if TOKEN.fullmatch(record.fields[0].strip()):
+            hints.append("This looks like a token. Each row begins with the name of an input, and has all tokens of it.")
+        if ";" in name or "\t" in name:
+            hints.append("Fields are separated by commas.")
+        if name[:1] in "{[<" and name:
+            hints.append("This looks like another kind of file. The words of the call may be in the wrong order: the graph file comes first.")
+        return joined([f"Row {row} begins with {quoted(name)}, which is no input of the top graph.", known, *hints])
+
+    def repeated(self, record, row, _):
+        name = record.fields[0].decode("utf-8", "replace")
+        first = next((number for number, other in enumerate(records(self.data), 1) if other.fields[0] == record.fields[0]), 1)
+        return (f"Row {row} is a second row for the input {quoted(name)}. The first is row {first}. "
+                "An input has one row with all its tokens: put them into one line.")
+
+    def number(self, record, row, field):
+        value = record.fields[field - 1]
+        text = value.decode("utf-8", "replace")
+        name = record.fields[0].decode("utf-8", "replace")
+        return joined([f"Token {field - 2} of the input {quoted(name)}, counted from 0, is {quoted(text) if text else 'empty'}, which is no token.",
+                       self.why_no_token(value, text, field == len(record.fields))])
+
+    def why_no_token(self, value, text, is_last):
+        if not value:
+            return "A comma stands at the end of the row: take it away." if is_last else "Two commas stand in a row: write a token between them, or take one away."
+        if TOKEN.fullmatch(value) and not is_whole(int(value)) if len(value) < 4000 else False:
+            return f"A token lies from {LEAST_WHOLE} to {GREATEST_WHOLE}."
+        if TOKEN.fullmatch(value.strip()):
+            return "Blanks aren't taken away: write the number without them."
+        if value.startswith(b"+"):
+            return "A token has no `+` before it."
+        if re.fullmatch(r"-?\d*[.]\d*([eE][+-]?\d+)?|-?\d+[eE][+-]?\d+", text):
+            return "Tokens are whole numbers. Scale the numbers, as by 1000, and round them."
+        if ";" in text or "\t" in text or " " in text.strip():
+            return "Fields are separated by commas."
+        return f"A token is an optional `-` and decimal digits, from {LEAST_WHOLE} to {GREATEST_WHOLE}."
+
+
+def short_words(path, data, name, has, needs, iteration_rates):
+    """A paragraph on an iteration that begins with too few tokens of an input."""
+    rate = needs
+    total = len(streams(data, [name])[name])
+    done = (total - has) // rate if rate else 0
+    place = ""
+    for row, record in enumerate(records(data), 1):
+        if record.fields[0].decode("utf-8", "replace") == name:
+            place = f"{place_of(path, data, record.starts[0], row, 1)}\n{snippet(record, 0)}\n"
+            break
+    given = f"The file has {counted(total, 'token')} of {quoted(name)}" if place else f"No row of {path} names the input {quoted(name)}, so it has no tokens"
+    lacks = counted(rate - has, "token")
+    others = ""
+    if iteration_rates:
+        others = " Each iteration takes " + ", ".join(f"{rate} of {quoted(other)}" for other, rate in iteration_rates) + "."
+    return (f"{place}{given}. Each iteration takes {rate}, so {counted(done, 'iteration')} had enough. Iteration {done}, counted from 0, "
+            f"begins with {has}, and lacks {lacks}.{others} {'Add' if place else 'Add a row with'} tokens {'to the row ' if place else ''}of {quoted(name)}"
+            + (f", or call for {counted(done, 'iteration')}." if done else "."))

@@ -1,0 +1,39 @@
+#!/usr/bin/env python3
+"""Makes a page about a graph and its run, which needs nothing from outside.
+
+usage: report.py PROGRAM GRAPH TOKENS ITERATIONS WORKERS FILE.html
+
+The page has the graph by hierarchy, the plan of its first iteration, the schedule beside its bounds, the map of cells, what each worker
+did by a journal, the values of parameters over the iterations, the output tokens, and a table of sizes and counts.
+"""
+import os
+import sys
+
+sys.dont_write_bytecode = True
+sys.path.insert(0, os.path.dirname(os.path.realpath(__file__)))
+
+from drawing import page
+from drawing.inputs import Refused
+from drawing.run import Run
+
+
+def main(words):
+    if len(words) != 6:
+        print("report: give GRAPH TOKENS ITERATIONS WORKERS FILE.html", file=sys.stderr)
+        return 1
+    program, graph, tokens, iterations, workers, target = words
+    try:
+        text = page.page(Run(program, graph, tokens, iterations, workers))
+        with open(target, "w", encoding="utf-8") as file:
+            file.write(text)
+    except Refused as refused:
+        print(f"report: {refused}", file=sys.stderr)
+        return 2
+    except OSError as error:
+        print(f"report: {target} can't be written: {error.strerror}", file=sys.stderr)
+        return 2
+    return 0
+
+
+if __name__ == "__main__":
+    sys.exit(main(sys.argv[1:]))
