@@ -1,13 +1,14 @@
 ghost use Rattle.std.specs.Prelude.{◌≡◌, IfOk, All, map};
 ghost use Rattle.serde_json.specs.Data.{object};
 ghost use Rattle.serde_json.specs.View.{view};
-ghost use Rattle.graph_format.specs.Canonical.{actor_value, body_members, child_members, config_child_members, config_members, kernel_members};
+ghost use Rattle.graph_format.specs.Canonical.{actor_value, body_members};
 ghost use Rattle.kernel_gate.specs.Signed.{signature_view};
 ghost use Rattle.graph_format.specs.Kernels.{kernel_names};
 ghost use Rattle.graph_format.specs.Named.{named_actor, named_body};
 ghost use Rattle.graph_format.specs.Writable.{IsWritable, IsWritableActor, IsWritablePort};
 
-use crate::list::{Writer, list};
+use crate::list::Writer;
+use crate::members::{with_list, with_text};
 use crate::names::{graph_name, kernel_name};
 use crate::param::Sets;
 use crate::port::{Expressions, Inputs, Ports};
@@ -15,57 +16,8 @@ use graph_format::FileActor;
 use kernel_gate::Signature;
 use param_expr::{Expr, Name};
 use pisdf_model::{Actor, Body, Graphs, Port};
-use serde_json::{Value, json};
+use serde_json::{Map, Value};
 use std::alloc::{AllocError, Global};
-
-/// A kernel actor.
-fn kernel_actor(
-    alloc: Global,
-    name: &str,
-    kernel: &str,
-    args: Value,
-    ins: Value,
-    outs: Value,
-) -> Result<Value, AllocError>
-    ensures { IfOk result (λ v. view v ≡ object (kernel_members name.now kernel.now (view args) (view ins) (view outs))) }
-{
-    json!(in alloc; {"name": name, "kind": "kernel", "kernel": kernel, "args": args, "ins": ins, "outs": outs})
-}
-
-/// A configuration actor.
-fn config_actor(
-    alloc: Global,
-    name: &str,
-    kernel: &str,
-    args: Value,
-    ins: Value,
-    outs: Value,
-    sets: Value,
-) -> Result<Value, AllocError>
-    ensures { IfOk result (λ v. view v ≡ object (config_members name.now kernel.now (view args) (view ins) (view outs) (view sets))) }
-{
-    json!(in alloc; {"name": name, "kind": "config", "kernel": kernel, "args": args, "ins": ins, "outs": outs, "sets": sets})
-}
-
-/// A hierarchical actor.
-fn child_actor(alloc: Global, name: &str, graph: &str, args: Value) -> Result<Value, AllocError>
-    ensures { IfOk result (λ v. view v ≡ object (child_members name.now graph.now (view args))) }
-{
-    json!(in alloc; {"name": name, "kind": "graph", "graph": graph, "args": args})
-}
-
-/// A hierarchical configuration actor.
-fn config_child_actor(
-    alloc: Global,
-    name: &str,
-    graph: &str,
-    args: Value,
-    sets: Value,
-) -> Result<Value, AllocError>
-    ensures { IfOk result (λ v. view v ≡ object (config_child_members name.now graph.now (view args) (view sets))) }
-{
-    json!(in alloc; {"name": name, "kind": "setgraph", "graph": graph, "args": args, "sets": sets})
-}
 
 /// Writes actors of a graph whose parameters have these names.
 #[derive(Clone, Copy)]
@@ -78,6 +30,32 @@ pub(crate) struct Actors<'a> {
 }
 
 impl Actors<'_> {
+    /// A kernel actor of this name.
+    fn kernel(
+        &self,
+        alloc: Global,
+        name: &str,
+        kernel: u32,
+        args: &[Expr],
+        ins: &[Port],
+        outs: &[Port],
+    ) -> Result<Value, AllocError>
+        requires args { All (IsWritable self.now.names.now) args.now }
+        requires ins { All (IsWritablePort self.now.names.now) ins.now }
+        requires outs { All (IsWritablePort self.now.names.now) outs.now }
+        ensures { IfOk result (λ v. view v ≡ object (body_members name.now (named_body (kernel_names (map signature_view self.now.signatures.now)) self.now.graphs.now self.now.names.now (Body.Kernel kernel args.now ins.now outs.now)))) }
+    {
+        let names = self.names;
+        let kernel = kernel_name(self.signatures, kernel);
+        let members = with_list(alloc, Map::new(alloc), "outs", &Ports { names }, outs)?;
+        let members = with_text(alloc, members, "name", name)?;
+        let members = with_text(alloc, members, "kind", "kernel")?;
+        let members = with_text(alloc, members, "kernel", kernel)?;
+        let members = with_list(alloc, members, "ins", &Ports { names }, ins)?;
+        let members = with_list(alloc, members, "args", &Expressions { names }, args)?;
+        Ok(Value::Object(members))
+    }
+
     /// A configuration actor of this name.
     fn config(
         &self,
@@ -93,12 +71,16 @@ impl Actors<'_> {
         requires outs { All (IsWritablePort self.now.names.now) outs.now }
         ensures { IfOk result (λ v. view v ≡ object (body_members name.now (named_body (kernel_names (map signature_view self.now.signatures.now)) self.now.graphs.now self.now.names.now (Body.Config kernel args.now ins.now outs.now sets.now)))) }
     {
+        let names = self.names;
         let kernel = kernel_name(self.signatures, kernel);
-        let args = list(alloc, &Expressions { names: self.names }, args)?;
-        let ins = list(alloc, &Inputs, ins)?;
-        let outs = list(alloc, &Ports { names: self.names }, outs)?;
-        let sets = list(alloc, &Sets { names: self.names }, sets)?;
-        config_actor(alloc, name, kernel, args, ins, outs, sets)
+        let members = with_list(alloc, Map::new(alloc), "sets", &Sets { names }, sets)?;
+        let members = with_list(alloc, members, "outs", &Ports { names }, outs)?;
+        let members = with_text(alloc, members, "name", name)?;
+        let members = with_text(alloc, members, "kind", "config")?;
+        let members = with_text(alloc, members, "kernel", kernel)?;
+        let members = with_list(alloc, members, "ins", &Inputs, ins)?;
+        let members = with_list(alloc, members, "args", &Expressions { names }, args)?;
+        Ok(Value::Object(members))
     }
 
     /// A hierarchical actor of this name.
@@ -112,9 +94,13 @@ impl Actors<'_> {
         requires { All (IsWritable self.now.names.now) args.now }
         ensures { IfOk result (λ v. view v ≡ object (body_members name.now (named_body (kernel_names (map signature_view self.now.signatures.now)) self.now.graphs.now self.now.names.now (Body.Child graph args.now)))) }
     {
+        let names = self.names;
         let graph = graph_name(self.graphs, graph);
-        let args = list(alloc, &Expressions { names: self.names }, args)?;
-        child_actor(alloc, name, graph, args)
+        let members = with_text(alloc, Map::new(alloc), "name", name)?;
+        let members = with_text(alloc, members, "kind", "graph")?;
+        let members = with_text(alloc, members, "graph", graph)?;
+        let members = with_list(alloc, members, "args", &Expressions { names }, args)?;
+        Ok(Value::Object(members))
     }
 
     /// A hierarchical configuration actor of this name.
@@ -129,10 +115,14 @@ impl Actors<'_> {
         requires { All (IsWritable self.now.names.now) args.now }
         ensures { IfOk result (λ v. view v ≡ object (body_members name.now (named_body (kernel_names (map signature_view self.now.signatures.now)) self.now.graphs.now self.now.names.now (Body.ConfigChild graph args.now sets.now)))) }
     {
+        let names = self.names;
         let graph = graph_name(self.graphs, graph);
-        let args = list(alloc, &Expressions { names: self.names }, args)?;
-        let sets = list(alloc, &Sets { names: self.names }, sets)?;
-        config_child_actor(alloc, name, graph, args, sets)
+        let members = with_list(alloc, Map::new(alloc), "sets", &Sets { names }, sets)?;
+        let members = with_text(alloc, members, "name", name)?;
+        let members = with_text(alloc, members, "kind", "setgraph")?;
+        let members = with_text(alloc, members, "graph", graph)?;
+        let members = with_list(alloc, members, "args", &Expressions { names }, args)?;
+        Ok(Value::Object(members))
     }
 }
 
@@ -159,11 +149,8 @@ impl Writer for Actors<'_> {
                 ins,
                 outs,
             } => {
-                let kernel = kernel_name(self.signatures, *kernel);
-                let args = list(alloc, &Expressions { names: self.names }, args.items())?;
-                let ins = list(alloc, &Ports { names: self.names }, ins.items())?;
-                let outs = list(alloc, &Ports { names: self.names }, outs.items())?;
-                kernel_actor(alloc, name, kernel, args, ins, outs)
+                let args = args.items();
+                self.kernel(alloc, name, *kernel, args, ins.items(), outs.items())
             }
             Body::Config {
                 kernel,

@@ -9,10 +9,11 @@ ghost use Rattle.graph_format.specs.Named.{named_fifo, stated_delay};
 ghost use Rattle.graph_format.specs.States.{life_text};
 
 use crate::list::{Writer, list};
+use crate::members::{with, with_text};
 use crate::names::end_text;
 use graph_format::FileFifo;
 use pisdf_model::{Fifo, Graph, Graphs, Life};
-use serde_json::{Value, json};
+use serde_json::{Map, Value};
 use std::alloc::{AllocError, Global};
 
 /// Writes tokens.
@@ -61,14 +62,19 @@ fn delay(alloc: Global, tokens: &[i64]) -> Result<Value, AllocError>
 fn undelayed(alloc: Global, from: String, to: String) -> Result<Value, AllocError>
     ensures { IfOk result (λ v. view v ≡ object (end_members false Life.Firing (string_bytes from) (string_bytes to))) }
 {
-    json!(in alloc; {"from": from, "to": to})
+    let members = with(alloc, Map::new(alloc), "to", Value::String(to))?;
+    let members = with(alloc, members, "from", Value::String(from))?;
+    Ok(Value::Object(members))
 }
 
 /// A FIFO with a delay, whose life isn't stated.
 fn delayed(alloc: Global, from: String, to: String, delay: Value) -> Result<Value, AllocError>
     ensures { IfOk result (λ v. view v ≡ object (member (codes "delay") (view delay) (end_members false Life.Firing (string_bytes from) (string_bytes to)))) }
 {
-    json!(in alloc; {"from": from, "to": to, "delay": delay})
+    let members = with(alloc, Map::new(alloc), "to", Value::String(to))?;
+    let members = with(alloc, members, "from", Value::String(from))?;
+    let members = with(alloc, members, "delay", delay)?;
+    Ok(Value::Object(members))
 }
 
 fn life_text(life: Life) -> &'static str
@@ -90,8 +96,11 @@ fn living(
 ) -> Result<Value, AllocError>
     ensures { IfOk result (λ v. view v ≡ object (member (codes "delay") (view delay) (end_members true life (string_bytes from) (string_bytes to)))) }
 {
-    let life = life_text(life);
-    json!(in alloc; {"from": from, "to": to, "delay": delay, "life": life})
+    let members = with(alloc, Map::new(alloc), "to", Value::String(to))?;
+    let members = with_text(alloc, members, "life", life_text(life))?;
+    let members = with(alloc, members, "from", Value::String(from))?;
+    let members = with(alloc, members, "delay", delay)?;
+    Ok(Value::Object(members))
 }
 
 /// Writes FIFOs of a graph.

@@ -1,7 +1,5 @@
-ghost use Rattle.std.specs.Prelude.{◌≡◌, IfOk, [], false, map, true};
-ghost use Rattle.serde_json.specs.Data.{object, string};
-ghost use Rattle.serde_json.specs.View.{view};
-ghost use Rattle.graph_format.specs.Canonical.{graph_members, graph_value, list_value};
+ghost use Rattle.std.specs.Prelude.{map};
+ghost use Rattle.graph_format.specs.Canonical.{graph_value};
 ghost use Rattle.kernel_gate.specs.Signed.{signature_view};
 ghost use Rattle.graph_format.specs.Kernels.{kernel_names};
 ghost use Rattle.graph_format.specs.Named.{named_graph};
@@ -10,46 +8,16 @@ ghost use Rattle.graph_format.specs.Writable.{IsWritableGraph};
 
 use crate::actor::Actors;
 use crate::fifo::Fifos;
-use crate::list::{Writer, list};
+use crate::list::Writer;
+use crate::members::{with_list, with_text};
 use crate::names::param_names;
 use crate::param::{Params, Sets};
 use crate::port::Interfaces;
 use graph_format::FileGraph;
 use kernel_gate::Signature;
 use pisdf_model::{Graph, Graphs};
-use serde_json::{Value, json};
+use serde_json::{Map, Value};
 use std::alloc::{AllocError, Global};
-
-/// A graph without exports.
-fn graph_object(
-    alloc: Global,
-    name: &str,
-    params: Value,
-    inputs: Value,
-    outputs: Value,
-    actors: Value,
-    fifos: Value,
-) -> Result<Value, AllocError>
-    ensures { IfOk result (λ v. view v ≡ object (graph_members false name.now (view params) (view inputs) (view outputs) (view actors) (view fifos) (list_value string []))) }
-{
-    json!(in alloc; {"name": name, "params": params, "inputs": inputs, "outputs": outputs, "actors": actors, "fifos": fifos})
-}
-
-/// A graph with exports.
-fn exporting_object(
-    alloc: Global,
-    name: &str,
-    params: Value,
-    inputs: Value,
-    outputs: Value,
-    actors: Value,
-    fifos: Value,
-    exports: Value,
-) -> Result<Value, AllocError>
-    ensures { IfOk result (λ v. view v ≡ object (graph_members true name.now (view params) (view inputs) (view outputs) (view actors) (view fifos) (view exports))) }
-{
-    json!(in alloc; {"name": name, "params": params, "inputs": inputs, "outputs": outputs, "actors": actors, "fifos": fifos, "exports": exports})
-}
 
 /// Writes graphs.
 #[derive(Clone, Copy)]
@@ -75,25 +43,30 @@ impl Writer for GraphList<'_> {
     fn value(&self, alloc: Global, graph: &Graph) -> Result<Value, AllocError> {
         let names = param_names(alloc, graph.params.items())?;
         let names = names.as_slice();
-        let params = list(alloc, &Params { names }, graph.params.items())?;
-        let inputs = list(alloc, &Interfaces { names }, graph.inputs.items())?;
-        let outputs = list(alloc, &Interfaces { names }, graph.outputs.items())?;
+        let params = graph.params.items();
+        let members = with_list(alloc, Map::new(alloc), "params", &Params { names }, params)?;
+        let outputs = graph.outputs.items();
+        let members = with_list(alloc, members, "outputs", &Interfaces { names }, outputs)?;
+        let members = with_text(alloc, members, "name", graph.name.text())?;
+        let inputs = graph.inputs.items();
+        let members = with_list(alloc, members, "inputs", &Interfaces { names }, inputs)?;
+        let fifos = Fifos {
+            graphs: self.graphs,
+            graph,
+        };
+        let members = with_list(alloc, members, "fifos", &fifos, graph.fifos.items())?;
         let actors = Actors {
             signatures: self.signatures,
             graphs: self.graphs,
             names,
         };
-        let actors = list(alloc, &actors, graph.actors.items())?;
-        let fifos = Fifos {
-            graphs: self.graphs,
-            graph,
-        };
-        let fifos = list(alloc, &fifos, graph.fifos.items())?;
-        let name = graph.name.text();
         if self.graphs.version < 3 {
-            return graph_object(alloc, name, params, inputs, outputs, actors, fifos);
+            let members = with_list(alloc, members, "actors", &actors, graph.actors.items())?;
+            return Ok(Value::Object(members));
         }
-        let exports = list(alloc, &Sets { names }, graph.exports.items())?;
-        exporting_object(alloc, name, params, inputs, outputs, actors, fifos, exports)
+        let exports = graph.exports.items();
+        let members = with_list(alloc, members, "exports", &Sets { names }, exports)?;
+        let members = with_list(alloc, members, "actors", &actors, graph.actors.items())?;
+        Ok(Value::Object(members))
     }
 }

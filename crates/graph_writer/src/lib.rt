@@ -6,6 +6,7 @@ mod fifo;
 mod graph;
 mod later_version;
 mod list;
+mod members;
 mod names;
 mod param;
 mod port;

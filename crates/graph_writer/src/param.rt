@@ -1,18 +1,35 @@
 ghost use Rattle.std.specs.Prelude.{◌≡◌, IfOk, codes};
 ghost use Rattle.serde_json.specs.Data.{member, object, string};
-ghost use Rattle.serde_json.specs.View.{view};
+ghost use Rattle.serde_json.specs.View.{members_view, view};
 ghost use Rattle.graph_format.specs.Canonical.{param_members, param_value};
 ghost use Rattle.graph_format.specs.Named.{name_at_place, named_param};
 ghost use Rattle.graph_format.specs.Writable.{IsWritableParam};
 
 use crate::list::Writer;
+use crate::members::{Members, with, with_text};
 use crate::names::name_at;
 use crate::port::expression;
 use graph_format::FileParam;
 use param_expr::Name;
 use pisdf_model::{Param, ParamKind};
-use serde_json::{Value, json};
+use serde_json::{Map, Value};
 use std::alloc::{AllocError, Global};
+
+/// The members of each parameter.
+fn members_of(
+    alloc: Global,
+    name: &str,
+    kind: &'static str,
+    low: i64,
+    high: i64,
+) -> Result<Members, AllocError>
+    ensures { IfOk result (λ members. members_view members.entries ≡ param_members name.now kind.now low high) }
+{
+    let members = with_text(alloc, Map::new(alloc), "name", name)?;
+    let members = with(alloc, members, "low", Value::from(low))?;
+    let members = with_text(alloc, members, "kind", kind)?;
+    with(alloc, members, "high", Value::from(high))
+}
 
 /// A parameter without an expression.
 fn given(
@@ -24,14 +41,16 @@ fn given(
 ) -> Result<Value, AllocError>
     ensures { IfOk result (λ v. view v ≡ object (param_members name.now kind.now low high)) }
 {
-    json!(in alloc; {"name": name, "kind": kind, "low": low, "high": high})
+    Ok(Value::Object(members_of(alloc, name, kind, low, high)?))
 }
 
 /// A derived parameter.
 fn derived(alloc: Global, name: &str, expr: Value, low: i64, high: i64) -> Result<Value, AllocError>
     ensures { IfOk result (λ v. view v ≡ object (member (codes "expr") (view expr) (param_members name.now (codes "is") low high))) }
 {
-    json!(in alloc; {"name": name, "kind": "is", "expr": expr, "low": low, "high": high})
+    let members = members_of(alloc, name, "is", low, high)?;
+    let members = with(alloc, members, "expr", expr)?;
+    Ok(Value::Object(members))
 }
 
 /// Writes parameters of a graph whose parameters have these names.

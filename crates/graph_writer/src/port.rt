@@ -6,10 +6,11 @@ ghost use Rattle.graph_format.specs.Named.{named_interface, named_port};
 ghost use Rattle.graph_format.specs.Writable.{IsWritable, IsWritableInterface, IsWritablePort};
 
 use crate::list::Writer;
+use crate::members::{with, with_text};
 use graph_format::FilePort;
 use param_expr::{Expr, Name, Parsed, print};
 use pisdf_model::{Interface, Port};
-use serde_json::{Value, json};
+use serde_json::{Map, Value};
 use std::alloc::{AllocError, Global};
 
 /// An expression over parameters of these names.
@@ -28,7 +29,9 @@ fn rated(alloc: Global, names: &[Name], name: &Name, rate: &Expr) -> Result<Valu
     ensures { IfOk result (λ v. view v ≡ port_value (record { name = name.now; rate = with_names names.now rate.now })) }
 {
     let rate = expression(alloc, names, rate)?;
-    json!(in alloc; {"name": name.text(), "rate": rate})
+    let members = with(alloc, Map::new(alloc), "rate", rate)?;
+    let members = with_text(alloc, members, "name", name.text())?;
+    Ok(Value::Object(members))
 }
 
 /// Writes expressions over parameters of these names.
@@ -122,6 +125,7 @@ impl Writer for Inputs {
 
     #[tactic(auto, unfolding(graph_format::specs::Canonical::input_value))]
     fn value(&self, alloc: Global, name: &Name) -> Result<Value, AllocError> {
-        json!(in alloc; {"name": name.text()})
+        let members = with_text(alloc, Map::new(alloc), "name", name.text())?;
+        Ok(Value::Object(members))
     }
 }

@@ -1,29 +1,21 @@
 ghost use Rattle.std.specs.Prelude.{◌≡◌, Some, Ok, IfOk, OnOk, All, List as Seq, ℕ, map};
-ghost use Rattle.serde_json.specs.Data.{object};
 ghost use Rattle.serde_json.specs.Read.{read};
 ghost use Rattle.serde_json.specs.View.{view};
 ghost use Rattle.serde_json.specs.Written.{compact_text};
 ghost use Rattle.kernel_gate.specs.Signed.{signature_view};
-ghost use Rattle.graph_format.specs.Canonical.{canonical, root_members};
+ghost use Rattle.graph_format.specs.Canonical.{canonical};
 ghost use Rattle.graph_format.specs.Kernels.{kernel_names};
 ghost use Rattle.graph_format.specs.Reads.{Reads};
 ghost use Rattle.graph_writer.specs.ReadAgain.{CanBeReadAgain, HasI64Tokens, WasRead};
 ghost use Rattle.graph_format.specs.Writable.{IsWritableGraph};
 
 use crate::graph::GraphList;
-use crate::list::list;
+use crate::members::{with, with_list, with_text};
 use crate::names::graph_name;
 use kernel_gate::Signature;
 use pisdf_model::Graphs;
-use serde_json::{Value, json};
+use serde_json::{Map, Value};
 use std::alloc::{AllocError, Global};
-
-/// The root of a file.
-fn root_object(alloc: Global, version: u32, top: &str, graphs: Value) -> Result<Value, AllocError>
-    ensures { IfOk result (λ v. view v ≡ object (root_members version top.now (view graphs))) }
-{
-    json!(in alloc; {"pisdf": version, "top": top, "graphs": graphs})
-}
 
 /// The canonical value of graphs.
 #[tactic(auto, unfolding(graph_format::specs::Canonical::file_value, graph_format::specs::Named::named_file))]
@@ -32,11 +24,18 @@ fn root(alloc: Global, graphs: &Graphs, signatures: &[Signature]) -> Result<Valu
     ensures canonical { IfOk result (λ v. view v ≡ canonical (kernel_names (map signature_view signatures.now)) graphs.now) }
     ensures tokens { OnOk result (All HasI64Tokens graphs.now.graphs) }
 {
-    let version = graphs.version;
     let top = graph_name(graphs, graphs.top);
     let list_of_graphs = GraphList { signatures, graphs };
-    let graphs = list(alloc, &list_of_graphs, graphs.graphs.items())?;
-    root_object(alloc, version, top, graphs)
+    let members = with_text(alloc, Map::new(alloc), "top", top)?;
+    let members = with(alloc, members, "pisdf", Value::from(graphs.version))?;
+    let members = with_list(
+        alloc,
+        members,
+        "graphs",
+        &list_of_graphs,
+        graphs.graphs.items(),
+    )?;
+    Ok(Value::Object(members))
 }
 
 /// The canonical graph file: compact JSON, members in the order of their bytes. Each place is replaced by the name
