@@ -1,11 +1,11 @@
 #!/usr/bin/env python3
 """Draws graph files, plans, schedules and memory.
 
-    draw.py graph GRAPH              a graph file as Graphviz DOT, each graph of the hierarchy in a box of its own
-    draw.py plan PLAN [SCHEDULE]     what `plan` wrote as Graphviz DOT, with the critical path where SCHEDULE is given; a box for
-                                     each actor where there are more than 200 nodes
-    draw.py gantt SCHEDULE [PLAN]    what `schedule` wrote as an SVG chart of the workers, with names where PLAN is given
-    draw.py cells PLAN [MEMORY]      which buffer lies in which cells, as SVG: as `plan` has it, or as `memory` has it
+    ./pisdf draw graph GRAPH            a graph file as Graphviz DOT, each graph of the hierarchy in a box of its own
+    ./pisdf draw plan PLAN [SCHEDULE]   what `plan` wrote as Graphviz DOT, with the critical path where SCHEDULE is given; a box
+                                        for each actor where there are more than 200 nodes
+    ./pisdf draw gantt SCHEDULE [PLAN]  what `schedule` wrote as an SVG chart of the workers, with names where PLAN is given
+    ./pisdf draw cells PLAN [MEMORY]    which buffer lies in which cells, as SVG: as `plan` has it, or as `memory` has it
 
 The files PLAN, SCHEDULE and MEMORY are what `pisdf plan`, `pisdf schedule` and `pisdf memory` wrote for one graph and as many
 workers; `-` stands for the standard input. The picture is written to the standard output.

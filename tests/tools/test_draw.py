@@ -67,7 +67,8 @@ class Graphs(unittest.TestCase):
         self.assertEqual((status, out, error), (2, "", f"draw: {words}\n"))
 
     def test_bad_graphs_are_answered_with_a_line(self):
-        self.refused("{", "- is no JSON: Expecting property name enclosed in double quotes: line 1 column 2 (char 1)")
+        self.refused("{", "- is no JSON, from line 1, column 2 on: ./pisdf check tells what is wrong there")
+        self.refused("[" * 100000, "- is no JSON that can be read here: a number is too long, or values nest too deep")
         self.refused("[]", "/ has to be an object")
         self.refused("{}", "/ has no member 'top'")
         self.refused(spoiled(lambda graph: graph["graphs"][0].pop("fifos")), "/graphs/0 has no member 'fifos'")

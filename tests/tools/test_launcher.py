@@ -105,7 +105,18 @@ class Launcher(unittest.TestCase):
     def test_version(self):
         self.assertIn("isn't built yet", self.call("--version", kit=False)[1])
         self.built()
-        self.assertIn("toolchain 7", self.call("--version", kit=False)[1])
+        self.assertIn("proved and built with toolchain 7", self.call("--version", kit=False)[1])
+
+    def test_version_of_a_program_that_another_call_built(self):
+        write(self.path("crates/pisdf/out/pisdf"), PROGRAM, executable=True)
+        self.assertIn("no record", self.call("--version")[1])
+        self.runs_without_the_toolchain()
+        self.assertNotIn("proved and built with", self.call("--version")[1])
+
+    def test_help_of_the_own_words(self):
+        help_text = self.call("--help")[1]
+        for word in "explain check report draw kernels".split():
+            self.assertEqual(self.call(word, "--help", kit=False), (0, help_text, ""))
 
     def test_a_link_from_elsewhere(self):
         self.built()

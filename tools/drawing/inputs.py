@@ -53,7 +53,7 @@ def rows_of(path):
             raise Refused(f"{path}, line {number}: no row of a plan, a schedule or a memory begins with '{row[0]}'")
         if row[0] not in ("path", "order") and len(fields) != len(wanted):
             raise Refused(f"{path}, line {number}: a row '{row[0]}' has {len(wanted)} fields after it, and this one has {len(fields)}")
-        if row[0] != "order" and not all(field.isdigit() for field, is_number in zip(fields, wanted) if is_number):
+        if row[0] != "order" and not all(field.isascii() and field.isdigit() for field, is_number in zip(fields, wanted) if is_number):
             raise Refused(f"{path}, line {number}: a field that has to be a number isn't one")
         rows.setdefault(row[0], []).append(fields)
     return rows
@@ -152,8 +152,10 @@ def graphs_in(text, path):
     """The graphs of a file: the name of the top graph, and each graph by its name, in the order of the file."""
     try:
         file = json.loads(text)
-    except ValueError as error:
-        raise Refused(f"{path} is no JSON: {error}") from error
+    except json.JSONDecodeError as error:
+        raise Refused(f"{path} is no JSON, from line {error.lineno}, column {error.colno} on: ./pisdf check tells what is wrong there") from error
+    except (ValueError, RecursionError) as error:
+        raise Refused(f"{path} is no JSON that can be read here: a number is too long, or values nest too deep") from error
     need(file, {"top": str, "graphs": list}, "")
     for number, graph in enumerate(file["graphs"]):
         place = f"/graphs/{number}"

@@ -3,7 +3,7 @@ from html import escape
 
 from drawing import charts
 from drawing.graphs import graph_picture, plan_picture
-from drawing.words import KINDS_OF_ANSWERS
+from drawing.words import KINDS_OF_ANSWERS, counted
 
 # So many pictures of one kind stand on a page; the rest is counted.
 MOST_SERIES = 12
@@ -55,10 +55,10 @@ def refusal(answer):
 
 def summary(run):
     made = len({row[0] for row in run.run.of("tokens")}) if run.graphs and run.graphs[run.top]["outputs"] else None
-    words = f"{run.iterations} iterations were asked for, by {run.workers} workers."
+    words = f"{counted(run.iterations, 'iteration')} {'was' if int(run.iterations) == 1 else 'were'} asked for, by {counted(run.workers, 'worker')}."
     done = "<p>The run is done.</p>" if run.run.status == 0 else refusal(run.run)
-    counted = "" if made is None or run.run.status == 0 else note(f"{made} iterations were done before.")
-    return f"<p>{escape(words)}</p>{done}{counted}"
+    before = "" if made is None or run.run.status == 0 else note(f"{counted(made, 'iteration')} {'was' if made == 1 else 'were'} done before.")
+    return f"<p>{escape(words)}</p>{done}{before}"
 
 
 def graph_part(run):
@@ -105,9 +105,9 @@ def workers_part(run):
     if not run.journal.rows:
         return note("There is no board: no iteration began.")
     steps = run.steps()
-    label = f"The journal of the first iteration: {len(run.journal.rows)} lines, {run.workers} workers"
+    label = f"The journal of the first iteration: {counted(len(run.journal.rows), 'line')}, {counted(run.workers, 'worker')}"
     told = table("What each worker was handed", ["Worker", "Items", "Share of the items"], [(f"worker {worker}", *shares(steps, worker)) for worker in range(int(run.workers))])
-    return figure(charts.work(steps, int(run.workers), label), "What the workers did") + note("A bar goes from a claim to its finish. The places are those of lines in the journal; they say nothing of time.") + told
+    return figure(charts.work(steps, int(run.workers), label), "What the workers did") + note("A bar goes from a claim to its finish. Bars of two colours belong to two firings of graphs. The places are those of lines in the journal; they say nothing of time.") + told
 
 
 def shares(steps, worker):
@@ -121,7 +121,7 @@ def parameter_part(run):
         yield note("No parameter was chosen in this run.")
     for name, values in list(series.items())[:MOST_SERIES]:
         numbers = [value for _, value in values][:MOST_VALUES]
-        yield figure(charts.line(numbers, f"{name}: {len(values)} values, from {min(numbers)} to {max(numbers)}", 100), f"Values of {name}")
+        yield figure(charts.line(numbers, f"{name}: {counted(len(values), 'value')}, from {min(numbers)} to {max(numbers)}", 100), f"Values of {name}")
     if len(series) > MOST_SERIES:
         yield note(f"{len(series) - MOST_SERIES} more parameters of other firings aren't drawn.")
 
@@ -135,7 +135,7 @@ def token_part(run):
         if not values:
             yield note(f"{name} gave no tokens.")
         elif len(values) <= MOST_POINTS:
-            yield figure(charts.line(values, f"{name}: {len(values)} tokens of {len(rows)} iterations, from {min(values)} to {max(values)}"), f"Tokens of {name}")
+            yield figure(charts.line(values, f"{name}: {counted(len(values), 'token')} of {counted(len(rows), 'iteration')}, from {min(values)} to {max(values)}"), f"Tokens of {name}")
         else:
             yield figure(charts.grey_image(lines_of(rows), name), f"Tokens of {name}")
 
@@ -152,7 +152,7 @@ def counts(run):
     rows = [("Graphs in the file", len(run.graphs))]
     for name in ordered(run.top, run.graphs):
         graph = run.graphs[name]
-        rows.append((f"Graph {name}", f"{len(graph['actors'])} actors, {len(graph['fifos'])} FIFOs, {len(graph['params'])} parameters"))
+        rows.append((f"Graph {name}", ", ".join(counted(len(graph[kind]), thing) for kind, thing in (("actors", "actor"), ("fifos", "FIFO"), ("params", "parameter")))))
     if not run.plan.status:
         rows += [(f"Firings of {name}", int(count)) for name, count in run.plan.of("repetition")]
         rows += [("Nodes", len(run.plan.of("node"))), ("Edges", len(run.plan.of("edge"))), ("Cells of the plan", int(run.plan.of("height")[0][0]))]
@@ -162,7 +162,7 @@ def counts(run):
         rows += [(words, int(run.schedule.of(kind)[0][0])) for kind, words in (("critical", "Critical path"), ("work", "Work"), ("length", "Length of the schedule"))]
     rows += [(f"Tokens of {name}", sum(len(row) for row in lists)) for name, lists in run.outputs().items()]
     rows += [(f"Tokens left of {name}", count) for name, count in run.left()]
-    return table("Sizes and counts", ["What", "How many"], rows)
+    return table("Of the file, of the plan of the first iteration, and of the run", ["What", "How many"], rows)
 
 
 PARTS = [
@@ -182,10 +182,11 @@ def page(run):
     name = f"{run.graph_file} with {run.token_file}"
     parts = PARTS if run.graphs else []
     links = "".join(f'<li><a href="#{key}">{escape(title)}</a></li>' for key, title, _ in parts)
+    parts_list = f'<nav aria-label="Parts of the report"><ul>{links}</ul></nav>' if parts else ""
     sections = "".join(f'<section id="{key}"><h2>{escape(title)}</h2>{make(run)}</section>' for key, title, make in parts)
     return (
         f'<!DOCTYPE html>\n<html lang="en"><head><meta charset="utf-8"/><meta name="viewport" content="width=device-width, initial-scale=1"/>'
         f"<title>Report: {escape(name)}</title><style>{STYLE}</style></head><body>"
         f'<a class="skip" href="#main">To the report</a><header><h1>Report</h1><p><code>{escape(name)}</code></p></header>'
-        f'<nav aria-label="Parts of the report"><ul>{links}</ul></nav><main id="main">{summary(run)}{sections}</main></body></html>\n'
+        f'{parts_list}<main id="main">{summary(run)}{sections}</main></body></html>\n'
     )

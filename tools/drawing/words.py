@@ -1,4 +1,4 @@
-"""What the exit codes of the program say."""
+"""What the exit codes of the program say, and numbers of things."""
 
 KINDS_OF_ANSWERS = {
     0: "done",
@@ -11,3 +11,8 @@ KINDS_OF_ANSWERS = {
     7: "memory ran out",
     9: "the journal is refused",
 }
+
+
+def counted(count, thing):
+    """So many things, where an s makes more of them."""
+    return f"{count} {thing}" + "s" * (int(count) != 1)
