@@ -1,5 +1,6 @@
 pub mod Floats
 pub mod Depths
+pub mod Listed
 pub mod Distinct
 pub mod KernelPlaces
 pub mod Resolving
