@@ -14,6 +14,7 @@ import sys
 sys.dont_write_bytecode = True
 
 from pisdf_tools import reading
+from pisdf_tools.exploring import Explorer
 from pisdf_tools.refusals import why_unread
 from pisdf_tools.source import read_source
 from pisdf_tools.summary import Summary, certain_refusal
@@ -47,9 +48,8 @@ def refused_lines(found, line):
         yield f"\n{len(others) - MOST_FAULTS} more aren't shown."
 
 
-def sound_lines(found, path):
+def sound_lines(found, path, explorer, refusal):
     """What is known of a file without a fault."""
-    refusal = certain_refusal(found)
     if refusal:
         yield f"{path}: the file has no fault, and every run of it is refused:"
         yield ""
@@ -58,7 +58,7 @@ def sound_lines(found, path):
         yield ""
     else:
         yield f"{path}: the file has no fault. It has version {found.file.version}."
-    yield from Summary(found).lines()
+    yield from Summary(found, explorer).lines()
 
 
 def check(program, path):
@@ -73,8 +73,9 @@ def check(program, path):
     if status == 2:
         print("\n".join(refused_lines(found, line)))
         return status
-    refusal = certain_refusal(found)
-    print("\n".join(sound_lines(found, path)))
+    explorer = Explorer(found.file)
+    refusal = certain_refusal(found, explorer)
+    print("\n".join(sound_lines(found, path, explorer, refusal)))
     return RUN_REFUSED if refusal else 0
 
 
