@@ -88,12 +88,7 @@ class Explanation:
 
     def stream(self, file):
         """Gives the tokens of an input from a place on, or None where there are too few."""
-        found = token_file.streams(self.read_tokens(), [port.name.text for port in file.top_graph.inputs])
-
-        def tokens(name, start, count):
-            part = found[name][start:start + count]
-            return [int(token) for token in part] if len(part) == count else None
-        return tokens
+        return token_file.Streams(self.read_tokens(), {port.name.text for port in file.top_graph.inputs}).tokens
 
     def iterations(self):
         return STARTS.get(self.call.command) or self.call.number("ITERATIONS", 0)
