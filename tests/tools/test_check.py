@@ -43,17 +43,21 @@ class Summaries(unittest.TestCase):
                 (changed(WHOLE, ('"rate":"4"', '"rate":"262145"')), "run: g rate x value 262145", "262,144 at most"),
                 (changed(WHOLE, ('"kernel":"pass","args":[]', '"kernel":"clamp","args":["3","1"]')), "run: g/b:0 kernel e:0 4", "the lower bound 3")]
         for text, line, words in rows:
-            refused, told = self.refusal(text)
+            refused, told = self.refusals(text)[0]
             self.assertEqual(refused.line, line)
             self.assertIn(words, told)
         for text in (example("running-sum"), WHOLE, changed(WHOLE, ('"kernel":"gain","args":["m"],"ins":[{"name":"i","rate":"1"}]', '"kernel":"gain","args":["m"],"ins":[{"name":"i","rate":"n"}]'))):
-            self.assertIsNone(self.refusal(text))
+            self.assertEqual(self.refusals(text), [])
 
-    def refusal(self, text):
+    def test_each_refusal_is_told(self):
+        text = changed(WHOLE, ('"kernel":"pass"', '"kernel":"sum"'), ('"kernel":"gain","args":["m"]', '"kernel":"median","args":[]'), ('"outs":[{"name":"o","rate":"1"}]', '"outs":[{"name":"o","rate":"2"}]'))
+        self.assertEqual([refused.line for refused, _ in self.refusals(text)], ["run: g kernel a:0 3", "run: g/b:0 kernel e:0 3"])
+
+    def refusals(self, text):
         from pisdf_tools.exploring import Explorer
-        from pisdf_tools.summary import certain_refusal
+        from pisdf_tools.summary import certain_refusals
         found = read_text(text)
-        return certain_refusal(found, Explorer(found.file))
+        return certain_refusals(found, Explorer(found.file))
 
 
 @needs_program

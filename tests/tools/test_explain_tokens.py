@@ -53,6 +53,11 @@ class TokenFaults(unittest.TestCase):
         self.assertEqual(streams.tokens("x", 99_998, 2), [99_998, 99_999])
         self.assertEqual([streams.tokens("x", 99_999, 2), streams.tokens("y", 0, 0), streams.tokens("z", 0, 1)], [None, [], None])
 
+    def test_further_faults_are_named(self):
+        from pisdf_tools.token_file import TokenFaults
+        text = TokenFaults("t.csv", b"x,1,a\nz,2\nx,3,b\n", ["x"]).explain(["number", "1", "3"])
+        self.assertIn("Also refused: `z` in row 2, field 1, `x` in row 3, field 1, `b` in row 3, field 3.", text)
+
     def test_a_file_over_its_length(self):
         from pisdf_tools.token_file import TokenFaults
         self.assertIn("A token file may have 67,108,864", TokenFaults("t.csv", b"x" * 70_000_000, []).explain(["length"]))

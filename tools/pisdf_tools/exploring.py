@@ -1,6 +1,6 @@
 """Walks the hierarchy of a file without tokens: for each choice of values its levels, and what is refused whatever the tokens are."""
 import time
-from dataclasses import dataclass
+from dataclasses import dataclass, field
 
 from .firing import Runner
 from .kernel_work import OVERFLOW, SHAPE, VALUE, KernelFault, fire
@@ -12,11 +12,16 @@ MOST_CHOICES = 64
 
 @dataclass
 class Outcome:
-    """What becomes of a firing of a graph with these values of its parameters: its level with the repetition vector, or a refusal."""
+    """What becomes of a firing of a graph with these values of its parameters: its level with the repetition vector, or refusals, of
+    which the first is the one that a run meets where none depends on tokens."""
     values: dict
     level: object = None
     counts: dict | None = None
-    refused: Refused | None = None
+    refusals: list = field(default_factory=list)
+
+    @property
+    def refused(self):
+        return self.refusals[0] if self.refusals else None
 
 
 def choices(params, values):
@@ -50,7 +55,7 @@ class Explorer:
         try:
             early = self.runner.top_early()
         except Refused as refused:
-            self.outcomes[top.name.text] = [Outcome({}, refused=refused)]
+            self.outcomes[top.name.text] = [Outcome({}, refusals=[refused])]
         else:
             self.graph(top, top.name.text, early)
 
@@ -76,40 +81,47 @@ class Explorer:
 
     def outcome(self, graph, path, early, values):
         chosen = {param.name.text: values[param.name.text] for param in graph.of_kind("set")}
+        found = Outcome(values)
+        self.configs(graph, path, early, found.refusals)
         try:
-            self.configs(graph, early)
-            level, counts, _ = self.runner.scheduled(graph, path, early, chosen)
-            for name in level.actors:
-                self.actor(graph, path, level, name)
+            found.level, found.counts, _ = self.runner.scheduled(graph, path, early, chosen)
         except Refused as refused:
             refused.path = refused.path or path
-            return Outcome(values, refused=refused)
-        return Outcome(values, level, counts)
+            found.refusals.append(refused)
+            found.level = refused.more.get("level")
+        for name in found.level.actors if found.level else []:
+            self.actor(graph, path, found, name)
+        return found
 
-    def actor(self, graph, path, level, name):
-        actor = graph.actor(name)
+    def actor(self, graph, path, found, name):
+        actor, level = graph.actor(name), found.level
         if actor.is_hierarchical:
             self.graph(self.file.child_of(actor), f"{path}/{name}:0", level.earlies[name])
             return
         rates = [[level.rates[f"{name}.{port.name.text}"] for port in ports] for ports in (actor.ins, actor.outs)]
-        self.kernel(graph, actor, level.args[name], *rates, level.values)
+        self.kernel(actor, (graph, path, level.values), level.args[name], rates, found.refusals)
 
-    def configs(self, graph, early):
+    def configs(self, graph, path, early, refusals):
         """Faults of the kernels of configuration actors, whose rates are those of the interfaces that feed them."""
         for actor in graph.actors:
             if actor.kind == "config":
                 args, outs, _ = early.configs[actor.name.text]
                 ins = [early.inputs[self.runner.levels.feeding(graph, f"{actor.name.text}.{port.name.text}")] for port in actor.ins]
-                self.kernel(graph, actor, args, ins, list(outs.values()), early.values)
+                self.kernel(actor, (graph, path, early.values), args, (ins, list(outs.values())), refusals)
 
-    def kernel(self, graph, actor, args, ins, outs, values):
-        fault = certain_fault(actor.kernel.text, args, ins, outs, len(actor.sets or []))
+    def kernel(self, actor, at, args, rates, refusals):
+        """Adds the fault that a kernel meets whatever its tokens are. `at` is the graph, the path and the values of parameters."""
+        graph, path, values = at
+        fault = certain_fault(actor.kernel.text, args, *rates, len(actor.sets or []))
         if fault:
-            raise Refused("kernel", f"kernel {actor.name.text}:0 {fault.code}", graph, actor, values, fault=fault, firing=0, args=args, ins=[], outs=outs)
+            refused = Refused("kernel", f"kernel {actor.name.text}:0 {fault.code}", graph, actor, values, fault=fault, firing=0, args=args, ins=[], outs=rates[1])
+            refused.path = path
+            refusals.append(refused)
 
-    def certain_refusal(self):
-        """A refusal that every run meets: of a graph that is refused with all values of its parameters. None where there is none."""
+    def certain_refusals(self):
+        """Refusals that no tokens avoid: those of graphs that are refused with all values of their parameters."""
+        certain = []
         for name, found in self.outcomes.items():
             if found and name not in self.unknown and all(outcome.refused for outcome in found):
-                return found[0].refused
-        return None
+                certain += found[0].refusals
+        return certain

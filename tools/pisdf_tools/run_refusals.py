@@ -123,7 +123,8 @@ class RunRefusals:
         """The values of the parameters, where there are some."""
         if not self.values:
             return ""
-        return f"The parameters have the values {listed([f'{quoted(name)} = {value}' for name, value in list(self.values.items())[:12]])}."
+        shown = [f"{quoted(name)} = {value}" for name, value in list(self.values.items())[:12]]
+        return f"The parameter is {shown[0]}." if len(shown) == 1 else f"The parameters are {listed(shown)}."
 
     def zero_words(self, link):
         gives, takes = f"{quoted(link.tail_port)} gives {link.production}", f"{quoted(link.head_port)} takes {link.consumption}"

@@ -126,8 +126,7 @@ class Summary:
     def outcome_words(self, outcome):
         """The repetition vector with some values, or why there is none, as a line."""
         if outcome.refused:
-            more = f" ({outcome.refused.more['fault'].text})" if outcome.refused.kind == "kernel" else ""
-            return f"each firing is refused: {outcome.refused.cause}{more}"
+            return f"each firing is refused: {listed([refused.cause for refused in outcome.refusals])}"
         vector = ", ".join(f"{actor} {count}" for actor, count in outcome.counts.items()) or "no actors"
         return f"repetition: {vector}{self.losses(outcome.level, outcome.counts)}"
 
@@ -142,7 +141,6 @@ class Summary:
         return f" ({'; '.join(words)})" if words else ""
 
 
-def certain_refusal(reading, explorer):
-    """A refusal that every run of this file meets, and its explanation, or None."""
-    refused = explorer.certain_refusal()
-    return refused and (refused, RunRefusals(reading, refused, 0).text())
+def certain_refusals(reading, explorer):
+    """Refusals that every run of this file meets, with their explanations."""
+    return [(refused, RunRefusals(reading, refused, 0).text()) for refused in explorer.certain_refusals()]

@@ -10,6 +10,8 @@ TOKEN = re.compile(rb"-?[0-9]+")
 
 
 CHUNK = 1 << 16
+LONG_FILE = 4_000_000
+MOST_OTHERS = 5
 
 
 class Record:
@@ -169,6 +171,11 @@ class Streams:
         return [int(token) for token in part] if len(part) == count else None
 
 
+def is_token(field):
+    """Whether a field is a token: a whole number of 64 bits without a sign `+`."""
+    return bool(TOKEN.fullmatch(field)) and is_whole(int(field[:4000]))
+
+
 class TokenFaults:
     """Tells of the faults of a token file. `inputs` has the names of the top graph's inputs."""
 
@@ -185,7 +192,24 @@ class TokenFaults:
         if record is None or record.place(field - 1) is None:
             return None
         text = {"name": self.name, "repeated": self.repeated, "number": self.number}[words[0]](record, row, field)
+        text = joined([text, self.others(row, field)])
         return f"{place_of(self.path, self.data, record.place(field - 1), row, field)}\n{snippet(record, field - 1)}\n{text}"
+
+    def others(self, row, field):
+        """Further faults of a file that isn't very long, each in a few words."""
+        if len(self.data) > LONG_FILE:
+            return ""
+        found, seen = [], set()
+        for number, record in enumerate(records(self.data), 1):
+            name = name_of(record)
+            if name not in self.inputs or name in seen:
+                found.append((number, 1, quoted(name)))
+            seen.add(name)
+            found += [(number, place, quoted(token.decode("utf-8", "replace")))
+                      for place, token in enumerate(record.part(1, record.count()), 2) if not is_token(token)]
+        found = [f"{shown} in row {number}, field {place}" for number, place, shown in found if (number, place) != (row, field)]
+        more = f" and {len(found) - MOST_OTHERS} more" if len(found) > MOST_OTHERS else ""
+        return f"Also refused: {', '.join(found[:MOST_OTHERS])}{more}." if found else ""
 
     def name(self, record, row, _):
         name = name_of(record)
@@ -220,7 +244,7 @@ class TokenFaults:
     def why_no_token(self, value, text, is_last):
         if not value:
             return "A comma stands at the end of the row: take it away." if is_last else "Two commas stand in a row: write a token between them, or take one away."
-        if TOKEN.fullmatch(value) and not is_whole(int(value)) if len(value) < 4000 else False:
+        if TOKEN.fullmatch(value):
             return f"A token lies from {LEAST_WHOLE} to {GREATEST_WHOLE}."
         if TOKEN.fullmatch(value.strip()):
             return "Blanks aren't taken away: write the number without them."
