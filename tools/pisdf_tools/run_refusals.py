@@ -2,8 +2,8 @@
 from . import balance
 from .expressions import names
 from .kernels import code_meaning, table
-from .limits import BASE_ENTRY, FIRINGS, LINKS, RATE, TOKENS
-from .wording import counted, grouped, joined, listed, named, quoted, shortened, times
+from .limits import BASE_ENTRY, RATE, TOKENS
+from .wording import counted, grouped, joined, listed, quoted, shortened, times
 
 MOST_SHOWN = 8
 

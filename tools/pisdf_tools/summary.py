@@ -2,7 +2,7 @@
 from .expressions import bounds, names
 from .limits import PARAMETER_HIGH
 from .run_refusals import RunRefusals
-from .wording import counted, listed, quoted
+from .wording import counted, listed, quoted, with_names
 
 
 def range_words(low, high):
@@ -54,7 +54,8 @@ class Summary:
             yield from self.graph_lines(graph, depths[graph.name.text])
         unused = [graph.name.text for graph in self.file.graphs if graph.name.text not in depths]
         if unused:
-            yield f"No actor names {'the graph' if len(unused) == 1 else 'the graphs'} {listed([quoted(name) for name in unused])}, so {'it is' if len(unused) == 1 else 'they are'} never fired."
+            verb = "it is" if len(unused) == 1 else "they are"
+            yield f"No actor names {with_names('graph', unused)}, so {verb} never fired."
 
     def hierarchy(self):
         """The graphs that are fired, the top first, each after one that names it, and how deep each lies."""
