@@ -14,9 +14,10 @@ import sys
 sys.dont_write_bytecode = True
 
 from pisdf_tools import reading
+from pisdf_tools.exploring import Explorer
 from pisdf_tools.refusals import why_unread
 from pisdf_tools.source import read_source
-from pisdf_tools.summary import Summary, certain_refusal
+from pisdf_tools.summary import Summary, certain_refusals
 from pisdf_tools.wording import counted, quoted
 
 MOST_FAULTS = 20
@@ -47,18 +48,16 @@ def refused_lines(found, line):
         yield f"\n{len(others) - MOST_FAULTS} more aren't shown."
 
 
-def sound_lines(found, path):
+def sound_lines(found, path, explorer, refusals):
     """What is known of a file without a fault."""
-    refusal = certain_refusal(found)
-    if refusal:
-        yield f"{path}: the file has no fault, and every run of it is refused:"
-        yield ""
-        yield refusal[0].line
-        yield refusal[1]
+    if refusals:
+        yield f"{path}: the file has no fault, and every run of it is refused, whatever its tokens are:"
+        for refused, text in refusals[:MOST_FAULTS]:
+            yield f"\n{refused.line}\n{text}"
         yield ""
     else:
         yield f"{path}: the file has no fault. It has version {found.file.version}."
-    yield from Summary(found).lines()
+    yield from Summary(found, explorer).lines()
 
 
 def check(program, path):
@@ -73,9 +72,10 @@ def check(program, path):
     if status == 2:
         print("\n".join(refused_lines(found, line)))
         return status
-    refusal = certain_refusal(found)
-    print("\n".join(sound_lines(found, path)))
-    return RUN_REFUSED if refusal else 0
+    explorer = Explorer(found.file)
+    refusals = certain_refusals(found, explorer)
+    print("\n".join(sound_lines(found, path, explorer, refusals)))
+    return RUN_REFUSED if refusals else 0
 
 
 def main(words):

@@ -14,15 +14,17 @@ def example(name):
 
 class Summaries(unittest.TestCase):
     def lines(self, text):
+        from pisdf_tools.exploring import Explorer
         from pisdf_tools.summary import Summary
-        return list(Summary(read_text(text)).lines())
+        found = read_text(text)
+        return list(Summary(found, Explorer(found.file)).lines())
 
     def test_interfaces_parameters_and_hierarchy(self):
         lines = self.lines(WHOLE)
         for line in ("graph g: depth 0, the top graph, fired once in each iteration", "  input x: rate 4", "  output y: rate 2*k = 4",
                      "  parameter n: set by a configuration actor, 1 to 8", "  parameter m: = n+1, 2 to 9", "  parameter k: = 2, 2",
                      "  3 kernel actors, 1 configuration actor and 1 hierarchical actor, 7 FIFOs, keeps 1 token from firing to firing",
-                     "  repetition: a 4, s 4, d 4, b 2", "graph h: depth 1, fired in `g` by its actor `b`", "  parameter p: from an argument, any value from 0 on"):
+                     "  repetition: a 4, s 4, d 4, b 2", "graph h: depth 1, fired in `g` by its actor `b`", "  parameter p: from an argument, any value from 0 on", "  repetition: e 1 where p = 2"):
             self.assertIn(line, lines)
 
     def test_each_value_of_a_parameter(self):
@@ -35,12 +37,27 @@ class Summaries(unittest.TestCase):
         self.assertIn("No actor names the graph `z`, so it is never fired.", self.lines(text))
 
     def test_runs_that_are_refused_whatever_the_tokens(self):
-        from pisdf_tools.summary import certain_refusal
-        refused, text = certain_refusal(read_text(example("ring-without-delay")))
-        self.assertEqual(refused.line, "run: g deadlock s 2 d 2")
-        self.assertIn("A delay of 1 token on FIFO 3 is enough", text)
-        self.assertIsNone(certain_refusal(read_text(example("running-sum"))))
-        self.assertIsNone(certain_refusal(read_text(WHOLE)))
+        rows = [(example("ring-without-delay"), "run: g deadlock s 2 d 2", "A delay of 1 token on FIFO 3 is enough"),
+                (changed(WHOLE, ('"kernel":"pass"', '"kernel":"sum"')), "run: g/b:0 kernel e:0 3", "the output's rate must be 1, and it is 2"),
+                (changed(WHOLE, ('{"name":"w","rate":"1"}', '{"name":"w","rate":"2"}')), "run: g kernel c:0 3", "one token for each parameter that is set"),
+                (changed(WHOLE, ('"rate":"4"', '"rate":"262145"')), "run: g rate x value 262145", "262,144 at most"),
+                (changed(WHOLE, ('"kernel":"pass","args":[]', '"kernel":"clamp","args":["3","1"]')), "run: g/b:0 kernel e:0 4", "the lower bound 3")]
+        for text, line, words in rows:
+            refused, told = self.refusals(text)[0]
+            self.assertEqual(refused.line, line)
+            self.assertIn(words, told)
+        for text in (example("running-sum"), WHOLE, changed(WHOLE, ('"kernel":"gain","args":["m"],"ins":[{"name":"i","rate":"1"}]', '"kernel":"gain","args":["m"],"ins":[{"name":"i","rate":"n"}]'))):
+            self.assertEqual(self.refusals(text), [])
+
+    def test_each_refusal_is_told(self):
+        text = changed(WHOLE, ('"kernel":"pass"', '"kernel":"sum"'), ('"kernel":"gain","args":["m"]', '"kernel":"median","args":[]'), ('"outs":[{"name":"o","rate":"1"}]', '"outs":[{"name":"o","rate":"2"}]'))
+        self.assertEqual([refused.line for refused, _ in self.refusals(text)], ["run: g kernel a:0 3", "run: g/b:0 kernel e:0 3"])
+
+    def refusals(self, text):
+        from pisdf_tools.exploring import Explorer
+        from pisdf_tools.summary import certain_refusals
+        found = read_text(text)
+        return certain_refusals(found, Explorer(found.file))
 
 
 @needs_program

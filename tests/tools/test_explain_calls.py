@@ -88,6 +88,10 @@ class Calls(unittest.TestCase):
         done = call(["run", "g.json", "t.csv", "1", "1"], {"g.json": changed(PASS, ('"8"', '"7"')), "t.csv": "x,1,2,3,4,5,6,7\n"}, "explain.py")
         self.assertEqual(done.stderr, b"")
 
+    def test_files_in_the_wrong_order(self):
+        done = call(["run", "t.csv", "g.json", "1", "1"], {"g.json": WHOLE, "t.csv": "w,2\nx,1,2,3,4\n"}, "explain.py")
+        self.assertIn("the two words may be exchanged", done.stderr.decode())
+
     def test_a_closed_output_and_an_error_output_that_is_full(self):
         command = [sys.executable, os.path.join(TOOLS, "explain.py"), PROGRAM, "nonsense"]
         with open("/dev/full", "wb") as full:

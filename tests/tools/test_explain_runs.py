@@ -75,14 +75,10 @@ def refusal_of(text, tokens, iterations=1):
     from pisdf_tools.levels import Refused
     from pisdf_tools.run_refusals import RunRefusals
     reading = read_text(text)
-    found = token_file.streams(tokens.encode(), [port.name.text for port in reading.file.top_graph.inputs])
-
-    def stream(name, start, count):
-        part = found[name][start:start + count]
-        return [int(token) for token in part] if len(part) == count else None
+    streams = token_file.Streams(tokens.encode(), {port.name.text for port in reading.file.top_graph.inputs})
     runner = firing.Runner(reading.file, 20)
     try:
-        runner.run(iterations, stream)
+        runner.run(iterations, streams.tokens)
     except Refused as refused:
         return refused.line, RunRefusals(reading, refused, runner.iteration).text(), reading
     return None, "", reading

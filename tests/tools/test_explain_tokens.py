@@ -40,8 +40,23 @@ class TokenFaults(unittest.TestCase):
     def test_quotes_marks_and_line_ends(self):
         from pisdf_tools.token_file import records
         data = b'\xef\xbb\xbfx,"a""b",2\r\n\r"y\n",3\nz'
-        self.assertEqual([record.fields for record in records(data)], [[b"x", b'a"b', b"2"], [b"y\n", b"3"], [b"z"]])
-        self.assertEqual([record.starts for record in records(data)], [[3, 5, 12], [16, 21], [23]])
+        self.assertEqual([record.part(0, 9) for record in records(data)], [[b"x", b'a"b', b"2"], [b"y\n", b"3"], [b"z"]])
+        self.assertEqual([record.place(0) for record in records(data)], [3, 16, 23])
+
+    def test_fields_of_a_long_record(self):
+        from pisdf_tools.token_file import Streams, records
+        data = b"x," + b",".join(b"%d" % number for number in range(100_000)) + b"\ny\n"
+        record = next(records(data))
+        self.assertEqual((record.field(0), record.field(70_001), record.field(100_000), record.field(100_001)), (b"x", b"70000", b"99999", None))
+        streams = Streams(data, {"x", "y", "z"})
+        self.assertEqual([streams.length(name) for name in "xyz"], [100_000, 0, 0])
+        self.assertEqual(streams.tokens("x", 99_998, 2), [99_998, 99_999])
+        self.assertEqual([streams.tokens("x", 99_999, 2), streams.tokens("y", 0, 0), streams.tokens("z", 0, 1)], [None, [], None])
+
+    def test_further_faults_are_named(self):
+        from pisdf_tools.token_file import TokenFaults
+        text = TokenFaults("t.csv", b"x,1,a\nz,2\nx,3,b\n", ["x"]).explain(["number", "1", "3"])
+        self.assertIn("Also refused: `z` in row 2, field 1, `x` in row 3, field 1, `b` in row 3, field 3.", text)
 
     def test_a_file_over_its_length(self):
         from pisdf_tools.token_file import TokenFaults

@@ -208,16 +208,35 @@ def attach(routes, by_name):
             points[at] = box.x + reach, box.y - box.height / 2 + box.height * (number + 1) / (len(ends) + 1)
 
 
-def arrow_parts(arrow, points, is_turned, left, top):
-    """A link from the side of its tail to the side of its head, with its labels."""
+def arrow_parts(arrow, points, is_turned, left, top, taken):
+    """A link from the side of its tail to the side of its head, with its labels; `taken` are the places of the labels in the middle."""
     side = -1 if is_turned else 1
     ends = [(x + left, y + top) for x, y in points]
     yield element("path", d=curve(ends), class_=arrow.look)
     yield arrow_head(*ends[-1], is_turned)
-    yield from label_parts(arrow.labels, ends, side)
+    yield from label_parts(arrow.labels, ends, side, taken)
 
 
-def label_parts(labels, ends, side):
+def on_curve(start, end, share):
+    """The point of a curve from one point to the next after a share of its way."""
+    (x, y), (to_x, to_y), rest = start, end, 1 - share
+    middle = 3 * share * rest * (x + to_x) / 2
+    return x * rest**3 + middle + to_x * share**3, y + (to_y - y) * share * share * (3 - 2 * share)
+
+
+def free_place(words, ends, taken):
+    """The place for a label at a link where it lies over no other: in the middle, or else beside it, on another part, or below."""
+    wide, number = 3.2 * len(words), (len(ends) - 1) // 2
+    parts = sorted(range(len(ends) - 1), key=lambda part: abs(part - number))
+    places = [on_curve(ends[part], ends[part + 1], share) for part in parts for share in (0.5, 0.3, 0.7)]
+    places += [(places[0][0], places[0][1] + 13 * step) for step in (1, 2, 3)]
+    free = [(x, y) for x, y in places if all(abs(x - other) > wide + reach or abs(y - at) > 12 for other, at, reach in taken)]
+    x, y = (free or places)[0]
+    taken.append((x, y, wide))
+    return x, y + 13
+
+
+def label_parts(labels, ends, side, taken):
     first, middle, last = labels
     near, far = ("small", "small end") if side > 0 else ("small end", "small")
     if first:
@@ -225,8 +244,7 @@ def label_parts(labels, ends, side):
     if last:
         yield text(ends[-1][0] - side * 9, ends[-1][1] - 4, last, far)
     if middle:
-        (x, y), (to_x, to_y) = ends[(len(ends) - 1) // 2], ends[(len(ends) - 1) // 2 + 1]
-        yield text((x + to_x) / 2, (y + to_y) / 2 + 13, middle, "small middle")
+        yield text(*free_place(middle, ends, taken), middle, "small middle over")
 
 
 def loop_parts(arrow, box, left, top):
@@ -245,14 +263,14 @@ def drawing(boxes, arrows, label):
     (width, height), points = place(boxes, arrows)
     by_name = {box.name: box for box in boxes}
     left, top = 16, 24
-    parts, routes = [], []
+    parts, routes, taken = [], [], []
     apart = [arrow for arrow in arrows if arrow.tail != arrow.head]
     for arrow, over in zip(apart, points):
         is_turned = by_name[arrow.tail].layer > by_name[arrow.head].layer
         routes.append((arrow, over[::-1] if is_turned else over, is_turned))
     attach(routes, by_name)
     for arrow, over, is_turned in routes:
-        parts += arrow_parts(arrow, over, is_turned, left, top)
+        parts += arrow_parts(arrow, over, is_turned, left, top, taken)
     for arrow in arrows:
         if arrow.tail == arrow.head:
             parts += loop_parts(arrow, by_name[arrow.tail], left, top)

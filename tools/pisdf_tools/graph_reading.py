@@ -30,7 +30,9 @@ def name_trouble(text, may_be_reserved=False):
         return f"The name has {len(text.encode('utf-8', 'surrogatepass'))} bytes. A name has at most {NAME_BYTES}."
     if not NAME.fullmatch(text):
         wrong = next((letter for letter in text if not NAME.fullmatch("a" + letter)), text[0])
-        return f"{quoted(text)} is no name, because of {quoted(wrong)}. A name is a letter or `_`, then letters, digits and `_`."
+        better = re.sub(r"[^A-Za-z0-9_]", "_", text)
+        write = f" Write {quoted(better)}, here and where it is named." if NAME.fullmatch(better) else ""
+        return f"{quoted(text)} is no name, because of {quoted(wrong)}. A name is a letter or `_`, then letters, digits and `_`.{write}"
     return ""
 
 

@@ -1,5 +1,6 @@
 """Faults of names and counts: duplicates, unknown names, kernels, and numbers of arguments and ports (faults 4 to 7)."""
 from . import expressions, kernels
+from .graph_reading import name_trouble
 from .wording import counted, joined, listed, named, quoted, with_names
 
 COUNT_WORDS = {"args": ("argument", "arguments"), "ins": ("input", "inputs"), "outs": ("output", "outputs"),
@@ -71,7 +72,7 @@ class NameFaults:
 
     def unknown_names(self):
         if self.file.top and not self.file.top_graph:
-            self.file.top = self.unknown_graph(self.file.top, "`top` names the graph that is run.")
+            self.file.top = self.unknown_graph(self.file.top, "`top` names the graph that is run.", self.unnamed_graph())
         for graph in self.file.graphs:
             for param in graph.params:
                 self.names_in(param.expression, graph)
@@ -85,6 +86,12 @@ class NameFaults:
                 fifo.head = self.end(fifo.head, graph, ends, "ins")
             graph.exports = [self.param_word(word, graph, "`exports` lists parameters of this graph.") for word in graph.exports]
 
+    def unnamed_graph(self):
+        """The only graph that no actor names, or None."""
+        children = {actor.child.text for graph in self.file.graphs for actor in graph.actors if actor.child}
+        found = [graph.name.text for graph in self.file.graphs if graph.name.text not in children]
+        return found[0] if len(found) == 1 else None
+
     def names_of_actor(self, actor, graph):
         if actor.child and not self.file.graph(actor.child.text):
             actor.child = self.unknown_graph(actor.child, "A hierarchical actor names a graph of this file.")
@@ -93,9 +100,10 @@ class NameFaults:
         if actor.sets:
             actor.sets = [self.param_word(word, graph, "`sets` lists parameters of this graph.") for word in actor.sets]
 
-    def unknown_graph(self, word, rule):
+    def unknown_graph(self, word, rule, likely=None):
+        """Tells of a graph that isn't there. `likely` is the one that is meant where no name is near."""
         known = [graph.name.text for graph in self.file.graphs]
-        meant = self.faults.near(word.text, known)
+        meant = self.faults.near(word.text, known) or likely
         self.add(5, f"unknown {word.text}", word, f"There is no graph {quoted(word.text)}.", rule,
                  f"This file has {with_names('graph', known)}." if known else "This file has no graph.", self.ask(meant))
         return self.meaning(word, meant)
@@ -156,9 +164,15 @@ class NameFaults:
     def unknown_end(self, word, graph, ends, wanted):
         fitting = [end for end, kind in ends.items() if kind == wanted]
         meant = self.nearest_end(word.text, graph, ends, wanted)
-        self.add(5, f"unknown {word.text}", word, self.why_no_end(word.text, graph), self.ask(meant),
+        self.add(5, f"unknown {word.text}", word, self.why_no_end(word.text, graph), self.ask_end(meant),
                  "" if meant or not fitting else f"A FIFO may {'lead to' if wanted == 'ins' else 'come from'} {named(fitting, last='or')} here.")
         return self.meaning(word, meant)
+
+    def ask_end(self, meant):
+        wrong = next((step for step in (meant or "").split(".") if name_trouble(step)), None) if meant else None
+        if wrong is None:
+            return self.ask(meant)
+        return f"It may mean {quoted(wrong)}, which is no name: rename that first."
 
     def nearest_end(self, text, graph, ends, wanted):
         """The known end nearest to an unknown one: of the right direction, and of the same actor where there is one."""
@@ -258,7 +272,7 @@ class NameFaults:
         if "args" in wrong and row.sentence("Arguments"):
             sentences.append(f"Its arguments: {row.sentence('Arguments')}")
         if sentences:
-            sentences.append(f"{quoted(row.name)} gives {row.short}.")
+            sentences.append(f"{quoted(row.name)} in short: {row.short}.")
         return sentences
 
     def span_words(self, span, one, many):

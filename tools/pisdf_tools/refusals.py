@@ -7,7 +7,6 @@ import subprocess
 from . import firing, loss, reading, token_file
 from .journal_file import JournalFaults, lines_of
 from .levels import Refused
-from .limits import RATE
 from .run_refusals import RunRefusals
 from .source import read_source
 from .static_refusals import plain_words
@@ -51,7 +50,16 @@ class Explanation:
         others = len(found.faults) - 1
         more = (f"{counted(others, 'more fault')} can be seen in this file: `./pisdf check {self.call.get('GRAPH')}` lists "
                 f"{'it' if others == 1 else 'them'}.") if others else ""
-        return joined_paragraphs(found.text_of(fault), more)
+        return joined_paragraphs(found.text_of(fault), self.exchanged() if fault.number == 1 else "", more)
+
+    def exchanged(self):
+        """Whether the two files may stand in the wrong order: the token file begins as a graph file does."""
+        path = self.call.get("TOKENS")
+        if path is None or not os.path.isfile(path) or not os.access(path, os.R_OK):
+            return ""
+        with open(path, "rb") as file:
+            begins = file.read(1000).lstrip()[:1]
+        return f"The token file {quoted(path)} begins as a graph file does. GRAPH comes before TOKENS: the two words may be exchanged." if begins == b"{" else ""
 
     def tokens(self):
         words, path, data = self.line.split(" ")[1:], self.call.get("TOKENS"), self.read_tokens()
@@ -88,12 +96,7 @@ class Explanation:
 
     def stream(self, file):
         """Gives the tokens of an input from a place on, or None where there are too few."""
-        found = token_file.streams(self.read_tokens(), [port.name.text for port in file.top_graph.inputs])
-
-        def tokens(name, start, count):
-            part = found[name][start:start + count]
-            return [int(token) for token in part] if len(part) == count else None
-        return tokens
+        return token_file.Streams(self.read_tokens(), {port.name.text for port in file.top_graph.inputs}).tokens
 
     def iterations(self):
         return STARTS.get(self.call.command) or self.call.number("ITERATIONS", 0)

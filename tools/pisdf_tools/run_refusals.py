@@ -2,8 +2,8 @@
 from . import balance
 from .expressions import names
 from .kernels import code_meaning, table
-from .limits import BASE_ENTRY, FIRINGS, LINKS, RATE, TOKENS
-from .wording import counted, grouped, joined, listed, named, quoted, shortened, times
+from .limits import BASE_ENTRY, RATE, TOKENS
+from .wording import counted, grouped, joined, listed, quoted, shortened, times
 
 MOST_SHOWN = 8
 
@@ -123,7 +123,8 @@ class RunRefusals:
         """The values of the parameters, where there are some."""
         if not self.values:
             return ""
-        return f"The parameters have the values {listed([f'{quoted(name)} = {value}' for name, value in list(self.values.items())[:12]])}."
+        shown = [f"{quoted(name)} = {value}" for name, value in list(self.values.items())[:12]]
+        return f"The parameter is {shown[0]}." if len(shown) == 1 else f"The parameters are {listed(shown)}."
 
     def zero_words(self, link):
         gives, takes = f"{quoted(link.tail_port)} gives {link.production}", f"{quoted(link.head_port)} takes {link.consumption}"

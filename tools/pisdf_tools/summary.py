@@ -1,14 +1,8 @@
 """What can be told of a graph file without a fault and without tokens: interfaces, parameters, repetition vectors, hierarchy."""
-from . import balance
 from .expressions import bounds, names
-from .firing import Runner, TooLong
-from .levels import Refused
 from .limits import PARAMETER_HIGH
 from .run_refusals import RunRefusals
-from .wording import counted, listed, quoted
-
-SECONDS = 4
-MOST_VALUES = 64
+from .wording import counted, listed, quoted, with_names
 
 
 def range_words(low, high):
@@ -51,8 +45,8 @@ KIND_WORDS = {"in": "from an argument", "set": "set by a configuration actor"}
 class Summary:
     """Writes what is known of a file, graph by graph from the top on."""
 
-    def __init__(self, reading):
-        self.reading, self.file, self.ranges = reading, reading.file, Ranges(reading.file)
+    def __init__(self, reading, explorer):
+        self.reading, self.file, self.ranges, self.explorer = reading, reading.file, Ranges(reading.file), explorer
 
     def lines(self):
         order, depths = self.hierarchy()
@@ -60,7 +54,8 @@ class Summary:
             yield from self.graph_lines(graph, depths[graph.name.text])
         unused = [graph.name.text for graph in self.file.graphs if graph.name.text not in depths]
         if unused:
-            yield f"No actor names {'the graph' if len(unused) == 1 else 'the graphs'} {listed([quoted(name) for name in unused])}, so {'it is' if len(unused) == 1 else 'they are'} never fired."
+            verb = "it is" if len(unused) == 1 else "they are"
+            yield f"No actor names {with_names('graph', unused)}, so {verb} never fired."
 
     def hierarchy(self):
         """The graphs that are fired, the top first, each after one that names it, and how deep each lies."""
@@ -102,42 +97,39 @@ class Summary:
 
     def repetition_lines(self, graph):
         """The repetition vector, for each choice of values where these are few."""
-        choices = self.choices(graph)
-        if choices is None:
+        outcomes = self.explorer.outcomes.get(graph.name.text)
+        if not outcomes:
             yield "  repetition: depends on the values of the parameters"
             return
         told = {}
-        for values in choices:
-            told.setdefault(self.outcome(graph, values), []).append(values)
-        for outcome, found in told.items():
-            names = [param.name.text for param in graph.params if param.kind != "is"]
-            where = ""
-            if names and len(told) > 1:
-                shown = [" and ".join(f"{name} = {values[name]}" for name in names) for values in found]
-                where = f" where {listed(shown, 'or')}" if len(found) <= 8 else f" in {len(found)} of {sum(map(len, told.values()))} cases, as where {shown[0]}"
-            yield f"  {outcome}{where}"
+        for outcome in outcomes:
+            told.setdefault(self.outcome_words(outcome), []).append(outcome.values)
+        for words, found in told.items():
+            yield f"  {words}{self.where_words(graph, found, len(outcomes), len(told))}"
+        if graph.name.text in self.explorer.unknown:
+            yield "  not all values of the parameters were looked at"
 
-    def choices(self, graph):
-        """All choices of values for the parameters that come from outside. None where they are many."""
-        given, choices = [param for param in graph.params if param.kind != "is"], [{}]
-        for param in given:
-            count = param.high - param.low + 1
-            if len(choices) * count > MOST_VALUES:
-                return None
-            choices = [{**values, param.name.text: value} for values in choices for value in range(param.low, param.high + 1)]
-        return choices
+    def where_words(self, graph, found, all_count, told_count):
+        """For which values something holds. Nothing is said where it holds for all."""
+        names = [param.name.text for param in graph.params if param.kind != "is"]
+        if not names or (told_count == 1 and graph.of_kind("set")):
+            return ""
+        if len(names) == 1 and len(found) > 2:
+            numbers = sorted({values[names[0]] for values in found})
+            if numbers == list(range(numbers[0], numbers[-1] + 1)):
+                return f" where {names[0]} = {numbers[0]} to {numbers[-1]}"
+        shown = [" and ".join(f"{name} = {values[name]}" for name in names if name in values) for values in found]
+        shown = [words for words in dict.fromkeys(shown) if words]
+        if not shown:
+            return ""
+        return f" where {listed(shown, 'or')}" if len(shown) <= 8 else f" in {len(found)} of {all_count} cases, as where {shown[0]}"
 
-    def outcome(self, graph, values):
-        """The repetition vector with these values, or why there is none, as a line."""
-        runner = Runner(self.file, SECONDS)
-        try:
-            early = runner.levels.early(graph, [values[param.name.text] for param in graph.of_kind("in")])
-            chosen = {param.name.text: values[param.name.text] for param in graph.of_kind("set")}
-            level, counts, _ = runner.scheduled(graph, graph.name.text, early, chosen)
-        except Refused as refused:
-            return f"each firing is refused: {refused.cause}"
-        vector = ", ".join(f"{actor} {count}" for actor, count in counts.items()) or "no actors"
-        return f"repetition: {vector}{self.losses(level, counts)}"
+    def outcome_words(self, outcome):
+        """The repetition vector with some values, or why there is none, as a line."""
+        if outcome.refused:
+            return f"each firing is refused: {listed([refused.cause for refused in outcome.refusals])}"
+        vector = ", ".join(f"{actor} {count}" for actor, count in outcome.counts.items()) or "no actors"
+        return f"repetition: {vector}{self.losses(outcome.level, outcome.counts)}"
 
     def losses(self, level, counts):
         """What the interfaces lose or read again."""
@@ -150,17 +142,6 @@ class Summary:
         return f" ({'; '.join(words)})" if words else ""
 
 
-def certain_refusal(reading):
-    """A refusal that every run of this file meets in its first iteration, as a paragraph, or None."""
-    file = reading.file
-    graph, runner = file.top_graph, Runner(file, SECONDS)
-    try:
-        early = runner.top_early()
-        if any(actor.is_config for actor in graph.actors):
-            return None
-        runner.at_path(graph.name.text, lambda: runner.scheduled(graph, graph.name.text, early, {}))
-    except Refused as refused:
-        return refused, RunRefusals(reading, refused, 0).text()
-    except TooLong:
-        return None
-    return None
+def certain_refusals(reading, explorer):
+    """Refusals that every run of this file meets, with their explanations."""
+    return [(refused, RunRefusals(reading, refused, 0).text()) for refused in explorer.certain_refusals()]

@@ -1,6 +1,5 @@
 """The token file: its records and fields with their places, read as the program reads them, and its faults."""
 import re
-from dataclasses import dataclass
 
 from .limits import GREATEST_WHOLE, LEAST_WHOLE, TOKEN_FILE_BYTES, is_whole
 from .wording import counted, grouped, joined, nearest, quoted, shortened, with_names
@@ -10,11 +9,69 @@ LINE_END = re.compile(rb"[\r\n]")
 TOKEN = re.compile(rb"-?[0-9]+")
 
 
-@dataclass
+CHUNK = 1 << 16
+LONG_FILE = 4_000_000
+MOST_OTHERS = 5
+
+
 class Record:
-    """A record of the file: its fields, and for each where it begins, in bytes."""
-    fields: list
-    starts: list
+    """A record without quotes: a part of the file's bytes. Its fields are looked up as they are needed."""
+
+    def __init__(self, data, start, stop):
+        self.data, self.start, self.stop = data, start, stop
+
+    def place(self, number, at=None, before=0):
+        """Where a field begins, in bytes, or None. `at` may be the place of an earlier field, which has the number `before`."""
+        at, count = self.start if at is None else at, number - before
+        while count:
+            found = self.data.count(b",", at, min(at + CHUNK, self.stop))
+            if found < count:
+                count, at = count - found, at + CHUNK
+                if at >= self.stop:
+                    return None
+            else:
+                for _ in range(count):
+                    at = self.data.index(b",", at, self.stop) + 1
+                count = 0
+        return at
+
+    def field(self, number):
+        """A field, from 0, or None."""
+        at = self.place(number)
+        if at is None:
+            return None
+        end = self.data.find(b",", at, self.stop)
+        return self.data[at:self.stop if end < 0 else end]
+
+    def count(self):
+        return self.data.count(b",", self.start, self.stop) + 1
+
+    def part(self, first, count):
+        """So many fields from one on, fewer at the end."""
+        at = self.place(first)
+        if at is None or count <= 0:
+            return []
+        end = self.place(first + count, at, first)
+        return self.data[at:self.stop if end is None else end - 1].split(b",")
+
+
+class QuotedRecord:
+    """A record with quotes in it: its fields, and for each where it begins, in bytes."""
+
+    def __init__(self, fields, starts):
+        self.fields, self.starts = fields, starts
+
+    def place(self, number):
+        return self.starts[number] if number < len(self.starts) else None
+
+    def field(self, number):
+        return self.fields[number] if number < len(self.fields) else None
+
+    def count(self):
+        return len(self.fields)
+
+    def part(self, first, count):
+        return self.fields[first:first + max(0, count)]
 
 
 def quoted_record(data, start):
@@ -30,7 +87,7 @@ def quoted_record(data, start):
             at += 1
         fields.append(bytes(field))
         if data[at:at + 1] != b",":
-            return Record(fields, starts), at + 1
+            return QuotedRecord(fields, starts), at + 1
         at += 1
 
 
@@ -57,12 +114,7 @@ def records(data):
         if stop == at:
             at = stop + 1
         elif data.find(b'"', at, stop) < 0:
-            fields = data[at:stop].split(b",")
-            starts, place = [], at
-            for field in fields:
-                starts.append(place)
-                place += len(field) + 1
-            yield Record(fields, starts)
+            yield Record(data, at, stop)
             at = stop + 1
         else:
             record, at = quoted_record(data, at)
@@ -90,21 +142,38 @@ def field_text(field):
 
 def snippet(record, number):
     """The fields around one, with marks below it."""
-    shown = [field_text(field) for field in record.fields[max(0, number - 4):number + 4]]
+    shown = [field_text(field) for field in record.part(max(0, number - 4), number + 4 - max(0, number - 4))]
     before = min(number, 4)
     left = ("..," if number > 4 else "") + "".join(field + "," for field in shown[:before])
-    tail = "".join("," + field for field in shown[before + 1:]) + (",.." if len(record.fields) > number + 4 else "")
+    tail = "".join("," + field for field in shown[before + 1:]) + (",.." if record.count() > number + 4 else "")
     return f"    {left}{shown[before]}{tail}\n    {' ' * len(left)}{'^' * max(1, len(shown[before]))}"
 
 
-def streams(data, names):
-    """The fields of the tokens of each input by name, as bytes."""
-    found = {name: [] for name in names}
-    for record in records(data):
-        name = record.fields[0].decode("utf-8", "replace")
-        if name in found and not found[name]:
-            found[name] = record.fields[1:]
-    return found
+def name_of(record):
+    return record.field(0).decode("utf-8", "replace")
+
+
+class Streams:
+    """The tokens of the inputs, each taken from the front on."""
+
+    def __init__(self, data, names):
+        self.found = {}
+        for record in records(data):
+            if name_of(record) in names:
+                self.found.setdefault(name_of(record), record)
+
+    def length(self, name):
+        return self.found[name].count() - 1 if name in self.found else 0
+
+    def tokens(self, name, start, count):
+        """So many tokens from a place on, or None where there are too few."""
+        part = self.found[name].part(1 + start, count) if name in self.found else []
+        return [int(token) for token in part] if len(part) == count else None
+
+
+def is_token(field):
+    """Whether a field is a token: a whole number of 64 bits without a sign `+`."""
+    return bool(TOKEN.fullmatch(field)) and is_whole(int(field[:4000]))
 
 
 class TokenFaults:
@@ -120,13 +189,30 @@ class TokenFaults:
                     "Split the run: each part takes a token file of its own.")
         row, field = int(words[1]), int(words[2]) if len(words) > 2 else 1
         record = record_number(self.data, row)
-        if record is None or field > len(record.fields):
+        if record is None or record.place(field - 1) is None:
             return None
         text = {"name": self.name, "repeated": self.repeated, "number": self.number}[words[0]](record, row, field)
-        return f"{place_of(self.path, self.data, record.starts[field - 1], row, field)}\n{snippet(record, field - 1)}\n{text}"
+        text = joined([text, self.others(row, field)])
+        return f"{place_of(self.path, self.data, record.place(field - 1), row, field)}\n{snippet(record, field - 1)}\n{text}"
+
+    def others(self, row, field):
+        """Further faults of a file that isn't very long, each in a few words."""
+        if len(self.data) > LONG_FILE:
+            return ""
+        found, seen = [], set()
+        for number, record in enumerate(records(self.data), 1):
+            name = name_of(record)
+            if name not in self.inputs or name in seen:
+                found.append((number, 1, quoted(name)))
+            seen.add(name)
+            found += [(number, place, quoted(token.decode("utf-8", "replace")))
+                      for place, token in enumerate(record.part(1, record.count()), 2) if not is_token(token)]
+        found = [f"{shown} in row {number}, field {place}" for number, place, shown in found if (number, place) != (row, field)]
+        more = f" and {len(found) - MOST_OTHERS} more" if len(found) > MOST_OTHERS else ""
+        return f"Also refused: {', '.join(found[:MOST_OTHERS])}{more}." if found else ""
 
     def name(self, record, row, _):
-        name = record.fields[0].decode("utf-8", "replace")
+        name = name_of(record)
         known = f"The top graph has {with_names('input', self.inputs)}." if self.inputs else "The top graph has no inputs, so its token file is empty."
         meant, stripped = nearest(name, self.inputs), name.strip()
         hints = []
@@ -134,7 +220,7 @@ class TokenFaults:
             hints.append("A blank belongs to the name: take it away.")
         elif meant:
             hints.append(f"Do you mean {quoted(meant)}?")
-        if TOKEN.fullmatch(record.fields[0].strip()):
+        if TOKEN.fullmatch(record.field(0).strip()):
             hints.append("This looks like a token. Each row begins with the name of an input, and has all tokens of it.")
         if ";" in name or "\t" in name:
             hints.append("Fields are separated by commas.")
@@ -143,22 +229,22 @@ class TokenFaults:
         return joined([f"Row {row} begins with {quoted(name)}, which is no input of the top graph.", known, *hints])
 
     def repeated(self, record, row, _):
-        name = record.fields[0].decode("utf-8", "replace")
-        first = next((number for number, other in enumerate(records(self.data), 1) if other.fields[0] == record.fields[0]), 1)
+        name = name_of(record)
+        first = next((number for number, other in enumerate(records(self.data), 1) if other.field(0) == record.field(0)), 1)
         return (f"Row {row} is a second row for the input {quoted(name)}. The first is row {first}. "
                 "An input has one row with all its tokens: put them into one line.")
 
     def number(self, record, row, field):
-        value = record.fields[field - 1]
+        value = record.field(field - 1)
         text = value.decode("utf-8", "replace")
-        name = record.fields[0].decode("utf-8", "replace")
+        name = name_of(record)
         return joined([f"Token {field - 2} of the input {quoted(name)}, counted from 0, is {quoted(text) if text else 'empty'}, which is no token.",
-                       self.why_no_token(value, text, field == len(record.fields))])
+                       self.why_no_token(value, text, field == record.count())])
 
     def why_no_token(self, value, text, is_last):
         if not value:
             return "A comma stands at the end of the row: take it away." if is_last else "Two commas stand in a row: write a token between them, or take one away."
-        if TOKEN.fullmatch(value) and not is_whole(int(value)) if len(value) < 4000 else False:
+        if TOKEN.fullmatch(value):
             return f"A token lies from {LEAST_WHOLE} to {GREATEST_WHOLE}."
         if TOKEN.fullmatch(value.strip()):
             return "Blanks aren't taken away: write the number without them."
@@ -174,12 +260,12 @@ class TokenFaults:
 def short_words(path, data, name, has, needs, iteration_rates):
     """A paragraph on an iteration that begins with too few tokens of an input."""
     rate = needs
-    total = len(streams(data, [name])[name])
+    total = Streams(data, [name]).length(name)
     done = (total - has) // rate if rate else 0
     place = ""
     for row, record in enumerate(records(data), 1):
-        if record.fields[0].decode("utf-8", "replace") == name:
-            place = f"{place_of(path, data, record.starts[0], row, 1)}\n{snippet(record, 0)}\n"
+        if name_of(record) == name:
+            place = f"{place_of(path, data, record.place(0), row, 1)}\n{snippet(record, 0)}\n"
             break
     given = f"The file has {counted(total, 'token')} of {quoted(name)}" if place else f"No row of {path} names the input {quoted(name)}, so it has no tokens"
     lacks = counted(rate - has, "token")

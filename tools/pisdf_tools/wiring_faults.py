@@ -50,11 +50,12 @@ class WiringFaults:
 
     def wires(self):
         for graph in self.file.graphs:
-            ends = Ends(self.file, graph)
+            ends, told = Ends(self.file, graph), set()
             for fifo in graph.fifos:
                 self.directions(fifo, ends)
             for end, kind in ends.kinds.items():
-                self.one_fifo(end, kind, graph, ends)
+                if len(ends.fifos.get(end, [])) != 1 and end not in told:
+                    self.one_fifo(end, kind, ends, told)
 
     def directions(self, fifo, ends):
         tail, head = ends.kind(fifo.tail), ends.kind(fifo.head)
@@ -63,7 +64,7 @@ class WiringFaults:
         if tail in ("output", "in"):
             self.add(8, f"wire {fifo.tail.text}", fifo.tail, f"The FIFO comes from {quoted(fifo.tail.text)}, which is {self.direction_words(tail)}.",
                      swap or "A FIFO comes from an input interface or from the output of an actor.")
-        if head in ("input", "out"):
+        if head in ("input", "out") and not both:
             self.add(8, f"wire {fifo.head.text}", fifo.head, f"The FIFO leads to {quoted(fifo.head.text)}, which is {self.direction_words(head)}.",
                      swap or "A FIFO leads to an output interface or to the input of an actor.")
 
@@ -71,28 +72,30 @@ class WiringFaults:
         return {"input": "an input interface of the graph: tokens come from there", "output": "an output interface of the graph: tokens go there",
                 "in": "an input of an actor: tokens go there", "out": "an output of an actor: tokens come from there"}[kind]
 
-    def one_fifo(self, end, kind, graph, ends):
-        fifos, part = ends.fifos.get(end, []), ends.places[end]
-        if len(fifos) == 1:
-            return
-        word = part.name
+    def one_fifo(self, end, kind, ends, told):
+        """An end with no FIFO or with several. Where only one other end lacks a FIFO too, that is told of with it."""
+        fifos, word = ends.fifos.get(end, []), ends.places[end].name
         what = {"input": "the input interface", "output": "the output interface", "in": "the input", "out": "the output"}[kind]
         if fifos:
             hint = ("To feed two FIFOs with the same tokens, put an actor with the kernel `dup` between." if kind in ("input", "out")
                     else "Two FIFOs can't lead to one end. An actor with two inputs, as one of `add`, makes one of two.")
             text = f"{listed([f'FIFO {number}' for number in fifos])} stand at {what} {quoted(end)}. Each end has exactly one FIFO. {hint}"
         else:
-            way = "comes from it" if kind in ("input", "out") else "leads to it"
-            text = f"No FIFO stands at {what} {quoted(end)}. Each end has exactly one. Add a FIFO that {way}.{self.partners(kind, ends)}"
+            text = f"No FIFO stands at {what} {quoted(end)}. Each end has exactly one. {self.missing_fifo(end, kind, ends, told)}"
         self.faults.add(8, f"wire {end}", word.pointer, word.value.start, word.value.end, text)
 
-    def partners(self, kind, ends):
-        """The ends without a FIFO that this one may be wired to."""
-        wanted = ("output", "in") if kind in ("input", "out") else ("input", "out")
-        free = [end for end, other in ends.kinds.items() if other in wanted and end not in ends.fifos]
-        if {kind} | {ends.kinds[end] for end in free} <= {"input", "output"}:
-            return ""
-        return f" Without a FIFO as well: {named(free)}." if free else ""
+    def missing_fifo(self, end, kind, ends, told):
+        """The FIFO to add: in full where only one other end may be meant."""
+        is_tail = kind in ("input", "out")
+        wanted = ("output", "in") if is_tail else ("input", "out")
+        free = [other for other, its_kind in ends.kinds.items() if its_kind in wanted and other not in ends.fifos
+                and not (kind in ("input", "output") and its_kind in ("input", "output"))]
+        if len(free) == 1:
+            told.update(free)
+            tail, head = (end, free[0]) if is_tail else (free[0], end)
+            return f"{quoted(free[0])} has none either. Add `{{\"from\":\"{tail}\",\"to\":\"{head}\"}}` to `fifos`, if that is meant."
+        also = f" Without a FIFO as well: {named(free)}." if free else ""
+        return f"Add a FIFO that {'comes from it' if is_tail else 'leads to it'}.{also}"
 
     # ---- where FIFOs may stand
 
