@@ -60,3 +60,19 @@ boards_at_end (fault ∷ faults) end = 0
 -- and one for each iteration that is done
 abbrev pub boards : Graphs → run.Run → ℕ
 boards graphs r = length r.iterations + boards_at_end (early_faults graphs.graphs graphs.top []) r.end
+
+-- ---- the journals of a run
+
+-- the texts of the journals of boards one after another, the first of which is that of iteration n
+abbrev pub AreJournals : Graphs → List SignatureView → List (List ℤ) → ℕ → ℕ → List (List ℕ) → Type 0
+AreJournals graphs kernels streams workers n [] = Unit {0}
+AreJournals graphs kernels streams workers n (text ∷ texts) = IsJournalText graphs kernels streams workers n text × AreJournals graphs kernels streams workers (n + 1) texts
+
+-- the text of the journals of all boards of a run
+pub record IsWholeText (graphs : Graphs) (kernels : List SignatureView) (streams : List (List ℤ)) (iterations workers : ℕ) (text : List ℕ) : Type 0 where
+  pub r : run.Run
+  pub is_run : run.IsRun graphs streams iterations r
+  pub texts : List (List ℕ)
+  pub all : length texts ≡ boards graphs r
+  pub journals : AreJournals graphs kernels streams workers 0 texts
+  pub text_is : text ≡ joined texts
