@@ -147,6 +147,14 @@ class Report(unittest.TestCase):
         self.assertIn("the call of &#x27;memory&#x27; took over 2 seconds", text)
         self.assertIn("The cells of the plan", text)
 
+    def test_labels_of_links_lie_apart(self):
+        sys.path.insert(0, os.path.join(TOP, "tools"))
+        from drawing.layout import free_place
+        taken = []
+        places = [free_place("1 at 4", [(0, 0), (60, 0)], taken) for _ in range(4)]
+        for number, (x, y) in enumerate(places):
+            self.assertTrue(all(abs(y - at) > 12 or abs(x - other) > 6 * len("1 at 4") for other, at in places[:number]), places)
+
     def test_a_refused_graph_file(self):
         self.put("run", "")
         self.put("run.status", "2")
