@@ -51,6 +51,11 @@ def main(words):
     except Refused as refused:
         print(f"draw: {refused}", file=sys.stderr)
         return 2
+    except (KeyError, ValueError, IndexError, TypeError, RecursionError) as error:
+        if os.environ.get("PISDF_TOOLS_TRACE"):
+            raise
+        print(f"draw: this can't be drawn ({type(error).__name__}). Are the files whole, and of one graph?", file=sys.stderr)
+        return 2
     except BrokenPipeError:
         # Whoever reads has seen enough. What is left has nowhere to go.
         os.dup2(os.open(os.devnull, os.O_WRONLY), sys.stdout.fileno())
@@ -58,4 +63,7 @@ def main(words):
 
 
 if __name__ == "__main__":
-    sys.exit(main(sys.argv[1:]))
+    try:
+        sys.exit(main(sys.argv[1:]))
+    except KeyboardInterrupt:
+        sys.exit(130)

@@ -32,8 +32,16 @@ def main(words):
     except OSError as error:
         print(f"report: {target} can't be written: {error.strerror}", file=sys.stderr)
         return 2
+    except Exception as error:
+        if os.environ.get("PISDF_TOOLS_TRACE"):
+            raise
+        print(f"report: no page can be made of this ({type(error).__name__}). ./pisdf explain tells what the program answers", file=sys.stderr)
+        return 2
     return 0
 
 
 if __name__ == "__main__":
-    sys.exit(main(sys.argv[1:]))
+    try:
+        sys.exit(main(sys.argv[1:]))
+    except KeyboardInterrupt:
+        sys.exit(130)

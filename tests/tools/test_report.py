@@ -4,6 +4,7 @@ import subprocess
 import sys
 import tempfile
 import unittest
+from unittest import mock
 import xml.etree.ElementTree as xml
 
 TOP = os.path.realpath(os.path.join(os.path.dirname(__file__), "..", ".."))
@@ -20,12 +21,13 @@ RUN = "param,0,g,n,4\ntokens,0,y,6\nparam,1,g,n,8\ntokens,1,y,4\n"
 
 # Answers each command with the text that the file of its name holds, and with the status and the line that stand there.
 PROGRAM = """#!{python}
-import os, sys
+import os, sys, time
 room = os.path.dirname(os.path.abspath(__file__))
 def text(name):
     path = os.path.join(room, name)
     return open(path).read() if os.path.exists(path) else ""
 word = sys.argv[1]
+time.sleep(float(text(word + ".sleep") or 0))
 sys.stdout.write(text(word))
 sys.stderr.write(text(word + ".line"))
 sys.exit(int(text(word + ".status") or 0))
@@ -123,6 +125,35 @@ class Report(unittest.TestCase):
         text, page = self.page()
         self.assertIn("run: g deadlock s 2", text)
         self.assertEqual(len(self.labelled(page, "The graph g")), 1)
+
+    def test_one_call_that_ends_otherwise(self):
+        for name in ("plan", "schedule", "memory", "journal"):
+            with self.subTest(name):
+                self.put(f"{name}.status", "137")
+                whole = os.path.join(self.room, name)
+                os.rename(whole, whole + ".whole")
+                text, page = self.page()
+                self.assertIn("the call was ended from outside", text)
+                self.assertEqual(len(list(page.iter("section"))), 8)
+                os.rename(whole + ".whole", whole)
+                self.put(f"{name}.status", "0")
+
+    def test_a_call_that_takes_too_long(self):
+        sys.path.insert(0, os.path.join(TOP, "tools"))
+        from drawing import page, run
+        self.put("memory.sleep", "60")
+        with mock.patch.object(run, "SECONDS", 2):
+            text = page.page(run.Run(os.path.join(self.room, "program"), GRAPH, "t.csv", "2", "2"))
+        self.assertIn("the call of &#x27;memory&#x27; took over 2 seconds", text)
+        self.assertIn("The cells of the plan", text)
+
+    def test_labels_of_links_lie_apart(self):
+        sys.path.insert(0, os.path.join(TOP, "tools"))
+        from drawing.layout import free_place
+        taken = []
+        places = [free_place("1 at 4", [(0, 0), (60, 0)], taken) for _ in range(4)]
+        for number, (x, y) in enumerate(places):
+            self.assertTrue(all(abs(y - at) > 12 or abs(x - other) > 6 * len("1 at 4") for other, at in places[:number]), places)
 
     def test_a_refused_graph_file(self):
         self.put("run", "")

@@ -47,7 +47,7 @@ def field(value):
 
 
 def refusal(answer):
-    return f'<p class="bad">{escape(answer.line or "It was refused without a line.")}</p>' + note(f"Exit code {answer.status}: {KINDS_OF_ANSWERS[answer.status]}. ./pisdf explain tells more.")
+    return f'<p class="bad">{escape(answer.line or "It was refused without a line.")}</p>' + note(f"Exit code {answer.status}: {KINDS_OF_ANSWERS.get(answer.status, 'the call was ended from outside')}. ./pisdf explain tells more.")
 
 
 # ---- the parts of the page
@@ -88,20 +88,24 @@ def schedule_part(run):
     critical, work, length = (int(rows[name][0][0]) for name in ("critical", "work", "length"))
     share = -(-work // int(run.workers))
     words = f"No schedule is shorter than the critical path, {critical}, nor than the work divided by the workers, {share}. This one has the length {length}. A node costs 1 and the tokens at its edges."
-    return figure(charts.gantt(rows, run.plan.by_kind()), "The schedule") + note(words)
+    return figure(charts.gantt(rows, None if run.plan.status else run.plan.by_kind()), "The schedule") + note(words)
 
 
 def cells_part(run):
-    if run.plan.status or run.memory.status:
-        return refusal(run.plan if run.plan.status else run.memory)
+    if run.plan.status:
+        return refusal(run.plan)
     plan, memory = run.plan.by_kind(), run.memory.by_kind()
     parts = [figure(charts.cells(plan), "The cells of the plan")]
-    if not run.memory.status:
+    if run.memory.status:
+        parts.append(refusal(run.memory))
+    else:
         parts.append("<details><summary>The cells as they would be if each worker kept a fixed order</summary>" + figure(charts.cells(plan, memory), "The cells under fixed orders") + "</details>")
     return "".join(parts)
 
 
 def workers_part(run):
+    if run.journal.status and not run.journal.rows and run.journal.status != run.run.status:
+        return refusal(run.journal)
     if not run.journal.rows:
         return note("There is no board: no iteration began.")
     steps = run.steps()

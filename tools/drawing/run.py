@@ -8,6 +8,8 @@ from drawing.inputs import Refused, graphs_in, text_of
 from drawing.parts import node_label
 
 SECONDS = 120
+# The status of a call that took longer.
+TOO_LONG = 124
 # So many lines of a journal are read.
 MOST_LINES = 20000
 
@@ -52,8 +54,8 @@ class Run:
             done = subprocess.run([self.program, *words], capture_output=True, timeout=SECONDS)
         except OSError as error:
             raise Refused(f"the program {self.program} can't be called: {error.strerror}") from error
-        except subprocess.TimeoutExpired as error:
-            raise Refused(f"the call of '{words[0]}' took over {SECONDS} seconds") from error
+        except subprocess.TimeoutExpired:
+            done = subprocess.CompletedProcess(words, TOO_LONG, b"", f"the call of '{words[0]}' took over {SECONDS} seconds".encode())
         return Answer(words, done)
 
     def parameters(self):
