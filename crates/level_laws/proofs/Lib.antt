@@ -1,0 +1,10 @@
+pub mod Multiplied
+pub mod Copies
+pub mod CutReads
+pub mod AlikeRuns
+pub mod Cutting
+pub mod JoinedEnds
+pub mod LevelCuts
+pub mod InTurn
+pub mod WiderRuns
+pub mod EqualParts

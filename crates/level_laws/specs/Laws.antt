@@ -1,5 +1,5 @@
 -- Laws of unfolding, over any tokens, faults and firings.
-use Rattle.std.specs.Prelude.{◌≡◌, ℕ, zero, suc, ◌*◌, ◌≤◌, ◌↔◌, List, [], map, Ok}
+use Rattle.std.specs.Prelude.{◌≡◌, ℕ, suc, ◌≤◌, ◌↔◌, List, Result, Ok}
 use Rattle.std.specs.List.{AllByRecursion}
 use Rattle.sdf_level.specs.View.{LevelView}
 use Rattle.sdf_level.specs.Kept.{IsLevel, rate_limit}
@@ -12,7 +12,8 @@ use Rattle.sdf_level.specs.Laws.{Firing, among}
 use Rattle.level_schedule.specs.Schedules.{IsScheduled}
 use Rattle.level_schedule.specs.declared.scheduling.LevelSchedule.{LevelSchedule}
 use Rattle.level_laws.specs.Unfolded.{multiplied, unfolded, copies, IsExactLevel}
-use Rattle.level_laws.specs.Pieces.{HaveTokens, first_tokens, other_tokens, IsCut, IsCutRun, one_and_others}
+use Rattle.level_laws.specs.Pieces.{GoInTurn, HaveTokens, IsCut, IsCutRun, first_tokens, one_and_others, other_tokens}
+use Rattle.level_laws.specs.Parts.{GoByParts, GoesAtOnce, parts}
 
 -- where its rates are within the limit, the unfolded level is one
 abbrev pub UnfoldedIsLevel : Type 0
@@ -68,11 +69,33 @@ LevelRunsAreCut T F R =
     IsExactLevel level q → GivesRates level (among firing) → HaveDelays level.links starts → HaveTokens (suc times) level sources → IsAdmissible level q list →
     IsLevelRun (unfolded (suc times) level) (multiplied (suc times) q) sources starts (among firing) (Ok end) ↔ IsCutRun level (among firing) q sources starts times end
 
--- and one of no iteration keeps nothing and leaves what it began with
-abbrev pub NoIterations : Type 0 → Type 0 → Type 0 → Type 0
-NoIterations T F R =
-    (level : LevelView) (firing : R → Firing T F) (sources starts : List (List T)) (q : List ℕ) (end : Ended T) → IsLevel level → HaveDelays level.links starts →
-    IsLevelRun (unfolded 0 level) (multiplied 0 q) sources starts (among firing) (Ok end) ↔ (end ≡ record { outs = map (λ r. []) level.sinks; left = starts })
+-- and so that of all iterations, one after another
+abbrev pub IterationsGoInTurn : Type 0 → Type 0 → Type 0 → Type 0
+IterationsGoInTurn T F R =
+    (times : ℕ) (level : LevelView) (firing : R → Firing T F) (sources starts : List (List T)) (q list : List ℕ) (end : Ended T) →
+    IsExactLevel level q → GivesRates level (among firing) → HaveDelays level.links starts → HaveTokens times level sources → IsAdmissible level q list →
+    IsLevelRun (unfolded times level) (multiplied times q) sources starts (among firing) (Ok end) ↔ GoInTurn level (among firing) q times sources starts end
+
+-- each with its part of the tokens at the sources and at the sinks
+abbrev pub IterationsHaveParts : Type 0 → Type 0 → Type 0 → Type 0
+IterationsHaveParts T F R =
+    (times : ℕ) (level : LevelView) (firing : R → Firing T F) (sources starts : List (List T)) (q list : List ℕ) (end : Ended T) →
+    IsExactLevel level q → GivesRates level (among firing) → HaveDelays level.links starts → HaveTokens times level sources → IsAdmissible level q list →
+    IsLevelRun (unfolded times level) (multiplied times q) sources starts (among firing) (Ok end) → GoByParts level (among firing) q (parts times sources) starts (parts times end.outs) end.left
+
+-- and iterations with their parts are the unfolded run
+abbrev pub PartsGoAtOnce : Type 0 → Type 0 → Type 0 → Type 0
+PartsGoAtOnce T F R =
+    (times : ℕ) (level : LevelView) (firing : R → Firing T F) (sources starts : List (List T)) (q list : List ℕ) (outs : List (List (List T))) (left : List (List T)) →
+    IsExactLevel level q → GivesRates level (among firing) → HaveDelays level.links starts → HaveTokens times level sources → IsAdmissible level q list →
+    GoByParts level (among firing) q (parts times sources) starts outs left → GoesAtOnce times level (among firing) q sources starts outs left
+
+-- a run stays one where each of its firings is one of other firings
+abbrev pub RunsHaveLike : Type 0 → Type 0 → Type 0 → Type 0 → Type 0
+RunsHaveLike T F R Q =
+    (level : LevelView) (firing : R → Firing T F) (other : Q → Firing T F) (sources starts : List (List T)) (q : List ℕ) (end : Result (Ended T) F) →
+    ((b k : ℕ) (ins : List (List T)) (answer : Result (List (List T)) F) → among firing b k ins answer → among other b k ins answer) →
+    IsLevelRun level q sources starts (among firing) end → IsLevelRun level q sources starts (among other) end
 
 -- the sources of the first and of the others hold as many tokens as these take
 abbrev pub TokensAreCut : Type 0 → Type 0

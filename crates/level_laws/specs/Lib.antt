@@ -1,3 +1,4 @@
 pub mod Unfolded
 pub mod Pieces
+pub mod Parts
 pub mod Laws

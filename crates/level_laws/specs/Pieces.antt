@@ -1,5 +1,5 @@
 -- The run of several iterations, cut into the first iteration and the others.
-use Rattle.std.specs.Prelude.{◌≡◌, ℕ, ◌+◌, ◌*◌, List, [], ◌∷◌, ◌++◌, length, map, take, drop, slice_index, Ok}
+use Rattle.std.specs.Prelude.{◌≡◌, ℕ, zero, suc, ◌+◌, ◌*◌, List, [], ◌∷◌, ◌++◌, length, map, take, drop, slice_index, Ok}
 use Rattle.sdf_level.specs.View.{LevelView}
 use Rattle.sdf_level.specs.Run.{Fire, Runs}
 use Rattle.sdf_level.specs.LevelRun.{Ended, IsLevelRun, left_of}
@@ -8,7 +8,7 @@ use Rattle.sdf_level.specs.declared.link.Tail.{Tail}
 use Rattle.sdf_level.specs.declared.link.Head.{Head}
 use Rattle.sdf_level.specs.declared.link.Tail.TheVariants as tail
 use Rattle.sdf_level.specs.declared.link.Head.TheVariants as head
-use Rattle.level_laws.specs.Unfolded.{multiplied, unfolded, copies}
+use Rattle.level_laws.specs.Unfolded.{multiplied, unfolded}
 
 -- the sources hold the tokens of so many iterations
 abbrev pub HaveTokens : {T : Type 0} → ℕ → LevelView → List (List T) → Type 0
@@ -68,3 +68,14 @@ pub record IsCutRun {T F : Type 0} (level : LevelView) (fire : Fire T F) (q : Li
   pub one_runs : IsLevelRun level q (first_tokens level.sources sources) starts fire (Ok one)
   pub others_run : IsLevelRun (unfolded times level) (multiplied times q) (other_tokens level.sources sources) one.left (later q fire) (Ok others)
   pub end_is : end ≡ one_and_others one others
+
+-- no iteration keeps anything, and it leaves what it began with
+abbrev pub nothing_kept : {T : Type 0} → LevelView → List (List T) → Ended T
+nothing_kept level starts = record { outs = map (λ r. []) level.sinks; left = starts }
+
+-- so many iterations, each begun with what the one before it left, end so
+abbrev pub GoInTurn : {T F : Type 0} → LevelView → Fire T F → List ℕ → ℕ → List (List T) → List (List T) → Ended T → Type 0
+GoInTurn level fire q zero sources starts end = end ≡ nothing_kept level starts
+GoInTurn {T} {F} level fire q (suc n) sources starts end =
+    (one : Ended T) × (others : Ended T) × IsLevelRun level q (first_tokens level.sources sources) starts fire (Ok one) ×
+    GoInTurn level (later q fire) q n (other_tokens level.sources sources) one.left others × (end ≡ one_and_others one others)
