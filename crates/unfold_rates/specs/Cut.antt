@@ -1,7 +1,8 @@
 -- One iteration of unfolded graphs, cut into those of the graphs that were unfolded.
-use Rattle.std.specs.Prelude.{◌≡◌, ℕ, ◌+◌, ◌*◌, ◌/◌, ◌==◌, ◌&&◌, Bool, true, false, ℤ, List, [], ◌∷◌, ◌++◌, length, map, take, drop, zip, bytes_eq, slice_get, Some}
+use Rattle.std.specs.Prelude.{◌≡◌, ℕ, ◌+◌, ◌*◌, ◌≤◌, ◌==◌, ◌&&◌, Bool, true, List, [], ◌∷◌, ◌++◌, length, map, take, drop, zip, bytes_eq, slice_get, Some}
 use Rattle.std.specs.List.{filter, flat_map, range_with_len}
 use Rattle.std.specs.Arc.{arc_value}
+use Rattle.level_laws.specs.Parts.{parts_at}
 use Rattle.pisdf_meaning.specs.Endings.{child_path}
 use Rattle.pisdf_meaning.specs.declared.outcome.Iteration.{Iteration}
 use Rattle.pisdf_meaning.specs.declared.outcome.TraceRow.{TraceRow}
@@ -14,26 +15,14 @@ use Rattle.pisdf_model.specs.declared.graph.Graphs.{Graphs}
 
 -- ---- what is unfolded
 
--- so many iterations of these graphs, as one, with how often each actor of the top graph fires in one of the graphs'
+-- so many iterations of these graphs, 1 to 64, as one, with how often each actor of the top graph fires in one of the graphs'
 pub record IsUnfolded (graphs : Graphs) (times : ℕ) (u : Unfolded) : Type 0 where
+  pub some : 1 ≤ times
+  pub few : times ≤ 64
   pub exact : IsExact graphs times
   pub graphs_are : arc_value u.graphs ≡ unfolded_graphs graphs times
   pub counts_are : u.counts ≡ exact.schedule.counts
   pub times_are : u.times ≡ times
-
--- ---- tokens
-
--- of the equal parts of a list, of which there are so many, the one with this number, counted from 0
-abbrev pub part : ℕ → ℕ → List ℤ → List ℤ
-part times i tokens = take (length tokens / times) (drop (i * (length tokens / times)) tokens)
-
--- of each list that part
-abbrev pub parts_at : ℕ → ℕ → List (List ℤ) → List (List ℤ)
-parts_at times i lists = map (part times i) lists
-
--- all parts, those with one number together
-abbrev pub parts : ℕ → List (List ℤ) → List (List (List ℤ))
-parts times lists = map (λ i. parts_at times i lists) (range_with_len 0 times)
 
 -- ---- rows of the trace
 
@@ -64,11 +53,11 @@ piece_rows top counts i rows = flat_map (λ (one : Actor × ℕ). firings_rows t
 -- ---- the pieces
 
 -- the parts of the outputs, and the rows of the firings, that have this number
-abbrev pub piece : Graph → Unfolded → Iteration → ℕ → Iteration
-piece top u iteration i = record { outs = parts_at u.times i iteration.outs; trace = piece_rows top u.counts i iteration.trace }
+abbrev pub piece_at : Graph → List ℕ → ℕ → Iteration → ℕ → Iteration
+piece_at top counts times iteration i = record { outs = parts_at times i iteration.outs; trace = piece_rows top counts i iteration.trace }
 
 -- the iteration is cut into these
 pub record AreCut (u : Unfolded) (iteration : Iteration) (pieces : List Iteration) : Type 0 where
   pub top : Graph
   pub top_is : slice_get (arc_value u.graphs).graphs (arc_value u.graphs).top ≡ Some top
-  pub pieces_are : pieces ≡ map (piece top u iteration) (range_with_len 0 u.times)
+  pub pieces_are : pieces ≡ map (piece_at top u.counts u.times iteration) (range_with_len 0 u.times)

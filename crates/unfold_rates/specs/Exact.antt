@@ -28,7 +28,7 @@ top_level graphs top = level_at graphs.graphs top (early_of graphs.graphs graphs
 -- so many times the counts are within the limits.
 pub record IsExactSchedule (level : LevelView) (times : ℕ) (schedule : LevelSchedule) : Type 0 where
   pub scheduled : IsScheduled level schedule
-  pub level : IsExactLevel level schedule.counts
+  pub exact : IsExactLevel level schedule.counts
   pub within : IsWithinLimits level (multiplied times schedule.counts)
 
 -- no token stands in the FIFO anew at each firing of its graph

@@ -9,7 +9,8 @@ use Rattle.pisdf_meaning.specs.Sound.{KernelsFit}
 use Rattle.pisdf_meaning.specs.declared.outcome.Iteration.{Iteration}
 use Rattle.pisdf_model.specs.Hold.{initial}
 use Rattle.pisdf_model.specs.declared.graph.Graphs.{Graphs}
-use Rattle.unfold_rates.specs.Cut.{AreCut, parts}
+use Rattle.level_laws.specs.Parts.{parts}
+use Rattle.unfold_rates.specs.Cut.{AreCut}
 use Rattle.unfold_rates.specs.declared.unfolded.Unfolded.{Unfolded}
 
 -- from this state on, iterations with these inputs, one after the other, give these, and leave this state

@@ -89,6 +89,15 @@ fn count_tokens(level: &Level, counts: &[u32]) -> u64
     total
 }
 
+/// So many times a count.
+fn product(times: u32, count: u32) -> u32
+    requires few { times ≤ 64 }
+    requires within { count ≤ firings_limit }
+    ensures { result ≡ times * count }
+{
+    times * count
+}
+
 /// So many times each count.
 fn multiplied(alloc: Global, counts: &[u32], times: u32) -> Result<Vec<u32>, AllocError>
     requires few { times ≤ 64 }
@@ -96,10 +105,24 @@ fn multiplied(alloc: Global, counts: &[u32], times: u32) -> Result<Vec<u32>, All
     ensures { IfOk result (λ v. v.items ≡ times_each times counts.now) }
 {
     let mut products = Vec::with_capacity(alloc, counts.len())?;
-    for count in counts {
-        products.push(times * *count)?;
+    for actor in 0..counts.len() {
+        products.push(product(times, counts[actor]))?;
     }
     Ok(products)
+}
+
+/// Whether these counts of firings are within the limits.
+fn are_few(level: &Level, counts: &[u32]) -> bool
+    requires { length counts.now ≡ level.now.actors }
+    ensures { IsTrue result ↔ IsWithinLimits level.now counts.now }
+{
+    if count_firings(level, counts) > FIRINGS_LIMIT {
+        return false;
+    }
+    if count_links(level, counts) > LINKS_LIMIT {
+        return false;
+    }
+    count_tokens(level, counts) <= TOKENS_LIMIT
 }
 
 /// Whether so many times these counts of firings are within the limits of firings, links and tokens.
@@ -115,7 +138,5 @@ pub(crate) fn is_within_limits(
     ensures { IfOk result (λ within. IsTrue within ↔ IsWithinLimits level.now (times_each times counts.now)) }
 {
     let counts = multiplied(alloc, counts, times)?;
-    Ok(count_firings(level, &counts) <= FIRINGS_LIMIT
-        && count_links(level, &counts) <= LINKS_LIMIT
-        && count_tokens(level, &counts) <= TOKENS_LIMIT)
+    Ok(are_few(level, &counts))
 }

@@ -1,15 +1,24 @@
-ghost use Rattle.std.specs.Prelude.{◌≡◌, ◌+◌, ℤ, List as Seq, IfOk};
+ghost use Rattle.std.specs.Prelude.{◌≡◌, ◌≤◌, ◌<◌, ◌+◌, ◌*◌, ◌++◌, ℕ, ℤ, List as Seq, length, map, slice_index, sum, IfOk, OnOk};
 ghost use Rattle.std.specs.Arc.{arc_value};
+ghost use Rattle.level_laws.specs.Parts.{part as part_of, parts_at as parts_of};
+ghost use Rattle.level_laws.specs.Unfolded.{multiplied};
 ghost use Rattle.pisdf_meaning.specs.Run.{IterationGives};
 ghost use Rattle.pisdf_model.specs.Valid.{AreValid};
 ghost use Rattle.pisdf_model.specs.declared.graph.Graphs.{Graphs as SomeGraphs};
-ghost use Rattle.unfold_rates.specs.Cut.{AreCut, IsUnfolded, part, parts_at};
+ghost use Rattle.sdf_level.specs.Limits.{firings_limit};
+ghost use Rattle.std.specs.List.{range_with_len};
+ghost use Rattle.unfold_rates.specs.Cut.{AreCut, IsUnfolded, firings_rows, piece_at, piece_rows as rows_of_piece};
+ghost use Rattle.sdf_level.specs.Lists.{lists_of};
+ghost use Rattle.unfold_rates.specs.Spans.{AreInOrder, ArePicked, ArePickedEach, AreSpans};
 
 use crate::rows::{end_of_rows, firing_path, push_moved};
 use crate::unfolded::Unfolded;
+use firing_laws::{actors_move, graphs_below, levels_alike};
+use level_laws::counts_multiplied;
 use param_expr::Name;
+use param_resolver::early_unfolds;
 use pisdf_meaning::{Iteration, TraceRow};
-use pisdf_model::{Actor, Graph};
+use pisdf_model::Graph;
 use sdf_level::List;
 use std::alloc::{AllocError, Global};
 
@@ -17,7 +26,7 @@ use std::alloc::{AllocError, Global};
 fn part(alloc: Global, tokens: &[i64], times: u32, number: u32) -> Result<List<i64>, AllocError>
     requires some { 0 < times }
     requires there { number < times }
-    ensures { IfOk result (λ list. list ≡ part times number tokens.now) }
+    ensures { IfOk result (λ list. list ≡ part_of times number tokens.now) }
 {
     let size = tokens.len() / times as usize;
     let start = number as usize * size;
@@ -34,7 +43,7 @@ fn parts_at(
 ) -> Result<List<List<i64>>, AllocError>
     requires some { 0 < times }
     requires there { number < times }
-    ensures { IfOk result (λ parts. parts ≡ parts_at times number lists.now) }
+    ensures { IfOk result (λ parts. parts ≡ parts_of times number lists.now) }
 {
     let mut parts = Vec::with_capacity(alloc, lists.len())?;
     for list in lists {
@@ -43,51 +52,62 @@ fn parts_at(
     Ok(List::new(parts))
 }
 
-/// Adds where the rows of each firing of an actor end, the first of which begin at `start`, and tells the last such place.
-fn push_ends(
+/// Where the rows of each firing of an actor begin, and where those of the last one end. Those of the first begin at `start`.
+fn bounds_of(
     alloc: Global,
     top: &Name,
     actor: &Name,
     firings: u32,
     rows: &[TraceRow],
     start: usize,
-    ends: &mut Vec<usize>,
-) -> Result<usize, AllocError>
+) -> Result<Vec<usize>, AllocError>
+    requires { start ≤ length rows.now }
+    ensures { IfOk result (λ bounds. AreSpans rows.now top.now actor.now firings start bounds.items) }
 {
+    let mut bounds = Vec::new(alloc);
+    bounds.push(start)?;
     let mut end = start;
     for firing in 0..firings {
         let path = firing_path(alloc, top, actor, firing)?;
         end = end_of_rows(rows, end, &path);
-        ends.push(end)?;
+        bounds.push(end)?;
     }
-    Ok(end)
+    Ok(bounds)
 }
 
-/// Where the rows of each firing of each actor end, actor by actor.
-fn ends_of(
+/// The bound with this number.
+fn bound_at(bounds: &[usize], number: u32) -> usize
+    requires { number < length bounds.now }
+    ensures { result ≡ slice_index bounds.now number }
+{
+    bounds[number as usize]
+}
+
+/// The same for each actor, so many times its count of firings.
+fn all_bounds(
     alloc: Global,
     top: &Graph,
     counts: &[u32],
     times: u32,
     rows: &[TraceRow],
-) -> Result<Vec<usize>, AllocError>
+) -> Result<Vec<Vec<usize>>, AllocError>
+    requires one_each { length counts.now ≡ length top.now.actors }
+    requires few { sum (multiplied times counts.now) ≤ firings_limit }
+    requires in_order { AreInOrder top.now (multiplied times counts.now) rows.now }
+    ensures { IfOk result (λ bounds. ArePickedEach rows.now top.now (multiplied times counts.now) (lists_of bounds.items)) }
 {
-    let mut ends = Vec::new(alloc);
-    let mut end = 0;
+    let mut all = Vec::new(alloc);
+    let mut start = 0;
     for (place, actor) in top.actors.items().iter().enumerate() {
         let firings = times * counts[place];
-        end = push_ends(alloc, &top.name, &actor.name, firings, rows, end, &mut ends)?;
+        let bounds = bounds_of(alloc, &top.name, &actor.name, firings, rows, start)?;
+        start = bound_at(&bounds, firings);
+        all.push(bounds)?;
     }
-    Ok(ends)
+    Ok(all)
 }
 
-/// The place before which the rows of this number end.
-fn start_at(ends: &[usize], number: usize) -> usize {
-    if number == 0 { 0 } else { ends[number - 1] }
-}
-
-/// Adds the rows of so many firings of an actor from `first` on, as those of its firings from 0 on. The first of all its firings
-/// has the number `base` among those of all actors.
+/// Adds the rows of so many firings of an actor from `first` on, as those of its firings from 0 on.
 fn push_firings(
     alloc: Global,
     top: &Name,
@@ -95,17 +115,20 @@ fn push_firings(
     first: u32,
     count: u32,
     rows: &[TraceRow],
-    ends: &[usize],
-    base: usize,
+    bounds: &[usize],
     trace: &mut Vec<TraceRow>,
 ) -> Result<(), AllocError>
+    requires few { first + count ≤ firings_limit }
+    requires picked { (all : ℕ) × (first + count ≤ all) × ArePicked rows.now top.now actor.now all bounds.now }
+    ensures { OnOk result (trace.new.items ≡ trace.old.items ++ firings_rows top.now actor.now first count rows.now) }
 {
     for turn in 0..count {
-        let from = firing_path(alloc, top, actor, first + turn)?;
+        let firing = first + turn;
+        let from = firing_path(alloc, top, actor, firing)?;
         let to = firing_path(alloc, top, actor, turn)?;
-        let number = base + (first + turn) as usize;
-        let start = start_at(ends, number);
-        push_moved(alloc, &rows[start..ends[number]], &from, &to, trace)?;
+        let start = bounds[firing as usize];
+        let end = bounds[firing as usize + 1];
+        push_moved(alloc, &rows[start..end], &from, &to, trace)?;
     }
     Ok(())
 }
@@ -118,11 +141,15 @@ fn piece_rows(
     times: u32,
     number: u32,
     rows: &[TraceRow],
-    ends: &[usize],
+    bounds: &[Vec<usize>],
 ) -> Result<List<TraceRow>, AllocError>
+    requires one_each { length counts.now ≡ length top.now.actors }
+    requires few { sum (multiplied times counts.now) ≤ firings_limit }
+    requires there { number < times }
+    requires picked { ArePickedEach rows.now top.now (multiplied times counts.now) (lists_of bounds.now) }
+    ensures { IfOk result (λ trace. trace ≡ rows_of_piece top.now counts.now number rows.now) }
 {
     let mut trace = Vec::new(alloc);
-    let mut base = 0;
     for (place, actor) in top.actors.items().iter().enumerate() {
         let count = counts[place];
         push_firings(
@@ -132,13 +159,35 @@ fn piece_rows(
             number * count,
             count,
             rows,
-            ends,
-            base,
+            &bounds[place],
             &mut trace,
         )?;
-        base += (times * count) as usize;
     }
     Ok(List::new(trace))
+}
+
+/// The pieces of an iteration with these outputs and rows, which stand in the order of the firings of the top graph.
+fn pieces_of(
+    alloc: Global,
+    top: &Graph,
+    counts: &[u32],
+    times: u32,
+    outs: &[List<i64>],
+    rows: &[TraceRow],
+) -> Result<List<Iteration>, AllocError>
+    requires one_each { length counts.now ≡ length top.now.actors }
+    requires few { sum (multiplied times counts.now) ≤ firings_limit }
+    requires in_order { AreInOrder top.now (multiplied times counts.now) rows.now }
+    ensures { IfOk result (λ pieces. pieces ≡ map (piece_at top.now counts.now times record { outs = outs.now; trace = rows.now }) (range_with_len 0 times)) }
+{
+    let bounds = all_bounds(alloc, top, counts, times, rows)?;
+    let mut pieces = Vec::new(alloc);
+    for number in 0..times {
+        let part = parts_at(alloc, outs, times, number)?;
+        let trace = piece_rows(alloc, top, counts, times, number, rows, &bounds)?;
+        pieces.push(Iteration { outs: part, trace })?;
+    }
+    Ok(List::new(pieces))
 }
 
 impl Unfolded {
@@ -157,17 +206,15 @@ impl Unfolded {
         requires done { (ins state left : Seq (Seq ℤ)) × IterationGives (arc_value self.now.graphs) ins state iteration.now left }
         ensures pieces { IfOk result (AreCut self.now iteration.now) }
     {
+        early_unfolds();
+        counts_multiplied();
+        graphs_below();
+        levels_alike();
+        actors_move();
         let graphs = self.graphs.graphs.items();
         let top = &graphs[self.graphs.top as usize];
-        let counts = self.counts.items();
+        let outs = iteration.outs.items();
         let rows = iteration.trace.items();
-        let ends = ends_of(alloc, top, counts, self.times, rows)?;
-        let mut pieces = Vec::new(alloc);
-        for number in 0..self.times {
-            let outs = parts_at(alloc, iteration.outs.items(), self.times, number)?;
-            let trace = piece_rows(alloc, top, counts, self.times, number, rows, &ends)?;
-            pieces.push(Iteration { outs, trace })?;
-        }
-        Ok(List::new(pieces))
+        pieces_of(alloc, top, self.counts.items(), self.times, outs, rows)
     }
 }

@@ -1,10 +1,11 @@
 // Whether iterations of graphs can be fired as one.
-ghost use Rattle.std.specs.Prelude.{ℕ, ◌≡◌, ◌≤◌, ◌*◌, ◌↔◌, [], IsTrue, false as no, IfOk, IfErr, OnOk, Some, slice_get};
+ghost use Rattle.std.specs.Prelude.{ℕ, ◌≡◌, ◌≤◌, ◌*◌, ◌↔◌, [], IsTrue, false as no, IfOk, IfErr, OnOk, Some, IsSome, slice_get};
 ghost use Rattle.std.specs.List.{All};
 ghost use Rattle.level_schedule.specs.declared.scheduling.LevelSchedule.{LevelSchedule as OneSchedule};
 ghost use Rattle.param_resolver.specs.Assignment.{numbers as as_numbers};
 ghost use Rattle.param_resolver.specs.EarlyCheck.{early_faults, early_of};
 ghost use Rattle.param_resolver.specs.LevelOf.{level_faults};
+ghost use Rattle.param_resolver.specs.Refusal.{TellsLevelMemory, level_refusal_of};
 ghost use Rattle.pisdf_model.specs.InterfaceWires.{is_configuration as configures};
 ghost use Rattle.pisdf_model.specs.Valid.{AreValid};
 ghost use Rattle.pisdf_model.specs.declared.actor.Actor.{Actor as OneActor};
@@ -16,45 +17,56 @@ use crate::counting::is_within_limits;
 use crate::fault::UnfoldFault;
 use crate::serving::{are_met, are_served};
 use level_schedule::{LevelSchedule, Unscheduled, schedule};
-use param_resolver::{Early, EarlyFault, LevelFault, LevelSet, early, level_of};
-use pisdf_model::{Actor, Fifo, Graphs, Life, is_configuration};
+use param_resolver::{
+    Early, EarlyFault, LevelFault, LevelSet, early, early_unfolds, graphs_resolvable, level_of,
+};
+use pisdf_model::{Actor, Body, Fifo, Graphs, Life, is_configuration};
 use sdf_level::{Level, RATE_LIMIT};
 use std::alloc::{AllocError, Global};
+
+/// Whether an actor's body isn't that of a configuration actor.
+fn acts(body: &Body) -> bool
+    ensures { IsTrue result ↔ (configures body.now ≡ no) }
+{
+    !is_configuration(body)
+}
 
 /// Whether no actor is a configuration actor.
 fn configures_nothing(actors: &[Actor]) -> bool
     ensures { IsTrue result ↔ All (λ (a : OneActor). configures a.body ≡ no) actors.now }
 {
-    for actor in actors {
-        if is_configuration(&actor.body) {
-            return false;
-        }
-    }
-    true
+    actors.iter().all(|actor| acts(&actor.body))
 }
 
-/// Whether no tokens start anew at each firing of the graph.
-fn begins_once(fifos: &[Fifo]) -> bool
+/// Whether no tokens stand in a FIFO anew at each firing of its graph.
+fn begins_once(fifo: &Fifo) -> bool
+    ensures { IsTrue result ↔ BeginsOnce fifo.now }
+{
+    match fifo.life {
+        Life::Permanent => true,
+        Life::Firing => fifo.delay.items().is_empty(),
+    }
+}
+
+/// Whether so it is of each.
+fn all_begin_once(fifos: &[Fifo]) -> bool
     ensures { IsTrue result ↔ All BeginsOnce fifos.now }
 {
-    for fifo in fifos {
-        if fifo.life == Life::Firing && !fifo.delay.items().is_empty() {
-            return false;
-        }
-    }
-    true
+    fifos.iter().all(|fifo| begins_once(fifo))
 }
 
-/// Whether so many times each rate is a rate.
+/// Whether so many times a rate is a rate.
+fn is_rate(rate: u32, times: u32) -> bool
+    ensures { IsTrue result ↔ times * rate ≤ rate_limit }
+{
+    times as u64 * rate as u64 <= RATE_LIMIT as u64
+}
+
+/// Whether so it is of each.
 fn are_rates(rates: &[u32], times: u32) -> bool
     ensures { IsTrue result ↔ All (λ r. times * r ≤ rate_limit) rates.now }
 {
-    for rate in rates {
-        if times as u64 * *rate as u64 > RATE_LIMIT as u64 {
-            return false;
-        }
-    }
-    true
+    rates.iter().all(|rate| is_rate(*rate, times))
 }
 
 /// The values, with 0 in place of those that aren't known.
@@ -82,6 +94,17 @@ fn known_early(alloc: Global, graphs: &Graphs) -> Result<Early, UnfoldFault>
     }
 }
 
+/// What a fault of the making of the top graph's level says of the graphs.
+fn refused(fault: LevelFault) -> UnfoldFault
+    requires { TellsLevelMemory fault }
+    ensures { result ≡ UnfoldFault.NotExact → IsSome (level_refusal_of fault) }
+{
+    match fault {
+        LevelFault::Memory => UnfoldFault::Memory,
+        _ => UnfoldFault::NotExact,
+    }
+}
+
 /// The level of the top graph, which has no configuration actor.
 fn level_of_top(alloc: Global, graphs: &Graphs, known: &Early) -> Result<LevelSet, UnfoldFault>
     requires valid { AreValid graphs.now }
@@ -90,11 +113,12 @@ fn level_of_top(alloc: Global, graphs: &Graphs, known: &Early) -> Result<LevelSe
     ensures sound { OnOk result ((top : OneGraph) → slice_get graphs.now.graphs graphs.now.top ≡ Some top → level_faults graphs.now.graphs top (own_values top) ≡ []) }
     ensures refused { IfErr result (λ fault. fault ≡ UnfoldFault.NotExact → (top : OneGraph) → slice_get graphs.now.graphs graphs.now.top ≡ Some top → level_faults graphs.now.graphs top (own_values top) ≡ [] → ⊥) }
 {
+    early_unfolds();
+    graphs_resolvable();
     let values = numbers(alloc, known.values.items())?;
     match level_of(alloc, graphs, graphs.top, known, &values) {
         Ok(set) => Ok(set),
-        Err(LevelFault::Memory) => Err(UnfoldFault::Memory),
-        Err(_) => Err(UnfoldFault::NotExact),
+        Err(fault) => Err(refused(fault)),
     }
 }
 
@@ -104,6 +128,7 @@ fn exact_schedule(alloc: Global, level: &Level, times: u32) -> Result<LevelSched
     ensures exact { IfOk result (IsExactSchedule level.now times) }
     ensures refused { IfErr result (λ fault. fault ≡ UnfoldFault.NotExact → (schedule : OneSchedule) → IsExactSchedule level.now times schedule → ⊥) }
 {
+    let _actors = level.actors;
     let schedule = match schedule(alloc, level) {
         Ok(schedule) => schedule,
         Err(Unscheduled::Memory) => return Err(UnfoldFault::Memory),
@@ -129,11 +154,17 @@ pub(crate) fn exact(alloc: Global, graphs: &Graphs, times: u32) -> Result<LevelS
     ensures refused { IfErr result (λ fault. fault ≡ UnfoldFault.NotExact → IsExact graphs.now times → ⊥) }
 {
     let top = &graphs.graphs.items()[graphs.top as usize];
-    if !configures_nothing(top.actors.items()) || !begins_once(top.fifos.items()) {
+    if !configures_nothing(top.actors.items()) {
+        return Err(UnfoldFault::NotExact);
+    }
+    if !all_begin_once(top.fifos.items()) {
         return Err(UnfoldFault::NotExact);
     }
     let known = known_early(alloc, graphs)?;
-    if !are_rates(known.inputs.items(), times) || !are_rates(known.outputs.items(), times) {
+    if !are_rates(known.inputs.items(), times) {
+        return Err(UnfoldFault::NotExact);
+    }
+    if !are_rates(known.outputs.items(), times) {
         return Err(UnfoldFault::NotExact);
     }
     let set = level_of_top(alloc, graphs, &known)?;

@@ -1,5 +1,7 @@
 // Rows of a trace, by the firing in which they stand.
-ghost use Rattle.std.specs.Prelude.{◌≡◌, ◌≤◌, ◌++◌, IsTrue, length, map, slice_range, IfOk, OnOk};
+ghost use Rattle.std.specs.Prelude.{◌≡◌, ◌≤◌, ◌++◌, IsTrue, drop, length, map, IfOk, OnOk};
+ghost use Rattle.std.specs.List.{AllPass};
+ghost use Rattle.pisdf_meaning.specs.declared.outcome.TraceRow.{TraceRow as Row};
 ghost use Rattle.pisdf_meaning.specs.Endings.{child_path};
 ghost use Rattle.unfold_rates.specs.Cut.{is_within as within, moved_row as moved};
 ghost use Rattle.unfold_rates.specs.Spans.{IsSpan};
@@ -50,6 +52,17 @@ pub(crate) fn end_of_rows(rows: &[TraceRow], start: usize, path: &Name) -> usize
     end
 }
 
+/// What a path within another has after that.
+fn rest_after<'a>(path: &'a str, from: &str) -> &'a str
+    requires { IsTrue (within from.now path.now) }
+    ensures { result.now ≡ drop (length from.now) path.now }
+{
+    match path.strip_prefix(from) {
+        Some(rest) => rest,
+        None => unreachable!(),
+    }
+}
+
 /// The row at another path, which goes on as its own did.
 fn moved_row(
     alloc: Global,
@@ -61,9 +74,7 @@ fn moved_row(
     ensures { IfOk result (λ r. r ≡ moved from.now to.now row.now) }
 {
     let mut text = String::from_str(alloc, to.text())?;
-    if let Some(rest) = row.path.text().text().strip_prefix(from.text()) {
-        text.push_str(rest)?;
-    }
+    text.push_str(rest_after(row.path.text().text(), from.text()))?;
     Ok(TraceRow {
         path: Path::new(alloc, Name::new(text))?,
         name: row.name.clone()?,

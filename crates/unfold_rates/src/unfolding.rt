@@ -9,6 +9,7 @@ use crate::exactness::exact;
 use crate::fault::UnfoldFault;
 use crate::multiplying::unfolded_graphs;
 use crate::unfolded::Unfolded;
+use param_resolver::early_unfolds;
 use pisdf_model::Graphs;
 use std::alloc::Global;
 use std::sync::Arc;
@@ -32,10 +33,12 @@ pub fn unfold(alloc: Global, graphs: &Graphs, times: u32) -> Result<Unfolded, Un
     ensures fits { IfOk result (λ u. FitAsBefore graphs.now times (arc_value u.graphs)) }
     ensures refused { IfErr result (λ fault. fault ≡ UnfoldFault.NotExact → IsExact graphs.now times → ⊥) }
 {
+    early_unfolds();
     let schedule = exact(alloc, graphs, times)?;
     let unfolded = unfolded_graphs(alloc, graphs, times)?;
+    let shared = Arc::new(alloc, unfolded)?;
     Ok(Unfolded {
-        graphs: Arc::new(alloc, unfolded)?,
+        graphs: shared,
         counts: schedule.counts,
         times,
     })
