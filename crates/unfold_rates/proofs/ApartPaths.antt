@@ -1,5 +1,5 @@
 -- A path stands within that of one firing alone.
-use Rattle.std.proofs.Common.{◌≡◌, ◌≢◌, ℕ, ◌<◌, ◌^◌, ◌==◌, ◌&&◌, not, nat_le, Bool, true, false, List, [], ◌∷◌, ◌++◌, length, codes, IsTrue, refl, ap, sym, ◌∙◌, subst, arith, append_assoc}
+use Rattle.std.proofs.Common.{◌≡◌, ◌≢◌, ℕ, ◌<◌, ◌^◌, ◌&&◌, not, nat_le, Bool, true, false, List, [], ◌∷◌, ◌++◌, length, refl, ap, sym, ◌∙◌, subst, arith, append_assoc}
 use Rattle.std.specs.Fmt.{decimal}
 use Rattle.std.specs.List.{AllByRecursion, list_all}
 use Rattle.std.proofs.lemmas.Bool.{and_parts}
@@ -8,7 +8,7 @@ use Rattle.std.proofs.lemmas.List.{append_cancel_left}
 use Rattle.std.proofs.lemmas.Fmt.{decimal_injective, digits_decimal}
 use Rattle.param_expr.proofs.Numerals.{own}
 use Rattle.param_expr.specs.Limits.{most_name_bytes}
-use Rattle.param_expr.specs.Words.{IsName, is_digit, is_letter, is_name, is_reserved, is_word_byte, starts_with_letter}
+use Rattle.param_expr.specs.Words.{IsName, is_digit, is_name, is_reserved, is_word_byte, starts_with_letter}
 use Rattle.pisdf_meaning.specs.Endings.{child_path}
 use Rattle.unfold_rates.specs.Cut.{ends_or_goes_down}
 use Rattle.unfold_rates.proofs.Within.{Within}

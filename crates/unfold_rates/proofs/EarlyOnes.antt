@@ -1,5 +1,5 @@
 -- The values of the parameters of a top graph, which are known early.
-use Rattle.std.proofs.Common.{◌≡◌, ℕ, ◌<◌, ℤ, List, [], length, slice_get, Option, Some, ap, ◌∙◌}
+use Rattle.std.proofs.Common.{◌≡◌, ℤ, List, [], length, slice_get, Option, Some, ap, ◌∙◌}
 use Rattle.param_resolver.specs.Assignment.{numbers}
 use Rattle.param_resolver.specs.EarlyCheck.{Checked, check_by, check_of, early_of, given_early}
 use Rattle.param_resolver.specs.Resolvable.{AreResolvable}

@@ -1,7 +1,6 @@
 -- The unfolded graphs keep what is asked of graphs.
-use Rattle.std.proofs.Common.{◌≡◌, ℕ, ◌*◌, ◌<◌, ◌≤◌, ℤ, List, [], length, map, slice_get, Option, Some, ap, sym, ◌∙◌, subst, arith}
-use Rattle.std.proofs.lemmas.Option.{slice_get_within}
-use Rattle.param_resolver.specs.EarlyCheck.{Checked, check_by, check_of}
+use Rattle.std.proofs.Common.{◌≡◌, ℕ, ◌<◌, ◌≤◌, ℤ, List, [], length, slice_get, Option, Some, ap, ◌∙◌}
+use Rattle.param_resolver.specs.EarlyCheck.{check_by, check_of}
 use Rattle.pisdf_model.specs.Range.{InRange}
 use Rattle.pisdf_model.specs.Valid.{AreValid}
 use Rattle.pisdf_model.specs.WellFormed.{WellFormed}
@@ -9,8 +8,8 @@ use Rattle.pisdf_model.specs.declared.graph.Graph.{Graph}
 use Rattle.pisdf_model.specs.declared.graph.Graphs.{Graphs}
 use Rattle.unfold_rates.specs.Exact.{IsExact}
 use Rattle.unfold_rates.specs.Fits.{FitAsBefore}
-use Rattle.unfold_rates.specs.Multiplied.{multiplied_at, multiplied_graph, unfolded_graphs}
-use Rattle.unfold_rates.proofs.Lookups.{length-multiplied, multiplied_there}
+use Rattle.unfold_rates.specs.Multiplied.{multiplied_graph, unfolded_graphs}
+use Rattle.unfold_rates.proofs.Lookups.{multiplied_there}
 use Rattle.unfold_rates.proofs.MultipliedRates.{needs_multiply, sound_stays}
 use Rattle.unfold_rates.proofs.SameFaults.{initial_same}
 use Rattle.unfold_rates.proofs.SameRange.{kernels_stay, valid_stays}

@@ -1,10 +1,10 @@
 -- Lists of graphs, one of which is multiplied: what doesn't depend on the rates of interfaces stays as it was.
-use Rattle.std.proofs.Common.{◌≡◌, ℕ, zero, suc, ◌+◌, ◌<◌, ◌==◌, List, [], ◌∷◌, ◌++◌, length, get_or, map, slice_get, Option, Some, None, refl, ap, sym, ◌∙◌, subst, ◌≢◌, ◌⊎◌, ⊎_elim, inl, inr, Bool, true, false, if◌then◌else◌, take, ◌≤◌, eq-eqb, arith}
+use Rattle.std.proofs.Common.{◌≡◌, ℕ, zero, suc, ◌+◌, ◌<◌, ◌==◌, List, [], ◌∷◌, ◌++◌, length, get_or, map, slice_get, Option, Some, refl, ap, ◌∙◌, subst, ◌≢◌, ◌⊎◌, ⊎_elim, inl, inr, true, false, if◌then◌else◌, take, ◌≤◌, eq-eqb, arith}
 use Rattle.std.proofs.lemmas.Bool.{cases_eq}
 use Rattle.std.proofs.lemmas.Bool.{ne_eqb}
 use Rattle.std.proofs.lemmas.List.{take_all, take_more}
-use Rattle.std.specs.List.{flat_map, list_any}
-use Rattle.pisdf_model.specs.Details.{from_number, of_each}
+use Rattle.std.specs.List.{flat_map}
+use Rattle.pisdf_model.specs.Details.{from_number}
 use Rattle.pisdf_model.specs.Parts.{interface_names}
 use Rattle.pisdf_model.specs.declared.graph.Graph.{Graph}
 use Rattle.pisdf_model.specs.declared.graph.Interface.{Interface}
@@ -60,7 +60,7 @@ module _ (times : ℕ) where
   either_at zero (suc n) d (g ∷ gs) inside = inr refl
   either_at (suc place) zero d (g ∷ gs) inside = inr refl
   either_at (suc place) (suc n) d (g ∷ gs) inside = elim (either_at place n d gs (omega arith)) [
-    inl both ↦ inl (ap suc both.0, both.1)
+    | inl both ↦ inl (ap suc both.0, both.1)
     | inr same ↦ inr same
   ]
 

@@ -1,19 +1,18 @@
 -- The early check of the unfolded top graph, which finds nothing where so many times each rate is a rate.
-use Rattle.std.proofs.Common.{◌≡◌, ℕ, suc, ◌+◌, ◌*◌, ◌<◌, ◌≤◌, ◌^◌, Bool, true, false, nat_le, ℤ, pos, negsuc, List, [], ◌∷◌, ◌++◌, length, get_or, map, slice_get, Option, Some, None, Result, Ok, Err, refl, ap, sym, ◌∙◌, subst, arith, mul_comm, if◌then◌else◌}
+use Rattle.std.proofs.Common.{◌≡◌, ℕ, suc, ◌+◌, ◌*◌, ◌<◌, ◌≤◌, ◌^◌, Bool, true, false, nat_le, ℤ, pos, negsuc, List, [], ◌∷◌, map, Option, Some, None, Result, Ok, Err, refl, ap, sym, ◌∙◌, subst, arith, mul_comm, if◌then◌else◌}
 use Rattle.std.specs.List.{All}
 use Rattle.std.specs.Result.{result_unwrap_or}
 use Rattle.std.proofs.Math.IntN.{pos-*ℤ-pos}
 use Rattle.std.proofs.lemmas.Bool.Decides.{nat_tests}
 use Rattle.std.proofs.lemmas.Int.{ints}
-use Rattle.param_expr.specs.Eval.{eval_of, fault_of, in_i64, overflow_of, unless_fault, value_of}
+use Rattle.param_expr.specs.Eval.{fault_of, in_i64, overflow_of, unless_fault, value_of}
 use Rattle.param_expr.specs.Tree.{Tree}
 use Rattle.param_expr.specs.declared.evaluation.EvalFault.{EvalFault}
 use Rattle.param_resolver.specs.EarlyCheck.{Checked, as_refusal, check_by, check_of, config_faults, early_faults, early_numbers, early_of, given_early, rated_faults}
 use Rattle.param_resolver.specs.Assignment.{param_faults}
 use Rattle.param_resolver.specs.Rates.{as_rate, fault_at, interface_faults, interface_rates, rate_under}
-use Rattle.param_resolver.specs.Refusal.{Refusal}
 use Rattle.param_resolver.specs.declared.fault.Why.{Why}
-use Rattle.pisdf_model.specs.Details.{from_number, of_each}
+use Rattle.pisdf_model.specs.Details.{from_number}
 use Rattle.pisdf_model.specs.InterfaceWires.{is_configuration}
 use Rattle.pisdf_model.specs.declared.actor.Actor.{Actor}
 use Rattle.pisdf_model.specs.declared.actor.Body.{Body}
@@ -74,9 +73,10 @@ module _ (times : ℕ) (few : times ≤ 64) (values : List ℤ) where
       let within : times * result_unwrap_or (rate_under values x.rate) 0 ≤ rate_limit = all 0 0 (omega arith) in
       let is = rate_multiplied x.rate (result_unwrap_or (rate_under values x.rate) 0) here within in
       let first : fault_at x.name (rate_under values (multiplied_rate times x.rate)) ≡ [] = rw is refl in
-      let number : result_unwrap_or (rate_under values (multiplied_rate times x.rate)) 0 ≡ times * result_unwrap_or (rate_under values x.rate) 0 = rw is refl in
-      (append_same [] _ [] _ first more.0,
-       ap (λ (r : ℕ). r ∷ interface_rates values (map (multiplied_interface times) xs)) number ∙ ap (λ (rs : List ℕ). (times * result_unwrap_or (rate_under values x.rate) 0) ∷ rs) more.1)
+      let number : result_unwrap_or (rate_under values (multiplied_rate times x.rate)) 0 ≡ times * result_unwrap_or (rate_under values x.rate) 0 = rw is refl in (
+        append_same [] _ [] _ first more.0,
+        ap (λ (r : ℕ). r ∷ interface_rates values (map (multiplied_interface times) xs)) number ∙ ap (λ (rs : List ℕ). (times * result_unwrap_or (rate_under values x.rate) 0) ∷ rs) more.1,
+      )
 
 -- ---- actors that aren't configuration actors have no fault
 
@@ -144,5 +144,5 @@ module _ (times : ℕ) (few : times ≤ 64) (gs hs : List Graph) (place : ℕ) (
   sound_stays =
       ap (λ (c : Checked). c.faults) opened'
       ∙ append_same [] (rated_faults (multiplied_graph times g) []) [] _
-        (append_same [] (map as_refusal (param_faults g.params (given_early g.params []))) [] _ params_none (append_same [] _ [] _ ins.0 outs.0))
-        (no_bodies (check_of hs) hs (multiplied_graph times g) numbers (interface_rates numbers (map (multiplied_interface times) g.inputs)) 0 g.actors configures_nothing)
+      (append_same [] (map as_refusal (param_faults g.params (given_early g.params []))) [] _ params_none (append_same [] _ [] _ ins.0 outs.0))
+      (no_bodies (check_of hs) hs (multiplied_graph times g) numbers (interface_rates numbers (map (multiplied_interface times) g.inputs)) 0 g.actors configures_nothing)

@@ -1,20 +1,18 @@
 -- The rows of each firing, among those of all in their order.
-use Rattle.std.proofs.Common.{◌≡◌, ◌≢◌, ℕ, zero, suc, ◌+◌, ◌-◌, ◌*◌, ◌<◌, ◌≤◌, ◌^◌, ◌⊎◌, inl, inr, Bool, true, false, if◌then◌else◌, List, [], ◌∷◌, ◌++◌, length, map, take, drop, get_or, slice_get, slice_index, slice_index_or, slice_range, Option, Some, None, refl, ap, sym, ◌∙◌, subst, arith, append_assoc, ⊎_elim}
+use Rattle.std.proofs.Common.{◌≡◌, ◌≢◌, ℕ, zero, suc, ◌+◌, ◌-◌, ◌<◌, ◌≤◌, ◌^◌, Bool, true, false, List, [], ◌∷◌, ◌++◌, length, map, take, drop, get_or, slice_get, slice_index, slice_index_or, slice_range, Some, refl, ap, sym, ◌∙◌, subst, arith, append_assoc, ⊎_elim}
 use Rattle.std.proofs.lemmas.Bool.{cases_eq}
-use Rattle.std.specs.List.{All, AllByRecursion, AllPass, filter, flat_map, range_with_len}
+use Rattle.std.specs.List.{AllByRecursion, AllPass, filter, flat_map, range_with_len}
 use Rattle.std.proofs.lemmas.List.{append-nil, drop-drop, get_or-map, length-map}
 use Rattle.std.proofs.lemmas.List.Elements.{filter-append}
 use Rattle.std.proofs.lemmas.Option.{get_or_from_slice_get, slice_get_within}
-use Rattle.param_expr.specs.Print.{Differ}
 use Rattle.param_expr.specs.Words.{IsName}
 use Rattle.pisdf_meaning.specs.Endings.{child_path}
-use Rattle.pisdf_meaning.specs.Running.{Traces, child_rows, trace_of_first, traces_below}
+use Rattle.pisdf_meaning.specs.Running.{Traces, child_rows, traces_below}
 use Rattle.pisdf_meaning.specs.declared.outcome.TraceRow.{TraceRow}
-use Rattle.pisdf_model.specs.InterfaceWires.{is_configuration}
 use Rattle.pisdf_model.specs.declared.actor.Actor.{Actor}
 use Rattle.pisdf_model.specs.declared.graph.Graph.{Graph}
 use Rattle.unfold_rates.specs.Cut.{is_within}
-use Rattle.unfold_rates.specs.Spans.{AreInOrder, ArePicked, AreSpans, IsSpan}
+use Rattle.unfold_rates.specs.Spans.{AreInOrder, ArePicked, AreSpans}
 use Rattle.unfold_rates.proofs.ApartPaths.{one_firing}
 use Rattle.unfold_rates.proofs.Lookups.{append_same}
 use Rattle.unfold_rates.proofs.Unset.{NoneConfigures, first_configures_nothing, others_configure_nothing}
@@ -215,9 +213,10 @@ module _ (top : Graph) (counts : List ℕ) (rows : List TraceRow) (order : AreIn
         let G : List TraceRow → Type 0 = λ l. (x : TraceRow) → slice_get l steps ≡ Some x → test actor.name k x ≡ false in
         let over : (x : TraceRow) → slice_get (drop (slice_index bounds k) rows) steps ≡ Some x → test actor.name k x ≡ false = λ x e.
         span.over x (ap (λ (i : ℕ). slice_get rows i) (sym sum) ∙ sym (slice_get_drop rows (slice_index bounds k) steps) ∙ e) in
-        let both = span_ends (test actor.name k) (own k) rest steps pass fail (subst T split span.within) (subst G split over) in
-        (ap (λ (l : List TraceRow). take steps l) split ∙ both.0,
-         ap (λ (i : ℕ). drop i rows) (sym sum) ∙ sym (drop-drop steps (slice_index bounds k) rows) ∙ ap (λ (l : List TraceRow). drop steps l) split ∙ both.1)
+        let both = span_ends (test actor.name k) (own k) rest steps pass fail (subst T split span.within) (subst G split over) in (
+          ap (λ (l : List TraceRow). take steps l) split ∙ both.0,
+          ap (λ (i : ℕ). drop i rows) (sym sum) ∙ sym (drop-drop steps (slice_index bounds k) rows) ∙ ap (λ (l : List TraceRow). drop steps l) split ∙ both.1,
+        )
 
     pub from_each : (k n : ℕ) → k + n ≡ count → From k n
     from_each zero n all =

@@ -1,19 +1,19 @@
 -- The faults of unfolded graphs are those of the graphs.
-use Rattle.std.proofs.Common.{◌≡◌, ℕ, zero, suc, ◌+◌, ◌==◌, ◌&&◌, ◌||◌, not, Bool, true, nat_lt, nat_le, ℤ, List, get_or, [], ◌∷◌, ◌++◌, length, map, slice_get, Option, Some, None, refl, ap, sym, ◌∙◌}
+use Rattle.std.proofs.Common.{◌≡◌, ℕ, zero, suc, ◌+◌, ◌==◌, ◌&&◌, ◌||◌, not, Bool, true, nat_lt, nat_le, ℤ, List, get_or, [], ◌∷◌, ◌++◌, length, map, slice_get, Option, Some, None, refl, ap, ◌∙◌}
 use Rattle.std.proofs.lemmas.List.{append-nil, length-map}
 use Rattle.std.specs.List.{filter, flat_map, list_any}
 use mathlib.Core.Path.{fun_ext}
 use Rattle.pisdf_model.specs.Arrows.{on_cycles}
 use Rattle.pisdf_model.specs.Count.{counts_of, excess_of, graph_counts, count_faults, graphs_limit, word_of}
-use Rattle.pisdf_model.specs.Details.{from_number, of_each, unless}
-use Rattle.pisdf_model.specs.Hold.{actor_state, graph_state, has_large_hold, hold, hold_limit, in_line, initial, initial_to, is_named, kept_in}
+use Rattle.pisdf_model.specs.Details.{of_each, unless}
+use Rattle.pisdf_model.specs.Hold.{graph_state, has_large_hold, hold, hold_limit, in_line, initial, initial_to, is_named}
 use Rattle.pisdf_model.specs.InterfaceWires.{fifo_misplaced, graph_misplaced, interface_wire_faults, is_at_configuration, is_at_input, is_at_output, is_misplaced}
-use Rattle.pisdf_model.specs.Names.{duplicate_faults, graph_walk, actor_walk, names_of, repeats, scoped}
+use Rattle.pisdf_model.specs.Names.{graph_walk, actor_walk, names_of, repeats, scoped}
 use Rattle.pisdf_model.specs.Nesting.{child_lists, children, depth_faults, graph_cycle_faults, graph_name, nested_over, nesting_limit}
-use Rattle.pisdf_model.specs.ParamOrder.{config_places, early_places, is_late, misplaced, order_faults, param_name, param_order_faults, places_of, references}
-use Rattle.pisdf_model.specs.Parts.{input_count, input_names, inputs_of, interface_names, output_names, outputs_of, port_count, port_names}
+use Rattle.pisdf_model.specs.ParamOrder.{config_places, early_places, is_late, order_faults, param_name, param_order_faults, places_of, references}
+use Rattle.pisdf_model.specs.Parts.{input_count, input_names, inputs_of, interface_names, output_names, outputs_of, port_count}
 use Rattle.pisdf_model.specs.Ports.{actor_ports, all_sets, body_fits, export_count, graph_ports, inherited_count, param_ports, ports_faults}
-use Rattle.pisdf_model.specs.WellFormed.{WellFormed, graphs_at, model_faults, with_number}
+use Rattle.pisdf_model.specs.WellFormed.{graphs_at, model_faults, with_number}
 use Rattle.pisdf_model.specs.Wires.{actor_port_names, actor_wires, end_text, ends_of, fifo_wires, gives_tokens, graph_wires, interface_wires, is_input_port, is_output_port, names_of_interfaces, port_text, port_wires, takes_tokens, text_at, text_or_none, times_of_interface, times_of_port, wire_faults}
 use Rattle.pisdf_model.specs.declared.actor.Actor.{Actor}
 use Rattle.pisdf_model.specs.declared.actor.Body.{Body}
@@ -26,10 +26,8 @@ use Rattle.pisdf_model.specs.declared.fifo.Fifo.{Fifo}
 use Rattle.pisdf_model.specs.declared.graph.Graph.{Graph}
 use Rattle.pisdf_model.specs.declared.graph.Graphs.{Graphs}
 use Rattle.pisdf_model.specs.declared.graph.Interface as interface
-use Rattle.pisdf_model.specs.declared.interface_wires.FifoPlace.{FifoPlace}
 use Rattle.pisdf_model.specs.declared.names.ScopedName.{ScopedName}
 use Rattle.pisdf_model.specs.declared.names.Scope.TheVariants as scope
-use Rattle.pisdf_model.specs.declared.param.Param.{Param}
 use Rattle.unfold_rates.specs.Multiplied.{multiplied_at, multiplied_graph, multiplied_interface, unfolded_graphs}
 use Rattle.unfold_rates.proofs.Lookups.{append_same, flattened, from_number_same, length-multiplied, look, mapped, names_stay, numbered}
 
@@ -49,15 +47,15 @@ module _ (times : ℕ) (graphs : Graphs) where
   walk_stays n g =
       let Names : Type 0 = List ScopedName in
       ap (λ (names : List (List ℕ)). record { scope = scope.Graphs; name = g.name }
-    ∷ (scoped (scope.Parts n) (map (λ p. p.name) g.params)
-    ++ (scoped (scope.Parts n) names
-    ++ (scoped (scope.Parts n) (interface_names (map (multiplied_interface times) g.outputs))
-    ++ of_each (λ a actor. actor_walk n a actor) g.actors)))) (names_stay times g.inputs)
+      ∷ (scoped (scope.Parts n) (map (λ p. p.name) g.params)
+      ++ (scoped (scope.Parts n) names
+      ++ (scoped (scope.Parts n) (interface_names (map (multiplied_interface times) g.outputs))
+      ++ of_each (λ a actor. actor_walk n a actor) g.actors)))) (names_stay times g.inputs)
       ∙ ap (λ (names : List (List ℕ)). record { scope = scope.Graphs; name = g.name }
-    ∷ (scoped (scope.Parts n) (map (λ p. p.name) g.params)
-    ++ (scoped (scope.Parts n) (interface_names g.inputs)
-    ++ (scoped (scope.Parts n) names
-    ++ of_each (λ a actor. actor_walk n a actor) g.actors)))) (names_stay times g.outputs)
+      ∷ (scoped (scope.Parts n) (map (λ p. p.name) g.params)
+      ++ (scoped (scope.Parts n) (interface_names g.inputs)
+      ++ (scoped (scope.Parts n) names
+      ++ of_each (λ a actor. actor_walk n a actor) g.actors)))) (names_stay times g.outputs)
 
   pub names_same : names_of (unfolded_graphs graphs times) ≡ names_of graphs
   names_same = numbered times (λ n g. graph_walk n g) (λ n g. graph_walk n g) (λ n g. refl) walk_stays 0 graphs.top gs

@@ -1,17 +1,15 @@
 -- Where numbers refer to parts that are there, they do so in the unfolded graphs; and kernels that fit, fit there.
-use Rattle.std.proofs.Common.{◌≡◌, ℕ, ◌+◌, ◌<◌, ◌==◌, Bool, List, [], ◌∷◌, length, get_or, map, slice_get, Option, Some, None, refl, ap, sym, ◌∙◌, subst, arith, inl, inr}
+use Rattle.std.proofs.Common.{ℕ, ◌<◌, ◌==◌, Bool, List, length, get_or, map, slice_get, Option, Some, None, sym, ◌∙◌, subst, arith, inl, inr}
 use Rattle.std.specs.List.{All}
 use Rattle.std.proofs.lemmas.List.{get_or-map, length-map}
 use Rattle.kernel_gate.specs.Signed.{Counts}
 use Rattle.param_expr.specs.Words.{IsName}
 use Rattle.pisdf_meaning.specs.Sound.{KernelFits, KernelsFit}
-use Rattle.pisdf_model.specs.Parts.{port_count}
-use Rattle.pisdf_model.specs.Range.{HasPort, InRange, IsActorInRange, IsEndInRange, IsFifoInRange, IsGraphInRange, IsInterfaceInRange}
+use Rattle.pisdf_model.specs.Range.{HasPort, InRange, IsActorInRange, IsEndInRange, IsGraphInRange, IsInterfaceInRange}
 use Rattle.pisdf_model.specs.Valid.{AreNamed, AreValid}
 use Rattle.pisdf_model.specs.declared.actor.Actor.{Actor}
 use Rattle.pisdf_model.specs.declared.fifo.End.{End}
 use Rattle.pisdf_model.specs.declared.fifo.End.TheVariants as end
-use Rattle.pisdf_model.specs.declared.fifo.Fifo.{Fifo}
 use Rattle.pisdf_model.specs.declared.graph.Graph.{Graph}
 use Rattle.pisdf_model.specs.declared.graph.Graphs.{Graphs}
 use Rattle.pisdf_model.specs.declared.graph.Interface.{Interface}
@@ -84,7 +82,7 @@ module _ (times : ℕ) (graphs : Graphs) where
             let here = graph_moves graphs.version (n == graphs.top) (get_or gs n d) (h.each_graph n d within) in
             let P : Graph → Type 0 = λ g. IsGraphInRange graphs.version hs (n == graphs.top) g in
             elim (either_at times graphs.top n d gs within) [
-              inl both ↦ subst P (sym both.1) (graph_multiplies graphs.version (n == graphs.top) (get_or gs n d) here)
+              | inl both ↦ subst P (sym both.1) (graph_multiplies graphs.version (n == graphs.top) (get_or gs n d) here)
               | inr same ↦ subst P (sym same) here
             ];
       }
@@ -100,6 +98,6 @@ module _ (times : ℕ) (graphs : Graphs) where
       let within : n < length gs = subst (λ (m : ℕ). n < m) (length-multiplied times graphs.top gs) inside in
       let P : Graph → Type 0 = λ g. All (λ (a : Actor). KernelFits signatures a.body) g.actors in
       elim (either_at times graphs.top n d gs within) [
-        inl both ↦ subst P (sym both.1) (h n d within)
+        | inl both ↦ subst P (sym both.1) (h n d within)
         | inr same ↦ subst P (sym same) (h n d within)
       ]

@@ -1,5 +1,5 @@
 -- Sources and sinks link by link.
-use Rattle.std.proofs.Common.{◌≡◌, ℕ, zero, suc, ◌+◌, ◌<◌, ◌≤◌, ◌⊎◌, inl, inr, List, [], ◌∷◌, ◌++◌, length, slice_index, slice_index_or, take, refl, ap, sym, ◌∙◌, subst, arith}
+use Rattle.std.proofs.Common.{ℕ, zero, suc, ◌+◌, ◌<◌, ◌≤◌, ◌⊎◌, inl, inr, List, [], ◌∷◌, ◌++◌, length, slice_index, slice_index_or, take, sym, subst, arith}
 use Rattle.std.proofs.lemmas.List.{take_all, take_more}
 use Rattle.std.specs.List.{AllByRecursion}
 use Rattle.interface_rules.specs.Connections.{AreGrouped}
@@ -36,7 +36,7 @@ module _ (P : Outer → Type 0) (level : LevelView) where
   some_snoc : (links : List Link) (link : Link) → SomeOuter P level (links ++ link ∷ []) → SomeOuter P level links ⊎ IsOuterWith P level link.tail link.head
   some_snoc [] link some = elim some [ inl here ↦ inr here | inr none ↦ absurd none ]
   some_snoc (x ∷ links) link some = elim some [
-    inl here ↦ inl (inl here)
+    | inl here ↦ inl (inl here)
     | inr more ↦ elim (some_snoc links link more) [ inl s ↦ inl (inr s) | inr last ↦ inr last ]
   ]
 
@@ -65,7 +65,7 @@ module _ (P Q : Outer → Type 0) (level : LevelView) (turn : (link : Outer) →
   pub some_turned : (links : List Link) → AllByRecursion (λ link. TailIsThere level link.tail) links → AllByRecursion (λ link. HeadIsThere level link.head) links → SomeOuter P level links → SomeOuter Q level links
   some_turned [] tails heads some = some
   some_turned (link ∷ links) tails heads some = elim some [
-    inl here ↦ inl (one_turned link.tail link.head tails.0 heads.0 here)
+    | inl here ↦ inl (one_turned link.tail link.head tails.0 heads.0 here)
     | inr more ↦ inr (some_turned links tails.1 heads.1 more)
   ]
 

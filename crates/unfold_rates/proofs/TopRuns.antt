@@ -1,9 +1,9 @@
 -- An iteration of graphs whose top graph has no configuration actor is the run of its level.
-use Rattle.std.proofs.Common.{◌≡◌, ℕ, ◌<◌, ℤ, List, [], ◌∷◌, ◌++◌, map, slice_get, Option, Some, Result, Ok, Err, refl, ap, sym, ◌∙◌, subst}
+use Rattle.std.proofs.Common.{◌≡◌, ℤ, List, [], ◌++◌, map, slice_get, Option, Some, Ok, refl, ap, sym, ◌∙◌, subst}
 use Rattle.level_schedule.specs.Schedules.{IsScheduled}
 use Rattle.level_schedule.specs.declared.scheduling.LevelSchedule.{LevelSchedule}
 use Rattle.param_resolver.specs.Assignment.{given_to, numbers, param_faults, values_of}
-use Rattle.param_resolver.specs.EarlyCheck.{Checked, as_refusal, check_by, check_of, early_faults, early_of, given_early}
+use Rattle.param_resolver.specs.EarlyCheck.{Checked, as_refusal, check_by, check_of, early_faults, given_early}
 use Rattle.param_resolver.specs.LevelOf.{level_faults}
 use Rattle.pisdf_model.specs.Valid.{AreValid}
 use Rattle.pisdf_model.specs.declared.graph.Graph.{Graph}
@@ -11,7 +11,7 @@ use Rattle.pisdf_model.specs.declared.graph.Graphs.{Graphs}
 use Rattle.pisdf_model.proofs.Lists.{left_none}
 use Rattle.pisdf_meaning.specs.Causes.{unless_refused}
 use Rattle.pisdf_meaning.specs.Configuring.{Configuration, LeaveAll, configurations}
-use Rattle.pisdf_meaning.specs.Endings.{End, Ends}
+use Rattle.pisdf_meaning.specs.Endings.{Ends}
 use Rattle.pisdf_meaning.specs.Meaning.{FiresGraph, MeansWithin}
 use Rattle.pisdf_meaning.specs.Preparing.{chosen_values, level_in, resolved, values_set}
 use Rattle.pisdf_meaning.specs.Run.{IterationGives, iteration_of, top_firing}
@@ -21,11 +21,9 @@ use Rattle.pisdf_meaning.specs.declared.firing.Firing.{Firing}
 use Rattle.pisdf_meaning.specs.declared.firing.Given.{Given}
 use Rattle.pisdf_meaning.specs.declared.outcome.Iteration.{Iteration}
 use Rattle.pisdf_meaning.specs.declared.outcome.TraceRow.{TraceRow}
-use Rattle.pisdf_meaning.specs.declared.refusal.Refusal.{Refusal}
-use Rattle.pisdf_meaning.proofs.SomeMeaning.{unrefused}
 use Rattle.sdf_level.specs.LevelRun.{Ended, IsLevelRun}
 use Rattle.unfold_rates.specs.Exact.{own_values, top_level}
-use Rattle.unfold_rates.proofs.Fired.{Fired, Ran, fired, fires_so, ran}
+use Rattle.unfold_rates.proofs.Fired.{Fired, fired, fires_so, ran}
 use Rattle.unfold_rates.proofs.Fitted.{EarlyUnfolds}
 use Rattle.unfold_rates.proofs.Unset.{NoneConfigures, no_chosen_rows, no_chosen_values, no_configurations, none_chosen}
 

@@ -1,15 +1,14 @@
 -- The rows of an iteration of unfolded graphs stand in the order of its firings.
-use Rattle.std.proofs.Common.{◌≡◌, ◌≢◌, ℕ, zero, suc, ◌+◌, ◌*◌, ◌<◌, ◌≤◌, Bool, true, false, not, ℤ, List, [], ◌∷◌, ◌++◌, length, map, get_or, sum, slice_get, slice_index, Option, Some, None, Result, Ok, refl, ap, sym, ◌∙◌, subst, arith}
+use Rattle.std.proofs.Common.{◌≡◌, ℕ, zero, suc, ◌+◌, ◌<◌, ◌≤◌, ℤ, List, [], ◌∷◌, ◌++◌, length, map, get_or, sum, slice_get, slice_index, Option, Some, Ok, refl, ap, sym, ◌∙◌, subst}
 use Rattle.std.specs.List.{All, AllByRecursion, filter}
 use Rattle.std.specs.Arc.{arc_value}
 use Rattle.std.proofs.lemmas.List.{length-map}
-use Rattle.std.proofs.lemmas.List.Elements.{All-cons, All-head, All-map, All-nil, All-tail}
+use Rattle.std.proofs.lemmas.List.Elements.{All-cons, All-head, All-nil, All-tail}
 use Rattle.std.proofs.lemmas.Option.{get_or_from_slice_get, slice_get_within}
 use Rattle.firing_laws.specs.Alike.{ActorsMove, HoldsBelow, IsLevelAlike, with_interfaces}
-use Rattle.firing_laws.specs.Moving.{AreMoved, DifferAt, IsBelow}
+use Rattle.firing_laws.specs.Moving.{DifferAt, IsBelow}
 use Rattle.level_laws.specs.Laws.{CountsAreMultiplied}
 use Rattle.level_laws.specs.Unfolded.{multiplied, unfolded}
-use Rattle.level_schedule.specs.Schedules.{IsScheduled}
 use Rattle.param_expr.specs.Print.{Differ}
 use Rattle.param_expr.specs.Words.{IsName}
 use Rattle.param_resolver.specs.LevelOf.{level_args}
@@ -17,16 +16,14 @@ use Rattle.param_resolver.specs.Numbering.{acting, fires}
 use Rattle.pisdf_meaning.specs.Endings.{child_path}
 use Rattle.pisdf_meaning.specs.Meaning.{MeansWithin}
 use Rattle.pisdf_meaning.specs.Run.{IterationGives, top_firing}
-use Rattle.pisdf_meaning.specs.Running.{Fires, FiresActor, Traces, child_rows}
+use Rattle.pisdf_meaning.specs.Running.{Fires, FiresActor, child_rows}
 use Rattle.pisdf_meaning.specs.Sound.{ChildWithin}
 use Rattle.pisdf_meaning.specs.States.{tokens_at}
 use Rattle.pisdf_meaning.specs.declared.outcome.Iteration.{Iteration}
-use Rattle.pisdf_meaning.specs.declared.outcome.TraceRow.{TraceRow}
 use Rattle.pisdf_model.specs.Details.{from_number, of_each}
-use Rattle.pisdf_model.specs.InterfaceWires.{is_configuration}
-use Rattle.pisdf_model.specs.Names.{actor_walk, graph_walk, names_of, scoped}
+use Rattle.pisdf_model.specs.Names.{actor_walk, graph_walk, scoped}
 use Rattle.pisdf_model.specs.Parts.{interface_names}
-use Rattle.pisdf_model.specs.Valid.{AreNamed, AreValid}
+use Rattle.pisdf_model.specs.Valid.{AreValid}
 use Rattle.pisdf_model.specs.declared.actor.Actor.{Actor}
 use Rattle.pisdf_model.specs.declared.graph.Graph.{Graph}
 use Rattle.pisdf_model.specs.declared.graph.Graphs.{Graphs}

@@ -1,5 +1,5 @@
 -- The level of the unfolded top graph is the unfolded level.
-use Rattle.std.proofs.Common.{◌≡◌, ℕ, zero, suc, ◌+◌, ◌*◌, ◌<◌, ◌≤◌, Bool, false, not, ℤ, List, [], ◌∷◌, ◌++◌, length, map, slice_get, slice_index, Option, Some, refl, ap, sym, ◌∙◌, subst, arith}
+use Rattle.std.proofs.Common.{◌≡◌, ℕ, zero, suc, ◌*◌, false, not, ℤ, List, [], ◌∷◌, ◌++◌, length, map, slice_index, Some, refl, ap, sym, ◌∙◌, arith}
 use Rattle.std.specs.List.{filter, flat_map, range_with_len}
 use Rattle.std.proofs.lemmas.List.{append-nil, length-map}
 use Rattle.level_laws.specs.Unfolded.{multiplied, unfolded}
@@ -12,7 +12,6 @@ use Rattle.pisdf_model.specs.declared.actor.Actor.{Actor}
 use Rattle.pisdf_model.specs.declared.actor.Body.{Body}
 use Rattle.pisdf_model.specs.declared.actor.Body.TheVariants.{Kernel, Config, Child, ConfigChild}
 use Rattle.pisdf_model.specs.declared.graph.Graph.{Graph}
-use Rattle.sdf_level.specs.View.{LevelView}
 use Rattle.sdf_level.specs.declared.link.Link.{Link}
 use Rattle.unfold_rates.specs.Multiplied.{multiplied_graph, multiplied_interface}
 use Rattle.unfold_rates.proofs.Lookups.{append_same}

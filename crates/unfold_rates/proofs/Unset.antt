@@ -1,7 +1,6 @@
 -- A top graph without configuration actors has no chosen parameter.
-use Rattle.std.proofs.Common.{◌≡◌, ℕ, zero, suc, ◌+◌, ◌<◌, ◌==◌, Bool, true, false, ℤ, List, [], ◌∷◌, ◌++◌, length, map, drop, count_by, slice_get, Option, Some, Result, Ok, refl, ap, sym, ◌∙◌, subst, arith, eq-eqb}
+use Rattle.std.proofs.Common.{◌≡◌, ℕ, suc, ◌+◌, ◌==◌, Bool, true, false, ℤ, List, [], ◌∷◌, slice_get, Some, refl, ap, ◌∙◌, subst, arith, eq-eqb}
 use Rattle.std.specs.List.{All, AllByRecursion}
-use Rattle.param_resolver.specs.Assignment.{given_to}
 use Rattle.pisdf_model.specs.Details.{from_number, of_each, unless}
 use Rattle.pisdf_model.specs.InterfaceWires.{is_configuration}
 use Rattle.pisdf_model.specs.ParamOrder.{is_chosen_kind}
@@ -17,10 +16,9 @@ use Rattle.pisdf_model.specs.declared.param.ParamKind.{ParamKind}
 use Rattle.pisdf_model.specs.declared.param.ParamKind.TheVariants.{Inherited, Derived, Chosen}
 use Rattle.pisdf_model.proofs.Lists.{left_none, right_none, unmapped}
 use Rattle.pisdf_model.proofs.Numbers.{faults_4, faults_7, from_7, from_8}
-use Rattle.pisdf_meaning.specs.Configuring.{configurations, configurations_from}
+use Rattle.pisdf_meaning.specs.Configuring.{configurations_from}
 use Rattle.pisdf_meaning.specs.Preparing.{chosen_from, chosen_next}
 use Rattle.pisdf_meaning.specs.Running.{chosen_row, chosen_rows, value_at}
-use Rattle.pisdf_meaning.specs.declared.outcome.TraceRow.{TraceRow}
 use Rattle.pisdf_meaning.proofs.KeptSizes.{none_each}
 use Rattle.unfold_rates.proofs.Lookups.{append_same}
 

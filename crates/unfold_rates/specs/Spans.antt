@@ -1,7 +1,6 @@
 -- Rows of a trace in the order of the firings in which they stand.
-use Rattle.std.specs.Prelude.{◌≡◌, ℕ, ◌+◌, ◌<◌, ◌≤◌, true, false, List, [], ◌∷◌, length, map, slice_get, slice_index, slice_index_or, slice_range, Some}
+use Rattle.std.specs.Prelude.{◌≡◌, ℕ, ◌+◌, ◌<◌, ◌≤◌, true, false, List, [], length, map, slice_get, slice_index, slice_index_or, slice_range, Some}
 use Rattle.std.specs.List.{All, AllByRecursion, AllPass, filter}
-use Rattle.level_laws.specs.Unfolded.{multiplied}
 use Rattle.param_expr.specs.Print.{Differ}
 use Rattle.param_expr.specs.Words.{IsName}
 use Rattle.pisdf_meaning.specs.Endings.{child_path}
@@ -18,7 +17,6 @@ pub record IsSpan (rows : List TraceRow) (path : List ℕ) (start end : ℕ) : T
   pub inside : end ≤ length rows
   pub within : AllPass (λ (row : TraceRow). is_within path row.path) (slice_range rows start end)
   pub over : (row : TraceRow) → slice_get rows end ≡ Some row → is_within path row.path ≡ false
-
 
 -- from start on, one span after another for each of so many firings of an actor
 pub record AreSpans (rows : List TraceRow) (top actor : List ℕ) (count start : ℕ) (bounds : List ℕ) : Type 0 where

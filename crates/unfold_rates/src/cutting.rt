@@ -197,11 +197,7 @@ impl Unfolded {
     /// # Errors
     ///
     /// Want of memory.
-    pub fn cut(
-        &self,
-        alloc: Global,
-        iteration: &Iteration,
-    ) -> Result<List<Iteration>, AllocError>
+    pub fn cut(&self, alloc: Global, iteration: &Iteration) -> Result<List<Iteration>, AllocError>
         requires of { (graphs : SomeGraphs) × AreValid graphs × IsUnfolded graphs self.now.times self.now }
         requires done { (ins state left : Seq (Seq ℤ)) × IterationGives (arc_value self.now.graphs) ins state iteration.now left }
         ensures pieces { IfOk result (AreCut self.now iteration.now) }

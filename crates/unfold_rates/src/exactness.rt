@@ -147,7 +147,11 @@ fn exact_schedule(alloc: Global, level: &Level, times: u32) -> Result<LevelSched
 }
 
 /// The schedule of the top graph's level, where so many iterations of the graphs can be fired as one.
-pub(crate) fn exact(alloc: Global, graphs: &Graphs, times: u32) -> Result<LevelSchedule, UnfoldFault>
+pub(crate) fn exact(
+    alloc: Global,
+    graphs: &Graphs,
+    times: u32,
+) -> Result<LevelSchedule, UnfoldFault>
     requires valid { AreValid graphs.now }
     requires few { times ≤ 64 }
     ensures exact { IfOk result (λ schedule. (exact : IsExact graphs.now times) × (exact.schedule ≡ schedule)) }

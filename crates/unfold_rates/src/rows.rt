@@ -64,12 +64,7 @@ fn rest_after<'a>(path: &'a str, from: &str) -> &'a str
 }
 
 /// The row at another path, which goes on as its own did.
-fn moved_row(
-    alloc: Global,
-    row: &TraceRow,
-    from: &Name,
-    to: &Name,
-) -> Result<TraceRow, AllocError>
+fn moved_row(alloc: Global, row: &TraceRow, from: &Name, to: &Name) -> Result<TraceRow, AllocError>
     requires { IsTrue (within from.now row.now.path) }
     ensures { IfOk result (λ r. r ≡ moved from.now to.now row.now) }
 {

@@ -1,4 +1,3 @@
-use Rattle.std.proofs.Common.{◌≡◌, ◌≤◌, length}
 use Rattle.level_laws.specs.Unfolded.{multiplied}
 use Rattle.sdf_level.specs.Lists.{lists_of}
 use Rattle.unfold_rates.proofs.Bounds.{ArePickedSoFar}

@@ -1,6 +1,3 @@
-use Rattle.std.proofs.Common.{◌≡◌, ℕ, ◌+◌, ◌<◌, ◌≤◌, length, slice_index}
-use Rattle.pisdf_meaning.specs.Endings.{child_path}
-use Rattle.unfold_rates.specs.Spans.{IsSpan}
 use Rattle.unfold_rates.proofs.Bounds.{AreSpansSoFar}
 use Rattle.unfold_rates.proofs.cutting.bounds_of.Given as goal
 

@@ -1,10 +1,9 @@
-use Rattle.std.proofs.Common.{◌≡◌, ℕ, ◌+◌, ◌*◌, ◌<◌, ◌≤◌, ◌++◌, List, [], Vec, Global, length, get_or, slice_get, slice_index, slice_index_or, Some, ap, sym, ◌∙◌, subst, arith}
+use Rattle.std.proofs.Common.{◌≡◌, ℕ, ◌*◌, ◌<◌, ◌≤◌, ◌++◌, List, [], Vec, Global, length, get_or, slice_get, slice_index, slice_index_or, Some, ap, sym, ◌∙◌, subst, arith}
 use Rattle.std.proofs.lemmas.List.{get_or-map, length-map}
 use Rattle.std.proofs.lemmas.Option.{slice_get-get_or}
 use Rattle.level_laws.proofs.Multiplied.{at_multiplied}
 use Rattle.sdf_level.specs.Lists.{lists_of}
 use Rattle.unfold_rates.specs.Spans.{ArePicked}
-use Rattle.std.specs.Prelude.{zip}
 use Rattle.std.specs.List.{flat_map}
 use Rattle.level_laws.specs.Unfolded.{multiplied}
 use Rattle.pisdf_meaning.specs.declared.outcome.TraceRow.{TraceRow}

@@ -10,8 +10,7 @@ use Rattle.pisdf_model.specs.declared.fifo.Fifo.{Fifo}
 use Rattle.pisdf_model.specs.declared.graph.Graph.{Graph}
 use Rattle.sdf_level.specs.Kept.{rate_limit}
 use Rattle.sdf_level.specs.View.{LevelView}
-use Rattle.unfold_rates.specs.Exact.{BeginsOnce, IsExact, IsExactSchedule, top_level}
-use Rattle.unfold_rates.specs.declared.fault.UnfoldFault.{UnfoldFault}
+use Rattle.unfold_rates.specs.Exact.{BeginsOnce, IsExact, IsExactSchedule}
 use Rattle.unfold_rates.proofs.exactness.exact.Goals as goal
 
 if_ok : {T E : Type 0} (r : Result T E) (P Q : T → Type 0) → ((x : T) → P x → Q x) → IfOk r P → IfOk r Q

@@ -1,4 +1,4 @@
-use Rattle.std.proofs.Common.{◌≡◌, ℕ, List, ap, sym, ◌∙◌, subst}
+use Rattle.std.proofs.Common.{ℕ, List, subst}
 use Rattle.level_laws.specs.Unfolded.{IsMetExactly, multiplied}
 use Rattle.sdf_level.specs.Kept.{IsLevel}
 use Rattle.sdf_level.specs.Limits.{IsWithinLimits}

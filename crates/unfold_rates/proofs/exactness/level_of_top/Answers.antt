@@ -1,11 +1,10 @@
-use Rattle.std.proofs.Common.{◌≡◌, ℤ, List, [], length, slice_get, Option, Some, None, IfSome, IsSome, ◌∷◌, ap, sym, ◌∙◌, refl, subst}
+use Rattle.std.proofs.Common.{◌≡◌, ℤ, List, [], length, slice_get, Option, Some, None, IfSome, IsSome, ◌∷◌, ap, sym, ◌∙◌, refl}
 use Rattle.param_resolver.specs.Assignment.{numbers}
 use Rattle.param_resolver.specs.EarlyCheck.{early_of}
 use Rattle.param_resolver.specs.EarlyView.{EarlyView}
 use Rattle.param_resolver.specs.LevelOf.{level_at, level_faults}
 use Rattle.param_resolver.specs.Refusal.{Refusal, StandsFirst, level_refusal_of}
 use Rattle.pisdf_meaning.proofs.LevelSets.{some_at}
-use Rattle.pisdf_model.specs.declared.graph.Graph.{Graph}
 use Rattle.unfold_rates.specs.Exact.{own_values}
 use Rattle.unfold_rates.proofs.EarlyOnes.{values_known, values_long}
 use Rattle.unfold_rates.proofs.exactness.level_of_top.Goals as goal

@@ -1,6 +1,5 @@
-use Rattle.std.proofs.Common.{◌≡◌, ◌<◌, ◌≤◌, ◌++◌, [], ◌∷◌, List, length, get_or, take, ap, sym, ◌∙◌, refl, arith}
+use Rattle.std.proofs.Common.{◌≡◌, ◌<◌, ◌≤◌, List, length, get_or, ap, sym, ◌∙◌, arith}
 use Rattle.pisdf_model.specs.declared.graph.Graph.{Graph}
-use Rattle.pisdf_model.specs.declared.graph.Graphs.{Graphs}
 use Rattle.unfold_rates.specs.Multiplied.{multiplied_at}
 use Rattle.unfold_rates.proofs.Lookups.{taken_all, taken_more}
 use Rattle.unfold_rates.proofs.multiplying.unfolded_graphs.Goals as goal

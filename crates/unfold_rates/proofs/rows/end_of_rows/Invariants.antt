@@ -1,4 +1,4 @@
-use Rattle.std.proofs.Common.{◌≡◌, ◌-◌, ◌≤◌, true, length}
+use Rattle.std.proofs.Common.{◌-◌, ◌≤◌, length}
 use Rattle.std.specs.Prelude.{slice_range}
 use Rattle.std.specs.List.{AllPass}
 use Rattle.pisdf_meaning.specs.declared.outcome.TraceRow.{TraceRow}

@@ -1,8 +1,7 @@
-use Rattle.std.proofs.Common.{◌≡◌, ℕ, ◌+◌, ◌<◌, ◌≤◌, List, length, slice_index, ap, sym, ◌∙◌, refl, subst, arith, below_more}
-use Rattle.level_laws.specs.Unfolded.{IsServed, SomeOuter}
+use Rattle.std.proofs.Common.{◌≡◌, ◌<◌, ◌≤◌, ap, sym, ◌∙◌, refl, subst, arith, below_more}
+use Rattle.level_laws.specs.Unfolded.{IsServed}
 use Rattle.sdf_level.specs.Kept.{IsLevel}
 use Rattle.sdf_level.specs.View.{LevelView}
-use Rattle.unfold_rates.specs.Groups.{IsOfGroup}
 use Rattle.unfold_rates.proofs.ServedLinks.{group_of, served_by}
 use Rattle.unfold_rates.proofs.serving.each_is_served.Goals as goal
 

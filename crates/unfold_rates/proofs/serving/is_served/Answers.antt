@@ -1,4 +1,4 @@
-use Rattle.std.proofs.Common.{◌≡◌, ◌<◌, ◌≤◌, length, ap, sym, ◌∙◌, refl, arith}
+use Rattle.std.proofs.Common.{◌≡◌, ◌<◌, ◌≤◌, length, ap, ◌∙◌, refl, arith}
 use Rattle.sdf_level.specs.View.{LevelView}
 use Rattle.unfold_rates.specs.Groups.{IsOfGroup}
 use Rattle.unfold_rates.proofs.ServedLinks.{none_more, none_whole, some_at}

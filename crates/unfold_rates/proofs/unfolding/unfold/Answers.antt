@@ -1,9 +1,7 @@
-use Rattle.std.proofs.Common.{◌≡◌, ℕ, List, ap, sym, ◌∙◌, refl, subst}
-use Rattle.std.specs.Arc.{arc_value}
+use Rattle.std.proofs.Common.{ap, sym, ◌∙◌, refl, subst}
 use Rattle.level_schedule.specs.declared.scheduling.LevelSchedule.{LevelSchedule}
 use Rattle.pisdf_model.specs.declared.graph.Graphs.{Graphs}
 use Rattle.unfold_rates.specs.Fits.{FitAsBefore}
-use Rattle.unfold_rates.specs.Multiplied.{unfolded_graphs}
 use Rattle.unfold_rates.proofs.Fitted.{fit_as_before}
 use Rattle.unfold_rates.proofs.unfolding.unfold.Goals as goal
 

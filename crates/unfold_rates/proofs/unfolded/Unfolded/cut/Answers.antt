@@ -59,9 +59,11 @@ returns c =
     let may = may_be_cut c.early_unfolds.ensures c.counts_multiplied.ensures c.graphs_below.ensures c.levels_alike.ensures.level c.actors_move.ensures c.requires.of.0 c.args.self.now c.requires.of.1 c.requires.of.2 c.requires.done.0 c.requires.done.1 c.args.iteration.now c.requires.done.2 c.requires.done.3 c.index-graphs-deref.result there in
     let all : List ℕ = range_with_len 0 c.args.self.now.times in
     let M : List ℕ → List (List ℤ) → List TraceRow → List Iteration = λ counts outs rows. map (piece_at c.index-graphs-deref.result counts c.args.self.now.times record { outs = outs; trace = rows }) (range_with_len 0 c.args.self.now.times) in
-    record { pieces = if_ok c.pieces_of.result (λ pieces. pieces ≡ M c.items.result.now c.items-outs.result.now c.items-rows.result.now) (AreCut c.args.self.now c.args.iteration.now) (λ pieces is. record {
-      top = c.index-graphs-deref.result;
-      top_is = there;
-      pieces_are = is ∙ ap (λ (counts : List ℕ). M counts c.items-outs.result.now c.items-rows.result.now) c.items.ensures ∙ ap (λ (outs : List (List ℤ)). M c.args.self.now.counts outs c.items-rows.result.now) c.items-outs.ensures
-          ∙ ap (λ (rows : List TraceRow). M c.args.self.now.counts c.args.iteration.now.outs rows) c.items-rows.ensures;
-    }) c.pieces_of.ensures }
+    record {
+      pieces = if_ok c.pieces_of.result (λ pieces. pieces ≡ M c.items.result.now c.items-outs.result.now c.items-rows.result.now) (AreCut c.args.self.now c.args.iteration.now) (λ pieces is. record {
+        top = c.index-graphs-deref.result;
+        top_is = there;
+        pieces_are = is ∙ ap (λ (counts : List ℕ). M counts c.items-outs.result.now c.items-rows.result.now) c.items.ensures ∙ ap (λ (outs : List (List ℤ)). M c.args.self.now.counts outs c.items-rows.result.now) c.items-outs.ensures
+            ∙ ap (λ (rows : List TraceRow). M c.args.self.now.counts c.args.iteration.now.outs rows) c.items-rows.ensures;
+      }) c.pieces_of.ensures;
+    }
