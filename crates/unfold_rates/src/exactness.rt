@@ -128,6 +128,7 @@ fn exact_schedule(alloc: Global, level: &Level, times: u32) -> Result<LevelSched
     ensures exact { IfOk result (IsExactSchedule level.now times) }
     ensures refused { IfErr result (λ fault. fault ≡ UnfoldFault.NotExact → (schedule : OneSchedule) → IsExactSchedule level.now times schedule → ⊥) }
 {
+    // The proof below takes what holds of every level from this reading of one.
     let _actors = level.actors;
     let schedule = match schedule(alloc, level) {
         Ok(schedule) => schedule,
