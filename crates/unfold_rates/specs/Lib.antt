@@ -3,5 +3,4 @@ pub mod Exact
 pub mod Fits
 pub mod Groups
 pub mod Cut
-pub mod InTurn
 pub mod Spans
