@@ -50,6 +50,9 @@ ROWS = [
     ("an unknown child", [('"graph":"h"', '"graph":"hh"')], "graph: 5 unknown hh", (10, '"hh","args":["'), ["no graph `hh`", "Do you mean `h`?"]),
     ("an unknown port", [('"to":"a.i"', '"to":"a.k"')], "graph: 5 unknown a.k", (13, '"a.k"},'), ["no port `k`", "the input `i`", "Do you mean `a.i`?"]),
     ("an unknown actor", [('"to":"a.i"', '"to":"A.i"')], "graph: 5 unknown A.i", (13, '"A.i"},'), ["no actor `A`", "Do you mean `a.i`?"]),
+    ("a renamed actor", [('"name":"a",', '"name":"gained",')], "graph: 5 unknown a.i", (13, '"a.i"},'), ["`gained` has the ports `i` and `o`, and no FIFO", "Write `gained.i` here. Change FIFO 2 in the same way"]),
+    ("a renamed output", [('"outputs":[{"name":"y"', '"outputs":[{"name":"out"')], "graph: 5 unknown y", (18, '"y"}],'), ["The output `out` has no FIFO: write `out` here, or call the output `y`"]),
+    ("a FIFO too many", [('"to":"y"}', '"to":"y"},{"from":"b.w","to":"z"}')], "graph: 5 unknown b.w", (18, '"b.w","to":"z"'), ["may come from has its FIFO already"]),
     ("an actor without a port", [('"to":"a.i"', '"to":"a"')], "graph: 5 unknown a", (13, '"a"},'), ["is an actor", "one of its ports"]),
     ("an interface with a port", [('"from":"x"', '"from":"x.o"')], "graph: 5 unknown x.o", (13, '"x.o","to":"a.'), ["is an interface", "Do you mean `x`?"]),
     ("a parameter as an end", [('"from":"x"', '"from":"n"')], "graph: 5 unknown n", (13, '"n","to":"a.i"'), ["is a parameter"]),
@@ -88,6 +91,11 @@ ROWS = [
 
 
 class GraphFaults(unittest.TestCase):
+    def test_no_fault_holds_by_a_guess_alone(self):
+        for changes in ([('"name":"a",', '"name":"gained",')], [('"outputs":[{"name":"y"', '"outputs":[{"name":"out"')], [('"from":"a.o"', '"from":"d.q"')]):
+            lines = [fault.line for fault in read_text(changed(WHOLE, *changes)).faults]
+            self.assertEqual(len(lines), 1, lines)
+
     def test_each_fault_is_found_first_at_its_place_and_explained(self):
         for name, changes, line, place, words in ROWS:
             with self.subTest(name):

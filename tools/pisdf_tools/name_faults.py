@@ -1,6 +1,6 @@
 """Faults of names and counts: duplicates, unknown names, kernels, and numbers of arguments and ports (faults 4 to 7)."""
 from . import expressions, kernels
-from .graph_reading import name_trouble
+from .end_names import EndNames
 from .wording import counted, joined, listed, named, quoted, with_names
 
 COUNT_WORDS = {"args": ("argument", "arguments"), "ins": ("input", "inputs"), "outs": ("output", "outputs"),
@@ -80,10 +80,7 @@ class NameFaults:
                 self.names_in(port.rate, graph)
             for actor in graph.actors:
                 self.names_of_actor(actor, graph)
-            ends = self.ends_of(graph)
-            for fifo in graph.fifos:
-                fifo.tail = self.end(fifo.tail, graph, ends, "outs")
-                fifo.head = self.end(fifo.head, graph, ends, "ins")
+            EndNames(self.file, self.faults, graph).resolve()
             graph.exports = [self.param_word(word, graph, "`exports` lists parameters of this graph.") for word in graph.exports]
 
     def unnamed_graph(self):
@@ -140,75 +137,6 @@ class NameFaults:
             elsewhere = (f"Graph {quoted(others[0])} has one of that name. A graph gets values from the graph around it by a "
                          "parameter of the kind `in` and an argument of the actor.")
         return joined([f"There is no parameter {quoted(name)}.", rule, has, self.ask(self.faults.near(name, known)), elsewhere])
-
-    def ends_of(self, graph):
-        """All ends of a graph with what each is: `ins` for what tokens may be led to, `outs` for what they come from."""
-        ends = {port.name.text: "outs" for port in graph.inputs}
-        ends.update({port.name.text: "ins" for port in graph.outputs})
-        for actor in graph.actors:
-            ins, outs = self.file.ports_of(actor) or ([], [])
-            ends.update({f"{actor.name.text}.{port.name.text}": "ins" for port in ins})
-            ends.update({f"{actor.name.text}.{port.name.text}": "outs" for port in outs})
-        return ends
-
-    def end(self, word, graph, ends, wanted):
-        """The end as it is, or the one that is most likely meant where it is unknown."""
-        if word is None or word.text in ends:
-            return word
-        name, _, port = word.text.partition(".")
-        actor = graph.actor(name)
-        if actor and port and (not actor.kind or self.file.ports_of(actor) is None):
-            return None
-        return self.unknown_end(word, graph, ends, wanted)
-
-    def unknown_end(self, word, graph, ends, wanted):
-        fitting = [end for end, kind in ends.items() if kind == wanted]
-        meant = self.nearest_end(word.text, graph, ends, wanted)
-        self.add(5, f"unknown {word.text}", word, self.why_no_end(word.text, graph), self.ask_end(meant),
-                 "" if meant or not fitting else f"A FIFO may {'lead to' if wanted == 'ins' else 'come from'} {named(fitting, last='or')} here.")
-        return self.meaning(word, meant)
-
-    def ask_end(self, meant):
-        wrong = next((step for step in (meant or "").split(".") if name_trouble(step)), None) if meant else None
-        if wrong is None:
-            return self.ask(meant)
-        return f"It may mean {quoted(wrong)}, which is no name: rename that first."
-
-    def nearest_end(self, text, graph, ends, wanted):
-        """The known end nearest to an unknown one: of the right direction, and of the same actor where there is one."""
-        name = text.partition(".")[0]
-        fitting = [end for end, kind in ends.items() if kind == wanted]
-        same = [end for end in fitting if end.partition(".")[0] == name]
-        if len(same) == 1:
-            return same[0]
-        return self.faults.near(text, same) or self.faults.near(text, fitting)
-
-    def why_no_end(self, text, graph):
-        name, _, port = text.partition(".")
-        actor, label = graph.actor(name), f"Graph {quoted(graph.name.text)}"
-        if actor and port:
-            ins, outs = self.file.ports_of(actor) or ([], [])
-            return joined([f"The actor {quoted(name)} has no port {quoted(port)}.", self.port_list(actor, ins, outs)])
-        if actor:
-            return f"{quoted(name)} is an actor. An end names one of its ports too, as {quoted(self.any_port(actor))}."
-        if any(part.name.text == name for part in graph.inputs + graph.outputs):
-            return f"{quoted(name)} is an interface, so its end is {quoted(name)} alone."
-        if graph.param(name):
-            return f"{quoted(name)} is a parameter. No FIFO leads to a parameter or comes from one: name it in an expression."
-        known = [actor.name.text for actor in graph.actors] if port else [part.name.text for part in graph.inputs + graph.outputs]
-        what = "actor" if port else "interface"
-        has = f"It has {with_names(what, known)}." if known else f"It has no {what}s."
-        return f"{label} has no {what} {quoted(name)}. {has}"
-
-    def any_port(self, actor):
-        ins, outs = self.file.ports_of(actor) or ([], [])
-        return f"{actor.name.text}.{(ins + outs)[0].name.text}" if ins + outs else f"{actor.name.text}.i"
-
-    def port_list(self, actor, ins, outs):
-        owner = f"They are those of its graph {quoted(actor.child.text)}." if actor.is_hierarchical and actor.child else ""
-        lists = [with_names(what, (port.name.text for port in ports))
-                 for what, ports in (("input", ins), ("output", outs)) if ports]
-        return joined([f"It has {listed(lists)}." if lists else "It has no ports.", owner])
 
     # ---- kernels and counts
 

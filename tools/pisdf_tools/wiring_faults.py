@@ -28,6 +28,8 @@ class Ends:
             for word in (fifo.tail, fifo.head):
                 if word:
                     self.fifos.setdefault(word.text, []).append(number)
+        self.without_tail = [number for number, fifo in enumerate(graph.fifos) if not fifo.tail]
+        self.without_head = [number for number, fifo in enumerate(graph.fifos) if not fifo.head]
 
     def enter(self, end, kind, part):
         self.kinds.setdefault(end, kind)
@@ -87,6 +89,10 @@ class WiringFaults:
     def missing_fifo(self, end, kind, ends, told):
         """The FIFO to add: in full where only one other end may be meant."""
         is_tail = kind in ("input", "out")
+        lost = ends.without_tail if is_tail else ends.without_head
+        if lost:
+            verb = "comes from" if is_tail else "leads to"
+            return f"{listed([f'FIFO {number}' for number in lost[:8]], 'or')}, of which it isn't known what it {verb}, may be meant for it."
         wanted = ("output", "in") if is_tail else ("input", "out")
         free = [other for other, its_kind in ends.kinds.items() if its_kind in wanted and other not in ends.fifos
                 and not (kind in ("input", "output") and its_kind in ("input", "output"))]
