@@ -32,6 +32,23 @@ class Summaries(unittest.TestCase):
         self.assertIn("  repetition: m 1 where n = 8", lines)
         self.assertTrue(any("x of rate 8 is read 3 x 3 = 9, from the front again" in line and line.endswith("where n = 3") for line in lines), lines)
 
+    def test_parameters_that_no_rate_names(self):
+        level = changed(WHOLE, ('"low":1,"high":8', '"low":0,"high":255'))
+        self.assertIn("  repetition: a 4, s 4, d 4, b 2", self.lines(level))
+        wrong = changed(level, ('{"name":"x","rate":"4"}', '{"name":"x","rate":"8"}'), ('"args":["m"],"ins":[{"name":"i","rate":"1"}]', '"args":["m"],"ins":[{"name":"i","rate":"2"}]'))
+        self.assertEqual([refused.line for refused, _ in self.refusals(wrong)], ["run: g kernel a:0 3"])
+        bounds = changed(level, ('"kernel":"gain","args":["m"]', '"kernel":"clamp","args":["m","100"]'))
+        self.assertEqual(self.refusals(bounds), [])
+
+    def test_parameters_with_too_many_values(self):
+        wide = changed(example("adaptive-mean"), ('"high":8', '"high":600'))
+        lines = self.lines(wide)
+        self.assertIn("  of n (1 to 600) 64 values were tried; the others weren't", lines)
+        self.assertTrue(any("where n = 600" in line or "cases aren't shown" in line for line in lines), lines)
+        self.assertEqual(self.refusals(wide), [])
+        fed = changed(wide, ('{"name":"width","rate":"1"}', '{"name":"width","rate":"2"}'))
+        self.assertEqual([refused.line for refused, _ in self.refusals(fed)], ["run: g kernel c:0 3"])
+
     def test_a_graph_that_no_actor_names(self):
         text = changed(WHOLE, (' {"name":"h","params"', ' {"name":"z","params":[],"inputs":[],"outputs":[],"actors":[],"fifos":[],"exports":[]},\n {"name":"h","params"'))
         self.assertIn("No actor names the graph `z`, so it is never fired.", self.lines(text))

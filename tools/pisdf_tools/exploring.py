@@ -1,10 +1,13 @@
 """Walks the hierarchy of a file without tokens: for each choice of values its levels, and what is refused whatever the tokens are."""
 import time
 from dataclasses import dataclass, field
+from itertools import product
+from math import prod
 
 from .firing import Runner
 from .kernel_work import OVERFLOW, SHAPE, VALUE, KernelFault, fire
 from .levels import Refused
+from .rate_params import RateParams, names_in, with_sources
 
 SECONDS = 4
 MOST_CHOICES = 64
@@ -24,15 +27,22 @@ class Outcome:
         return self.refusals[0] if self.refusals else None
 
 
+def spread(param, most):
+    """The values of a parameter, or where they are more, so many of them from the least to the greatest."""
+    count = param.high - param.low + 1
+    if count <= most:
+        return range(param.low, param.high + 1)
+    return sorted({param.low + (count - 1) * place // max(most - 1, 1) for place in range(most)})
+
+
 def choices(params, values):
-    """All choices of values for the chosen parameters, each with the given values. None where they are many."""
-    found = [values]
-    for param in params:
-        count = param.high - param.low + 1
-        if len(found) * count > MOST_CHOICES:
-            return None
-        found = [{**chosen, param.name.text: value} for chosen in found for value in range(param.low, param.high + 1)]
-    return found
+    """Choices of values for these parameters, each with the given values, and how many choices there are at all."""
+    every = prod(param.high - param.low + 1 for param in params)
+    most = MOST_CHOICES if every <= MOST_CHOICES else int(MOST_CHOICES ** (1 / len(params)) + 0.001)
+    spreads = [spread(param, most) for param in params]
+    if prod(map(len, spreads)) > MOST_CHOICES:
+        spreads = [values[:1] for values in spreads]
+    return [{**values, **dict(zip((param.name.text for param in params), chosen))} for chosen in product(*spreads)], every
 
 
 def certain_fault(kernel, args, ins, outs, sets):
@@ -45,83 +55,139 @@ def certain_fault(kernel, args, ins, outs, sets):
     return None
 
 
+@dataclass
+class Setting:
+    """A graph as it is looked at: its path, its early values, and `loose`, its parameters of which not all values are tried."""
+    graph: object
+    path: str
+    early: object
+    loose: set
+
+    def is_loose(self, expressions):
+        return bool(with_sources(self.graph, names_in(expressions)) & self.loose)
+
+
 class Explorer:
-    """`outcomes` has those of each graph by its name. A graph in `unknown` has more choices than were looked at."""
+    """`outcomes` has those of each graph by its name.
+
+    Of the parameters that decide rates all values are tried. Where these are too many, the graph is in `unknown`, with how many
+    choices were tried and how many there are. Parameters that stand in arguments alone have one value, their least.
+    """
 
     def __init__(self, file):
-        self.file, self.runner, self.outcomes, self.unknown = file, Runner(file, SECONDS), {}, set()
-        self.end, self.seen = time.monotonic() + SECONDS, set()
+        self.file, self.runner, self.outcomes, self.unknown = file, Runner(file, SECONDS), {}, {}
+        self.end, self.seen, self.rate_params = time.monotonic() + SECONDS, set(), RateParams(file)
         top = file.top_graph
         try:
             early = self.runner.top_early()
         except Refused as refused:
             self.outcomes[top.name.text] = [Outcome({}, refusals=[refused])]
         else:
-            self.graph(top, top.name.text, early)
+            self.graph(Setting(top, top.name.text, early, set()))
 
-    def graph(self, graph, path, early):
+    def graph(self, setting):
         """Looks at a graph with its early values, and at what it holds."""
-        name = graph.name.text
-        given = {param.name.text: early.values[param.name.text] for param in graph.of_kind("in")}
-        if (name, tuple(given.values())) in self.seen:
+        graph, name = setting.graph, setting.graph.name.text
+        given = {param.name.text: setting.early.values[param.name.text] for param in graph.of_kind("in")}
+        key = (name, tuple(given.values()), frozenset(setting.loose))
+        if key in self.seen:
             return
-        self.seen.add((name, tuple(given.values())))
-        found = self.outcomes.setdefault(name, [])
-        every = choices(graph.of_kind("set"), given)
-        if every is None or time.monotonic() > self.end:
-            self.unknown.add(name)
-        for values in every or []:
-            if time.monotonic() > self.end:
-                self.unknown.add(name)
-                return
-            found.append(self.outcome(graph, path, early, values))
+        self.seen.add(key)
+        self.try_values(setting, given)
         for actor in graph.actors:
             if actor.kind == "setgraph":
-                self.graph(self.file.child_of(actor), f"{path}/{actor.name.text}:0", early.configs[actor.name.text][2])
+                self.graph(self.below(setting, actor, setting.early.configs[actor.name.text][2]))
 
-    def outcome(self, graph, path, early, values):
+    def try_values(self, setting, given):
+        """An outcome for each choice of values that is tried."""
+        graph, name = setting.graph, setting.graph.name.text
+        found, deciding = self.outcomes.setdefault(name, []), self.rate_params.of(graph)
+        chosen = graph.of_kind("set")
+        tried, every = choices([param for param in chosen if param.name.text in deciding], given)
+        others = [param for param in chosen if param.name.text not in deciding]
+        setting.loose |= {param.name.text for param in others}
+        if len(tried) < every or setting.loose & deciding:
+            self.unknown[name] = (len(tried), every)
+            setting.loose |= {param.name.text for param in chosen}
+        for place, values in enumerate(tried):
+            if time.monotonic() > self.end:
+                self.unknown[name] = (place, every)
+                setting.loose |= {param.name.text for param in chosen}
+                return
+            found.append(self.outcome_of_any(setting, values, others))
+
+    def outcome_of_any(self, setting, values, others):
+        """The outcome with the least values of the other parameters, or where these alone are refused, with the greatest."""
+        found = self.outcome(setting, {**values, **{param.name.text: param.low for param in others}})
+        if all(refused.is_firm for refused in found.refusals):
+            return found
+        return self.outcome(setting, {**values, **{param.name.text: param.high for param in others}})
+
+    def below(self, setting, actor, early):
+        """The graph of a hierarchical actor, in which a parameter is loose where its argument is."""
+        child = self.file.child_of(actor)
+        loose = {param.name.text for param, argument in zip(child.of_kind("in"), actor.args) if setting.is_loose([argument])}
+        return Setting(child, f"{setting.path}/{actor.name.text}:0", early, loose)
+
+    def outcome(self, setting, values):
+        graph = setting.graph
         chosen = {param.name.text: values[param.name.text] for param in graph.of_kind("set")}
-        found = Outcome(values)
-        self.configs(graph, path, early, found.refusals)
+        found = Outcome({name: value for name, value in values.items() if name in self.rate_params.of(graph)})
+        self.configs(setting, found.refusals)
         try:
-            found.level, found.counts, _ = self.runner.scheduled(graph, path, early, chosen)
+            found.level, found.counts, _ = self.runner.scheduled(graph, setting.path, setting.early, chosen)
         except Refused as refused:
-            refused.path = refused.path or path
+            refused.path = refused.path or setting.path
+            refused.is_firm = self.is_firm(setting, refused)
             found.refusals.append(refused)
             found.level = refused.more.get("level")
         for name in found.level.actors if found.level else []:
-            self.actor(graph, path, found, name)
+            self.actor(setting, found, name)
         return found
 
-    def actor(self, graph, path, found, name):
-        actor, level = graph.actor(name), found.level
+    def is_firm(self, setting, refused):
+        """Whether the refusal holds whatever the values are that aren't tried."""
+        if refused.kind not in ("param", "rate"):
+            return not setting.loose & self.rate_params.of(setting.graph)
+        if refused.graph is not setting.graph:
+            return not setting.loose
+        found = {refused.part.name.text} if refused.kind == "param" else names_in([refused.more["expression"]] if "expression" in refused.more else [])
+        return not with_sources(setting.graph, found) & setting.loose
+
+    def actor(self, setting, found, name):
+        actor, level = setting.graph.actor(name), found.level
         if actor.is_hierarchical:
-            self.graph(self.file.child_of(actor), f"{path}/{name}:0", level.earlies[name])
+            self.graph(self.below(setting, actor, level.earlies[name]))
             return
         rates = [[level.rates[f"{name}.{port.name.text}"] for port in ports] for ports in (actor.ins, actor.outs)]
-        self.kernel(actor, (graph, path, level.values), level.args[name], rates, found.refusals)
+        self.fault(actor, setting, (level.values, level.args[name]), rates, found.refusals)
 
-    def configs(self, graph, path, early, refusals):
+    def configs(self, setting, refusals):
         """Faults of the kernels of configuration actors, whose rates are those of the interfaces that feed them."""
+        graph, early = setting.graph, setting.early
         for actor in graph.actors:
             if actor.kind == "config":
                 args, outs, _ = early.configs[actor.name.text]
                 ins = [early.inputs[self.runner.levels.feeding(graph, f"{actor.name.text}.{port.name.text}")] for port in actor.ins]
-                self.kernel(actor, (graph, path, early.values), args, (ins, list(outs.values())), refusals)
+                self.fault(actor, setting, (early.values, args), (ins, list(outs.values())), refusals)
 
-    def kernel(self, actor, at, args, rates, refusals):
-        """Adds the fault that a kernel meets whatever its tokens are. `at` is the graph, the path and the values of parameters."""
-        graph, path, values = at
+    def fault(self, actor, setting, given, rates, refusals):
+        """Adds the fault that a kernel meets whatever its tokens are. What an argument decides isn't told where its value is loose."""
+        values, args = given
         fault = certain_fault(actor.kernel.text, args, *rates, len(actor.sets or []))
-        if fault:
-            refused = Refused("kernel", f"kernel {actor.name.text}:0 {fault.code}", graph, actor, values, fault=fault, firing=0, args=args, ins=[], outs=rates[1])
-            refused.path = path
-            refusals.append(refused)
+        if not fault or (fault.code != SHAPE and setting.is_loose(actor.args)):
+            return
+        shown = {name: value for name, value in values.items() if not with_sources(setting.graph, {name}) & setting.loose}
+        refused = Refused("kernel", f"kernel {actor.name.text}:0 {fault.code}", setting.graph, actor, shown, fault=fault, firing=0,
+                          args=[] if setting.is_loose(actor.args) else args, ins=[], outs=rates[1])
+        refused.path = setting.path
+        refused.is_firm = not setting.is_loose([port.rate for port in actor.ins + actor.outs if port.rate])
+        refusals.append(refused)
 
     def certain_refusals(self):
         """Refusals that no tokens avoid: those of graphs that are refused with all values of their parameters."""
         certain = []
-        for name, found in self.outcomes.items():
-            if found and name not in self.unknown and all(outcome.refused for outcome in found):
-                certain += found[0].refusals
+        for found in self.outcomes.values():
+            if found and all(any(refused.is_firm for refused in outcome.refusals) for outcome in found):
+                certain += [refused for refused in found[0].refusals if refused.is_firm]
         return certain

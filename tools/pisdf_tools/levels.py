@@ -9,12 +9,13 @@ class Refused(Exception):
     """A firing of a graph is refused. `cause` are the words of the program's line behind the path; the rest tells more.
 
     `part` is what the cause names, `values` the parameters' values as far as they are known, `more` what the kind of cause needs.
+    `is_firm` is False where it may not hold with values that weren't tried.
     """
 
     def __init__(self, kind, cause, graph, part=None, values=None, **more):
         super().__init__(cause)
         self.kind, self.cause, self.graph, self.part, self.values, self.more = kind, cause, graph, part, values or {}, more
-        self.path = ""
+        self.path, self.is_firm = "", True
 
     @property
     def line(self):

@@ -39,6 +39,7 @@ class Ranges:
         return f"{rate.text} = {span[0]}" if span[0] == span[1] else f"{rate.text} = {span[0]} to {span[1]}"
 
 
+MOST_LINES = 12
 KIND_WORDS = {"in": "from an argument", "set": "set by a configuration actor"}
 
 
@@ -99,19 +100,31 @@ class Summary:
         """The repetition vector, for each choice of values where these are few."""
         outcomes = self.explorer.outcomes.get(graph.name.text)
         if not outcomes:
-            yield "  repetition: depends on the values of the parameters"
+            yield "  repetition: it wasn't looked at, since what stands above it is refused or took too long"
             return
         told = {}
         for outcome in outcomes:
             told.setdefault(self.outcome_words(outcome), []).append(outcome.values)
-        for words, found in told.items():
+        for words, found in list(told.items())[:MOST_LINES]:
             yield f"  {words}{self.where_words(graph, found, len(outcomes), len(told))}"
+        if len(told) > MOST_LINES:
+            yield f"  {len(told) - MOST_LINES} more cases aren't shown"
         if graph.name.text in self.explorer.unknown:
-            yield "  not all values of the parameters were looked at"
+            yield f"  {self.untried_words(graph)}"
+
+    def untried_words(self, graph):
+        """How many values were tried where not all were."""
+        tried, every = self.explorer.unknown[graph.name.text]
+        chosen = [f"{param.name.text} ({range_words(param.low, param.high)})" for param in graph.of_kind("set")
+                  if param.name.text in self.explorer.rate_params.of(graph)]
+        if not chosen or tried == every:
+            return "these are only some of the values that the parameters may have"
+        what = "values" if len(chosen) == 1 else "choices of values"
+        return f"of {listed(chosen)} {tried} {what} were tried; the others weren't"
 
     def where_words(self, graph, found, all_count, told_count):
         """For which values something holds. Nothing is said where it holds for all."""
-        names = [param.name.text for param in graph.params if param.kind != "is"]
+        names = [name for name in found[0] if graph.param(name).kind != "is"]
         if not names or (told_count == 1 and graph.of_kind("set")):
             return ""
         if len(names) == 1 and len(found) > 2:
