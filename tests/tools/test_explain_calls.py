@@ -1,4 +1,4 @@
-"""`explain` as it is called: output and status byte for byte, words that are none, files that can't be read, lost tokens, journals."""
+"""`explain` as it is called: output and status byte for byte, words that are none, files that can't be read, lost tokens."""
 import os
 import subprocess
 import sys
@@ -9,7 +9,6 @@ from support import PROGRAM, TOOLS, TOP, WHOLE, call, changed, needs_program
 PASS = ('{"pisdf":1,"top":"g","graphs":[{"name":"g","params":[],"inputs":[{"name":"x","rate":"8"}],"outputs":[{"name":"y","rate":"7"}],"actors":'
         '[{"name":"a","kind":"kernel","kernel":"pass","args":[],"ins":[{"name":"i","rate":"7"}],"outs":[{"name":"o","rate":"7"}]}],'
         '"fifos":[{"from":"x","to":"a.i"},{"from":"a.o","to":"y"}]}]}')
-JOURNAL = b"claim,0,0,g,compile,0\nfinish,0,0\nclaim,0,0,g,node,0\nfinish,0,0\n"
 
 
 class Words(unittest.TestCase):
@@ -19,7 +18,7 @@ class Words(unittest.TestCase):
                 (["g.json", "t.csv"], ["The first word is the command"]), (["run", "g", "t", "1"], ["takes 4 words more, and here are 3", "WORKERS is missing"]),
                 (["plain", "g", "t", "1", "1"], ["takes 3 words more, and here are 4"]), (["run", "g", "t", "65537", "1"], ["from 0 to 65536", "`65537`"]),
                 (["run", "g", "t", "1", "17"], ["from 1 to 16", "`17`"]), (["run", "g", "t", "one", "1"], ["in decimal digits", "`one`"]),
-                (["unfold", "65", "g", "t", "1", "1"], ["TIMES is a number from 1 to 64"]), (["soak", "65536", "1"], ["NUMBER is a number from 0 to 65535"])]
+                (["soak", "65536", "1"], ["NUMBER is a number from 0 to 65535"])]
         for words, wanted in rows:
             with self.subTest(words):
                 for word in wanted:
@@ -40,27 +39,6 @@ class Unread(unittest.TestCase):
         self.assertIn("Do you mean", why_unread(os.path.join(TOP, "examples", "first", "g.jsn")))
         self.assertIn("This is a folder", why_unread(os.path.join(TOP, "examples", "first")))
         self.assertIn("There is no folder", why_unread("no-such-folder/g.json"))
-
-
-class Journals(unittest.TestCase):
-    def text(self, data, line, workers=1, legal=None):
-        from pisdf_tools.journal_file import JournalFaults
-        return JournalFaults("j.csv", data, workers, 1, legal).line(line)
-
-    def test_lines_that_are_wrong(self):
-        lines = JOURNAL.splitlines()
-        rows = [(lines[0:2] + [lines[3], lines[2]], 3, ["finishes, and it runs nothing"]), (lines[0:1] + [lines[2]], 2, ["still runs the one that it claimed in line 1"]),
-                ([b"claim,0,1,g,compile,0"], 1, ["The worker is 1", "workers are 0 to 0"]), ([b"claim,1,0,g,compile,0"], 1, ["The iteration is 1"]),
-                ([b"claim,0,00,g,compile,0"], 1, ["leading zeros"]), ([b"begin,0"], 1, ["none of a journal", "`finish,ITERATION,WORKER`"]),
-                ([lines[0] + b"\r"], 1, ["without a carriage return"]), (lines[:1], 2, ["ends after line 1, too early", "finish of the worker 0 is missing"]),
-                ([b"claim,0,0,g,node,5"], 1, ["isn't the one that the rules hand it"])]
-        for found, number, words in rows:
-            with self.subTest(words[0]):
-                text = self.text(b"\n".join(found) + b"\n", number)
-                for word in words:
-                    self.assertIn(word, text)
-        self.assertIn("no line feed", self.text(JOURNAL[:-1], 4))
-        self.assertIn("its line 2 is `finish,0,0`", self.text(JOURNAL, 2, 1, JOURNAL.splitlines()))
 
 
 @needs_program

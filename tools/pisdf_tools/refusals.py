@@ -5,7 +5,6 @@ import stat
 import subprocess
 
 from . import firing, loss, reading, token_file
-from .journal_file import JournalFaults, lines_of
 from .levels import Refused
 from .run_refusals import RunRefusals
 from .source import read_source
@@ -30,7 +29,7 @@ class Explanation:
     def text(self):
         """A paragraph or several, or an empty text where there is nothing to tell."""
         tell = {0: self.done, 1: lambda: explain_usage(self.words), 2: self.graph, 3: self.tokens, 4: self.run, 5: self.unread,
-                6: self.unwritten, 7: self.memory, 9: self.journal}.get(self.status)
+                6: self.unwritten, 7: self.memory}.get(self.status)
         return tell() if tell else ""
 
     def read_graph(self):
@@ -76,9 +75,9 @@ class Explanation:
         return token_file.short_words(path, data, name, has, needs, rates)
 
     def unread(self):
-        which = {"graph": "GRAPH", "tokens": "TOKENS", "journal": "JOURNAL"}[self.line.split(" ")[1]]
+        which = {"graph": "GRAPH", "tokens": "TOKENS"}[self.line.split(" ")[1]]
         path = self.call.get(which)
-        what = {"GRAPH": "graph file", "TOKENS": "token file", "JOURNAL": "journal"}[which]
+        what = {"GRAPH": "graph file", "TOKENS": "token file"}[which]
         return f"The {what} is {quoted(path)} by the words of the call. {why_unread(path)}"
 
     def unwritten(self):
@@ -163,23 +162,6 @@ class Explanation:
         rates = runner.top_early().inputs
         each = listed([f"{quoted(name)} has {counted(int(count), 'token')} left, and an iteration takes {rates[name]}" for name, count in pairs])
         return f"The token file holds more than {counted(self.iterations(), 'iteration')} took: {each}. The tokens that are left were not used."
-
-    # ---- journals
-
-    def journal(self):
-        path = self.call.get("JOURNAL")
-        with open(path, "rb") as file:
-            data = file.read()
-        workers, iterations = self.call.number("WORKERS", 1), self.call.number("ITERATIONS", 0)
-        words = self.line.split(" ")[1:]
-        faults = JournalFaults(path, data, workers, iterations, self.legal_journal() if workers == 1 else None)
-        return faults.length() if words == ["length"] else faults.line(int(words[1]))
-
-    def legal_journal(self):
-        """The lines of the only legal journal of one worker, by a call of the program."""
-        words = [self.call.get(name) for name in ("GRAPH", "TOKENS", "ITERATIONS", "WORKERS")]
-        done = subprocess.run([self.program, "journal"] + words, stdout=subprocess.PIPE, stderr=subprocess.DEVNULL, stdin=subprocess.DEVNULL)
-        return lines_of(done.stdout)
 
 
 def joined_paragraphs(*paragraphs):
