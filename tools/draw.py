@@ -18,6 +18,7 @@ sys.path.insert(0, os.path.dirname(os.path.realpath(__file__)))
 
 from drawing import charts, dot
 from drawing.inputs import Refused, read_graphs, rows_with
+from drawing.parts import Names
 
 
 def draw_graph(path):
@@ -30,7 +31,7 @@ def draw_plan(path, schedule=None):
 
 
 def draw_gantt(path, plan=None):
-    return [charts.gantt(rows_with(path, ["critical", "work", "length", "path"]), rows_with(plan, ["node"]) if plan else None)]
+    return [charts.gantt(rows_with(path, ["critical", "work", "length", "path"]), Names(rows_with(plan, ["node"])) if plan else None)]
 
 
 def draw_cells(path, memory=None):

@@ -69,13 +69,26 @@ class Graphs(unittest.TestCase):
     def test_bad_graphs_are_answered_with_a_line(self):
         self.refused("{", "- is no JSON, from line 1, column 2 on: ./pisdf check tells what is wrong there")
         self.refused("[" * 100000, "- is no JSON that can be read here: a number is too long, or values nest too deep")
-        self.refused("[]", "/ has to be an object")
-        self.refused("{}", "/ has no member 'top'")
-        self.refused(spoiled(lambda graph: graph["graphs"][0].pop("fifos")), "/graphs/0 has no member 'fifos'")
-        self.refused(spoiled(lambda graph: graph["graphs"][0]["inputs"][0].update(rate=1)), "/graphs/0/inputs/0/rate has to be a text")
-        self.refused(spoiled(lambda graph: graph["graphs"][0]["actors"][0].update(kind="actor")), "/graphs/0/actors/0/kind is 'actor', and has to be one of kernel, config, graph, setgraph")
-        self.refused(spoiled(lambda graph: graph["graphs"][0]["fifos"][0].update(to="m.k")), "/graphs/0/fifos/0/to: 'm.k' is no interface and no port of this graph")
-        self.refused(spoiled(lambda graph: graph.update(top="h")), "/top: the file has no graph 'h'")
+        self.refused("[]", "-, line 1, column 1: this has to be an object")
+        self.refused("{}", "-, line 1, column 1: there is no member 'top'")
+
+    def test_a_bad_graph_is_told_with_line_and_column(self):
+        def first(graph, *steps):
+            for step in steps:
+                graph = graph[step]
+            return graph
+
+        cases = [
+            (lambda graph: graph["graphs"][0].pop("fifos"), "{\"name\": \"g\"", "graph `g`: there is no member 'fifos'"),
+            (lambda graph: first(graph, "graphs", 0, "inputs", 0).update(rate=1), "1}", "graph `g`, input `width`, member `rate`: this has to be a text"),
+            (lambda graph: first(graph, "graphs", 0, "actors", 0).update(kind="actor"), '"actor"', "graph `g`, actor `c`, member `kind`: 'actor' is no kind of actor. The kinds are kernel, config, graph, setgraph"),
+            (lambda graph: first(graph, "graphs", 0, "fifos", 0).update(to="m.k"), '"m.k"', "graph `g`, FIFO 0 (`width` to `m.k`), member `to`: 'm.k' is no interface and no port of this graph"),
+            (lambda graph: graph.update(top="h"), '"h"', "member `top`: the file has no graph 'h'"),
+        ]
+        for change, at, words in cases:
+            text = spoiled(change)
+            with self.subTest(words):
+                self.refused(text, f"-, line 1, column {text.index(at) + 1}, {words}")
 
     def test_files_that_cant_be_read(self):
         self.assertEqual(draw("graph", "/nowhere/g.json")[::2], (2, "draw: /nowhere/g.json can't be read: No such file or directory\n"))
@@ -98,6 +111,19 @@ class Plans(unittest.TestCase):
         self.assertIn("penwidth=3", out)
         self.assertIn('n0 -> n3 [label="4 at 0"', out)
 
+    def test_nodes_are_called_by_what_they_stand_beside(self):
+        nodes = ["node,0,source,x,0,9", "node,1,init,0,0,8", "node,2,firing,a:0,0,7", "node,3,broadcast,1,0,6", "node,4,round,2,0,5", "node,5,end,0,0,4", "node,6,sink,y,0,3"]
+        edges = ["edge,0,0,3,1,0", "edge,1,3,2,1,1", "edge,2,1,2,1,2", "edge,3,2,5,1,3", "edge,4,2,4,1,4", "edge,5,4,6,1,5"]
+        out = draw("plan", "-", stdin="\n".join([*nodes, *edges, "height,6"]))[1]
+        for name in ("broadcast of x", "round to y", "init to a:0", "end from a:0"):
+            self.assertIn(f'label="{name}\\n', out)
+
+    def test_one_of_a_thing_has_no_s(self):
+        nodes = [f"node,{number},firing,a:{number},0,1" for number in range(200)] + ["node,200,firing,b:0,0,1"]
+        out = draw("plan", "-", stdin="\n".join([*nodes, "edge,0,0,200,1,0", "height,1"]))[1]
+        self.assertIn('label="b\\n1 node"', out)
+        self.assertIn('label="1 edge, 1 token"', out)
+
     def test_a_large_plan_is_drawn_by_actors_in_a_second(self):
         nodes = [f"node,{number},firing,a:{number},0,1" for number in range(1000)] + [f"node,{number},firing,b:{number - 1000},0,1" for number in range(1000, 2000)]
         edges = [f"edge,{number},{number},{number + 1000},3,{3 * number}" for number in range(1000)]
@@ -109,6 +135,7 @@ class Plans(unittest.TestCase):
 
     def test_what_is_no_plan(self):
         self.assertEqual(draw("plan", "-", stdin="tokens,0,y,5\n")[2], "draw: -, line 1: no row of a plan, a schedule or a memory begins with 'tokens'\n")
+        self.assertEqual(draw("plan", example("first"))[::2], (2, f"draw: {example('first')} is a graph file, which `draw graph` draws. The answer of plan, schedule or memory is wanted here\n"))
         self.assertEqual(draw("plan", "-", stdin="height,5\n")[2], "draw: - has no row 'node'\n")
         self.assertEqual(draw("plan", "-", stdin="node,1,firing\n")[2], "draw: -, line 1: a row 'node' has 5 fields after it, and this one has 2\n")
         self.assertEqual(draw("plan", "-", stdin="node,0,firing,a:0,0,1\nedge,0,0,7,1,0\n")[2], "draw: -: edge 0 names node 7, and no row has it\n")
@@ -131,13 +158,13 @@ class Charts(unittest.TestCase):
     def test_a_box_of_cells_for_each_buffer(self):
         drawn = self.shapes("cells", PLAN)
         told = [shape.find(f"{SVG}title").text for shape in drawn.iter(f"{SVG}rect") if shape.get("class") == "box"]
-        self.assertIn("edge 0: cells 0 to 3, from node 0 to node 3", told)
+        self.assertIn("edge 0: cells 0 to 3, from x to fork of x", told)
         self.assertEqual(len(told), 6)
 
     def test_a_buffer_lives_from_its_writer_to_its_reader(self):
         # The order of one worker is 0, 3, 1, 2, 4, 5: the buffer from node 3 to node 2 lives in the steps 1 to 3 of 6.
         drawn = self.shapes("cells", PLAN)
-        box, = [shape for shape in drawn.iter(f"{SVG}rect") if "node 3 to node 2" in (shape.findtext(f"{SVG}title") or "")]
+        box, = [shape for shape in drawn.iter(f"{SVG}rect") if "from fork of x to a:1" in (shape.findtext(f"{SVG}title") or "")]
         self.assertEqual((box.get("x"), box.get("width")), ("220", "450"))
 
     def test_the_cells_of_a_memory(self):
@@ -146,7 +173,7 @@ class Charts(unittest.TestCase):
             memory.write(f"height,8\nordered,20\n{offsets}order,0,0\n")
             memory.flush()
             told = [shape.find(f"{SVG}title").text for shape in self.shapes("cells", PLAN, memory.name).iter(f"{SVG}rect") if shape.get("class") == "box"]
-        self.assertIn("edge 3: cells 6 to 6, from node 1 to node 4", told)
+        self.assertIn("edge 3: cells 6 to 6, from a:0 to join to y", told)
 
     def test_a_memory_of_another_graph(self):
         self.assertEqual(draw("cells", PLAN, MEMORY)[::2], (2, "draw: the memory has no offset for edge 4 of the plan: they are of two graphs\n"))

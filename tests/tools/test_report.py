@@ -11,7 +11,7 @@ TOP = os.path.realpath(os.path.join(os.path.dirname(__file__), "..", ".."))
 REPORT = os.path.join(TOP, "tools", "report.py")
 XHTML = "{http://www.w3.org/2000/svg}"
 
-GRAPH = os.path.join(TOP, "examples", "adaptive-mean", "g.json")
+GRAPH, TOKENS = (os.path.join(TOP, "examples", "adaptive-mean", name) for name in ("g.json", "t.csv"))
 PLAN = "repetition,m,2\norder,m,0\norder,m,1\nnode,0,source,x,0,20\nnode,1,firing,m:0,0,6\nnode,2,firing,m:1,1,6\nnode,3,fork,0,0,16\nnode,4,join,1,0,4\nnode,5,sink,y,0,2\n"
 PLAN += "edge,0,0,3,8,0\nedge,1,3,1,4,8\nedge,2,3,2,4,12\nedge,3,1,4,1,0\nedge,4,2,4,1,1\nedge,5,4,5,1,2\nheight,16\n"
 SCHEDULE = "critical,20\nwork,24\nlength,20\npath,0,3,1,4,5\nstart,0,0,0,5\nstart,1,0,5,9\nstart,2,1,5,9\nstart,3,0,9,12\nstart,4,0,12,15\nstart,5,0,15,20\n"
@@ -48,9 +48,9 @@ class Report(unittest.TestCase):
         with open(os.path.join(self.room, name), "w", encoding="utf-8") as file:
             file.write(text)
 
-    def call(self, graph=GRAPH, iterations="2", target=None):
+    def call(self, graph=GRAPH, tokens=TOKENS, iterations="2", target=None):
         target = target or os.path.join(self.room, "page.html")
-        words = [os.path.join(self.room, "program"), graph, "t.csv", iterations, "2", target]
+        words = [os.path.join(self.room, "program"), graph, tokens, iterations, "2", target]
         done = subprocess.run([sys.executable, "-B", REPORT, *words], capture_output=True, text=True, timeout=60)
         return done.returncode, done.stdout + done.stderr
 
@@ -143,7 +143,7 @@ class Report(unittest.TestCase):
         from drawing import page, run
         self.put("memory.sleep", "60")
         with mock.patch.object(run, "SECONDS", 2):
-            text = page.page(run.Run(os.path.join(self.room, "program"), GRAPH, "t.csv", "2", "2"))
+            text = page.page(run.Run(os.path.join(self.room, "program"), GRAPH, TOKENS, "2", "2"))
         self.assertIn("the call of &#x27;memory&#x27; took over 2 seconds", text)
         self.assertIn("The cells of the plan", text)
 

@@ -2,12 +2,14 @@
 import heapq
 
 from drawing.inputs import Refused
-from drawing.parts import node_label
-from drawing.svg import colour, element, image, marks, picture, text, title
+from drawing.parts import Names
+from drawing.svg import GREY, colour, element, firing_colour, image, marks, picture, text, title
 
 WIDTH, MARGIN, ROW = 900, 70, 32
 # Of more buffers a map of cells is an image, since a browser is slow with so many rectangles.
 MOST_BUFFERS = 3000
+# So many values of a line have their numbers beside them, so many have a dot, and so many iterations are told apart.
+MOST_NUMBERS, MOST_DOTS, MOST_TURNS = 24, 200, 60
 
 
 def grid(length, scale, top, bottom):
@@ -28,9 +30,8 @@ def lanes(workers):
     return [text(8, MARGIN + worker * ROW + ROW / 2 + 4, f"worker {worker}") for worker in range(workers)]
 
 
-def gantt(schedule, plan=None):
+def gantt(schedule, names=None):
     """The list schedule: a row for each worker, a bar for each node. The critical path is red."""
-    names = {row[0]: node_label(row[1], row[2]) for row in plan["node"]} if plan else {}
     bars = [[int(field) for field in row] for row in schedule.get("start", [])]
     length, critical = int(schedule["length"][0][0]), set(schedule["path"][0])
     workers = 1 + max((worker for _, worker, _, _ in bars), default=0)
@@ -38,7 +39,7 @@ def gantt(schedule, plan=None):
     summary = f"length {length}, critical path {schedule['critical'][0][0]}, work {schedule['work'][0][0]}; the critical path is red"
     # The bars of the critical path are drawn last, over the borders of the others.
     drawn = sorted(bars, key=lambda row: str(row[0]) in critical)
-    bars_drawn = [bar(start, end, worker, names.get(str(node), str(node)), scale, str(node) in critical) for node, worker, start, end in drawn]
+    bars_drawn = [bar(start, end, worker, names.of(str(node)) if names else str(node), scale, str(node) in critical) for node, worker, start, end in drawn]
     parts = [text(MARGIN, 24, summary, "wide"), *grid(length, scale, MARGIN, bottom), *lanes(workers), *bars_drawn]
     return picture(WIDTH + 2 * MARGIN, bottom + 20, f"List schedule of {len(bars)} nodes on {workers} workers: {summary}", parts)
 
@@ -77,8 +78,9 @@ def buffers_of(plan, offsets=None):
     return found
 
 
-def cells(plan, memory=None):
+def cells(plan, memory=None, names=None):
     """Which buffer lies in which cells, and for how long, where one worker runs the nodes."""
+    names = names or Names(plan)
     offsets = {row[0]: row[1] for row in memory["offset"]} if memory else None
     height = int((memory["ordered"] if memory else plan["height"])[0][0])
     buffers, nodes, place = buffers_of(plan, offsets), len(plan["node"]), order_of(plan)
@@ -87,19 +89,23 @@ def cells(plan, memory=None):
     if len(buffers) > MOST_BUFFERS:
         drawn = [cells_image(buffers, place, height)]
     else:
-        drawn = [cell(buffer, place, across, up) for buffer in buffers]
+        drawn = [cell(buffer, place, across, up, names) for buffer in buffers]
     scale = [part for mark in marks(height, 9) for part in (text(MARGIN - 8, MARGIN + mark * up + 4, str(mark), "small end"),)]
     heads = [text(MARGIN, 24, label + "; a buffer lives from the node that writes it to the node that reads it", "wide"), text(8, 50, "cell / step")]
     frame = element("rect", x=MARGIN, y=MARGIN, width=WIDTH, height=420, class_="frame")
     return picture(WIDTH + 2 * MARGIN, MARGIN + 440, label, [*heads, *grid(nodes, across, MARGIN, MARGIN + 420), *scale, *drawn, frame])
 
 
-def cell(buffer, place, across, up):
+def cell(buffer, place, across, up, names):
+    """The box of a buffer, with the names of its ends as far as they have room."""
     number, tail, head, offset, size = buffer
     first, last = place[tail], place[head]
-    words = f"edge {number}: cells {offset} to {offset + size - 1}, from node {tail} to node {head}"
-    box = {"x": MARGIN + first * across, "y": MARGIN + offset * up, "width": max(1.0, (last - first + 1) * across), "height": max(1.0, size * up)}
-    return element("rect", title(words), fill=colour(number), fill_opacity="0.75", class_="box", **box)
+    ends = names.of(str(tail)), names.of(str(head))
+    words = f"edge {number}: cells {offset} to {offset + size - 1}, from {ends[0]} to {ends[1]}"
+    left, top, wide, high = MARGIN + first * across, MARGIN + offset * up, max(1.0, (last - first + 1) * across), max(1.0, size * up)
+    box = element("rect", title(words), x=left, y=top, width=wide, height=high, fill=GREY, fill_opacity="0.75", class_="box")
+    shown = next((label for label in (f"{ends[0]} to {ends[1]}", ends[0]) if 6 * len(label) < wide and high >= 12), "")
+    return box + (text(left + wide / 2, top + high / 2 + 4, shown, "small middle on") if shown else "")
 
 
 def cells_image(buffers, place, height):
@@ -121,12 +127,13 @@ def cells_image(buffers, place, height):
 
 
 def work(entries, workers, label):
-    """A row for each worker, a bar from the claim of an item to its finish; times are the places of the lines in the journal."""
+    """A row for each worker, a bar from the claim of an item to its finish; times are the places of the lines in the journal. A colour is
+    a firing of a graph."""
     scale, bottom = WIDTH / max(1, entries[-1][2] if entries else 1), MARGIN + workers * ROW
     colours = {}
     bars = []
     for worker, start, end, name, group in entries:
-        fill = colour(colours.setdefault(group, len(colours)))
+        fill = firing_colour(colours.setdefault(group, len(colours)))
         bars.append(bar(start, end, worker, name, scale, False, fill))
     length = max((end for _, _, end, _, _ in entries), default=0)
     scale_parts = grid(length, scale, MARGIN, bottom)
@@ -136,17 +143,43 @@ def work(entries, workers, label):
 # ---- values
 
 
-def line(values, label, height=180):
-    """Values one after the other as a line."""
-    low, high = min(values + [0]), max(values + [0])
-    across, up = WIDTH / max(1, len(values) - 1), height / max(1, high - low)
-    points = " ".join(f"{MARGIN + place * across:.1f},{40 + (high - value) * up:.1f}" for place, value in enumerate(values))
-    ends = [text(MARGIN - 8, 44, str(high), "small end"), text(MARGIN - 8, 44 + height, str(low), "small end")]
-    steps = [part for mark in marks(max(0, len(values) - 1), 12) for part in (text(MARGIN + mark * across, 58 + height, str(mark), "small middle"),)]
-    drawn = element("polyline", points=points, class_="value")
-    dots = [element("circle", title(f"{place}: {value}"), cx=MARGIN + place * across, cy=40 + (high - value) * up, r=2.5, fill="#1f6fb2") for place, value in enumerate(values)] if len(values) <= 200 else []
+def short(value):
+    """A number in few letters."""
+    return str(value) if len(str(value)) <= 8 else f"{value:.3g}"
+
+
+def line(points, label, axis, turns=(), height=180):
+    """Values as a line over the axis that the word names; each point is a place on it and a value. `turns` are the places where an
+    iteration begins."""
+    values = [value for _, value in points]
+    low, high, length = min(values + [0]), max(values + [0]), max(place for place, _ in points)
+    across, up = WIDTH / max(1, length), height / max(1, high - low)
+    at = [(MARGIN + place * across, 40 + (high - value) * up) for place, value in points]
+    drawn = element("polyline", points=" ".join(f"{x:.1f},{y:.1f}" for x, y in at), class_="value")
+    ends = [text(MARGIN - 8, 44, short(high), "small end"), text(MARGIN - 8, 44 + height, short(low), "small end")]
+    steps = [text(MARGIN + mark * across, 58 + height, str(mark), "small middle") for mark in marks(length, 12)]
+    names = [text(MARGIN, 24, label, "wide"), text(MARGIN + WIDTH / 2, 76 + height, axis, "small middle")]
     frame = element("rect", x=MARGIN, y=40, width=WIDTH, height=height, class_="frame")
-    return picture(WIDTH + 2 * MARGIN, height + 70, label, [text(MARGIN, 24, label, "wide"), frame, *ends, *steps, drawn, *dots])
+    return picture(WIDTH + 2 * MARGIN, height + 86, label, [*names, frame, *ends, *steps, *turn_parts(turns, across, height), drawn, *dots(points, at, axis)])
+
+
+def dots(points, at, axis):
+    """A dot for each value where they aren't many, and its number where they are few."""
+    for (place, value), (x, y) in zip(points, at) if len(points) <= MOST_DOTS else ():
+        yield element("circle", title(f"{axis} {place}: {value}"), cx=x, cy=y, r=2.5, fill="#1f6fb2")
+        if len(points) <= MOST_NUMBERS:
+            yield text(x + 4, y - 5 if y > 54 else y + 13, short(value), "small over")
+
+
+def turn_parts(turns, across, height):
+    """A line between iterations, and the number of each where there is room."""
+    if not 1 < len(turns) <= MOST_TURNS:
+        return
+    for number, place in enumerate(turns):
+        x = MARGIN + max(0, place - 0.5) * across
+        yield element("line", x1=x, y1=40, x2=x, y2=40 + height, class_="turn")
+        if WIDTH / len(turns) > 70:
+            yield text(x + 3, 36 + height, f"iteration {number}", "small over")
 
 
 def grey_image(rows, label):

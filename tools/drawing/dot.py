@@ -1,7 +1,8 @@
 """Graph files and plans as text for Graphviz."""
 from drawing.inputs import rates_of
-from drawing.parts import actor_lines, delay_label, end_label, group_of, node_label, param_lines, uses
+from drawing.parts import Names, actor_lines, delay_label, end_label, param_lines, uses
 from drawing.svg import colour
+from drawing.words import counted
 
 LOOKS = {
     "kernel": 'shape=box, fillcolor="#eaf1f8"',
@@ -76,11 +77,11 @@ def plan_dot(rows, critical=()):
     if len(rows["node"]) > MOST_NODES:
         yield from grouped_dot(rows)
         return
-    steps = set(zip(critical, critical[1:]))
+    steps, names = set(zip(critical, critical[1:])), Names(rows)
     yield "digraph {"
     yield PLAN_HEAD
-    for number, kind, name, home, priority in rows["node"]:
-        label = f"{node_label(kind, name)}\nworker {home}\npriority {priority}"
+    for number, _, _, home, priority in rows["node"]:
+        label = f"{names.of(number)}\nworker {home}\npriority {priority}"
         bold = ", penwidth=3" if number in critical else ""
         yield f"  n{number} [label={quoted(label)}, fillcolor={quoted(colour(int(home)))}{bold}];"
     for _, tail, head, size, offset in rows.get("edge", []):
@@ -89,11 +90,11 @@ def plan_dot(rows, critical=()):
     yield "}"
 
 
-def groups_of(rows):
+def groups_of(rows, names):
     """The nodes and edges by actors: how many nodes each group has, and how many edges and tokens lead from one to another."""
     place, counts, flows = {}, {}, {}
-    for number, kind, name, _, _ in rows["node"]:
-        place[number] = group_of(kind, name)
+    for number, *_ in rows["node"]:
+        place[number] = names.group(number)
         counts[place[number]] = counts.get(place[number], 0) + 1
     for _, tail, head, size, _ in rows.get("edge", []):
         ends = place[tail], place[head]
@@ -102,14 +103,18 @@ def groups_of(rows):
     return counts, flows
 
 
+def flow_words(edges, tokens):
+    return f"{counted(edges, 'edge')}, {counted(tokens, 'token')}"
+
+
 def grouped_dot(rows):
-    counts, flows = groups_of(rows)
+    counts, flows = groups_of(rows, Names(rows))
     numbers = {name: number for number, name in enumerate(counts)}
     yield "digraph {"
     yield PLAN_HEAD
     yield f"  label={quoted(str(len(rows['node'])) + ' nodes, one box for those of an actor or a link')}; {FONT};"
     for name, count in counts.items():
-        yield f"  g{numbers[name]} [label={quoted(f'{name}{chr(10)}{count} nodes')}, fillcolor=\"#eaf1f8\"];"
+        yield f"  g{numbers[name]} [label={quoted(name + chr(10) + counted(count, 'node'))}, fillcolor=\"#eaf1f8\"];"
     for (tail, head), (edges, tokens) in flows.items():
-        yield f"  g{numbers[tail]} -> g{numbers[head]} [label={quoted(f'{edges} edges, {tokens} tokens')}];"
+        yield f"  g{numbers[tail]} -> g{numbers[head]} [label={quoted(flow_words(edges, tokens))}];"
     yield "}"

@@ -4,9 +4,33 @@ import io
 import json
 import sys
 
+from pisdf_tools.graph_file import place_words
+from pisdf_tools.json_file import JsonFault, read_json
+from pisdf_tools.source import Source
+
 
 class Refused(Exception):
     """Why there is nothing to draw, in one line."""
+
+
+class Misplaced(Exception):
+    """What is wrong with a value of a graph file, and the pointer of the value."""
+
+    def __init__(self, pointer, words):
+        super().__init__(words)
+        self.pointer, self.words = pointer, words
+
+    def line(self, text, path):
+        """The same with the line and the column of the value."""
+        source = Source(path, text.encode())
+        try:
+            root = value = read_json(source)
+        except JsonFault:
+            return f"{path}, {self.pointer or '/'}: {self.words}"
+        for step in self.pointer.split("/")[1:]:
+            value = value.value[int(step)] if value.kind == "list" else value.value[step].value
+        place = place_words(root, self.pointer)
+        return f"{source.place(value.start)}{', ' * bool(place)}{place}: {self.words}"
 
 
 def text_of(path):
@@ -49,6 +73,8 @@ def rows_of(path):
             continue
         wanted = FIELDS.get(row[0])
         fields = row[1:]
+        if wanted is None and row[0].lstrip().startswith("{"):
+            raise Refused(f"{path} is a graph file, which `draw graph` draws. The answer of plan, schedule or memory is wanted here")
         if wanted is None:
             raise Refused(f"{path}, line {number}: no row of a plan, a schedule or a memory begins with '{row[0]}'")
         if row[0] not in ("path", "order") and len(fields) != len(wanted):
@@ -88,18 +114,18 @@ KINDS = {str: "a text", list: "a list", dict: "an object", int: "a whole number"
 def need(value, members, place):
     """The object has these members, each of its type."""
     if not isinstance(value, dict):
-        raise Refused(f"{place or '/'} has to be an object")
+        raise Misplaced(place, "this has to be an object")
     for name, kind in members.items():
         if name not in value:
-            raise Refused(f"{place or '/'} has no member '{name}'")
+            raise Misplaced(place, f"there is no member '{name}'")
         if not isinstance(value[name], kind):
-            raise Refused(f"{place}/{name} has to be {KINDS[kind]}")
+            raise Misplaced(f"{place}/{name}", f"this has to be {KINDS[kind]}")
 
 
 def need_texts(values, place):
     for number, value in enumerate(values):
         if not isinstance(value, str):
-            raise Refused(f"{place}/{number} has to be a text in quotes")
+            raise Misplaced(f"{place}/{number}", "this has to be a text in quotes")
 
 
 def need_ports(ports, place, has_rate):
@@ -111,12 +137,12 @@ def need_actor(actor, place, graphs):
     need(actor, {"kind": str}, place)
     members = ACTOR_MEMBERS.get(actor["kind"])
     if members is None:
-        raise Refused(f"{place}/kind is '{actor['kind']}', and has to be one of {', '.join(ACTOR_MEMBERS)}")
+        raise Misplaced(f"{place}/kind", f"'{actor['kind']}' is no kind of actor. The kinds are {', '.join(ACTOR_MEMBERS)}")
     need(actor, members, place)
     for name in ("args", "sets"):
         need_texts(actor.get(name, []), f"{place}/{name}")
     if "graph" in members and actor["graph"] not in graphs:
-        raise Refused(f"{place}/graph: the file has no graph '{actor['graph']}'")
+        raise Misplaced(f"{place}/graph", f"the file has no graph '{actor['graph']}'")
     if "ins" in members:
         need_ports(actor["ins"], f"{place}/ins", actor["kind"] == "kernel")
         need_ports(actor["outs"], f"{place}/outs", True)
@@ -126,9 +152,9 @@ def need_fifo(fifo, place, ends):
     need(fifo, {"from": str, "to": str}, place)
     for name in ("from", "to"):
         if fifo[name] not in ends:
-            raise Refused(f"{place}/{name}: '{fifo[name]}' is no interface and no port of this graph")
+            raise Misplaced(f"{place}/{name}", f"'{fifo[name]}' is no interface and no port of this graph")
     if not isinstance(fifo.get("delay", 0), (int, list)):
-        raise Refused(f"{place}/delay has to be a number or a list of numbers")
+        raise Misplaced(f"{place}/delay", "this has to be a number or a list of numbers")
 
 
 def ports_of(actor, graphs):
@@ -156,6 +182,14 @@ def graphs_in(text, path):
         raise Refused(f"{path} is no JSON, from line {error.lineno}, column {error.colno} on: ./pisdf check tells what is wrong there") from error
     except (ValueError, RecursionError) as error:
         raise Refused(f"{path} is no JSON that can be read here: a number is too long, or values nest too deep") from error
+    try:
+        return checked(file)
+    except Misplaced as fault:
+        raise Refused(fault.line(text, path)) from fault
+
+
+def checked(file):
+    """The same of a value that was read. Raises Misplaced."""
     need(file, {"top": str, "graphs": list}, "")
     for number, graph in enumerate(file["graphs"]):
         place = f"/graphs/{number}"
@@ -173,7 +207,7 @@ def graphs_in(text, path):
         for at, fifo in enumerate(graph["fifos"]):
             need_fifo(fifo, f"/graphs/{number}/fifos/{at}", ends)
     if file["top"] not in graphs:
-        raise Refused(f"/top: the file has no graph '{file['top']}'")
+        raise Misplaced("/top", f"the file has no graph '{file['top']}'")
     return file["top"], graphs
 
 

@@ -208,13 +208,14 @@ def attach(routes, by_name):
             points[at] = box.x + reach, box.y - box.height / 2 + box.height * (number + 1) / (len(ends) + 1)
 
 
-def arrow_parts(arrow, points, is_turned, left, top, taken):
-    """A link from the side of its tail to the side of its head, with its labels; `taken` are the places of the labels in the middle."""
+def arrow_parts(arrow, points, is_turned, left, top, taken, labels):
+    """A link from the side of its tail to the side of its head. Its labels are added to `labels`; `taken` are the places where something
+    stands: the middle of each and half its width and height."""
     side = -1 if is_turned else 1
     ends = [(x + left, y + top) for x, y in points]
     yield element("path", d=curve(ends), class_=arrow.look)
     yield arrow_head(*ends[-1], is_turned)
-    yield from label_parts(arrow.labels, ends, side, taken)
+    labels.extend(label_parts(arrow.labels, ends, side, taken))
 
 
 def on_curve(start, end, share):
@@ -225,15 +226,19 @@ def on_curve(start, end, share):
 
 
 def free_place(words, ends, taken):
-    """The place for a label at a link where it lies over no other: in the middle, or else beside it, on another part, or below."""
+    """The place for a label at a link where it lies over nothing: in the middle, or else beside it, on another part, above or below."""
     wide, number = 3.2 * len(words), (len(ends) - 1) // 2
-    parts = sorted(range(len(ends) - 1), key=lambda part: abs(part - number))
-    places = [on_curve(ends[part], ends[part + 1], share) for part in parts for share in (0.5, 0.3, 0.7)]
-    places += [(places[0][0], places[0][1] + 13 * step) for step in (1, 2, 3)]
-    free = [(x, y) for x, y in places if all(abs(x - other) > wide + reach or abs(y - at) > 12 for other, at, reach in taken)]
-    x, y = (free or places)[0]
-    taken.append((x, y, wide))
-    return x, y + 13
+    parts = sorted(range(len(ends) - 1), key=lambda part: abs(part - number))[:4]
+    on_link = [on_curve(ends[part], ends[part + 1], share) for part in parts for share in (0.5, 0.35, 0.65, 0.2, 0.8)]
+    places = [(x, y + move) for move in (0, 13, -13, 26, -26, 39) for x, y in on_link]
+    x, y = next((place for place in places if is_free(*place, wide, taken)), places[0])
+    taken.append((x, y, wide, 6.5))
+    return x, y + 4
+
+
+def is_free(x, y, wide, taken):
+    """Whether a label of this half width lies over nothing there."""
+    return all(abs(x - other) > wide + reach or abs(y - at) > 6 + high for other, at, reach, high in taken)
 
 
 def label_parts(labels, ends, side, taken):
@@ -263,17 +268,20 @@ def drawing(boxes, arrows, label):
     (width, height), points = place(boxes, arrows)
     by_name = {box.name: box for box in boxes}
     left, top = 16, 24
-    parts, routes, taken = [], [], []
+    parts, routes, labels = [], [], []
+    taken = [(box.x + left, box.y + top, box.width / 2, box.height / 2) for box in boxes]
     apart = [arrow for arrow in arrows if arrow.tail != arrow.head]
     for arrow, over in zip(apart, points):
         is_turned = by_name[arrow.tail].layer > by_name[arrow.head].layer
         routes.append((arrow, over[::-1] if is_turned else over, is_turned))
     attach(routes, by_name)
     for arrow, over, is_turned in routes:
-        parts += arrow_parts(arrow, over, is_turned, left, top, taken)
+        parts += arrow_parts(arrow, over, is_turned, left, top, taken, labels)
     for arrow in arrows:
         if arrow.tail == arrow.head:
             parts += loop_parts(arrow, by_name[arrow.tail], left, top)
     for box in boxes:
         parts += box_parts(box, left, top)
+    # The labels are drawn last, over all links.
+    parts += labels
     return picture(width + 2 * left, height + top + 36, label, parts)

@@ -1,8 +1,11 @@
 """The page of a report."""
+import re
 from html import escape
+from itertools import accumulate, groupby
 
 from drawing import charts
-from drawing.graphs import graph_picture, plan_picture
+from drawing.dot import MOST_NODES as WHOLE_PLAN
+from drawing.graphs import graph_picture, is_grouped, plan_picture
 from drawing.words import KINDS_OF_ANSWERS, counted
 
 # So many pictures of one kind stand on a page; the rest is counted.
@@ -19,10 +22,11 @@ h1 { font-size: 1.6rem; margin: 0.5rem 0; } h2 { font-size: 1.25rem; margin: 2re
 a { color: var(--value); } nav ul { display: flex; flex-wrap: wrap; gap: 0.3rem 1rem; padding: 0; list-style: none; }
 .skip { position: absolute; left: -99rem; } .skip:focus { position: static; }
 .figure { overflow-x: auto; background: var(--panel); border: 1px solid var(--grid); border-radius: 4px; padding: 0.5rem; }
-.figure:focus-visible, a:focus-visible, summary:focus-visible { outline: 3px solid var(--value); outline-offset: 2px; }
+.figure:focus-visible, pre:focus-visible, a:focus-visible, summary:focus-visible { outline: 3px solid var(--value); outline-offset: 2px; }
 .figure svg { display: block; } .note { color: var(--soft); } .bad { color: var(--bad); font-weight: bold; }
 .table { overflow-x: auto; } table { border-collapse: collapse; } caption { text-align: left; color: var(--soft); }
 th, td { padding: 0.25rem 0.8rem 0.25rem 0; text-align: left; border-bottom: 1px solid var(--grid); vertical-align: top; } td.number { text-align: right; font-variant-numeric: tabular-nums; }
+.told pre { overflow-x: auto; background: var(--panel); border: 1px solid var(--grid); padding: 0.5rem; } pre { font: 0.9em/1.3 ui-monospace, Consolas, monospace; }
 code { font: 0.9em ui-monospace, Consolas, monospace; overflow-wrap: anywhere; }
 """
 
@@ -32,8 +36,13 @@ def figure(picture, label):
     return f'<div class="figure" role="region" tabindex="0" aria-label="{escape(label)}">{picture}</div>'
 
 
+def marked(words):
+    """Words in which what stands between backticks is code."""
+    return re.sub("`([^`]*)`", r"<code>\1</code>", escape(words))
+
+
 def note(words):
-    return f'<p class="note">{escape(words)}</p>'
+    return f'<p class="note">{marked(words)}</p>'
 
 
 def table(caption, heads, rows):
@@ -46,8 +55,22 @@ def field(value):
     return f'<td class="number">{value:,}</td>' if isinstance(value, int) else f"<td>{escape(str(value))}</td>"
 
 
-def refusal(answer):
-    return f'<p class="bad">{escape(answer.line or "It was refused without a line.")}</p>' + note(f"Exit code {answer.status}: {KINDS_OF_ANSWERS.get(answer.status, 'the call was ended from outside')}. ./pisdf explain tells more.")
+def refusal(answer, run):
+    """What a refused call wrote. What the run was refused with as well isn't said again."""
+    if answer is not run.run and (answer.status, answer.line) == (run.run.status, run.run.line):
+        return note("There is none, since the run is refused. What is wrong stands above.")
+    line = f'<p class="bad">{escape(answer.line or "It was refused without a line.")}</p>'
+    return line + note(f"Exit code {answer.status}: {KINDS_OF_ANSWERS.get(answer.status, 'the call was ended from outside')}.")
+
+
+def told(words):
+    """Paragraphs of an explanation, in which lines of files stand apart."""
+    for is_quoted, lines in groupby(words.split("\n"), lambda line: line.startswith("    ")):
+        block = [line[4:] if is_quoted else line for line in lines]
+        if is_quoted:
+            yield f'<pre tabindex="0">{escape(chr(10).join(block))}</pre>'
+        else:
+            yield from (f"<p>{marked(line)}</p>" for line in block if line)
 
 
 # ---- the parts of the page
@@ -56,9 +79,10 @@ def refusal(answer):
 def summary(run):
     made = len({row[0] for row in run.run.of("tokens")}) if run.graphs and run.graphs[run.top]["outputs"] else None
     words = f"{counted(run.iterations, 'iteration')} {'was' if int(run.iterations) == 1 else 'were'} asked for, by {counted(run.workers, 'worker')}."
-    done = "<p>The run is done.</p>" if run.run.status == 0 else refusal(run.run)
+    done = "<p>The run is done.</p>" if run.run.status == 0 else refusal(run.run, run)
     before = "" if made is None or run.run.status == 0 else note(f"{counted(made, 'iteration')} {'was' if made == 1 else 'were'} done before.")
-    return f"<p>{escape(words)}</p>{done}{before}"
+    more = "".join(told(run.told))
+    return f"<p>{escape(words)}</p>{done}{before}" + (f'<div class="told">{more}</div>' if more else "")
 
 
 def graph_part(run):
@@ -77,46 +101,69 @@ def ordered(top, graphs):
 
 def plan_part(run):
     if run.plan.status:
-        return refusal(run.plan)
-    return figure(plan_picture(run.plan.by_kind()), "The plan") + note("A colour is a worker of the list schedule. An edge has its size in tokens, and where its buffer begins.")
+        return refusal(run.plan, run)
+    rows = run.plan.by_kind()
+    words = "A colour is a worker of the list schedule. An edge has its size in tokens, and where its buffer begins."
+    if is_grouped(rows):
+        words = f"The plan has {counted(len(rows['node']), 'node')}. One box stands for the firings of an actor, one for what copies on a link." + " `./pisdf draw plan` draws each." * (len(rows["node"]) <= WHOLE_PLAN)
+    return note(parameter_words(run)) + figure(plan_picture(rows, run.names), "The plan") + note(words)
+
+
+def parameter_words(run):
+    """With which parameters the plan is made."""
+    values = list(run.values_of_first().items())
+    more = f" and {len(values) - MOST_SERIES} more" if len(values) > MOST_SERIES else ""
+    listed = ", ".join(f"{name} = {value}" for name, value in values[:MOST_SERIES])
+    return f"This is the plan of iteration 0 of the top graph `{run.top}`" + (f", with {listed}{more}." if values else ".")
 
 
 def schedule_part(run):
     if run.schedule.status:
-        return refusal(run.schedule)
+        return refusal(run.schedule, run)
     rows = run.schedule.by_kind()
     critical, work, length = (int(rows[name][0][0]) for name in ("critical", "work", "length"))
     share = -(-work // int(run.workers))
     words = f"No schedule is shorter than the critical path, {critical}, nor than the work divided by the workers, {share}. This one has the length {length}. A node costs 1 and the tokens at its edges."
-    return figure(charts.gantt(rows, None if run.plan.status else run.plan.by_kind()), "The schedule") + note(words)
+    return figure(charts.gantt(rows, run.names), "The schedule") + note(words)
 
 
 def cells_part(run):
     if run.plan.status:
-        return refusal(run.plan)
+        return refusal(run.plan, run)
     plan, memory = run.plan.by_kind(), run.memory.by_kind()
-    parts = [figure(charts.cells(plan), "The cells of the plan")]
+    parts = [figure(charts.cells(plan, None, run.names), "The cells of the plan")]
     if run.memory.status:
-        parts.append(refusal(run.memory))
+        parts.append(refusal(run.memory, run))
     else:
-        parts.append("<details><summary>The cells as they would be if each worker kept a fixed order</summary>" + figure(charts.cells(plan, memory), "The cells under fixed orders") + "</details>")
+        parts.append("<details><summary>The cells as they would be if each worker kept a fixed order</summary>" + figure(charts.cells(plan, memory, run.names), "The cells under fixed orders") + "</details>")
     return "".join(parts)
 
 
 def workers_part(run):
     if run.journal.status and not run.journal.rows and run.journal.status != run.run.status:
-        return refusal(run.journal)
+        return refusal(run.journal, run)
     if not run.journal.rows:
         return note("There is no board: no iteration began.")
     steps = run.steps()
     label = f"The journal of the first iteration: {counted(len(run.journal.rows), 'line')}, {counted(run.workers, 'worker')}"
-    told = table("What each worker was handed", ["Worker", "Items", "Share of the items"], [(f"worker {worker}", *shares(steps, worker)) for worker in range(int(run.workers))])
-    return figure(charts.work(steps, int(run.workers), label), "What the workers did") + note("A bar goes from a claim to its finish. Bars of two colours belong to two firings of graphs. The places are those of lines in the journal; they say nothing of time.") + told
+    items = [sum(1 for step in steps if step[0] == worker) for worker in range(int(run.workers))]
+    rows = [(f"worker {worker}", count, f"{share} %") for worker, (count, share) in enumerate(zip(items, shares(items)))]
+    words = (
+        "The journal is of a call of its own, and not of the one that gave the tokens. More than one worker may share the work otherwise in each call. "
+        "A bar goes from a claim to its finish. A colour is a firing of a graph. The places are those of lines in the journal; they say nothing of time."
+    )
+    return figure(charts.work(steps, int(run.workers), label), "What the workers did") + note(words) + table("What each worker was handed", ["Worker", "Items", "Share of the items"], rows)
 
 
-def shares(steps, worker):
-    own = sum(1 for step in steps if step[0] == worker)
-    return own, f"{100 * own // max(1, len(steps))} %"
+def shares(items):
+    """How many of a hundred each count is, so that all make a hundred: those that lose most by cutting get one more."""
+    whole = sum(items)
+    if not whole:
+        return items
+    cut = [100 * count // whole for count in items]
+    for place in sorted(range(len(items)), key=lambda at: -(100 * items[at] % whole))[:100 - sum(cut)]:
+        cut[place] += 1
+    return cut
 
 
 def parameter_part(run):
@@ -124,8 +171,9 @@ def parameter_part(run):
     if not series:
         yield note("No parameter was chosen in this run.")
     for name, values in list(series.items())[:MOST_SERIES]:
-        numbers = [value for _, value in values][:MOST_VALUES]
-        yield figure(charts.line(numbers, f"{name}: {counted(len(values), 'value')}, from {min(numbers)} to {max(numbers)}", 100), f"Values of {name}")
+        numbers = [value for _, value in values]
+        label = f"{name}: {counted(len(values), 'value')}, from {min(numbers)} to {max(numbers)}"
+        yield figure(charts.line(values[:MOST_VALUES], label, "iteration", (), 100), f"Values of {name}")
     if len(series) > MOST_SERIES:
         yield note(f"{len(series) - MOST_SERIES} more parameters of other firings aren't drawn.")
 
@@ -139,7 +187,9 @@ def token_part(run):
         if not values:
             yield note(f"{name} gave no tokens.")
         elif len(values) <= MOST_POINTS:
-            yield figure(charts.line(values, f"{name}: {counted(len(values), 'token')} of {counted(len(rows), 'iteration')}, from {min(values)} to {max(values)}"), f"Tokens of {name}")
+            label = f"{name}: {counted(len(values), 'token')} of {counted(len(rows), 'iteration')}, from {min(values)} to {max(values)}"
+            turns = [0, *accumulate(len(row) for row in rows[:-1])]
+            yield figure(charts.line(list(enumerate(values)), label, "token", turns), f"Tokens of {name}")
         else:
             yield figure(charts.grey_image(lines_of(rows), name), f"Tokens of {name}")
 

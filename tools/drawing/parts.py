@@ -62,13 +62,67 @@ def uses(graph):
                 yield name, other["name"]
 
 
-def node_label(kind, name):
-    """A node of a single-rate graph: a firing and an interface by their names, others by their kind and their link."""
-    return name if kind in ("firing", "source", "sink") else f"{kind} {name}"
+# ---- nodes of a single-rate graph
+
+PLAIN = ("firing", "source", "sink")
 
 
-def group_of(kind, name):
-    """Where a node goes in a picture of actors in place of firings: a firing to its actor, what copies on a link to that link."""
-    if kind == "firing":
-        return name.rsplit(":", 1)[0]
-    return name if kind in ("source", "sink") else f"link {name}"
+class Names:
+    """What the nodes of a plan are called. `links` has the two ends of each link of the level, where the graph is known; the ends of
+    a link by which an actor's state goes on are the actor."""
+
+    def __init__(self, rows, links=()):
+        self.kinds = {row[0]: (row[1], row[2]) for row in rows["node"]}
+        self.links, self.before, self.after = links, {}, {}
+        for _, tail, head, _, _ in rows.get("edge", []):
+            self.before.setdefault(head, tail)
+            self.after.setdefault(tail, head)
+
+    def ends(self, link):
+        """The two ends of a link, or None."""
+        return self.links[int(link)] if link.isdigit() and int(link) < len(self.links) else None
+
+    def of(self, number):
+        """A firing and an interface by their names, others by what they stand beside."""
+        kind, name = self.kinds[number]
+        if kind in PLAIN:
+            return name
+        if kind in ("init", "end"):
+            return self.delay(number, kind, name)
+        near = (self.before if kind in ("fork", "broadcast") else self.after).get(number)
+        if near is None:
+            return f"{kind} {name}"
+        return f"{kind} of {self.beside(near, name, 0)}" if kind in ("fork", "broadcast") else f"{kind} to {self.beside(near, name, 1)}"
+
+    def beside(self, number, link, side):
+        """A node at a link with its port, where that is known."""
+        kind, name = self.kinds[number]
+        ends = self.ends(link)
+        port = ends[side].partition(".")[2] if ends and kind == "firing" else ""
+        return f"{name}.{port}" if port else self.of(number)
+
+    def delay(self, number, kind, link):
+        """The beginning or the end of a delay: by the port that the delay leads to, or by the firing that is next to it."""
+        ends = self.ends(link)
+        if ends and ends[0] == ends[1]:
+            return f"state of {ends[0]}" if kind == "init" else f"next state of {ends[0]}"
+        if ends:
+            return f"{kind} of {ends[1]}"
+        near, way = number, self.after if kind == "init" else self.before
+        while near in way:
+            near = way[near]
+            if self.kinds[near][0] in PLAIN:
+                return f"{'init to' if kind == 'init' else 'end from'} {self.kinds[near][1]}"
+        return f"{kind} {link}"
+
+    def group(self, number):
+        """Where a node goes in a picture of actors in place of firings: a firing to its actor, what copies on a link to that link."""
+        kind, name = self.kinds[number]
+        if kind == "firing":
+            return name.rsplit(":", 1)[0]
+        if kind in PLAIN:
+            return name
+        ends = self.ends(name)
+        if not ends:
+            return f"link {name}"
+        return f"state of {ends[0]}" if ends[0] == ends[1] else f"{ends[0]} to {ends[1]}"

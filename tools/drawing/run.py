@@ -4,14 +4,22 @@ import csv
 import io
 import subprocess
 
+from drawing import nodes
 from drawing.inputs import Refused, graphs_in, text_of
-from drawing.parts import node_label
+from drawing.parts import Names
+from drawing.told import told
+from pisdf_tools import reading, token_file
+from pisdf_tools.firing import TooLong
+from pisdf_tools.levels import Refused as RunRefused
+from pisdf_tools.source import read_source
 
 SECONDS = 120
 # The status of a call that took longer.
 TOO_LONG = 124
 # So many lines of a journal are read.
 MOST_LINES = 20000
+# So long the first iteration is made again to know its levels.
+LEVEL_SECONDS = 2
 
 
 class Answer:
@@ -47,7 +55,11 @@ class Run:
         calls = [(command, graph, tokens, workers) for command in ("plan", "schedule", "memory")]
         calls.append(("journal", graph, tokens, str(min(1, int(iterations))), workers))
         with concurrent.futures.ThreadPoolExecutor() as pool:
+            told_run = pool.submit(told, self)
             self.plan, self.schedule, self.memory, self.journal = pool.map(lambda words: self.call(*words), calls)
+            self.told = told_run.result()
+        self.levels = self.levels_of_first() if self.graphs else {}
+        self.names = self.top_names() if not self.plan.status else None
 
     def call(self, *words):
         try:
@@ -58,11 +70,38 @@ class Run:
             done = subprocess.CompletedProcess(words, TOO_LONG, b"", f"the call of '{words[0]}' took over {SECONDS} seconds".encode())
         return Answer(words, done)
 
+    def levels_of_first(self):
+        """The levels of the first iteration by the paths of their firings, as far as they are found soon."""
+        recorder = None
+        try:
+            file = reading.read(read_source(self.graph_file)).file
+            streams = token_file.Streams(read_source(self.token_file).data, {port.name.text for port in file.top_graph.inputs})
+            recorder = nodes.Recorder(file, LEVEL_SECONDS)
+            recorder.run(1, streams.tokens)
+        except (RunRefused, TooLong, OSError, RecursionError):
+            pass
+        return recorder.found if recorder else {}
+
+    def top_names(self):
+        """What the nodes of the plan are called."""
+        found = self.levels.get(self.top)
+        return Names(self.plan.by_kind(), nodes.ends_of(found[0]) if found else ())
+
+    def names_by_path(self):
+        """What the nodes of each firing of a graph are called, by its path."""
+        found = {path: Names(nodes.rows_of(*level), nodes.ends_of(level[0])) for path, level in self.levels.items()}
+        return {**found, self.top: self.names} if self.names else found
+
+    def values_of_first(self):
+        """The parameters of the top graph in the first iteration, each with its value."""
+        found = self.levels.get(self.top)
+        return dict(found[0].values) if found else {}
+
     def parameters(self):
         """The values of each chosen parameter, by the path of its firing and its name: the iteration and the value of each."""
         series = {}
         for iteration, path, name, value in self.run.of("param"):
-            series.setdefault(f"{path} {name}", []).append((int(iteration), int(value)))
+            series.setdefault(f"{name} in {path}", []).append((int(iteration), int(value)))
         return series
 
     def outputs(self):
@@ -80,14 +119,21 @@ class Run:
     def steps(self):
         """What each worker did in the first iteration: the worker, the places of the claim and of the finish in the journal, what it was,
         and the job that it was of."""
-        names = {row[0]: node_label(row[1], row[2]) for row in self.plan.of("node")}
-        running, found = {}, []
+        names, running, found = self.names_by_path(), {}, []
         for place, row in enumerate(self.journal.rows[:MOST_LINES]):
             worker = int(row[2])
             if row[0] == "claim":
                 running[worker] = (place, row[3], row[4], row[5])
-            else:
+            elif worker in running:
                 start, path, kind, number = running.pop(worker)
-                label = names.get(number, number) if kind == "node" and path == self.top else f"{kind} {number}"
+                label = self.item(names, path, kind, number)
                 found.append((worker, start, place, f"{path} {label}" if path != self.top else label, path))
         return found
+
+    def item(self, names, path, kind, number):
+        """What an item of a job is called: a node by its name, a configuration actor by its own."""
+        if kind == "node":
+            return names[path].of(number) if path in names and number in names[path].kinds else f"node {number}"
+        if kind == "configure" and path in self.levels:
+            return f"configure {self.levels[path][0].graph.actors[int(number)].name.text}"
+        return kind if kind == "compile" else f"{kind} {number}"

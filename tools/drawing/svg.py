@@ -4,18 +4,25 @@ import struct
 import zlib
 from xml.sax.saxutils import escape, quoteattr
 
+# The colours of workers, those of firings of graphs, and that of what belongs to neither.
 COLOURS = ["#a6cee3", "#b2df8a", "#fdbf6f", "#cab2d6", "#fb9a99", "#ffff99", "#d9d9d9", "#80cdc1"]
+FIRING_COLOURS = ["#e3cda4", "#a9c3a5", "#d6a79c", "#b5b3cf", "#c9cf8f", "#9fc4c4", "#d0aecb", "#c2bab0"]
+GREY = "#d5dae0"
 STYLE = (
     "text{font:12px Helvetica,Arial,sans-serif;fill:var(--ink,#1a222b)} .small{font-size:11px} .middle{text-anchor:middle} .end{text-anchor:end}"
     " .frame{fill:none;stroke:var(--line,#8094a8)} .grid{stroke:var(--grid,#d5dbe1)} .edge{fill:none;stroke:var(--ink,#445566)}"
     " .head{fill:var(--ink,#445566)} .on{fill:#1a222b} .box{stroke:#445566} .critical{stroke:#c00000;stroke-width:2.5}"
-    " .over{paint-order:stroke;stroke:var(--panel,#ffffff);stroke-width:3px;stroke-linejoin:round}"
-    " .use{fill:none;stroke:var(--use,#5577bb);stroke-dasharray:4 3} .value{fill:none;stroke:var(--value,#1f6fb2);stroke-width:1.5}"
+    " .over{paint-order:stroke;stroke:var(--panel,#ffffff);stroke-width:8px;stroke-linejoin:round}"
+    " .turn{stroke:var(--line,#8094a8);stroke-dasharray:2 3} .use{fill:none;stroke:var(--use,#5577bb);stroke-dasharray:4 3} .value{fill:none;stroke:var(--value,#1f6fb2);stroke-width:1.5}"
 )
 
 
 def colour(worker):
     return COLOURS[worker % len(COLOURS)]
+
+
+def firing_colour(number):
+    return FIRING_COLOURS[number % len(FIRING_COLOURS)]
 
 
 def element(name, text=None, **attributes):

@@ -1,9 +1,10 @@
 """What the exit codes of the program say, and numbers of things."""
 
+REFUSED_GRAPH = 2
 KINDS_OF_ANSWERS = {
     0: "done",
     1: "the words are no command's",
-    2: "the graph file is refused",
+    REFUSED_GRAPH: "the graph file is refused",
     3: "the token file is refused, or has too few tokens",
     4: "the run is refused",
     5: "a file can't be read",
