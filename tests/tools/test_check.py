@@ -49,6 +49,10 @@ class Summaries(unittest.TestCase):
         fed = changed(wide, ('{"name":"width","rate":"1"}', '{"name":"width","rate":"2"}'))
         self.assertEqual([refused.line for refused, _ in self.refusals(fed)], ["run: g kernel c:0 3"])
 
+    def test_ranges_are_those_of_the_values(self):
+        ranged = changed(WHOLE, ('"expr":"n+1"', '"expr":"(12+n-1)/n"'))
+        self.assertIn("  parameter m: = (12+n-1)/n, 2 to 12", self.lines(ranged))
+
     def test_a_graph_that_no_actor_names(self):
         text = changed(WHOLE, (' {"name":"h","params"', ' {"name":"z","params":[],"inputs":[],"outputs":[],"actors":[],"fifos":[],"exports":[]},\n {"name":"h","params"'))
         self.assertIn("No actor names the graph `z`, so it is never fired.", self.lines(text))

@@ -16,7 +16,7 @@ class Words(unittest.TestCase):
         from pisdf_tools.words import explain_usage
         rows = [([], ["No command is named", "`run`", "`upgrade`"]), (["rnu", "g", "t"], ["`rnu` is no command", "`./pisdf run GRAPH TOKENS ITERATIONS WORKERS`"]),
                 (["g.json", "t.csv"], ["The first word is the command"]), (["run", "g", "t", "1"], ["takes 4 words more, and here are 3", "WORKERS is missing"]),
-                (["plain", "g", "t", "1", "1"], ["takes 3 words more, and here are 4"]), (["run", "g", "t", "65537", "1"], ["from 0 to 65536", "`65537`"]),
+                (["check", "g.json"], ["`check` is a word of the launcher", "`./pisdf check GRAPH`"]), (["plain", "g", "t", "1", "1"], ["takes 3 words more, and here are 4"]), (["run", "g", "t", "65537", "1"], ["from 0 to 65536", "`65537`"]),
                 (["run", "g", "t", "1", "17"], ["from 1 to 16", "`17`"]), (["run", "g", "t", "one", "1"], ["in decimal digits", "`one`"]),
                 (["soak", "65536", "1"], ["NUMBER is a number from 0 to 65535"])]
         for words, wanted in rows:
@@ -65,6 +65,24 @@ class Calls(unittest.TestCase):
             self.assertIn(word, text)
         done = call(["run", "g.json", "t.csv", "1", "1"], {"g.json": changed(PASS, ('"8"', '"7"')), "t.csv": "x,1,2,3,4,5,6,7\n"}, "explain.py")
         self.assertEqual(done.stderr, b"")
+
+    def test_how_often_tokens_are_lost_or_read_again(self):
+        with open(os.path.join(TOP, "examples", "adaptive-mean", "g.json"), encoding="utf-8") as file:
+            graph = file.read()
+        tokens = f"width,8,3,5\nx{',1' * 24}\n"
+        text = call(["run", "g.json", "t.csv", "3", "1"], {"g.json": graph, "t.csv": tokens}, "explain.py").stderr.decode()
+        self.assertIn("in the firing `g` of iteration 1: The input `x` has 8 tokens", text)
+        self.assertIn("This is so in 2 of 3 iterations, with 1 to 2 tokens.", text)
+
+    def test_the_rates_that_fit_are_told(self):
+        text = call(["run", "g.json", "t.csv", "1", "1"], {"g.json": changed(PASS, ('"rate":"7"}],"actors"', '"rate":"14"}],"actors"')), "t.csv": "x,1,2,3,4,5,6,7,8\n"}, "explain.py").stderr.decode()
+        self.assertIn("With the rate 14 of `x` nothing is read again or lost.", text)
+
+    def test_further_refusals_are_counted(self):
+        graph = changed(WHOLE, ('"kernel":"pass"', '"kernel":"sum"'), ('"kernel":"gain","args":["m"]', '"kernel":"median","args":[]'), ('"outs":[{"name":"o","rate":"1"}]', '"outs":[{"name":"o","rate":"2"}]'))
+        text = call(["run", "g.json", "t.csv", "1", "1"], {"g.json": graph, "t.csv": "w,2\nx,1,2,3,4\n"}, "explain.py").stderr.decode()
+        self.assertTrue(text.startswith("run: g kernel a:0 3\n"), text)
+        self.assertIn("1 more refusal can be seen that no tokens avoid: `./pisdf check g.json` lists it.", text)
 
     def test_files_in_the_wrong_order(self):
         done = call(["run", "t.csv", "g.json", "1", "1"], {"g.json": WHOLE, "t.csv": "w,2\nx,1,2,3,4\n"}, "explain.py")

@@ -126,6 +126,24 @@ class Calls(unittest.TestCase):
         found = answer(words, json.dumps(graph), "width,1\nx,1,2,3,4,5,6,7,8\n")
         self.assertEqual(found, re.sub(r"^    ", "", wanted, flags=re.M))
 
+    def test_the_output_of_varying_length(self):
+        text = sections(page())["A parameter that changes a rate"].split("**An output of varying length.**")[1]
+        words = "run examples/adaptive-mean/g.json examples/adaptive-mean/t.csv 1 2".split()
+        actors, fifos = fenced(text)[:2]
+        graph = json.loads(text_of("examples/adaptive-mean/g.json"))
+        top = graph["graphs"][0]
+        top["params"].append(json.loads(re.search(r"`(\{\"name\":\"m\".*?\})`", text).group(1)))
+        top["inputs"][1]["rate"], top["outputs"] = "12", [{"name": "y", "rate": "12"}, {"name": "count", "rate": "1"}]
+        top["actors"][1:], top["fifos"][1:] = json.loads(f"[{actors}]"), json.loads(f"[{fifos}]")
+        wanted = re.search(r"the rows are \(worked out by hand\):\n\n((?:    .*\n)+)", text).group(1)
+        tokens = "width,5\nx,1,2,3,4,5,6,7,8,9,10,11,12\n"
+        self.assertEqual(answer(words, json.dumps(graph), tokens), re.sub(r"^    ", "", wanted, flags=re.M))
+
+    def test_the_delay_line_with_greater_rates(self):
+        words = "run examples/delay-line/g.json examples/delay-line/t.csv 2 1".split()
+        graph = re.sub(r'"rate":"1"', '"rate":"4"', text_of("examples/delay-line/g.json"))
+        self.assertEqual(answer(words, graph), answer(words))
+
     def test_what_is_explained_of_each_mistake(self):
         for heading, text in sections(page()).items():
             words = next((words for words, _ in calls(text) if example_of(words)), None)

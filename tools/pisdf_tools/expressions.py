@@ -39,11 +39,11 @@ class ExpressionFault(Exception):
 
 
 class NoValue(Exception):
-    """An expression has no value: `why` is `overflow` or `division`, `text` tells the operation."""
+    """An expression has no value: `why` is `overflow` or `division`, `text` tells the operation, `advice` what to write."""
 
-    def __init__(self, why, text):
+    def __init__(self, why, text, advice):
         super().__init__(text)
-        self.why, self.text = why, text
+        self.why, self.text, self.advice = why, text, advice
 
 
 class Parser:
@@ -176,13 +176,18 @@ def operation(operator, left, right):
     """The value of one operation on whole numbers, or NoValue."""
     shown = f"{operator}({left},{right})" if operator in CALLS else f"{left} {operator} {right}"
     if operator in "/%":
-        if right < 1 or left < 0:
-            raise NoValue("division", f"{shown} has no value: the divisor must be at least 1 and the dividend at least 0")
+        if left < 0:
+            raise NoValue("division", f"{shown} has no value: the dividend must be at least 0",
+                          "Form the sign behind the division, as `0-7/2` in place of `(0-7)/2`, or bound the dividend as by `max(0,n)`.")
+        if right < 1:
+            raise NoValue("division", f"{shown} has no value: the divisor must be at least 1",
+                          "Keep the divisor at 1 or more, as by `max(1,n)` or by `low`.")
         return left // right if operator == "/" else left % right
     value = {"+": lambda: left + right, "-": lambda: left - right, "*": lambda: left * right,
              "min": lambda: min(left, right), "max": lambda: max(left, right)}[operator]()
     if not is_whole(value):
-        raise NoValue("overflow", f"{shown} is {value}, which lies outside 64 bits")
+        raise NoValue("overflow", f"{shown} is {value}, which lies outside 64 bits",
+                      "Each value on the way must lie within 64 bits: bound the parameters by `low` and `high`, or divide before you multiply.")
     return value
 
 

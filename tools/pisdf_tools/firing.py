@@ -3,6 +3,7 @@
 The program itself is asked for all answers. What is worked out here only explains them.
 """
 import time
+from dataclasses import dataclass, field
 
 from . import balance
 from .kernel_work import KernelFault, fire
@@ -13,12 +14,25 @@ class TooLong(Exception):
     """The time that an explanation may take is over."""
 
 
+@dataclass
+class Note:
+    """Where an interface loses tokens or gives them again: for the first time, how often, and how many tokens it was each time."""
+    level: object
+    link: object
+    count: int
+    path: str
+    iteration: int
+    times: int = 0
+    amounts: set = field(default_factory=set)
+
+
 class Runner:
-    """Runs a file's top graph iteration by iteration. `notes` gathers where interfaces lose or repeat tokens."""
+    """Runs a file's top graph iteration by iteration. `notes` gathers where interfaces lose or repeat tokens, and `levels_done` how
+    often each graph was fired."""
 
     def __init__(self, file, seconds):
         self.file, self.levels, self.end = file, Levels(file), time.monotonic() + seconds
-        self.notes, self.iteration = {}, 0
+        self.notes, self.levels_done, self.iteration, self.is_done = {}, {}, 0, False
 
     def first_state(self, graph):
         """The tokens of permanent delays, and the states of children, as they are before the first firing."""
@@ -51,6 +65,7 @@ class Runner:
             if any(tokens is None for tokens in ins.values()):
                 return
             self.graph(graph, graph.name.text, early, ins, state)
+        self.is_done = True
 
     def graph(self, graph, path, early, ins, state):
         """One firing of a graph: its outputs and its exports by name. The state is changed to the one left."""
@@ -112,11 +127,19 @@ class Runner:
 
     def note(self, level, counts, path):
         """Where a level reads tokens of an interface again, or drops tokens for one."""
+        name = level.graph.name.text
+        self.levels_done[name] = self.levels_done.get(name, 0) + 1
         for link in level.links:
             if link.source is not None and link.head and counts[link.head] * link.consumption != link.production:
-                self.notes.setdefault((level.graph.name.text, link.source), (level, link, counts[link.head], path, self.iteration))
+                self.note_one(level, link, link.source, counts[link.head], path)
             if link.sink is not None and link.tail and counts[link.tail] * link.production != link.consumption:
-                self.notes.setdefault((level.graph.name.text, link.sink), (level, link, counts[link.tail], path, self.iteration))
+                self.note_one(level, link, link.sink, counts[link.tail], path)
+
+    def note_one(self, level, link, end, count, path):
+        """Notes one interface whose rate differs from what the firings move there."""
+        note = self.notes.setdefault((level.graph.name.text, end), Note(level, link, count, path, self.iteration))
+        note.times += 1
+        note.amounts.add(abs(count * link.consumption - link.production) if link.source is not None else abs(count * link.production - link.consumption))
 
     def fire_level(self, level, counts, order, path, sources, state):
         """Fires all firings of a level in order. Gives the tokens of the outputs, and changes the state to the one left."""

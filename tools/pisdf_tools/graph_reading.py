@@ -191,6 +191,9 @@ class GraphReading:
         if value.kind == "integer" and least <= value.value <= most:
             return value.value
         sentences = [f"A whole number from {least} to {most} was wanted, and {shown(value)} stands here.", why]
+        if value.kind == "integer" and least == 0 and value.value < 0 and most == PARAMETER_HIGH:
+            sentences.append(f"A parameter is never negative. Let it hold the value plus {-value.value}, from 0 on, and take {-value.value} away where "
+                             f"the negative one is wanted, as by `level-{-value.value}` in an argument.")
         if value.kind == "float":
             sentences.append("A number with a point or an exponent is no whole number here, and neither is `-0`.")
         if value.kind == "string":

@@ -1,27 +1,57 @@
 """Where a run that is done loses tokens at an interface, or reads them again."""
-from .wording import counted, quoted, times
+from .fitting import fitting_interfaces
+from .summary import range_words
+from .wording import counted, joined, listed, quoted, times
 
 
-def note_text(level, link, count, path, iteration, source):
+def note_text(note, runner, source):
     """A paragraph on one interface of a level whose counts don't fit its rate."""
-    graph = level.graph
-    fifo = graph.fifos[link.fifo]
-    where = source.place(fifo.value.start)
-    head = f"{where}, in the firing {quoted(path)} of iteration {iteration}:"
-    if link.source is not None:
-        moved = count * link.consumption
-        end = f"The input {quoted(link.source)}" if "." not in link.source else f"The output {quoted(link.source)} of a configuration actor"
-        again = f"so {counted(moved - link.production, 'token')} {'is' if moved - link.production == 1 else 'are'} read again from the front"
-        return (f"{head} {end} has {counted(link.production, 'token')}. {quoted(link.head)} fires {times(count)} and reads {link.consumption} each time, "
-                f"{moved} in all, {again}.")
+    level, link = note.level, note.link
+    where = source.place(level.graph.fifos[link.fifo].value.start)
+    head = f"{where}, in the firing {quoted(note.path)} of iteration {note.iteration}:"
+    return joined([head, again_words(link, note.count) if link.source is not None else lost_words(link, note.count),
+                   often_words(note, runner), fitting_words(level, link.head or link.tail)])
+
+
+def again_words(link, count):
+    """That an interface gives tokens again from the front."""
+    moved = count * link.consumption
+    more = counted(moved - link.production, "token")
+    end = f"The input {quoted(link.source)}" if "." not in link.source else f"The output {quoted(link.source)} of a configuration actor"
+    return (f"{end} has {counted(link.production, 'token')}. {quoted(link.head)} fires {times(count)} and reads {link.consumption} each time, "
+            f"{moved} in all, so {more} {'is' if moved - link.production == 1 else 'are'} read again from the front.")
+
+
+def lost_words(link, count):
+    """That an output keeps its last tokens."""
     moved = count * link.production
-    return (f"{head} The output {quoted(link.sink)} keeps the last {counted(link.consumption, 'token')}. {quoted(link.tail)} fires {times(count)} and "
-            f"gives {link.production} each time, {moved} in all, so the first {moved - link.consumption} are lost.")
+    kept = counted(link.consumption, "token") if link.consumption != 1 else "token"
+    lost = f"the first {moved - link.consumption} are lost" if moved - link.consumption != 1 else "the first is lost"
+    return (f"The output {quoted(link.sink)} keeps the last {kept}. {quoted(link.tail)} fires {times(count)} and "
+            f"gives {link.production} each time, {moved} in all, so {lost}.")
+
+
+def often_words(note, runner):
+    """In how many iterations or firings this is so, and with how many tokens."""
+    name = note.level.graph.name.text
+    every = runner.levels_done[name]
+    if every == 1:
+        return ""
+    what = "iterations" if "/" not in note.path else f"firings of the graph {quoted(name)}"
+    of = f"{every} {what}" if runner.is_done else f"the first {every} {what}"
+    amounts = f", with {range_words(min(note.amounts), max(note.amounts))} tokens" if len(note.amounts) > 1 else ""
+    return f"This is so in all of {of}{amounts}." if note.times == every else f"This is so in {note.times} of {of}{amounts}."
+
+
+def fitting_words(level, actor):
+    """The rates of interfaces with which nothing is lost or read again."""
+    fits = fitting_interfaces(level, actor)
+    return f"With {listed([f'the rate {rate} of {quoted(name)}' for name, rate in fits.items()])} nothing is read again or lost." if fits else ""
 
 
 def notes(runner, source, most=4):
     """Paragraphs on the interfaces of a run, each told once."""
-    found = [note_text(*note, source) for note in runner.notes.values()]
+    found = [note_text(note, runner, source) for note in runner.notes.values()]
     if len(found) > most:
         found = found[:most] + [f"{len(found) - most} more interfaces of other graphs lose tokens or give them again."]
     return found

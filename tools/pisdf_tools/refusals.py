@@ -5,6 +5,7 @@ import stat
 import subprocess
 
 from . import firing, loss, reading, token_file
+from .exploring import Explorer
 from .levels import Refused
 from .run_refusals import RunRefusals
 from .source import read_source
@@ -103,9 +104,14 @@ class Explanation:
     def run(self):
         found = self.read_graph()
         refused, iteration = self.refusal(found.file)
-        if refused and refused.line == self.line:
-            return RunRefusals(found, refused, iteration).text()
-        return plain_words(found, self.line)
+        text = RunRefusals(found, refused, iteration).text() if refused and refused.line == self.line else plain_words(found, self.line)
+        return joined_paragraphs(text, self.further_refusals(found.file))
+
+    def further_refusals(self, file):
+        """How many more refusals `check` lists, which no tokens avoid."""
+        more = len({refused.line for refused in Explorer(file).certain_refusals()} - {self.line})
+        return (f"{counted(more, 'more refusal')} can be seen that no tokens avoid: `./pisdf check {self.call.get('GRAPH')}` lists "
+                f"{'it' if more == 1 else 'them'}.") if more else ""
 
     def refusal(self, file):
         """The refusal as the firing rules find it, with its iteration. None where that takes too long."""

@@ -1,8 +1,10 @@
 """What a refusal of a run means: the values that led to it, where they come from, and what to do."""
 from . import balance
 from .expressions import names
+from .fitting import fitting_rate
 from .kernels import code_meaning, table
-from .limits import BASE_ENTRY, RATE, TOKENS
+from .limits import BASE_ENTRY, PARAMETER_HIGH, RATE, TOKENS
+from .static_refusals import graph_at
 from .wording import counted, grouped, joined, listed, quoted, shortened, times
 
 MOST_SHOWN = 8
@@ -18,6 +20,17 @@ def values_words(expression, values):
     """The values of the parameters in an expression, as ` with `n` = 3`."""
     found = dict.fromkeys(name.name for name in names(expression.tree) if name.name in values)
     return f" with {listed([f'{quoted(name)} = {values[name]}' for name in found])}" if found else ""
+
+
+def range_advice(param, value, source):
+    """What to do where a parameter has a value out of its range."""
+    name = param.name.text
+    if value < 0:
+        return (f"A parameter is never negative. Let it hold the value plus {-value}, with bounds that fit, and write `{name}-{-value}` "
+                "where the negative one is wanted, as in an argument.")
+    if value > PARAMETER_HIGH:
+        return f"A parameter is {PARAMETER_HIGH} at most. Let greater numbers be tokens or arguments."
+    return f"Its range is {param.low} to {param.high}. Mend {source}, or widen the range."
 
 
 class RunRefusals:
@@ -51,26 +64,25 @@ class RunRefusals:
         name = quoted(param.name.text)
         if "why" in more:
             return self.at(param.expression, f"The parameter {name} has no value{values_words(param.expression, self.values)}: {more['why'].text}.",
-                           "Write the expression so that it has a value for all values of the parameters in it, as by `max(1,n)` under a `/`.")
-        value, advice = more["value"], f"Widen the range, which is {param.low} to {param.high}, or mend what gives the value."
+                           more["why"].advice)
+        value = more["value"]
         if param.kind == "is":
             came = f"The value of \"{shortened(param.expression.text)}\"{values_words(param.expression, self.values)} is {value}."
-        elif param.kind == "in":
-            came = f"An argument gives {name} the value {value}.{self.argument_place()}"
-        else:
-            came = f"The parameter {name} is set to {value} by {self.setter_words(param)}."
-            advice = f"Keep what is set within {param.low} to {param.high}, or widen the range."
-        return self.at(param, came, f"Its range is {param.low} to {param.high}.", advice)
+            return self.at(param.expression, came, range_advice(param, value, "the expression"))
+        if param.kind == "set":
+            return self.at(param, f"The parameter {name} is set to {value} by {self.setter_words(param)}.", range_advice(param, value, "what is set"))
+        argument = self.argument()
+        return self.at(argument, f"The argument gives the parameter {name} of the graph {quoted(self.graph.name.text)} ({self.line_of(param)}) the value {value}.",
+                       range_advice(param, value, "the argument"))
 
-    def argument_place(self):
-        """Where the actor stands whose argument gives an inherited parameter."""
-        part = self.refused.part
-        for graph in self.reading.file.graphs:
-            for actor in graph.actors:
-                if actor.is_hierarchical and self.reading.file.child_of(actor) is self.graph:
-                    place = [param.name.text for param in self.graph.of_kind("in")].index(part.name.text)
-                    return f" It is argument {place} of the actor {quoted(actor.name.text)}, at {self.line_of(actor.args[place])}."
-        return ""
+    def argument(self):
+        """The argument that gives the inherited parameter of this refusal."""
+        file = self.reading.file
+        graph, (*names_above, name) = graph_at(file, self.refused.path), self.refused.cause.split(" ")[1].split(".")
+        for step in names_above:
+            actor = graph.actor(step)
+            graph = file.child_of(actor)
+        return actor.args[[param.name.text for param in graph.of_kind("in")].index(name)]
 
     def setter_words(self, param):
         for actor in self.graph.actors:
@@ -92,7 +104,7 @@ class RunRefusals:
         what = "argument" if "/args/" in expression.pointer else "rate"
         if "why" in more:
             return self.at(expression, f"The {what} {shown} has no value: {more['why'].text}.",
-                           "Bound the parameter by `low` and `high`, or write the expression with `min` or `max` so that it always has one.")
+                           more["why"].advice)
         value = more["value"]
         wrong = f"A rate may be {grouped(RATE)} at most" if value > RATE else "A rate can't be below 0"
         return self.at(expression, f"The rate {shown} is {value}. {wrong}.",
@@ -116,8 +128,21 @@ class RunRefusals:
             least = min(found.base, key=lambda other: (found.base[other], other))
             sentences.append(f"The rates let {quoted(actor)} fire {times(found.base[actor])} for {times(found.base[least])} of {quoted(least)}. "
                              f"The balance may ask for {grouped(BASE_ENTRY)} firings of an actor. Take rates that are nearer to each other.")
-        part = self.graph.fifos[found.conflicts[0].link.fifo] if found.conflicts and found.conflicts[0].link.fifo is not None else self.graph.name
-        return self.at(part, "No numbers of firings fit the rates of this graph.", *sentences, self.env_words())
+        return self.at(self.place_of_conflict(found), "No numbers of firings fit the rates of this graph.", *sentences, self.env_words())
+
+    def place_of_conflict(self, found):
+        """The rate that is 0, or the FIFO whose equation can't hold."""
+        first = found.conflicts[0] if found.conflicts else None
+        if first and first.kind == "zero":
+            return self.rate_at(first.link.tail_port if first.link.production == 0 else first.link.head_port)
+        return self.graph.fifos[first.link.fifo] if first and first.link.fifo is not None else self.graph.name
+
+    def rate_at(self, end):
+        """The expression of the rate at an end."""
+        name, _, port = end.partition(".")
+        actor = self.graph.actor(name)
+        ins, outs = self.reading.file.ports_of(actor) if actor else (self.graph.inputs, self.graph.outputs)
+        return next(part.rate for part in ins + outs if part.name.text == (port or name))
 
     def env_words(self):
         """The values of the parameters, where there are some."""
@@ -127,8 +152,16 @@ class RunRefusals:
         return f"The parameter is {shown[0]}." if len(shown) == 1 else f"The parameters are {listed(shown)}."
 
     def zero_words(self, link):
-        gives, takes = f"{quoted(link.tail_port)} gives {link.production}", f"{quoted(link.head_port)} takes {link.consumption}"
-        return f"On {self.fifo_words(link)}, {gives} and {takes}. Where one rate is 0 the other must be 0 as well."
+        is_tail = link.production == 0
+        zero, other = (link.tail_port, link.head_port) if is_tail else (link.head_port, link.tail_port)
+        rate = self.rate_at(zero)
+        shown = "" if rate.text.strip() == "0" else f", as \"{shortened(rate.text)}\"{values_words(rate, self.values)}"
+        moves = f"{quoted(other)} {'takes' if is_tail else 'gives'} {counted(link.consumption + link.production, 'token')}{' a firing' if '.' in other else ''}"
+        what = f"The {'input' if is_tail else 'output'} {quoted(zero)}" if "." not in zero else quoted(zero)
+        fit = fitting_rate(self.refused.more["level"], link)
+        advice = "" if fit is None else f": {fit} fits the other rates" + ("" if "." in zero else ", so that nothing is read again or lost")
+        return (f"{what} has the rate 0 ({self.line_of(rate)}){shown}, and on {self.fifo_words(link)}, {moves}. Of the two rates of a FIFO both are 0 or "
+                f"neither is. Most likely the 0 is wrong{advice}.")
 
     def conflict_words(self, conflict):
         link = conflict.link

@@ -1,6 +1,10 @@
 """What can be told of a graph file without a fault and without tokens: interfaces, parameters, repetition vectors, hierarchy."""
-from .expressions import bounds, names
+from math import prod
+
+from .exploring import MOST_CHOICES, choices
+from .expressions import NoValue, bounds, evaluate, names
 from .limits import PARAMETER_HIGH
+from .rate_params import with_sources
 from .run_refusals import RunRefusals
 from .wording import counted, listed, quoted, with_names
 
@@ -20,20 +24,46 @@ class Ranges:
         if graph.pointer not in self.found:
             ranges = {param.name.text: (param.low, param.high) for param in graph.params if param.kind != "is"}
             for _ in graph.params:
-                for param in graph.of_kind("is"):
-                    span = bounds(param.expression.tree, ranges)
+                for param in (param for param in graph.of_kind("is") if param.name.text not in ranges):
+                    if not all(name in ranges for name in self.names(param)):
+                        continue
+                    span = self.exact(param.expression.tree, graph) or bounds(param.expression.tree, ranges)
                     low, high = span or (param.low, param.high)
-                    if all(name in ranges for name in self.names(param)):
-                        ranges[param.name.text] = (max(low, param.low), min(high, param.high))
+                    ranges[param.name.text] = (max(low, param.low), min(high, param.high))
             self.found[graph.pointer] = ranges
         return self.found[graph.pointer]
+
+    def exact(self, tree, graph):
+        """The least and the greatest value of an expression by all values of the parameters in it, or None where these are many or none."""
+        found = [name.name for name in names(tree)]
+        sources = [graph.param(name) for name in sorted(with_sources(graph, found)) if graph.param(name).kind != "is"]
+        if prod(param.high - param.low + 1 for param in sources) > MOST_CHOICES:
+            return None
+        values = [self.value(tree, graph, chosen) for chosen in choices(sources, {})[0]]
+        known = [value for value in values if value is not None]
+        return (min(known), max(known)) if known else None
+
+    def value(self, tree, graph, chosen):
+        """The value of an expression by `chosen`, which has those of the parameters that it comes from, and gets those of derived ones.
+        None where it has none."""
+        for name in names(tree):
+            param = graph.param(name.name)
+            if name.name not in chosen:
+                value = self.value(param.expression.tree, graph, chosen)
+                chosen[name.name] = value if value is not None and param.low <= value <= param.high else None
+            if chosen[name.name] is None:
+                return None
+        try:
+            return evaluate(tree, chosen)
+        except NoValue:
+            return None
 
     def names(self, param):
         return [name.name for name in names(param.expression.tree)]
 
     def rate_words(self, rate, graph):
         """A rate as it is written, with its bounds where it names parameters."""
-        span = bounds(rate.tree, self.of(graph))
+        span = self.exact(rate.tree, graph) or bounds(rate.tree, self.of(graph))
         if span is None or rate.text.strip() == str(span[0]):
             return rate.text
         return f"{rate.text} = {span[0]}" if span[0] == span[1] else f"{rate.text} = {span[0]} to {span[1]}"
@@ -79,7 +109,7 @@ class Summary:
         for param in graph.params:
             low, high = self.ranges.of(graph).get(param.name.text, (param.low, param.high))
             source = f"= {param.expression.text}" if param.kind == "is" else KIND_WORDS[param.kind]
-            bound = "any value from 0 on" if (low, high) == (0, PARAMETER_HIGH) else range_words(low, high)
+            bound = "no value in its range" if low > high else "any value from 0 on" if (low, high) == (0, PARAMETER_HIGH) else range_words(low, high)
             yield f"  parameter {param.name.text}: {source}, {bound}"
         if graph.exports:
             yield f"  exports {listed([word.text for word in graph.exports])}"

@@ -189,10 +189,18 @@ class WiringFaults:
         setter = next((actor.name.text for actor in graph.actors for word in actor.sets or [] if word and word.text == chain[-1]), None)
         by = f"the configuration actor {quoted(setter)} sets" if setter else "a configuration actor sets"
         way = f"{quoted(name.name)} depends on {quoted(chain[-1])}, which {by}" if len(chain) > 1 else f"{by[:1].upper()}{by[1:]} {quoted(name.name)}"
-        advice = ("Give the interface a rate that doesn't change, and let the actors inside read as many of its tokens as they need."
-                  if what.startswith("The rate") else "")
+        advice = self.fixed_rate_words(expression, graph) if what.startswith("The rate") else ""
         self.faults.add(10, f"order {name.name}", expression.pointer, start, start + len(name.name),
                         joined([f"{what} is needed before the configuration actors fire. {way}.", "So it may not stand here.", advice]))
+
+    def fixed_rate_words(self, expression, graph):
+        """What to do in place of a rate of an interface that changes."""
+        _, _, _, lists, place, _ = expression.pointer.split("/")
+        if lists == "inputs":
+            return "Give the interface a rate that doesn't change, and let the actors inside read as many of its tokens as they need."
+        name = quoted(graph.outputs[int(place)].name.text)
+        return (f"An output gives as many tokens in each iteration. Give {name} the greatest number of tokens, and tell by a second output how many of "
+                "them count: docs/USING.md shows how, under \"An output of varying length\".")
 
     # ---- the hierarchy
 

@@ -15,6 +15,8 @@ COMMANDS = {
     "soak": ("NUMBER", "WORKERS"),
     "upgrade": ("GRAPH",),
 }
+# Words of the launcher, each with those behind it.
+LAUNCHER = {"explain": "COMMAND WORDS..", "check": "GRAPH", "report": "GRAPH TOKENS ITERATIONS WORKERS FILE.html", "draw": "WORDS..", "kernels": "[NAME]"}
 # The bounds of each number, and how many digits it may have.
 NUMBERS = {"ITERATIONS": (0, ITERATIONS, 5), "WORKERS": (1, WORKERS, 2), "NUMBER": (0, SOAK_NUMBER, 5)}
 
@@ -58,6 +60,8 @@ def explain_usage(words):
     if not words:
         return f"No command is named. The commands are {named(COMMANDS)}. `./pisdf --help` tells of each."
     command = words[0]
+    if command in LAUNCHER:
+        return f"{quoted(command)} is a word of the launcher, which tells in sentences by itself: `./pisdf {command} {LAUNCHER[command]}`."
     if command not in COMMANDS:
         meant = nearest(command, COMMANDS)
         looks = "The first word is the command, before the files." if "." in command or "/" in command else ""
