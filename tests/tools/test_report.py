@@ -7,6 +7,8 @@ import unittest
 from unittest import mock
 import xml.etree.ElementTree as xml
 
+from support import PROGRAM as BUILT, needs_program
+
 TOP = os.path.realpath(os.path.join(os.path.dirname(__file__), "..", ".."))
 REPORT = os.path.join(TOP, "tools", "report.py")
 XHTML = "{http://www.w3.org/2000/svg}"
@@ -20,7 +22,7 @@ JOURNAL = "claim,0,0,g,configure,0\nfinish,0,0\nclaim,0,1,g,compile,0\nfinish,0,
 RUN = "param,0,g,n,4\ntokens,0,y,6\nparam,1,g,n,8\ntokens,1,y,4\n"
 
 # Answers each command with the text that the file of its name holds, and with the status and the line that stand there.
-PROGRAM = """#!{python}
+PROGRAM = """#!{python} -IS
 import os, sys, time
 room = os.path.dirname(os.path.abspath(__file__))
 def text(name):
@@ -62,6 +64,70 @@ class Report(unittest.TestCase):
 
     def labelled(self, page, label):
         return [part for part in page.iter("div") if part.get("aria-label") == label]
+
+    def told(self, part):
+        """The words that a part of a page tells of its shapes."""
+        return [words.text for words in part.iter(f"{XHTML}title")]
+
+    def test_nodes_are_named(self):
+        _, page = self.page()
+        plan, = self.labelled(page, "The plan")
+        shown = {words.text for words in plan.iter(f"{XHTML}text")}
+        self.assertTrue({"fork of x", "join to y", "m:0"} <= shown, shown)
+        cells, = self.labelled(page, "The cells of the plan")
+        self.assertIn("edge 1: cells 8 to 11, from fork of x to m:0", self.told(cells))
+        workers, = self.labelled(page, "What the workers did")
+        self.assertIn("configure c: from 0 to 1, worker 0", self.told(workers))
+        self.assertIn("m:1: from 5 to 7, worker 1", self.told(workers))
+
+    def test_cells_and_firings_have_no_colour_of_a_worker(self):
+        _, page = self.page()
+        fills = {}
+        for label in ("The schedule", "The cells of the plan", "What the workers did"):
+            part, = self.labelled(page, label)
+            fills[label] = {box.get("fill") for box in part.iter(f"{XHTML}rect") if "box" in box.get("class", "")}
+        self.assertEqual(len(fills["The schedule"]), 2)
+        self.assertFalse(fills["The schedule"] & (fills["The cells of the plan"] | fills["What the workers did"]))
+
+    def test_the_plan_says_with_which_parameters(self):
+        text, _ = self.page()
+        self.assertIn("This is the plan of iteration 0 of the top graph <code>g</code>, with n = 4.", text)
+
+    def test_a_plan_of_many_nodes_is_told_as_such(self):
+        nodes = [f"node,{number},firing,m:{number},0,1\n" for number in range(61)] + ["node,61,sink,y,0,1\n"]
+        self.put("plan", "".join([*nodes, "edge,0,60,61,1,0\nheight,1\n"]))
+        self.put("memory.status", "4")
+        text, page = self.page()
+        self.assertIn("The plan has 62 nodes. One box stands for the firings of an actor, one for what copies on a link. <code>./pisdf draw plan</code> draws each.", text)
+        self.assertNotIn("A colour is a worker", text)
+        plan, = self.labelled(page, "The plan")
+        shown = {words.text for words in plan.iter(f"{XHTML}text")}
+        self.assertTrue({"61 nodes", "1 node", "1 edge, 1 token"} <= shown, shown)
+
+    def test_few_tokens_have_numbers_and_iterations_lines(self):
+        self.put("run", "tokens,0,y,6,7\ntokens,1,y,4\n")
+        _, page = self.page()
+        drawn, = self.labelled(page, "Tokens of y")
+        shown = [words.text for words in drawn.iter(f"{XHTML}text")]
+        self.assertTrue({"6", "7", "4", "token", "iteration 0", "iteration 1"} <= set(shown), shown)
+        turns = [line for line in drawn.iter(f"{XHTML}line") if line.get("class") == "turn"]
+        dots = [dot.get("cx") for dot in drawn.iter(f"{XHTML}circle")]
+        self.assertEqual(len(turns), 2)
+        self.assertTrue(float(dots[1]) < float(turns[1].get("x1")) < float(dots[2]))
+
+    def test_shares_make_a_hundred(self):
+        from drawing.page import shares
+        self.assertEqual(shares([2, 1]), [67, 33])
+        self.assertEqual(shares([1, 1, 1]), [34, 33, 33])
+        self.assertEqual(shares([46, 18, 15, 21]), [46, 18, 15, 21])
+        self.assertEqual(shares([0, 0]), [0, 0])
+
+    def test_what_a_done_run_loses_is_told(self):
+        _, page = self.page()
+        told, = [part for part in page.iter("div") if part.get("class") == "told"]
+        words = "".join(told.itertext())
+        self.assertIn("y", words)
+        self.assertIn("lost", words)
 
     def test_all_parts(self):
         text, page = self.page()
@@ -110,12 +176,17 @@ class Report(unittest.TestCase):
         self.assertTrue(image.get("href").startswith("data:image/png;base64,"))
 
     def test_a_refused_run(self):
+        tokens = os.path.join(self.room, "t.csv")
+        self.put("t.csv", "width,4,8,9\nx," + ",".join(["1"] * 24) + "\n")
+        line = "run: g param n value 9 range 1 8"
         for name in ("run", "journal"):
             self.put(f"{name}.status", "4")
-            self.put(f"{name}.line", "run: g param n value 9 range 1 8\n")
-        text, _ = self.page(iterations="3")
-        self.assertIn("run: g param n value 9 range 1 8", text)
+            self.put(f"{name}.line", f"{line}\n")
+        text, page = self.page(tokens=tokens, iterations="3")
         self.assertIn("2 iterations were done before.", text)
+        self.assertEqual(text.count(line), 1)
+        told, = [part for part in page.iter("div") if part.get("class") == "told"]
+        self.assertIn('"name":"n"', "".join("".join(lines.itertext()) for lines in told.iter("pre")))
 
     def test_a_refused_plan(self):
         for name in ("run", "plan", "schedule", "memory", "journal"):
@@ -123,7 +194,8 @@ class Report(unittest.TestCase):
             self.put(f"{name}.status", "4")
             self.put(f"{name}.line", "run: g deadlock s 2\n")
         text, page = self.page()
-        self.assertIn("run: g deadlock s 2", text)
+        self.assertEqual(text.count("run: g deadlock s 2"), 1)
+        self.assertIn("There is none, since the run is refused.", text)
         self.assertEqual(len(self.labelled(page, "The graph g")), 1)
 
     def test_one_call_that_ends_otherwise(self):
@@ -139,7 +211,6 @@ class Report(unittest.TestCase):
                 self.put(f"{name}.status", "0")
 
     def test_a_call_that_takes_too_long(self):
-        sys.path.insert(0, os.path.join(TOP, "tools"))
         from drawing import page, run
         self.put("memory.sleep", "60")
         with mock.patch.object(run, "SECONDS", 2):
@@ -148,7 +219,6 @@ class Report(unittest.TestCase):
         self.assertIn("The cells of the plan", text)
 
     def test_labels_of_links_lie_apart(self):
-        sys.path.insert(0, os.path.join(TOP, "tools"))
         from drawing.layout import free_place
         taken = []
         places = [free_place("1 at 4", [(0, 0), (60, 0)], taken) for _ in range(4)]
@@ -157,12 +227,18 @@ class Report(unittest.TestCase):
 
     def test_a_refused_graph_file(self):
         self.put("run", "")
-        self.put("run.status", "2")
-        self.put("run.line", "graph: 1 json\n")
-        self.put("g.json", "{")
+        for name in ("run", "upgrade"):
+            self.put(f"{name}.status", "2")
+            self.put(f"{name}.line", "graph: 2 shape /graphs/0/inputs/0/rate\n")
+        with open(GRAPH, encoding="utf-8") as file:
+            self.put("g.json", file.read().replace('"rate":"1"', '"rate":1', 1).replace('"kernel":"mean"', '"kernel":"meam"'))
         text, page = self.page(graph=os.path.join(self.room, "g.json"))
-        self.assertIn("graph: 1 json", text)
         self.assertEqual(list(page.iter("section")), [])
+        self.assertEqual(text.count("graph: 2 shape /graphs/0/inputs/0/rate"), 1)
+        told, = [part for part in page.iter("div") if part.get("class") == "told"]
+        words = "".join(told.itertext())
+        self.assertIn("line 3, column 36", words)
+        self.assertIn("meam", words)
 
     def test_words_and_files(self):
         self.assertEqual(self.call(target="/nowhere/page.html"), (2, "report: /nowhere/page.html can't be written: No such file or directory\n"))
@@ -173,6 +249,31 @@ class Report(unittest.TestCase):
         words = ["/nowhere/program", GRAPH, "t.csv", "1", "1", "page.html"]
         done = subprocess.run([sys.executable, "-B", REPORT, *words], capture_output=True, text=True, timeout=60)
         self.assertEqual((done.returncode, done.stderr), (2, "report: the program /nowhere/program can't be called: No such file or directory\n"))
+
+
+class Nodes(unittest.TestCase):
+    @needs_program
+    def test_nodes_of_a_level_are_those_of_its_plan(self):
+        """What names the nodes of the graphs below is right of the top graph, whose plan the program writes."""
+        from drawing import nodes, run
+        compared = 0
+        for name in sorted(os.listdir(os.path.join(TOP, "examples"))):
+            graph, tokens = (os.path.join(TOP, "examples", name, file) for file in ("g.json", "t.csv"))
+            drawn = run.Run(BUILT, graph, tokens, "1", "1") if os.path.exists(tokens) else None
+            if drawn and not drawn.plan.status:
+                found = nodes.rows_of(*drawn.levels[drawn.top])["node"]
+                self.assertEqual(found, [row[:3] for row in drawn.plan.of("node")], name)
+                compared += 1
+        self.assertGreater(compared, 4)
+
+    @needs_program
+    def test_nodes_of_graphs_below_are_named(self):
+        from drawing import run
+        graph, tokens = (os.path.join(TOP, "examples", "running-sum", file) for file in ("g.json", "t.csv"))
+        steps = run.Run(BUILT, graph, tokens, "1", "2").steps()
+        below = {label for _, _, _, label, path in steps if path != "g"}
+        self.assertFalse([label for label in below if "node" in label or label[-1] == " "], below)
+        self.assertTrue({"g/a:0 s:0", "g/a:0 compile"} <= below, below)
 
 
 if __name__ == "__main__":

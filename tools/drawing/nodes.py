@@ -24,21 +24,19 @@ def ends_of(level):
 
 
 def pieces(writers, readers):
-    """For each writer and each reader how many pieces it has; both are pairs of a name and a number of places."""
-    counts = [{}, {}]
-    spans = []
-    for side in (writers, readers):
-        at, found = 0, []
-        for name, size in side:
-            if size:
-                found.append((name, at, at + size))
-            at += size
-        spans.append(found)
-    for tail, low, high in spans[0]:
-        for head, first, last in spans[1]:
-            if max(low, first) < min(high, last):
-                counts[0][tail] = counts[0].get(tail, 0) + 1
-                counts[1][head] = counts[1].get(head, 0) + 1
+    """For each writer and each reader of any places how many pieces it has; both are pairs of a name and a number of places."""
+    spans = [[(name, size) for name, size in side if size] for side in (writers, readers)]
+    counts = [dict.fromkeys((name for name, _ in side), 0) for side in spans]
+    at, left = [0, 0], [side[0][1] for side in spans]
+    while at[0] < len(spans[0]) and at[1] < len(spans[1]):
+        size = min(left)
+        for side in (0, 1):
+            counts[side][spans[side][at[side]][0]] += 1
+        for side in (0, 1):
+            left[side] -= size
+            if not left[side]:
+                at[side] += 1
+                left[side] = spans[side][at[side]][1] if at[side] < len(spans[side]) else 0
     return counts
 
 

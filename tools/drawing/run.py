@@ -89,7 +89,7 @@ class Run:
 
     def names_by_path(self):
         """What the nodes of each firing of a graph are called, by its path."""
-        found = {path: Names(nodes.rows_of(*level), nodes.ends_of(level[0])) for path, level in self.levels.items()}
+        found = {path: Names(nodes.rows_of(*level), nodes.ends_of(level[0])) for path, level in self.levels.items() if path != self.top}
         return {**found, self.top: self.names} if self.names else found
 
     def values_of_first(self):
