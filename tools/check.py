@@ -51,7 +51,7 @@ def refused_lines(found, line):
 def sound_lines(found, path, explorer, refusals):
     """What is known of a file without a fault."""
     if refusals:
-        yield f"{path}: the file has no fault, and every run of it is refused, whatever its tokens are:"
+        yield f"{path} can be read, but every run of it is refused, whatever its tokens are:"
         for refused, text in refusals[:MOST_FAULTS]:
             yield f"\n{refused.line}\n{text}"
         yield ""
@@ -80,7 +80,7 @@ def check(program, path):
 
 def main(words):
     if len(words) != 2:
-        print(__doc__.strip(), file=sys.stderr)
+        print("usage: ./pisdf check GRAPH", file=sys.stderr)
         return 1
     sys.stdout.reconfigure(errors="backslashreplace")
     try:

@@ -40,7 +40,7 @@ def explained(program, words, status, errors):
 
 def main(words):
     if not words:
-        print(__doc__.strip(), file=sys.stderr)
+        print("usage: ./pisdf explain COMMAND WORDS..", file=sys.stderr)
         return 1
     program, words = words[0], words[1:]
     try:

@@ -103,7 +103,7 @@ class Calls(unittest.TestCase):
         for name in sorted(os.listdir(os.path.join(TOP, "examples"))):
             if os.path.isdir(os.path.join(TOP, "examples", name)):
                 done = call(["g.json"], {"g.json": example(name)}, "check.py")
-                self.assertIn("the file has no fault", done.stdout.decode())
+                self.assertIn("can be read, but every run" if name == "ring-without-delay" else "the file has no fault", done.stdout.decode())
                 self.assertEqual(done.stderr, b"")
 
 

@@ -64,7 +64,12 @@ class Calls(unittest.TestCase):
                      "the first 7 are lost", "`x` has 1 token left, and an iteration takes 8"):
             self.assertIn(word, text)
         done = call(["run", "g.json", "t.csv", "1", "1"], {"g.json": changed(PASS, ('"8"', '"7"')), "t.csv": "x,1,2,3,4,5,6,7\n"}, "explain.py")
-        self.assertEqual(done.stderr, b"")
+        self.assertEqual(done.stderr, b"The call is done. No interface lost tokens or gave them again.\n")
+
+    def test_delays_whose_life_is_not_stated(self):
+        graph = changed(WHOLE, ('"delay":[0],"life":"permanent"', '"delay":[0]'))
+        text = call(["run", "g.json", "t.csv", "2", "1"], {"g.json": graph, "t.csv": "w,2,3\nx,1,2,3,4,5,6,7,8\n"}, "explain.py").stderr.decode()
+        self.assertIn("The delay of FIFO 4 (`d.p` to `s.j`) begins anew in each iteration, since no `life` is stated.", text)
 
     def test_how_often_tokens_are_lost_or_read_again(self):
         with open(os.path.join(TOP, "examples", "adaptive-mean", "g.json"), encoding="utf-8") as file:

@@ -58,6 +58,8 @@ ROWS = [
     ("a parameter as an end", [('"from":"x"', '"from":"n"')], "graph: 5 unknown n", (13, '"n","to":"a.i"'), ["is a parameter"]),
     ("an unknown set", [('"sets":["n"]', '"sets":["nn"]')], "graph: 5 unknown nn", (6, '"nn"]},'), ["`sets` lists parameters", "Do you mean `n`?"]),
     ("an unknown export", [('"exports":[]}]}', '"exports":["q"]}]}')], "graph: 5 unknown q", (26, '"q"]}]}'), ["`exports` lists parameters", "the parameter `p`"]),
+    ("a word of another tool", [('"kernel":"gain"', '"kernel":"broadcast"')], "graph: 6 kernel broadcast", (7, '"broadcast","a'), ["`dup` gives each token twice"]),
+    ("a kernel that configures, with the ports of others", [('"kernel":"dup"', '"kernel":"spread"')], "graph: 6 kernel spread", (9, '"spread","args'), ["with 0 arguments, 1 input and 2 outputs: `dup`"]),
     ("an unknown kernel", [('"kernel":"gain"', '"kernel":"gian"')], "graph: 6 kernel gian", (7, '"gian","args":'), ["no kernel `gian`", "Do you mean `gain`"]),
     ("a kernel of the other kind", [('"kernel":"gain"', '"kernel":"pick"')], "graph: 6 kernel pick", (7, '"pick","args":'), ["kernel of configuration actors"]),
     ("a kernel actor's kernel that configures", [('"kernel":"read_param"', '"kernel":"sum"')], "graph: 6 kernel sum", (6, '"sum","args":['), ["kernel of kernel actors", "`spread`"]),

@@ -173,6 +173,17 @@ class GraphFile:
         return self.source.place(part.value.start)
 
 
+def shown_place(source, part):
+    """The start and the end of what is marked for a part: of a FIFO that is laid out over lines its first end, of another object its
+    first letter, else the whole value."""
+    value = part.value
+    if value.kind not in ("object", "list"):
+        return value.start, value.end
+    if isinstance(part, Fifo) and part.tail and "\n" in source.text[value.start:value.end]:
+        return part.tail.value.start, part.tail.value.end
+    return value.start, value.start + 1
+
+
 LIST_WORDS = {"params": "parameter", "inputs": "input", "outputs": "output", "actors": "actor", "graphs": "graph",
               "ins": "input", "outs": "output"}
 NUMBER_WORDS = {"args": "argument", "sets": "set", "exports": "export", "delay": "delay token"}

@@ -6,6 +6,14 @@ from dataclasses import dataclass
 
 PAGE = os.path.join(os.path.dirname(__file__), "..", "..", "docs", "KERNELS.md")
 ROW = re.compile(r"\| \[`(\w+)`\]\(#\w+\) \| ([^|]*) \| ([^|]*) \| ([^|]*) \| ([^|]*) \| ([^|]*) \|")
+# Words of other tools that one may look for among the kernels, with what stands for them here.
+OTHER_WORDS = {
+    "broadcast": "The kernel `dup` gives each token twice, and a chain of them more often.",
+    "fork": "The compiler adds forks by itself where a FIFO feeds several firings. The kernel `dup` gives each token twice.",
+    "join": "The compiler adds joins by itself where several firings feed a FIFO.",
+    "delay": "A delay is a member of a FIFO: `\"delay\":[0]` or `\"delay\":1`.",
+    "init": "The first tokens of a delay are a member of a FIFO, as `\"delay\":[5,-6]`.",
+}
 CODES = {1: "overflow", 2: "division", 3: "shape", 4: "value"}
 
 

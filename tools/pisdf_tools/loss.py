@@ -55,3 +55,17 @@ def notes(runner, source, most=4):
     if len(found) > most:
         found = found[:most] + [f"{len(found) - most} more interfaces of other graphs lose tokens or give them again."]
     return found
+
+
+def delay_words(file, iterations):
+    """Which delays of the top graph begin anew in each iteration because nothing is stated of their life."""
+    if file.version == 1 or iterations < 2:
+        return ""
+    graph = file.top_graph
+    found = [f"FIFO {number} ({quoted(fifo.tail.text)} to {quoted(fifo.head.text)})" for number, fifo in enumerate(graph.fifos)
+             if fifo.delay_length and "life" not in fifo.value.value]
+    if not found:
+        return ""
+    what = "The delay of" if len(found) == 1 else "The delays of"
+    return (f"{what} {listed(found[:8])} {'begins' if len(found) == 1 else 'begin'} anew in each iteration, since no `life` is stated. "
+            "With `\"life\":\"permanent\"` the tokens stay for the next iteration.")

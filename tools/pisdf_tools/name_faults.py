@@ -151,10 +151,11 @@ class NameFaults:
         kernel = known.get(actor.kernel.text)
         if kernel is None:
             fitting = [name for name, row in known.items() if row.actor_kind == actor.kind]
-            meant = self.faults.near(actor.kernel.text, fitting)
-            self.add(6, f"kernel {actor.kernel.text}", actor.kernel, f"There is no kernel {quoted(actor.kernel.text)}.",
-                     f"Do you mean {quoted(meant)} ({known[meant].short})?" if meant else
-                     f"The kernels of a {actor.kind} actor are {named(fitting, 30)}.", "`./pisdf kernels` tells of each.")
+            other = kernels.OTHER_WORDS.get(actor.kernel.text.lower(), "")
+            meant = None if other else self.faults.near(actor.kernel.text, fitting)
+            guess = f"Do you mean {quoted(meant)} ({known[meant].short})?" if meant else f"The kernels of a {actor.kind} actor are {named(fitting, 30)}."
+            self.add(6, f"kernel {actor.kernel.text}", actor.kernel, f"There is no kernel {quoted(actor.kernel.text)}.", other or guess,
+                     "`./pisdf kernels` tells of each.")
             actor.kernel = self.meaning(actor.kernel, meant)
         elif kernel.actor_kind != actor.kind:
             self.kernel_of_other_kind(actor, kernel)
@@ -163,11 +164,19 @@ class NameFaults:
     def kernel_of_other_kind(self, actor, kernel):
         if kernel.is_config:
             advice = "Write `\"kind\":\"config\"`, give it a list `sets`, and no rates at its inputs."
+            advice += self.alike_words(actor)
             what = f"{quoted(kernel.name)} sets parameters, so it is a kernel of configuration actors (`config`)."
         else:
             advice = f"Write `\"kind\":\"kernel\"`, or take one of {named(row.name for row in kernels.table().values() if row.is_config)}."
             what = f"{quoted(kernel.name)} sets no parameter, so it is a kernel of kernel actors (`kernel`)."
         self.add(6, f"kernel {kernel.name}", actor.kernel, what, f"The actor {quoted(actor.name.text)} is of the kind {quoted(actor.kind)}.", advice)
+
+    def alike_words(self, actor):
+        """The kernels of the actor's kind with its numbers of arguments, inputs and outputs."""
+        lists = {"args": actor.args or [], "ins": actor.ins or [], "outs": actor.outs or []}
+        found = [row.name for row in kernels.table().values() if row.actor_kind == actor.kind and all(len(parts) in row.counts[name] for name, parts in lists.items())]
+        numbers = listed([counted(len(parts), COUNT_WORDS[name][0]) for name, parts in lists.items()])
+        return f" Or take a kernel actor's kernel with {numbers}: {named(found, 8, 'or')}." if found else ""
 
     def counts(self):
         for graph in self.file.graphs:
@@ -214,7 +223,8 @@ class NameFaults:
             return []
         sentences, inherited = [], [param.name.text for param in child.of_kind("in")]
         if actor.args is not None and len(actor.args) != len(inherited):
-            wanted = f"the {counted(len(inherited), 'parameter')} of the kind `in`: {named(inherited)}" if inherited else "no parameter of the kind `in`"
+            count = "one parameter" if len(inherited) == 1 else f"{len(inherited)} parameters"
+            wanted = f"{count} of the kind `in`: {named(inherited)}" if inherited else "no parameter of the kind `in`"
             sentences.append(f"The actor has {counted(len(actor.args), 'argument')}, and its graph {quoted(child.name.text)} has {wanted}. "
                              "It takes one argument for each, in their order.")
         exports = [word.text for word in child.exports]
@@ -227,7 +237,10 @@ class NameFaults:
     def param_sources(self, param, graph):
         setters = [actor.name.text for actor in graph.actors for word in actor.sets or [] if word and word.text == param.name.text]
         name, text = quoted(param.name.text), ""
-        if param.kind == "in" and self.file.top_graph is graph:
+        if param.kind == "in" and self.file.top_graph is graph and setters:
+            text = (f"{name} is of the kind `in`, so an actor that names this graph would give its value, and {quoted(graph.name.text)} is the "
+                    f"top graph, which no actor names. {named(setters)} sets it: write `\"kind\":\"set\"`.")
+        elif param.kind == "in" and self.file.top_graph is graph:
             text = (f"{name} is of the kind `in`, so an actor that names this graph would give its value. {quoted(graph.name.text)} is the "
                     "top graph, which no actor names. Make it of the kind `is` with an `expr`, or `set` with a configuration actor.")
         elif param.kind == "set" and len(setters) != 1:

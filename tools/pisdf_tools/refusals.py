@@ -158,7 +158,8 @@ class Explanation:
             runner.run(self.iterations(), self.stream(found.file))
         except (Refused, firing.TooLong):
             pass
-        return joined_paragraphs(*loss.notes(runner, found.source), self.left(runner))
+        text = joined_paragraphs(*loss.notes(runner, found.source), loss.delay_words(found.file, self.iterations()), self.left(runner))
+        return text or ("The call is done. No interface lost tokens or gave them again." if runner.is_done else "The call is done.")
 
     def left(self, runner):
         """What is left of the inputs' tokens."""

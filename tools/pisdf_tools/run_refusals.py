@@ -2,6 +2,7 @@
 from . import balance
 from .expressions import names
 from .fitting import fitting_rate
+from .graph_file import shown_place
 from .kernels import code_meaning, table
 from .limits import BASE_ENTRY, PARAMETER_HIGH, RATE, TOKENS
 from .static_refusals import graph_at
@@ -13,7 +14,7 @@ MOST_SHOWN = 8
 def tokens_words(tokens):
     """Tokens in a row, of many only the first."""
     shown = ", ".join(str(token) for token in tokens[:MOST_SHOWN])
-    return f"{shown}, .." if len(tokens) > MOST_SHOWN else shown or "no tokens"
+    return f"{shown}, .." if len(tokens) > MOST_SHOWN else shown
 
 
 def values_words(expression, values):
@@ -47,8 +48,7 @@ class RunRefusals:
 
     def at(self, part, *sentences):
         """A paragraph that stands at a part of the file."""
-        value = part.value
-        start, end = value.start, value.end if value.kind not in ("object", "list") else value.start + 1
+        start, end = shown_place(self.source, part)
         where = self.reading.file.place_of(part.pointer)
         return (f"{self.source.place(start)}, in {where}, in the firing {quoted(self.refused.path)} of iteration {self.iteration}:\n"
                 f"{self.source.snippet(start, end)}\n{joined(sentences)}")
@@ -259,10 +259,18 @@ class RunRefusals:
         more, actor = self.refused.more, self.refused.part
         fault, row = more["fault"], table()[actor.kernel.text]
         args = f" with {'the argument' if len(more['args']) == 1 else 'the arguments'} {', '.join(map(str, more['args']))}" if more["args"] else ""
-        reads = listed([f"{quoted(port.name.text)} read {counted(len(tokens), 'token')}: {tokens_words(tokens)}" for port, tokens in zip(actor.ins, more["ins"])])
+        reads = listed([f"{quoted(port.name.text)} read {counted(len(tokens), 'token')}{': ' * bool(tokens)}{tokens_words(tokens)}"
+                        for port, tokens in zip(actor.ins, more["ins"])])
         gives = listed([f"{quoted(port.name.text)} has the rate {rate}" for port, rate in zip(actor.outs, more["outs"])])
         about = {1: "Overflow", 2: "Division", 3: "Rates", 4: "Value"}[fault.code]
         rule = row.sentence(about)
         return self.at(actor.kernel, f"Firing {more['firing']} of the actor {quoted(actor.name.text)} met code {fault.code}: {code_meaning(fault.code)}.",
-                       f"The kernel {quoted(row.name)}{args} gives {row.short}. Here {fault.text}.", f"{reads[:1].upper()}{reads[1:]}." if reads else "",
+                       f"{quoted(row.name)} in short: {row.short}. Here {fault.text}." if row.is_config else
+                       f"The kernel {quoted(row.name)}{args} gives {row.short}. Here {fault.text}.", self.feeding_words(actor), f"{reads[:1].upper()}{reads[1:]}." if reads else "",
                        f"{gives[:1].upper()}{gives[1:]}." if gives else "", f"{about} of {quoted(row.name)}: {rule}" if rule else "", self.env_words())
+
+    def feeding_words(self, actor):
+        """The interfaces that feed a configuration actor, with their rates."""
+        ends = [fifo.tail.text for fifo in self.graph.fifos if fifo.head.text.partition(".")[0] == actor.name.text] if actor.is_config else []
+        rates = [(end, self.rate_at(end)) for end in ends]
+        return joined(f"The input {quoted(end)} feeds it, with the rate \"{shortened(rate.text)}\" ({self.line_of(rate)})." for end, rate in rates)

@@ -171,8 +171,12 @@ class Summary:
         """The repetition vector with some values, or why there is none, as a line."""
         if outcome.refused:
             return f"each firing is refused: {listed([refused.cause for refused in outcome.refusals])}"
-        vector = ", ".join(f"{actor} {count}" for actor, count in outcome.counts.items()) or "no actors"
+        vector = ", ".join(f"{actor} {count}" for actor, count in self.in_order(outcome)) or "no actors"
         return f"repetition: {vector}{self.losses(outcome.level, outcome.counts)}"
+
+    def in_order(self, outcome):
+        """The actors in the order of the file, with how often they fire."""
+        return [(actor, outcome.counts[actor]) for actor in outcome.level.actors]
 
     def losses(self, level, counts):
         """What the interfaces lose or read again."""

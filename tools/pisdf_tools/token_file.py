@@ -203,9 +203,9 @@ class TokenFaults:
         for number, record in enumerate(records(self.data), 1):
             name = name_of(record)
             if name not in self.inputs or name in seen:
-                found.append((number, 1, quoted(name)))
+                found.append((number, 1, quoted(name) if name else "an empty field"))
             seen.add(name)
-            found += [(number, place, quoted(token.decode("utf-8", "replace")))
+            found += [(number, place, quoted(token.decode("utf-8", "replace")) if token else "an empty field")
                       for place, token in enumerate(record.part(1, record.count()), 2) if not is_token(token)]
         found = [f"{shown} in row {number}, field {place}" for number, place, shown in found if (number, place) != (row, field)]
         more = f" and {len(found) - MOST_OTHERS} more" if len(found) > MOST_OTHERS else ""
@@ -274,4 +274,4 @@ def short_words(path, data, name, has, needs, iteration_rates):
         others = " Each iteration takes " + ", ".join(f"{rate} of {quoted(other)}" for other, rate in iteration_rates) + "."
     return (f"{place}{given}. Each iteration takes {rate}, so {counted(done, 'iteration')} had enough. Iteration {done}, counted from 0, "
             f"begins with {has}, and lacks {lacks}.{others} {'Add' if place else 'Add a row with'} tokens {'to the row ' if place else ''}of {quoted(name)}"
-            + (f", or call for {counted(done, 'iteration')}." if done else "."))
+            + (f", or call for {counted(done, 'iteration')}." if done else f", or give {quoted(name)} the rate {has}." if has else "."))

@@ -1,5 +1,6 @@
 """Faults of FIFOs, of the order of parameters, of the hierarchy and of counts of parts (faults 8 to 13)."""
 from . import expressions, ways
+from .graph_file import shown_place
 from .limits import DELAY, GRAPHS, HOLD, NESTED_GRAPHS, PARTS
 from .name_faults import expressions_of
 from .wording import counted, grouped, joined, listed, named, quoted
@@ -45,8 +46,7 @@ class WiringFaults:
         self.depends = {}
 
     def add(self, number, detail, part, *sentences):
-        self.faults.add(number, detail, part.pointer, part.value.start,
-                        part.value.start + 1 if part.value.kind in ("object", "list") else part.value.end, joined(sentences))
+        self.faults.add(number, detail, part.pointer, *shown_place(self.file.source, part), joined(sentences))
 
     # ---- wires
 
@@ -126,7 +126,8 @@ class WiringFaults:
                     "between two actors: put an actor with the kernel `pass` between, and the delay on the FIFO between the actors.")
         if to_config and tail is not None and tail != "input":
             return (f"The FIFO feeds the configuration actor {quoted(to_config)} from {name}, which is {self.direction_words(tail).split(':')[0]}. "
-                    "A configuration actor fires before all others, so it reads input interfaces alone.")
+                    "A configuration actor fires before all others, so it reads input interfaces alone. "
+                    f"Give {quoted(to_config)} an input interface, or let a child make the value by an actor of the kind `setgraph`.")
         if from_config and fifo.delay_length:
             return (f"The FIFO leaves the configuration actor {quoted(from_config)} with a delay of {counted(fifo.delay_length, 'token')}. "
                     "A configuration actor fires once in each firing of the graph, so nothing is left for a delay. Take the delay away.")
