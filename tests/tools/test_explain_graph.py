@@ -93,6 +93,17 @@ ROWS = [
 
 
 class GraphFaults(unittest.TestCase):
+    def test_the_place_of_a_fifo_over_several_lines_is_its_first_end(self):
+        text = changed(WHOLE, ('{"from":"x","to":"a.i"}', '{\n"from":"x",\n"to":"a.i","delay":1}'))
+        found = read_text(text)
+        self.assertEqual(found.faults[0].line, "graph: 9 interface g 1")
+        self.assertEqual(found.source.position(found.faults[0].start), (14, 8))
+
+    def test_a_parameter_of_the_top_graph_that_an_actor_sets(self):
+        fault = read_text(changed(WHOLE, ('"kind":"set","low":1,"high":8', '"kind":"in"'))).faults[0]
+        self.assertEqual(fault.line, "graph: 7 ports n")
+        self.assertIn('`c` sets it: write `"kind":"set"`.', fault.text)
+
     def test_no_fault_holds_by_a_guess_alone(self):
         for changes in ([('"name":"a",', '"name":"gained",')], [('"outputs":[{"name":"y"', '"outputs":[{"name":"out"')], [('"from":"a.o"', '"from":"d.q"')]):
             lines = [fault.line for fault in read_text(changed(WHOLE, *changes)).faults]

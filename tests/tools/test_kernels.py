@@ -1,5 +1,7 @@
 """The kernels as the launcher tells of them."""
+import json
 import os
+import re
 import subprocess
 import sys
 import unittest
@@ -28,12 +30,15 @@ class Kernels(unittest.TestCase):
             self.assertEqual((status, error), (0, ""))
             self.assertTrue(out.startswith(f"{name}\n\n"))
             self.assertIn("Example: ", out)
+            actor = json.loads(re.search(r"^As an actor of a graph file: (.*)$", out, re.M).group(1))
+            self.assertEqual((actor["kernel"], "sets" in actor), (name, 'the kind "config"' in out))
             self.assertNotIn("###", out)
 
     def test_a_name_that_is_none(self):
         self.assertEqual(call("medain"), (1, "", "kernels: no kernel has the name 'medain': the nearest name is 'median'\n"))
         self.assertEqual(call("zzzzz"), (1, "", "kernels: no kernel has the name 'zzzzz': ./pisdf kernels lists them\n"))
         self.assertEqual(call("fir", "dot")[0], 1)
+        self.assertIn("The compiler adds forks by itself", call("fork")[2])
 
 
 if __name__ == "__main__":
