@@ -1,4 +1,5 @@
 pub mod Numbers
+pub mod KernelsFit
 pub mod Reading
 pub mod Rows
 pub mod OneRun

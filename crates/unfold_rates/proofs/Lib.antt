@@ -17,3 +17,8 @@ pub mod Bounds
 pub mod FiringRows
 pub mod ServedLinks
 pub mod TraceOrder
+pub mod Restart
+pub mod PartTokens
+pub mod Turns
+pub mod PieceRows
+pub mod InTurn

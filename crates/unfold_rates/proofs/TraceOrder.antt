@@ -156,7 +156,7 @@ module _ (unfolds : EarlyUnfolds) (counted : CountsAreMultiplied) (below : AreBe
         let P : LevelView → Type 0 = λ l. IsRepetition l run_of.schedule.counts in
         repetition_only (unfolded times level) run_of.schedule.counts (multiplied times exact.schedule.counts) (subst P level_is run_of.scheduled.repetition) (counted times level exact.schedule.counts some exact.is_exact.exact)
 
-    held : HoldsBelow others.graphs graphs.top h
+    pub held : HoldsBelow others.graphs graphs.top h
     held = below others graphs.top h others_valid h_is
 
     each_within : (b k : ℕ) (actor : Actor) → slice_get g.actors b ≡ Some actor → k < slice_index run_of.schedule.counts b → AllWithin (child_path g.name actor.name k) (run_of.traces b k)
@@ -184,6 +184,10 @@ module _ (unfolds : EarlyUnfolds) (counted : CountsAreMultiplied) (below : AreBe
           rows_are = subst C counts_so run_of.trace_is;
           within = λ b k actor is inside. each_within b k actor is (let P : List ℕ → Type 0 = λ counts. k < slice_index counts b in subst P (sym counts_so) inside);
         }
+
+    pub traces_are : in_order.traces ≡ run_of.traces
+    unfolding in_order
+    traces_are = refl
 
 -- ---- of what was unfolded
 

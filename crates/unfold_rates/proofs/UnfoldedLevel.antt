@@ -28,7 +28,7 @@ no_outs check values [] all = refl
 no_outs check values (actor ∷ actors) all =
     append_same [] (config_outs check values actor.body) [] _ (no_body_outs check values actor.body (first_configures_nothing actor actors all)) (no_outs check values actors (others_configure_nothing actor actors all))
 
-at_multiplied : (times : ℕ) (rates : List ℕ) (i : ℕ) → slice_index (map (λ r. times * r) rates) i ≡ times * slice_index rates i
+pub at_multiplied : (times : ℕ) (rates : List ℕ) (i : ℕ) → slice_index (map (λ r. times * r) rates) i ≡ times * slice_index rates i
 at_multiplied times [] i = omega arith
 at_multiplied times (r ∷ rates) zero = refl
 at_multiplied times (r ∷ rates) (suc i) = at_multiplied times rates i

@@ -4,12 +4,16 @@ ghost use Rattle.pisdf_model.specs.Valid.{AreValid};
 ghost use Rattle.unfold_rates.specs.Cut.{IsUnfolded};
 ghost use Rattle.unfold_rates.specs.Exact.{IsExact};
 ghost use Rattle.unfold_rates.specs.Fits.{FitAsBefore};
+ghost use Rattle.unfold_rates.specs.InTurn.{UnfoldsTo};
 
 use crate::exactness::exact;
 use crate::fault::UnfoldFault;
 use crate::multiplying::unfolded_graphs;
 use crate::unfolded::Unfolded;
+use firing_laws::{actors_move, graphs_below, level_runs_move, levels_alike};
+use level_laws::counts_multiplied;
 use param_resolver::early_unfolds;
+use pisdf_meaning::runnable;
 use pisdf_model::Graphs;
 use std::alloc::Global;
 use std::sync::Arc;
@@ -31,9 +35,16 @@ pub fn unfold(alloc: Global, graphs: &Graphs, times: u32) -> Result<Unfolded, Un
     requires few { times ≤ 64 }
     ensures unfolded { IfOk result (IsUnfolded graphs.now times) }
     ensures fits { IfOk result (λ u. FitAsBefore graphs.now times (arc_value u.graphs)) }
+    ensures unfolds { IfOk result (UnfoldsTo graphs.now) }
     ensures refused { IfErr result (λ fault. fault ≡ UnfoldFault.NotExact → IsExact graphs.now times → ⊥) }
 {
     early_unfolds();
+    runnable();
+    counts_multiplied();
+    graphs_below();
+    levels_alike();
+    actors_move();
+    level_runs_move();
     let schedule = exact(alloc, graphs, times)?;
     let unfolded = unfolded_graphs(alloc, graphs, times)?;
     let shared = Arc::new(alloc, unfolded)?;
