@@ -18,7 +18,7 @@ class Words(unittest.TestCase):
                 (["g.json", "t.csv"], ["The first word is the command"]), (["run", "g", "t", "1"], ["takes 4 words more, and here are 3", "WORKERS is missing"]),
                 (["check", "g.json"], ["`check` is a word of the launcher", "`./pisdf check GRAPH`"]), (["plain", "g", "t", "1", "1"], ["takes 3 words more, and here are 4"]), (["run", "g", "t", "65537", "1"], ["from 0 to 65536", "`65537`"]),
                 (["run", "g", "t", "1", "17"], ["from 1 to 16", "`17`"]), (["run", "g", "t", "one", "1"], ["in decimal digits", "`one`"]),
-                (["soak", "65536", "1"], ["NUMBER is a number from 0 to 65535"])]
+                (["unfold", "65", "g", "t", "1", "1"], ["TIMES is a number from 1 to 64"]), (["soak", "65536", "1"], ["NUMBER is a number from 0 to 65535"])]
         for words, wanted in rows:
             with self.subTest(words):
                 for word in wanted:

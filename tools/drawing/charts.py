@@ -179,7 +179,7 @@ def turn_parts(turns, across, height):
         x = MARGIN + max(0, place - 0.5) * across
         yield element("line", x1=x, y1=40, x2=x, y2=40 + height, class_="turn")
         if WIDTH / len(turns) > 70:
-            yield text(x + 3, 37, f"iteration {number}")
+            yield text(x + 3, 36 + height, f"iteration {number}", "small over")
 
 
 def grey_image(rows, label):

@@ -2,7 +2,7 @@
 import re
 from dataclasses import dataclass
 
-from .limits import ITERATIONS, SOAK_NUMBER, WORKERS
+from .limits import ITERATIONS, SOAK_NUMBER, UNFOLD_TIMES, WORKERS
 from .wording import counted, joined, named, nearest, quoted
 
 COMMANDS = {
@@ -12,13 +12,14 @@ COMMANDS = {
     "schedule": ("GRAPH", "TOKENS", "WORKERS"),
     "memory": ("GRAPH", "TOKENS", "WORKERS"),
     "journal": ("GRAPH", "TOKENS", "ITERATIONS", "WORKERS"),
+    "unfold": ("TIMES", "GRAPH", "TOKENS", "ITERATIONS", "WORKERS"),
     "soak": ("NUMBER", "WORKERS"),
     "upgrade": ("GRAPH",),
 }
 # Words of the launcher, each with those behind it.
 LAUNCHER = {"explain": "COMMAND WORDS..", "check": "GRAPH", "report": "GRAPH TOKENS ITERATIONS WORKERS FILE.html", "draw": "WORDS..", "kernels": "[NAME]"}
 # The bounds of each number, and how many digits it may have.
-NUMBERS = {"ITERATIONS": (0, ITERATIONS, 5), "WORKERS": (1, WORKERS, 2), "NUMBER": (0, SOAK_NUMBER, 5)}
+NUMBERS = {"ITERATIONS": (0, ITERATIONS, 5), "WORKERS": (1, WORKERS, 2), "NUMBER": (0, SOAK_NUMBER, 5), "TIMES": (1, UNFOLD_TIMES, 2)}
 
 
 @dataclass

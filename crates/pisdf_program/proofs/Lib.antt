@@ -1,5 +1,4 @@
 pub mod Numbers
-pub mod KernelsFit
 pub mod Reading
 pub mod Rows
 pub mod OneRun

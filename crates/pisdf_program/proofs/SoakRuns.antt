@@ -23,7 +23,8 @@ use Rattle.pisdf_program.specs.declared.status.Status.{Status}
 use Rattle.pisdf_program.specs.declared.status.Status.TheVariants.{WantOfMemory, WriteFault}
 use Rattle.quiescent_driver.specs.declared.stop.Stop.{Stop}
 use Rattle.quiescent_driver.specs.declared.stop.Stop.TheVariants as stop
-use Rattle.quiescent_driver.proofs.Runs.{Reached, ends_at, ends_by, then_run, whole_run}
+use Rattle.quiescent_driver.specs.Reached.{Reached}
+use Rattle.quiescent_driver.proofs.Runs.{ends_at, ends_by, then_run, whole_run}
 use Rattle.pisdf_program.proofs.OneRun.{one_run}
 use Rattle.pisdf_program.proofs.Working.{works_for}
 

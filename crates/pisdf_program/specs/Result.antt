@@ -25,7 +25,7 @@ use Rattle.pisdf_program.specs.Job.{EndsJob, JobEnd}
 use Rattle.pisdf_program.specs.Soak.{all_tokens, soak_file, soak_iterations, soak_text, soak_streams}
 use Rattle.quiescent_driver.specs.Top.{top_of}
 use Rattle.pisdf_program.specs.Inputs.{input_names}
-use Rattle.pisdf_program.specs.Words.{Command, command_of, Run, Plain, Job, Journal, Soak, Upgrade}
+use Rattle.pisdf_program.specs.Words.{Command, command_of, Run, Plain, Unfold, Job, Journal, Soak, Upgrade}
 use Rattle.quiescent_driver.specs.Texts.{texts_from}
 use Rattle.pisdf_program.specs.Lines.{left_lines, line_of}
 use Rattle.pisdf_program.specs.Written.{Text, Exactly, exactly, journals}
@@ -209,6 +209,7 @@ abbrev pub ComesTo : Option Command → (List ℕ → Option (List ℕ)) → Out
 ComesTo None files o = o ≡ refused Usage
 ComesTo (Some (Run graph tokens iterations workers)) files o = RunsFile (files graph) iterations (files tokens) o
 ComesTo (Some (Plain graph tokens iterations)) files o = RunsFile (files graph) iterations (files tokens) o
+ComesTo (Some (Unfold times graph tokens iterations workers)) files o = RunsFile (files graph) iterations (files tokens) o
 ComesTo (Some (Job what graph tokens workers)) files o = FromFiles (TellsJob what workers) (files graph) (files tokens) o
 ComesTo (Some (Journal graph tokens iterations workers)) files o = FromFiles (Journals iterations workers) (files graph) (files tokens) o
 ComesTo (Some (Soak number workers)) files o = Soaks number o
@@ -237,6 +238,7 @@ abbrev pub Knows : Option Command → (List ℕ → Option (List ℕ)) → Type 
 Knows None files = Unit {0}
 Knows (Some (Run graph tokens iterations workers)) files = AreTold (files graph) (files tokens)
 Knows (Some (Plain graph tokens iterations)) files = AreTold (files graph) (files tokens)
+Knows (Some (Unfold times graph tokens iterations workers)) files = AreTold (files graph) (files tokens)
 Knows (Some (Job what graph tokens workers)) files = AreTold (files graph) (files tokens)
 Knows (Some (Journal graph tokens iterations workers)) files = AreTold (files graph) (files tokens)
 Knows (Some (Soak number workers)) files = Unit {0}

@@ -9,17 +9,21 @@ use Rattle.pisdf_program.specs.Number.{number_within}
 pub data Command : Type 0 where
   Run : (graph tokens : List ℕ) (iterations workers : ℕ) → Command
   Plain : (graph tokens : List ℕ) (iterations : ℕ) → Command
+  Unfold : (times : ℕ) (graph tokens : List ℕ) (iterations workers : ℕ) → Command
   Job : (what : JobText) (graph tokens : List ℕ) (workers : ℕ) → Command
   Journal : (graph tokens : List ℕ) (iterations workers : ℕ) → Command
   Soak : (number workers : ℕ) → Command
   Upgrade : (graph : List ℕ) → Command
 
--- the most iterations of a run, the most workers, and the greatest number of a soak run
+-- the most iterations of a run, the most workers, the most iterations that are fired as one, and the greatest number of a soak run
 abbrev pub most_iterations : ℕ
 most_iterations = 65536
 
 abbrev pub most_workers : ℕ
 most_workers = 16
+
+abbrev pub most_times : ℕ
+most_times = 64
 
 abbrev pub greatest_number : ℕ
 greatest_number = 65535
@@ -31,6 +35,10 @@ iterations_of word = number_within 5 0 most_iterations word
 -- from 1 on, in 1 or 2 digits
 abbrev pub workers_of : List ℕ → Option ℕ
 workers_of word = number_within 2 1 most_workers word
+
+-- from 1 on, in 1 or 2 digits
+abbrev pub times_of : List ℕ → Option ℕ
+times_of word = number_within 2 1 most_times word
 
 -- from 0 on, in 1 to 5 digits
 abbrev pub generated_of : List ℕ → Option ℕ
@@ -48,6 +56,12 @@ run_row _ = None
 abbrev pub plain_row : List (List ℕ) → Option Command
 plain_row (graph ∷ tokens ∷ iterations ∷ []) = option_map (λ i. Plain graph tokens i) (iterations_of iterations)
 plain_row _ = None
+
+-- TIMES GRAPH TOKENS ITERATIONS WORKERS
+abbrev pub unfold_row : List (List ℕ) → Option Command
+unfold_row (times ∷ graph ∷ tokens ∷ iterations ∷ workers ∷ []) =
+    option_and_then (λ t. option_and_then (λ i. option_map (λ w. Unfold t graph tokens i w) (workers_of workers)) (iterations_of iterations)) (times_of times)
+unfold_row _ = None
 
 -- GRAPH TOKENS WORKERS
 abbrev pub job_row : JobText → List (List ℕ) → Option Command
@@ -76,6 +90,7 @@ abbrev pub row_of : List ℕ → List (List ℕ) → Option Command
 row_of name words =
     if bytes_eq name (codes "run") then run_row words
     else if bytes_eq name (codes "plain") then plain_row words
+    else if bytes_eq name (codes "unfold") then unfold_row words
     else if bytes_eq name (codes "plan") then job_row told.Plan words
     else if bytes_eq name (codes "schedule") then job_row told.Schedule words
     else if bytes_eq name (codes "memory") then job_row told.Memory words

@@ -11,7 +11,7 @@ use Rattle.pisdf_program.specs.Result.{Outcome, TellsStop, short_of, told}
 use Rattle.quiescent_driver.specs.Top.{top_of}
 use Rattle.pisdf_program.specs.Lines.{left_lines, line_of, memory_line, read_line}
 use Rattle.pisdf_program.specs.Written.{Wrote, WroteFirst, WrotePartly}
-use Rattle.pisdf_program.specs.Words.{Command, Run, Plain, Job, Journal, Soak, Upgrade}
+use Rattle.pisdf_program.specs.Words.{Command, Run, Plain, Unfold, Job, Journal, Soak, Upgrade}
 use Rattle.pisdf_program.specs.declared.soak_totals.Total.{Total}
 use Rattle.quiescent_driver.specs.declared.stop.Stop.{Stop}
 use Rattle.quiescent_driver.specs.declared.stop.Stop.TheVariants as stop
@@ -150,6 +150,7 @@ graph_alone graph Tokens = None
 abbrev pub file_in : Command → Which → Option (List ℕ)
 file_in (Run graph tokens iterations workers) which = Some (file_among graph tokens which)
 file_in (Plain graph tokens iterations) which = Some (file_among graph tokens which)
+file_in (Unfold times graph tokens iterations workers) which = Some (file_among graph tokens which)
 file_in (Job what graph tokens workers) which = Some (file_among graph tokens which)
 file_in (Journal graph tokens iterations workers) which = Some (file_among graph tokens which)
 file_in (Soak number workers) which = None

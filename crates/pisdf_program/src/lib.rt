@@ -1,6 +1,7 @@
 //! The commands of the program, over files by name and two sinks of bytes: `run GRAPH TOKENS ITERATIONS WORKERS`,
-//! `plain GRAPH TOKENS ITERATIONS`, `plan GRAPH TOKENS WORKERS`, `schedule GRAPH TOKENS WORKERS`, `memory GRAPH TOKENS
-//! WORKERS`, `journal GRAPH TOKENS ITERATIONS WORKERS`, `soak NUMBER WORKERS` and `upgrade GRAPH`.
+//! `plain GRAPH TOKENS ITERATIONS`, `unfold TIMES GRAPH TOKENS ITERATIONS WORKERS`, `plan GRAPH TOKENS WORKERS`,
+//! `schedule GRAPH TOKENS WORKERS`, `memory GRAPH TOKENS WORKERS`, `journal GRAPH TOKENS ITERATIONS WORKERS`, `soak NUMBER
+//! WORKERS` and `upgrade GRAPH`.
 #![tactic(auto)]
 
 mod job;

@@ -16,6 +16,11 @@ pub const WORKERS: u32 = 16;
 
 pub const WORKER_DIGITS: usize = 2;
 
+/// The iterations that are fired as one, and the digits of their number.
+pub const TIMES: u32 = 64;
+
+pub const TIMES_DIGITS: usize = 2;
+
 /// The number of a generated run, and its digits.
 pub const GENERATED: u32 = 65_535;
 

@@ -14,6 +14,7 @@ ghost use Rattle.kernel_gate.specs.Table.{the_signatures};
 use crate::limits;
 use crate::status::{GraphCause, Status, TokenCause, Which};
 use graph_format::GraphFault;
+use graph_laws::kernels_fit;
 use graph_reader::read;
 use kernel_gate::Signature;
 use outer_world::{LoadFault, Shelf};
@@ -41,6 +42,7 @@ pub(crate) fn parse_graphs(
     ensures good { IfOk result AreGood }
     ensures faults { IfErr result NoFault }
 {
+    kernels_fit();
     match read(alloc, bytes, signatures) {
         Ok(graphs) => Ok(graphs),
         Err(fault) => {

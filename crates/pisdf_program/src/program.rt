@@ -24,7 +24,7 @@ use crate::words::{Command, read_words};
 use kernel_gate::Gate;
 use outer_world::{Shelf, Sink, put_text};
 use pisdf_model::Graphs;
-use quiescent_driver::{RunEnd, plain_run, run_all, top_of};
+use quiescent_driver::{RunEnd, plain_run, run_all, run_unfolded, top_of};
 use sdf_level::List;
 use std::alloc::Global;
 use std::sync::{Arc, Wait};
@@ -152,6 +152,45 @@ fn plain<S: Shelf, O: Sink, K: Gate>(
     run_files(alloc, graph, tokens, iterations, &run, shelf, out, gate)
 }
 
+/// Runs a graph file on a token file by so many workers, with so many iterations fired as one where that can be.
+fn run_in_groups<S: Shelf, O: Sink, K: Gate + Sync, R: Threads + Wait + Sync>(
+    rt: &R,
+    alloc: Global,
+    times: u32,
+    graph: &str,
+    tokens: &str,
+    iterations: u32,
+    workers: u32,
+    shelf: &mut S,
+    out: &mut O,
+    gate: &K,
+) -> Result<String, Status>
+    requires kernels { K.kernels gate.now ≡ the_signatures }
+    requires some_times { 1 ≤ times }
+    requires few_times { times ≤ 64 }
+    requires some { 0 < workers }
+    requires few { workers ≤ 16 }
+    ensures works { Works (RunsFile (S.holds shelf.old graph.now) iterations (S.holds shelf.old tokens.now)) (O.written out.old) (O.written out.new) (O.faults out.old) (O.faults out.new) result }
+    ensures there { IsThere (AreTold (S.holds shelf.old graph.now) (S.holds shelf.old tokens.now)) (RunsFile (S.holds shelf.old graph.now) iterations (S.holds shelf.old tokens.now)) result }
+    ensures read { IfErr result (FilesRose graph.now tokens.now (S.faults shelf.old) (S.faults shelf.new)) }
+    ensures usage { result ≢ Err Status.Usage }
+{
+    let run = |graphs: &Arc<Graphs>, streams: &[List<i64>], out: &mut O| -> RunEnd
+        requires valid { AreValidFor (unnamed (K.kernels gate.now)) (arc_value graphs.now) }
+        requires fit { length streams.now ≡ length (top_of (arc_value graphs.now)).inputs }
+        requires some_times { 1 ≤ times }
+        requires few_times { times ≤ 64 }
+        requires some { 0 < workers }
+        requires few { workers ≤ 16 }
+        ensures { EndsRun (arc_value graphs.entry.now) streams.entry.now iterations (O.written out.entry.now) (O.written out.exit.now) (O.faults out.entry.now) (O.faults out.exit.now) result }
+    {
+        run_unfolded(
+            rt, alloc, graphs, streams, iterations, times, workers, gate, out,
+        )
+    };
+    run_files(alloc, graph, tokens, iterations, &run, shelf, out, gate)
+}
+
 /// Does what the words ask for, up to what is put to standard error.
 fn work<S: Shelf, O: Sink, K: Gate + Sync, R: Threads + Wait + Sync>(
     rt: &R,
@@ -186,6 +225,15 @@ fn work<S: Shelf, O: Sink, K: Gate + Sync, R: Threads + Wait + Sync>(
             tokens,
             iterations,
         } => plain(alloc, graph, tokens, iterations, shelf, out, gate),
+        Command::Unfold {
+            times,
+            graph,
+            tokens,
+            iterations,
+            workers,
+        } => run_in_groups(
+            rt, alloc, times, graph, tokens, iterations, workers, shelf, out, gate,
+        ),
         Command::Job {
             what,
             graph,

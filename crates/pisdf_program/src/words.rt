@@ -1,5 +1,5 @@
 ghost use Rattle.std.specs.Prelude.{◌≡◌, ◌≤◌, IfSome, map, option_map, string_bytes};
-ghost use Rattle.pisdf_program.specs.Words.{command_of, run_row, plain_row, job_row, journal_row, soak_row, upgrade_row, iterations_of, workers_of, generated_of, greatest_number, most_workers};
+ghost use Rattle.pisdf_program.specs.Words.{command_of, run_row, plain_row, unfold_row, job_row, journal_row, soak_row, upgrade_row, iterations_of, workers_of, times_of, generated_of, greatest_number, most_times, most_workers};
 ghost use Rattle.pisdf_program.specs.WordsSeen.{IsWithin, seen};
 
 use crate::limits;
@@ -19,6 +19,14 @@ pub(crate) enum Command<'w> {
         graph: &'w str,
         tokens: &'w str,
         iterations: u32,
+    },
+    /// To run so many iterations as one, where that can be.
+    Unfold {
+        times: u32,
+        graph: &'w str,
+        tokens: &'w str,
+        iterations: u32,
+        workers: u32,
     },
     /// To tell of the compiled job of the top graph.
     Job {
@@ -56,6 +64,14 @@ fn workers_of(word: &str) -> Option<u32>
     number_within(limits::WORKER_DIGITS, 1, limits::WORKERS, word)
 }
 
+fn times_of(word: &str) -> Option<u32>
+    ensures number { result ≡ times_of word.now }
+    ensures some { IfSome result (λ n. 1 ≤ n) }
+    ensures few { IfSome result (λ n. n ≤ most_times) }
+{
+    number_within(limits::TIMES_DIGITS, 1, limits::TIMES, word)
+}
+
 fn generated_of(word: &str) -> Option<u32>
     ensures number { result ≡ generated_of word.now }
     ensures few { IfSome result (λ n. n ≤ greatest_number) }
@@ -87,6 +103,22 @@ fn plain_row(words: &[String]) -> Option<Command<'_>>
             graph: graph.as_str(),
             tokens: tokens.as_str(),
             iterations: iterations_of(iterations.as_str())?,
+        }),
+        _ => None,
+    }
+}
+
+fn unfold_row(words: &[String]) -> Option<Command<'_>>
+    ensures row { option_map seen result ≡ unfold_row (map string_bytes words.now) }
+    ensures within { IfSome result IsWithin }
+{
+    match words {
+        [times, graph, tokens, iterations, workers] => Some(Command::Unfold {
+            times: times_of(times.as_str())?,
+            graph: graph.as_str(),
+            tokens: tokens.as_str(),
+            iterations: iterations_of(iterations.as_str())?,
+            workers: workers_of(workers.as_str())?,
         }),
         _ => None,
     }
@@ -156,6 +188,7 @@ pub(crate) fn read_words(words: &[String]) -> Option<Command<'_>>
     match name.as_str() {
         "run" => run_row(rest),
         "plain" => plain_row(rest),
+        "unfold" => unfold_row(rest),
         "plan" => job_row(JobText::Plan, rest),
         "schedule" => job_row(JobText::Schedule, rest),
         "memory" => job_row(JobText::Memory, rest),

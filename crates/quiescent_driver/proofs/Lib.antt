@@ -4,3 +4,4 @@ pub mod OneAnswer
 pub mod Rows
 pub mod Runs
 pub mod Making
+pub mod Groups

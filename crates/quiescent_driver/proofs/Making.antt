@@ -22,7 +22,7 @@ use Rattle.quiescent_driver.proofs.Runs.{gives, refused_by_one}
 
 -- ---- the tokens that an iteration takes
 
-lacks_none : (lacking : Bool) (lack : run.Lack) (more : Option run.Lack) → None ≡ (if lacking then Some lack else more) → (lacking ≡ false) × (None ≡ more)
+pub lacks_none : (lacking : Bool) (lack : run.Lack) (more : Option run.Lack) → None ≡ (if lacking then Some lack else more) → (lacking ≡ false) × (None ≡ more)
 lacks_none true lack more none = absurd cc
 lacks_none false lack more none = (refl, none)
 

@@ -1,5 +1,5 @@
 -- A run, iteration by iteration.
-use Rattle.std.proofs.Common.{◌≡◌, ℕ, suc, zero, ◌+◌, ◌-◌, ◌*◌, ◌≤◌, ◌<◌, ℤ, List, [], ◌∷◌, ◌++◌, length, take, drop, Option, Some, None, Result, Ok, Err, refl, sym, ap, ◌∙◌, subst, append_assoc, arith, inl, inr, map, length-append, slice_get, slice_index_or}
+use Rattle.std.proofs.Common.{◌≡◌, ℕ, suc, zero, ◌+◌, ◌-◌, ◌*◌, ◌≤◌, ◌<◌, ℤ, List, [], ◌∷◌, ◌++◌, length, take, drop, Option, Some, None, Result, Ok, Err, refl, sym, ap, ◌∙◌, subst, append_assoc, arith, inl, inr, map, length-append, slice_get, slice_index_or, OnOk}
 use Rattle.std.proofs.lemmas.List.{append-nil}
 use Rattle.std.proofs.Math.Seq.{drop-nil, take-append-add}
 use Rattle.outer_world.specs.Sink.{Grows}
@@ -17,11 +17,12 @@ use Rattle.pisdf_meaning.specs.Laws.{HasOneRun}
 use Rattle.pisdf_meaning.specs.Run as run
 use Rattle.pisdf_meaning.specs.declared.outcome.Iteration.{Iteration}
 use Rattle.pisdf_meaning.specs.declared.refusal.Refusal.{Refusal}
+use Rattle.quiescent_driver.specs.Reached.{Reached}
 use Rattle.quiescent_driver.specs.Runs.{EndsLike, GrowsPartly, EndsRun, RanTo, answer_of, text_of}
 use Rattle.quiescent_driver.specs.Iterated.{Checks, Gives, IsRefused, HaveIterated}
 use Rattle.job_rules.specs.Items.{no_graph}
 use Rattle.quiescent_driver.specs.Top.{top_of}
-use Rattle.quiescent_driver.specs.Stepped.{EndsAt, StopsAt}
+use Rattle.quiescent_driver.specs.Stepped.{EndsAt, PutsText, Steps, StopsAt}
 use Rattle.quiescent_driver.specs.Stops.{refused_stop, run_end}
 use Rattle.quiescent_driver.specs.Streams.{rest_of}
 use Rattle.quiescent_driver.specs.Texts.{joined, texts_from, iteration_text}
@@ -69,7 +70,7 @@ text-snoc g its i =
 
 -- ---- what is left of the streams
 
-drop_more : (k m : ℕ) (xs : List ℤ) → drop m (drop k xs) ≡ drop (k + m) xs
+pub drop_more : (k m : ℕ) (xs : List ℤ) → drop m (drop k xs) ≡ drop (k + m) xs
 drop_more zero m xs = let e : m ≡ 0 + m = omega arith in ap (λ n. drop n xs) e
 drop_more (suc k) m [] = drop-nil m ∙ sym (drop-nil (suc k + m))
 drop_more (suc k) m (x ∷ xs) = let e : suc (k + m) ≡ suc k + m = omega arith in drop_more k m xs ∙ ap (λ n. drop n (x ∷ xs)) e
@@ -144,6 +145,20 @@ ends_by g k s rest had f (stop.Short stream held needs) h = (h, grows_none had)
 ends_by g k s rest had f (stop.Refused refusal) h = (h, grows_none had)
 ends_by g k s rest had f stop.Memory h = grows_none had
 
+-- an iteration whose text is put steps on
+pub steps_by : (g : Graphs) (k : ℕ) (s next rest : State) (i : Iteration) (had has : Option (List ℕ)) (before now : ℕ) (result : Result (Unit {0}) RunEnd) → Gives g s rest i next
+    → PutsText (iteration_text k (top_of g).outputs i) had has before now result → Steps g k s next rest had has before now result
+steps_by g k s next rest i had has before now (Ok done) gives puts = (i, gives, puts)
+steps_by g k s next rest i had has before now (Err (end.Done left)) gives puts = puts
+steps_by g k s next rest i had has before now (Err (end.Short stream held needs)) gives puts = absurd puts
+steps_by g k s next rest i had has before now (Err (end.Refused refusal)) gives puts = absurd puts
+steps_by g k s next rest i had has before now (Err end.WriteFault) gives puts = (puts.0, i, next, gives, puts.1)
+steps_by g k s next rest i had has before now (Err end.Memory) gives puts = puts
+
+pub on_ok : (r : Result (Unit {0}) RunEnd) (P : Type 0) → P → OnOk r P
+on_ok (Ok done) P p = p
+on_ok (Err e) P p = tt
+
 pub lacks : (g : Graphs) (tokens : State) (needs : List ℕ) (k : ℕ) (lack : run.Lack) → g.top < length g.graphs → needs ≡ run.top_needs g → early_faults g.graphs g.top [] ≡ []
     → Some lack ≡ run.first_lack 0 needs (rest_of k needs tokens) → Checks g (rest_of k (run.top_needs g) tokens) (Ok (Some lack))
 lacks g tokens needs k lack lt e sound some =
@@ -203,12 +218,6 @@ whole_run g streams (suc k) m its s rest (before, from, i, h, gives, is) more =
     let same : then_run before (run.after i rest) ≡ then_run its rest = after_snoc before i rest ∙ ap (λ l. then_run l rest) (sym is) in
     subst (λ r. run.IsRun g streams (suc k + m) r) same (subst (λ q. run.IsRun g streams q (then_run before (run.after i rest))) n all)
 
--- the first k iterations were put, and leave this state
-pub record Reached (g : Graphs) (streams : State) (k : ℕ) (s : State) (had has : Option (List ℕ)) : Type 0 where
-  pub so_far : List Iteration
-  pub done : HaveIterated g streams k so_far s
-  pub written : Grows had has (text_of g so_far)
-
 pub starts : (g : Graphs) (streams s : State) (had : Option (List ℕ)) → s ≡ initial g.graphs g.top → Reached g streams 0 s had had
 starts g streams s had first = record { so_far = []; done = (refl, first); written = grows_none had }
 
@@ -263,6 +272,10 @@ ends_at g streams n k s had has new first before now end.WriteFault lt le r (ros
     (rose_since first before now le rose, (suc k, omega (arith, lt), r.so_far ++ i ∷ [], next, done, grows_partly_as had new _ _ text (partly_after had has new (text_of g r.so_far) _ r.written grows)))
 ends_at g streams n k s had has new first before now end.Memory lt le r h =
     (k, omega (arith, lt), r.so_far, s, r.done, grows_as had new _ _ (append-nil (text_of g r.so_far)) (grows_on had has new (text_of g r.so_far) [] r.written h))
+
+-- there was no memory for what comes next
+pub starved_here : (g : Graphs) (streams : State) (n k : ℕ) (s : State) (had has : Option (List ℕ)) (before now : ℕ) → k ≤ n → Reached g streams k s had has → EndsRun g streams n had has before now end.Memory
+starved_here g streams n k s had has before now le r = (k, le, r.so_far, s, r.done, r.written)
 
 pub finished : (g : Graphs) (streams : State) (n : ℕ) (s : State) (had has : Option (List ℕ)) (left : List ℕ) → Reached g streams n s had has
     → left ≡ map (λ t. length t) (rest_of n (run.top_needs g) streams) → RanTo g streams n had has (run.Done left)

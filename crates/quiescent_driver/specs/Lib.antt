@@ -8,5 +8,7 @@ pub mod Iterated
 pub mod Stops
 pub mod Making
 pub mod Runs
+pub mod Reached
+pub mod Unfolding
 pub mod Stepped
 pub mod Journals

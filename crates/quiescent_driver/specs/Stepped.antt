@@ -30,6 +30,15 @@ EndsAt graphs number state streams had has before now end.WriteFault =
     × GrowsPartly had has (iteration_text number (top_of graphs).outputs iteration)
 EndsAt graphs number state streams had has before now end.Memory = Grows had has []
 
+-- the text of an iteration was put whole; or a put failed, or there was no memory
+abbrev pub PutsText : List ℕ → Option (List ℕ) → Option (List ℕ) → ℕ → ℕ → Result (Unit {0}) RunEnd → Type 0
+PutsText text had has before now (Ok done) = Grows had has text
+PutsText text had has before now (Err (end.Done left)) = ⊥
+PutsText text had has before now (Err (end.Short stream held needs)) = ⊥
+PutsText text had has before now (Err (end.Refused refusal)) = ⊥
+PutsText text had has before now (Err end.WriteFault) = Rose before now × GrowsPartly had has text
+PutsText text had has before now (Err end.Memory) = Grows had has []
+
 -- iteration `number` was written whole and left this state, or it ended the run
 abbrev pub Steps : Graphs → ℕ → List (List ℤ) → List (List ℤ) → List (List ℤ) → Option (List ℕ) → Option (List ℕ) → ℕ → ℕ → Result (Unit {0}) RunEnd → Type 0
 Steps graphs number state next streams had has before now (Ok done) =

@@ -11,6 +11,7 @@ mod run;
 mod stop;
 mod streams;
 mod texts;
+mod unfolded;
 
 pub use end::RunEnd;
 pub use fault::IterationFault;
@@ -18,3 +19,4 @@ pub use iteration::run_iteration;
 pub use run::{plain_run, run_all, top_of};
 pub use stop::Stop;
 pub use streams::{Lack, Streams};
+pub use unfolded::run_unfolded;

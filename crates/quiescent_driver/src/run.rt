@@ -9,9 +9,11 @@ ghost use Rattle.pisdf_meaning.specs.Sound.{AreValidFor};
 ghost use Rattle.quiescent_driver.specs.Given.{IsTopState};
 ghost use Rattle.quiescent_driver.specs.Iterated.{Gives};
 ghost use Rattle.quiescent_driver.specs.Making.{IsMade, Makes, MayBegin, MayMake};
+ghost use Rattle.quiescent_driver.specs.Reached.{EndsFrom};
 ghost use Rattle.quiescent_driver.specs.Runs.{EndsLike, EndsRun};
-ghost use Rattle.quiescent_driver.specs.Stepped.{Steps, StopsAt};
+ghost use Rattle.quiescent_driver.specs.Stepped.{PutsText, Steps, StopsAt};
 ghost use Rattle.quiescent_driver.specs.Streams.{rest_of};
+ghost use Rattle.quiescent_driver.specs.Texts.{iteration_text};
 ghost use Rattle.quiescent_driver.specs.Top.{top_of};
 
 use crate::end::RunEnd;
@@ -84,6 +86,28 @@ fn next_iteration<S, F: Fn(&mut S, &mut Delays, &[List<i64>]) -> Made>(
     made(graphs, make, kept, delays, ins.as_slice())
 }
 
+/// Puts the text of one iteration, or answers how the run ends with it.
+pub(crate) fn put_iteration<O: Sink>(
+    alloc: Global,
+    graphs: &Arc<Graphs>,
+    number: u32,
+    iteration: &Iteration,
+    out: &mut O,
+) -> Result<(), RunEnd>
+    requires there { (arc_value graphs.now).top < length (arc_value graphs.now).graphs }
+    ensures puts { PutsText (iteration_text number (top_of (arc_value graphs.now)).outputs iteration.now) (O.written out.old) (O.written out.new) (O.faults out.old) (O.faults out.new) result }
+    ensures never_falls { O.faults out.old ≤ O.faults out.new }
+{
+    let top = top_of(graphs);
+    let Ok(text) = iteration_text(alloc, number, top.outputs.items(), iteration) else {
+        return Err(RunEnd::Memory);
+    };
+    match put_text(out, text.as_slice()) {
+        Ok(()) => Ok(()),
+        Err(_) => Err(RunEnd::WriteFault),
+    }
+}
+
 /// Makes and puts one iteration, which leaves its state for the next, or answers how the run ends with it.
 fn step<O: Sink, S, F: Fn(&mut S, &mut Delays, &[List<i64>]) -> Made>(
     alloc: Global,
@@ -110,13 +134,41 @@ fn step<O: Sink, S, F: Fn(&mut S, &mut Delays, &[List<i64>]) -> Made>(
         Ok(iteration) => iteration,
         Err(stop) => return Err(RunEnd::from(stop)),
     };
-    let top = top_of(graphs);
-    let Ok(text) = iteration_text(alloc, number, top.outputs.items(), &iteration) else {
-        return Err(RunEnd::Memory);
-    };
-    match put_text(out, text.as_slice()) {
-        Ok(()) => Ok(()),
-        Err(_) => Err(RunEnd::WriteFault),
+    put_iteration(alloc, graphs, number, &iteration, out)
+}
+
+/// Goes on with a run of so many iterations, of which the first were put and left this state.
+pub(crate) fn run_from<O: Sink, S, F: Fn(&mut S, &mut Delays, &[List<i64>]) -> Made>(
+    alloc: Global,
+    graphs: &Arc<Graphs>,
+    streams: &Streams<'_>,
+    first: u32,
+    iterations: u32,
+    make: &F,
+    kept: &mut S,
+    delays: &mut Delays,
+    out: &mut O,
+) -> RunEnd
+    requires there { (arc_value graphs.now).top < length (arc_value graphs.now).graphs }
+    requires may { MayMake (arc_value graphs.now) (F.pre make.now) }
+    requires makes { Makes (arc_value graphs.now) (F.post make.now) }
+    requires needs { streams.now.needs.now ≡ top_needs (arc_value graphs.now) }
+    requires fit { length streams.now.needs.now ≡ length streams.now.tokens.now }
+    requires sound { early_faults (arc_value graphs.now).graphs (arc_value graphs.now).top [] ≡ [] }
+    requires some { first ≤ iterations }
+    requires state { IsTopState (arc_value graphs.now) delays.old.lists }
+    ensures ends { EndsFrom (arc_value graphs.now) streams.now.tokens.now iterations first delays.old.lists (O.written out.old) (O.written out.new) (O.faults out.old) (O.faults out.new) result }
+    ensures never_falls { O.faults out.old ≤ O.faults out.new }
+{
+    for number in first..iterations {
+        match step(alloc, graphs, streams, number, make, kept, delays, out) {
+            Ok(()) => {}
+            Err(end) => return end,
+        }
+    }
+    match streams.left(alloc, iterations) {
+        Ok(left) => RunEnd::Done { left },
+        Err(_) => RunEnd::Memory,
     }
 }
 
@@ -142,16 +194,17 @@ fn run_some<O: Sink, S, F: Fn(&mut S, &mut Delays, &[List<i64>]) -> Made>(
     let Ok(mut delays) = first_delays(alloc, graphs) else {
         return RunEnd::Memory;
     };
-    for number in 0..iterations {
-        match step(alloc, graphs, streams, number, make, kept, &mut delays, out) {
-            Ok(()) => {}
-            Err(end) => return end,
-        }
-    }
-    match streams.left(alloc, iterations) {
-        Ok(left) => RunEnd::Done { left },
-        Err(_) => RunEnd::Memory,
-    }
+    run_from(
+        alloc,
+        graphs,
+        streams,
+        0,
+        iterations,
+        make,
+        kept,
+        &mut delays,
+        out,
+    )
 }
 
 /// How many tokens each stream holds.

@@ -1,6 +1,6 @@
 //! Shows what no contract says: that workers run beside each other. Graphs are run by crews of 2, 4 and 16 workers, with kernels
 //! that wait for one another: as many as there are workers must have begun before one of them goes on. In two of the graphs
-//! kernels of one job meet, in the others the configuration actors of as many jobs.
+//! kernels of one job meet, in two others the configuration actors of as many jobs, and in the last one kernels of two iterations.
 #![tactic(auto)]
 
 mod meeting;
@@ -14,53 +14,50 @@ use std::process::ExitCode;
 use std::sync::Wait;
 use std::thread::Threads;
 
-/// A graph file, a token file, and how many workers run the graph.
+/// The words of a command, and how many workers it has.
 #[derive(Clone, Copy)]
 struct Run {
-    graph: &'static str,
-    tokens: &'static str,
+    words: &'static str,
     workers: u32,
 }
 
-/// The runs, one after the other.
-const RUNS: [Run; 6] = [
+/// The runs, one after the other. An iteration of the last graph has one firing of a kernel, so two meet only where two iterations
+/// are fired as one.
+const RUNS: [Run; 7] = [
     Run {
-        graph: "kernels.json",
-        tokens: "kernels.csv",
+        words: "run kernels.json kernels.csv 1 2",
         workers: 2,
     },
     Run {
-        graph: "jobs.json",
-        tokens: "jobs.csv",
+        words: "run jobs.json jobs.csv 1 2",
         workers: 2,
     },
     Run {
-        graph: "many_kernels.json",
-        tokens: "many_kernels.csv",
+        words: "run many_kernels.json many_kernels.csv 1 4",
         workers: 4,
     },
     Run {
-        graph: "many_jobs.json",
-        tokens: "many_jobs.csv",
+        words: "run many_jobs.json many_jobs.csv 1 4",
         workers: 4,
     },
     Run {
-        graph: "many_kernels.json",
-        tokens: "many_kernels.csv",
+        words: "run many_kernels.json many_kernels.csv 1 16",
         workers: 16,
     },
     Run {
-        graph: "many_jobs.json",
-        tokens: "many_jobs.csv",
+        words: "run many_jobs.json many_jobs.csv 1 16",
         workers: 16,
+    },
+    Run {
+        words: "unfold 2 iterations.json iterations.csv 2 2",
+        workers: 2,
     },
 ];
 
-/// The words of a command.
+/// The words of a command, which blanks separate.
 fn words_of(alloc: Global, run: Run) -> Result<Vec<String>, AllocError> {
-    let workers = format!(in alloc; "{}", run.workers)?;
     let mut words = Vec::new(alloc);
-    for word in ["run", run.graph, run.tokens, "1", workers.as_str()] {
+    for word in run.words.split_whitespace() {
         words.push(String::from_str(alloc, word)?)?;
     }
     Ok(words)
@@ -89,9 +86,8 @@ fn main(rt: HostRuntime) -> io::Result<ExitCode> {
     let mut err = StreamSink::new(rt.stderr());
     for run in RUNS {
         if !meets(&rt, rt.alloc(), run, &mut shelf, &mut out, &mut err) {
-            let graph = run.graph;
-            let workers = run.workers;
-            println!(rt; "{graph}: the kernels of {workers} workers didn't meet")?;
+            let words = run.words;
+            println!(rt; "{words}: the kernels of its workers didn't meet")?;
             return Ok(ExitCode::FAILURE);
         }
     }

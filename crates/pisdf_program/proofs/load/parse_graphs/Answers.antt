@@ -1,8 +1,9 @@
-use Rattle.std.proofs.Common.{◌≡◌, subst, List, Ok, Err, true, false, map}
+use Rattle.std.proofs.Common.{◌≡◌, sym, subst, List, Ok, Err, true, false, map}
 use Rattle.graph_format.specs.declared.graph_fault.GraphFault.TheVariants.{Memory}
-use Rattle.kernel_gate.specs.Signed.{SignatureView, signature_view}
+use Rattle.kernel_gate.specs.Signed.{SignatureView, signature_view, unnamed}
+use Rattle.pisdf_model.specs.declared.graph.Graphs.{Graphs}
+use Rattle.pisdf_meaning.specs.Sound.{KernelsFit}
 use Rattle.graph_format.specs.Reads.{AreReadAs, Reads}
-use Rattle.pisdf_program.proofs.KernelsFit.{kernels_fit}
 use Rattle.pisdf_program.proofs.Reading.{fault_read, graphs_read}
 use Rattle.pisdf_program.proofs.load.parse_graphs.Goals as goal
 
@@ -24,10 +25,12 @@ returns-in-Ok-clause-good c =
     let graphs = c.in-Ok.graphs in
     let means = c.in-Ok.ensures.means in
     let stated = c.in-Ok.ensures.stated means.0 means.2.0 means.1 means.2.1 in
+    let signatures = map signature_view c.args.signatures.now in
+    let fit = subst (λ (g : Graphs). KernelsFit (unnamed signatures) g.graphs) (sym stated.1) (c.kernels_fit.ensures signatures means.2.0 stated.0) in
     record {
       valid = record {
         valid = record { in_range = c.in-Ok.ensures.in_range; well_formed = c.in-Ok.ensures.well_formed; named = c.in-Ok.ensures.named };
-        kernels = kernels_fit (map signature_view c.args.signatures.now) means.2.0 graphs stated.0 stated.1 c.requires;
+        kernels = subst (λ (s : List SignatureView). KernelsFit (unnamed s) graphs.graphs) c.requires fit;
       };
       writable = c.in-Ok.ensures.writable;
     }
