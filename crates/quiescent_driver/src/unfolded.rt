@@ -384,7 +384,8 @@ pub fn run_unfolded<O: Sink, K: Gate + Sync, R: Threads + Wait + Sync>(
     ensures never_falls { O.faults out.old ≤ O.faults out.new }
 {
     one_meaning();
-    if iterations < times {
+    // A group of one iteration is that iteration.
+    if times == 1 || iterations < times {
         return run_all(rt, alloc, graphs, streams, iterations, workers, gate, out);
     }
     match unfold(alloc, graphs, times) {
