@@ -1,11 +1,14 @@
 """The table of kernels, as docs/KERNELS.md has it: counts, formulas, and what each rate and argument must be."""
 import functools
+import json
 import os
 import re
 from dataclasses import dataclass
 
 PAGE = os.path.join(os.path.dirname(__file__), "..", "..", "docs", "KERNELS.md")
+HEADING = re.compile(r"^\| Kernel \|.*\|$", re.M)
 ROW = re.compile(r"\| \[`(\w+)`\]\(#\w+\) \| ([^|]*) \| ([^|]*) \| ([^|]*) \| ([^|]*) \| ([^|]*) \|")
+EXAMPLE = re.compile(r"^Example: `(\{.*?\})`", re.M)
 # Words of other tools that one may look for among the kernels, with what stands for them here.
 OTHER_WORDS = {
     "broadcast": "The kernel `dup` gives each token twice, and a chain of them more often.",
@@ -32,11 +35,11 @@ class Span:
 
 @dataclass(frozen=True)
 class Kernel:
-    """A row of the table with the sentences of its section. `counts` are those of `args`, `ins`, `outs` and `sets`."""
+    """A row of the table with its section. `counts` are those of `args`, `ins`, `outs` and `sets`."""
     name: str
     counts: dict
     short: str
-    sentences: dict
+    section: str
 
     @property
     def is_config(self):
@@ -48,7 +51,17 @@ class Kernel:
 
     def sentence(self, about):
         """What the page says of `Rates`, `Arguments`, `Value` and so on, or an empty text."""
-        return self.sentences.get(about, "")
+        return dict(re.findall(r"^- (\w+): (.*)$", self.section, re.M)).get(about, "")
+
+    def example(self):
+        """The first example of the section: a row of the table of kernels, with numbers for arguments and rates."""
+        return json.loads(EXAMPLE.search(self.section).group(1))
+
+
+@functools.cache
+def page():
+    with open(PAGE, encoding="utf-8") as file:
+        return file.read()
 
 
 def span(text):
@@ -56,33 +69,27 @@ def span(text):
     return Span(numbers[0], numbers[-1])
 
 
-def sentences_of(section):
-    """The points of a kernel's section, by the word before the colon."""
-    return dict(re.findall(r"^- (\w+): (.*)$", section, re.M))
-
-
-def sections_of(page):
-    """The text of each section with the name of a kernel."""
-    parts = re.split(r"^### (\w+)$", page, flags=re.M)
-    return dict(zip(parts[1::2], parts[2::2]))
+def sections():
+    """The text of each section with the name of a kernel, up to the next heading."""
+    return dict(re.findall(r"^### (\w+)\n(.*?)(?=^##|\Z)", page(), re.M | re.S))
 
 
 @functools.cache
 def table():
     """All kernels by name, in the order of the page."""
-    with open(PAGE, encoding="utf-8") as file:
-        page = file.read()
-    sections = sections_of(page)
-    kernels = {}
-    for name, *counts, short in ROW.findall(page):
+    found, kernels = sections(), {}
+    for name, *counts, short in ROW.findall(page()):
         spans = dict(zip(("args", "ins", "outs", "sets"), map(span, counts)))
-        kernels[name] = Kernel(name, spans, short, sentences_of(sections.get(name, "")))
+        kernels[name] = Kernel(name, spans, short, found.get(name, ""))
     return kernels
 
 
-@functools.cache
+def heading():
+    """The words over the columns of the table."""
+    return [word.strip() for word in HEADING.search(page()).group().strip("|").split("|")]
+
+
 def code_meaning(code):
     """What the page says of a code of a kernel's fault."""
-    with open(PAGE, encoding="utf-8") as file:
-        rows = dict(re.findall(r"^\| (\d) \| \w+ \| (.*) \|$", file.read(), re.M))
+    rows = dict(re.findall(r"^\| (\d) \| \w+ \| (.*) \|$", page(), re.M))
     return rows.get(str(code), "")
