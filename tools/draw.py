@@ -22,7 +22,7 @@ from drawing.parts import Names
 
 
 def draw_graph(path):
-    return dot.graph_dot(*read_graphs(path))
+    return dot.graph_dot(read_graphs(path))
 
 
 def draw_plan(path, schedule=None):

@@ -5,10 +5,10 @@ import io
 import subprocess
 
 from drawing import nodes
-from drawing.inputs import Refused, graphs_in, text_of
+from drawing.inputs import Refused, read_graphs
 from drawing.parts import Names
 from drawing.told import told
-from pisdf_tools import reading, token_file
+from pisdf_tools import token_file
 from pisdf_tools.firing import TooLong
 from pisdf_tools.levels import Refused as RunRefused
 from pisdf_tools.source import read_source
@@ -49,16 +49,15 @@ class Run:
         self.run = self.call("run", graph, tokens, iterations, workers)
         if self.run.status == 1:
             raise Refused(f"'{iterations}' iterations by '{workers}' workers: a run has 0 to 65536 iterations, and 1 to 16 workers")
-        self.top, self.graphs = None, {}
-        if self.run.status not in (2, 5):
-            self.top, self.graphs = graphs_in(text_of(graph), graph)
+        self.file = read_graphs(graph) if self.run.status not in (2, 5) else None
+        self.top = self.file.top.text if self.file else None
         calls = [(command, graph, tokens, workers) for command in ("plan", "schedule", "memory")]
         calls.append(("journal", graph, tokens, str(min(1, int(iterations))), workers))
         with concurrent.futures.ThreadPoolExecutor() as pool:
             told_run = pool.submit(told, self)
             self.plan, self.schedule, self.memory, self.journal = pool.map(lambda words: self.call(*words), calls)
             self.told = told_run.result()
-        self.levels = self.levels_of_first() if self.graphs else {}
+        self.levels = self.levels_of_first() if self.file else {}
         self.names = self.top_names() if not self.plan.status else None
 
     def call(self, *words):
@@ -74,9 +73,8 @@ class Run:
         """The levels of the first iteration by the paths of their firings, as far as they are found soon."""
         recorder = None
         try:
-            file = reading.read(read_source(self.graph_file)).file
-            streams = token_file.Streams(read_source(self.token_file).data, {port.name.text for port in file.top_graph.inputs})
-            recorder = nodes.Recorder(file, LEVEL_SECONDS)
+            streams = token_file.Streams(read_source(self.token_file).data, {port.name.text for port in self.file.top_graph.inputs})
+            recorder = nodes.Recorder(self.file, LEVEL_SECONDS)
             recorder.run(1, streams.tokens)
         except (RunRefused, TooLong, OSError, RecursionError):
             pass

@@ -2,7 +2,7 @@
 from dataclasses import dataclass
 
 from . import name_faults, wiring_faults
-from .faults import Fault, Faults, fault_text
+from .faults import Fault, Faults, fault_head, fault_text
 from .graph_file import GraphFile
 from .graph_reading import read_graphs
 from .json_file import JsonFault, read_json
@@ -21,6 +21,10 @@ class Reading:
 
     def text_of(self, fault):
         return fault_text(self.source, self.root, fault)
+
+    def line_of(self, fault):
+        """A fault in one line, without the line of the file."""
+        return f"{fault_head(self.source, self.root, fault)} {fault.text}"
 
     def fault_of(self, line):
         """The fault with the program's line, or None."""

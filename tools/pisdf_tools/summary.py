@@ -80,24 +80,12 @@ class Summary:
         self.reading, self.file, self.ranges, self.explorer = reading, reading.file, Ranges(reading.file), explorer
 
     def lines(self):
-        order, depths = self.hierarchy()
-        for graph in order:
-            yield from self.graph_lines(graph, depths[graph.name.text])
-        unused = [graph.name.text for graph in self.file.graphs if graph.name.text not in depths]
+        for graph, depth in self.file.hierarchy():
+            yield from self.graph_lines(graph, depth)
+        unused = [graph.name.text for graph in self.file.unused()]
         if unused:
             verb = "it is" if len(unused) == 1 else "they are"
             yield f"No actor names {with_names('graph', unused)}, so {verb} never fired."
-
-    def hierarchy(self):
-        """The graphs that are fired, the top first, each after one that names it, and how deep each lies."""
-        order, depths, pending = [], {}, [(self.file.top_graph, 0)]
-        while pending:
-            graph, depth = pending.pop(0)
-            if graph.name.text not in depths:
-                depths[graph.name.text] = depth
-                order.append(graph)
-                pending += [(self.file.child_of(actor), depth + 1) for actor in graph.actors if actor.is_hierarchical]
-        return order, depths
 
     def graph_lines(self, graph, depth):
         users = [f"{quoted(other.name.text)} by its actor {quoted(actor.name.text)}" for other in self.file.graphs for actor in other.actors
