@@ -8,6 +8,7 @@ from pisdf_tools.source import Source
 
 # With a fault of a greater number all parts of a graph are known, and it can be drawn.
 LAST_OF_NAMES = 5
+LAST = 13
 
 
 class Refused(Exception):
@@ -32,13 +33,18 @@ def text_of(path):
         raise Refused(f"{path} is no text in UTF-8: byte {error.start} begins no letter") from error
 
 
-def read_graphs(path):
-    """The graphs of a file, where all that they name is there."""
+def read_graphs(path, last=LAST_OF_NAMES):
+    """The graphs of a file that has no fault up to this number: where all that they name is there."""
     found = reading.read(Source(path, bytes_of(path)))
-    fault = next((fault for fault in found.faults if fault.number <= LAST_OF_NAMES), None)
+    fault = next((fault for fault in found.faults if fault.number <= last), None)
     if fault:
         raise Refused(found.line_of(fault))
     return found.file
+
+
+def whole_graphs(path):
+    """The graphs of a file without a fault."""
+    return read_graphs(path, LAST)
 
 
 # ---- rows

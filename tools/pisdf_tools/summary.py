@@ -3,9 +3,10 @@ from math import prod
 
 from .exploring import MOST_CHOICES, choices
 from .expressions import NoValue, bounds, evaluate, names
-from .limits import PARAMETER_HIGH
+from .limits import PARAMETER_HIGH, UNFOLD_TIMES
 from .rate_params import with_sources
 from .run_refusals import RunRefusals
+from .unfolding import unfolding_of
 from .wording import counted, listed, quoted, with_names
 
 
@@ -103,6 +104,8 @@ class Summary:
             yield f"  exports {listed([word.text for word in graph.exports])}"
         yield from self.actor_lines(graph)
         yield from self.repetition_lines(graph)
+        if graph is self.file.top_graph:
+            yield from self.unfolding_lines(graph)
 
     def actor_lines(self, graph):
         kinds = [f"{counted(len(found), what)}" for what, found in (
@@ -111,6 +114,18 @@ class Summary:
             ("hierarchical configuration actor", [a for a in graph.actors if a.kind == "setgraph"])) if found]
         kept = self.file.kept_by(graph)
         yield f"  {listed(kinds) or 'no actors'}, {counted(len(graph.fifos), 'FIFO')}" + (f", keeps {counted(kept, 'token')} from firing to firing" if kept else "")
+
+    def unfolding_lines(self, graph):
+        """How many iterations can be fired as one. Nothing is said of a graph that is refused."""
+        if any(outcome.refused for outcome in self.explorer.outcomes.get(graph.name.text, ())):
+            return
+        found = unfolding_of(self.file)
+        if found.most == UNFOLD_TIMES:
+            yield f"  unfold: up to {UNFOLD_TIMES} iterations can be fired as one"
+        elif found.most > 1:
+            yield f"  unfold: up to {found.most} iterations can be fired as one. {found.why}"
+        else:
+            yield f"  unfold: no two iterations can be fired as one. {found.why}"
 
     # ---- repetition vectors
 
