@@ -42,7 +42,7 @@ class Limits(unittest.TestCase):
                       f"from 0 to {limits.PARAMETER_HIGH}", f"nested more than {limits.NESTED_GRAPHS} deep", f"| a rate | {limits.RATE:,} |",
                       f"1 to {limits.BASE_ENTRY:,} | `rates`", f"| {limits.FIRINGS:,} | `limit firings N`", f"| {limits.LINKS:,} | `limit links N`",
                       f"| {limits.TOKENS:,} | `limit tokens N`", f"ITERATIONS is 0 to {limits.ITERATIONS:,}", f"WORKERS is 1 to {limits.WORKERS},",
-                      f"NUMBER is 0 to {limits.SOAK_NUMBER:,}"):
+                      f"NUMBER is 0 to {limits.SOAK_NUMBER:,}", f"TIMES 1 to {limits.UNFOLD_TIMES}, of 1 or 2 digits"):
             self.assertIn(words, formats)
 
 

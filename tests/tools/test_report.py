@@ -245,7 +245,7 @@ class Report(unittest.TestCase):
         self.put("run.status", "1")
         self.assertEqual(self.call(iterations="x")[0], 2)
         done = subprocess.run([sys.executable, "-B", REPORT, "x"], capture_output=True, text=True, timeout=60)
-        self.assertEqual((done.returncode, done.stderr), (1, "report: give GRAPH TOKENS ITERATIONS WORKERS FILE.html\n"))
+        self.assertEqual((done.returncode, done.stderr), (1, "report: give GRAPH TOKENS ITERATIONS WORKERS FILE.html, and TIMES where iterations are to be fired as one\n"))
         words = ["/nowhere/program", GRAPH, "t.csv", "1", "1", "page.html"]
         done = subprocess.run([sys.executable, "-B", REPORT, *words], capture_output=True, text=True, timeout=60)
         self.assertEqual((done.returncode, done.stderr), (2, "report: the program /nowhere/program can't be called: No such file or directory\n"))
