@@ -1,5 +1,6 @@
 """`check`: all faults of a file, and what is told of a file without one."""
 import os
+import time
 import unittest
 
 from support import TOP, WHOLE, call, changed, needs_program, read_text
@@ -48,6 +49,20 @@ class Summaries(unittest.TestCase):
         self.assertEqual(self.refusals(wide), [])
         fed = changed(wide, ('{"name":"width","rate":"1"}', '{"name":"width","rate":"2"}'))
         self.assertEqual([refused.line for refused, _ in self.refusals(fed)], ["run: g kernel c:0 3"])
+
+    def test_a_parameter_with_very_many_values(self):
+        begun = time.monotonic()
+        lines = self.lines(changed(example("adaptive-mean"), ('"low":1,"high":8', '"low":0,"high":2147483647')))
+        self.assertLess(time.monotonic() - begun, 10)
+        self.assertTrue(any("64 values were tried" in line for line in lines), lines)
+
+    def test_a_parameter_without_a_value(self):
+        text = changed(WHOLE, ('"expr":"n+1"', '"expr":"(0-7)/2"'))
+        self.assertIn("  parameter m: = (0-7)/2, no value in its range", self.lines(text))
+
+    def test_parameters_that_decide_nothing_arent_told(self):
+        told = self.refusals(changed(WHOLE, ('{"name":"x","rate":"4"}', '{"name":"x","rate":"0"}')))[0][1]
+        self.assertIn("The parameter is `k` = 2.", told)
 
     def test_ranges_are_those_of_the_values(self):
         ranged = changed(WHOLE, ('"expr":"n+1"', '"expr":"(12+n-1)/n"'))

@@ -55,6 +55,12 @@ class Graphs(unittest.TestCase):
 
         self.assertIn("delay 1, 2, 3, 4, .. (6 tokens)", draw("graph", "-", stdin=spoiled(change))[1])
 
+    def test_a_delay_of_too_many_tokens(self):
+        def change(graph):
+            graph["graphs"][0]["fifos"][1]["delay"] = 10 ** 15
+
+        self.assertIn("delay 0, 0, 0, 0, .. (1000000000000000 tokens)", draw("graph", "-", stdin=spoiled(change))[1])
+
     def test_all_examples(self):
         for name in os.listdir(os.path.join(TOP, "examples")):
             if os.path.exists(example(name)):

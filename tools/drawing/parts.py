@@ -27,7 +27,8 @@ def delay_label(fifo):
     count = fifo.delay_length
     if not count:
         return ""
-    shown = ", ".join(str(token) for token in fifo.first_tokens()[:SHOWN_TOKENS])
+    tokens = ["0"] * min(count, SHOWN_TOKENS) if isinstance(fifo.delay, int) else fifo.delay[:SHOWN_TOKENS]
+    shown = ", ".join(map(str, tokens))
     more = f", .. ({count} tokens)" if count > SHOWN_TOKENS else ""
     return f"delay {shown}{more}" + (", permanent" if fifo.life == "permanent" else "")
 

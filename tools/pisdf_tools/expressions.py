@@ -177,10 +177,10 @@ def operation(operator, left, right):
     shown = f"{operator}({left},{right})" if operator in CALLS else f"{left} {operator} {right}"
     if operator in "/%":
         if left < 0:
-            raise NoValue("division", f"{shown} has no value: the dividend must be at least 0",
+            raise NoValue("division", f"in {shown} the dividend must be at least 0",
                           "Form the sign behind the division, as `0-7/2` in place of `(0-7)/2`, or bound the dividend as by `max(0,n)`.")
         if right < 1:
-            raise NoValue("division", f"{shown} has no value: the divisor must be at least 1",
+            raise NoValue("division", f"in {shown} the divisor must be at least 1",
                           "Keep the divisor at 1 or more, as by `max(1,n)` or by `low`.")
         return left // right if operator == "/" else left % right
     value = {"+": lambda: left + right, "-": lambda: left - right, "*": lambda: left * right,

@@ -3,6 +3,7 @@
 It serves explanations alone. A test compares it with the rows by which the program's kernels are tested.
 """
 from .limits import is_whole
+from .wording import counted
 
 OVERFLOW, DIVISION, SHAPE, VALUE = 1, 2, 3, 4
 
@@ -127,7 +128,7 @@ def fire_fir(args, ins, outs, sets):
 def fire_moving(args, ins, outs, sets):
     same(ins, outs)
     value(1 <= args[0] <= 64, f"the window must be 1 to 64 wide, and it is {args[0]}")
-    windows = [ins[0][max(0, place + 1 - args[0]):place + 1] for place in range(outs[0])]
+    windows = (ins[0][max(0, place + 1 - args[0]):place + 1] for place in range(outs[0]))
     return [[towards_zero(total(window, "the sum of a window"), len(window)) for window in windows]], []
 
 
@@ -178,7 +179,7 @@ def fire_count_above(args, ins, outs, sets):
 
 
 def fire_read_param(args, ins, outs, sets):
-    shape(len(ins[0]) == sets, f"the interface must have one token for each parameter that is set. It has {len(ins[0])}, and {sets} are set")
+    shape(len(ins[0]) == sets, f"the interface must have one token for each parameter that is set. It has {len(ins[0])}, and {counted(sets, 'parameter is', 'parameters are')} set")
     return [], list(ins[0])
 
 

@@ -14,6 +14,10 @@ def range_words(low, high):
     return str(low) if low == high else f"{low} to {high}"
 
 
+# The bounds of an expression that has no value.
+NONE = (1, 0)
+
+
 class Ranges:
     """The bounds of the parameters of each graph, as far as they follow from the file."""
 
@@ -28,21 +32,21 @@ class Ranges:
                 for param in (param for param in graph.of_kind("is") if param.name.text not in ranges):
                     if not all(name in ranges for name in self.names(param)):
                         continue
-                    span = self.exact(param.expression.tree, graph) or bounds(param.expression.tree, ranges)
-                    low, high = span or (param.low, param.high)
+                    low, high = self.exact(param.expression.tree, graph) or bounds(param.expression.tree, ranges) or (param.low, param.high)
                     ranges[param.name.text] = (max(low, param.low), min(high, param.high))
             self.found[graph.pointer] = ranges
         return self.found[graph.pointer]
 
     def exact(self, tree, graph):
-        """The least and the greatest value of an expression by all values of the parameters in it, or None where these are many or none."""
+        """The least and the greatest value of an expression by all values of the parameters in it, or None where these are many. The least
+        is the greater one where there is no value."""
         found = [name.name for name in names(tree)]
         sources = [graph.param(name) for name in sorted(with_sources(graph, found)) if graph.param(name).kind != "is"]
         if prod(param.high - param.low + 1 for param in sources) > MOST_CHOICES:
             return None
         values = [self.value(tree, graph, chosen) for chosen in choices(sources, {})[0]]
         known = [value for value in values if value is not None]
-        return (min(known), max(known)) if known else None
+        return (min(known), max(known)) if known else NONE
 
     def value(self, tree, graph, chosen):
         """The value of an expression by `chosen`, which has those of the parameters that it comes from, and gets those of derived ones.
@@ -65,7 +69,7 @@ class Ranges:
     def rate_words(self, rate, graph):
         """A rate as it is written, with its bounds where it names parameters."""
         span = self.exact(rate.tree, graph) or bounds(rate.tree, self.of(graph))
-        if span is None or rate.text.strip() == str(span[0]):
+        if span is None or span == NONE or rate.text.strip() == str(span[0]):
             return rate.text
         return f"{rate.text} = {span[0]}" if span[0] == span[1] else f"{rate.text} = {span[0]} to {span[1]}"
 
@@ -162,7 +166,7 @@ class Summary:
             return ""
         if len(names) == 1 and len(found) > 2:
             numbers = sorted({values[names[0]] for values in found})
-            if numbers == list(range(numbers[0], numbers[-1] + 1)):
+            if len(numbers) == numbers[-1] - numbers[0] + 1:
                 return f" where {names[0]} = {numbers[0]} to {numbers[-1]}"
         shown = [" and ".join(f"{name} = {values[name]}" for name in names if name in values) for values in found]
         shown = [words for words in dict.fromkeys(shown) if words]
