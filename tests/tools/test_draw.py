@@ -102,6 +102,7 @@ class Graphs(unittest.TestCase):
             (lambda graph: first(graph, "graphs", 0, "inputs", 0).update(rate=1), "1}", "graph `g`, input `width`, member `rate`: An expression is a text"),
             (lambda graph: first(graph, "graphs", 0, "actors", 0).update(kind="actor"), '"kind": "actor"', "graph `g`, actor `c`: The text \"actor\" is no kind of actor."),
             (lambda graph: first(graph, "graphs", 0, "fifos", 0).update(to="m.k"), '"m.k"', "graph `g`, FIFO 0 (`width` to `m.k`), member `to`: The actor `m` has no port `k`."),
+            (lambda graph: first(graph, "graphs", 0, "actors", 1).update(kernel="delay"), '"delay"', "graph `g`, actor `m`, member `kernel`: There is no kernel `delay`."),
             (lambda graph: graph.update(top="h"), '"h"', "member `top`: There is no graph `h`."),
         ]
         for change, at, words in cases:

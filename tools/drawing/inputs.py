@@ -7,7 +7,7 @@ from pisdf_tools import reading
 from pisdf_tools.source import Source
 
 # With a fault of a greater number all parts of a graph are known, and it can be drawn.
-LAST_OF_NAMES = 5
+LAST_OF_NAMES = 6
 LAST = 13
 
 
