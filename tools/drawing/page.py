@@ -84,7 +84,7 @@ def summary(run):
     words += f" and with {int(run.times)} fired as one where that can be." if run.words[0] == "unfold" else "."
     done = "<p>The run is done.</p>" if run.run.status == 0 else refusal(run.run, run)
     before = "" if made is None or run.run.status == 0 else note(f"{counted(made, 'iteration')} {'was' if made == 1 else 'were'} done before.")
-    more = "".join(told(run.told))
+    more = "".join(told(run.told.removeprefix("The call is done.").strip()))
     return f"<p>{escape(words)}</p>{done}{before}" + (f'<div class="told">{more}</div>' if more else "")
 
 
