@@ -96,6 +96,31 @@ class Summaries(unittest.TestCase):
         return certain_refusals(found, Explorer(found.file))
 
 
+class BrokenTexts(unittest.TestCase):
+    """What is told behind a slip of the text, where it is plain what was meant."""
+
+    def faults(self, *pairs):
+        return [(fault.line, fault.start) for fault in read_text(changed(SPOILED, *pairs)).faults]
+
+    def test_further_faults_have_their_places(self):
+        for old, new, at in (('"graphs":[', 'graphs":[', "graphs"), ('"graphs":[', "graphs:[", "graphs"), ('"top":"g",', '"top":g,', "g,"), ('"sets":["n"]},', '"sets":["n"]}', '{"name":"a","kind"'),
+                             ('{"from":"b.v","to":"y"}],', '{"from":"b.v","to":"y"},],', ",],")):
+            text = changed(SPOILED, (old, new))
+            found = self.faults((old, new))
+            with self.subTest(new):
+                self.assertEqual([line for line, _ in found], ["graph: 1 json", "graph: 2 shape /graphs/0/inputs/1/rate", "graph: 5 unknown a.k", "graph: 6 kernel gian"])
+                self.assertEqual(text[found[0][1]:].startswith(at), True)
+                self.assertEqual([text[start:start + 4] for _, start in found[1:]], ["4}],", '"a.k', '"gia'])
+
+    def test_two_slips(self):
+        self.assertEqual([line for line, _ in self.faults(('"graphs":[', 'graphs":['), ('"sets":["n"]},', '"sets":["n"]}'))][:3],
+                         ["graph: 1 json", "graph: 1 json", "graph: 2 shape /graphs/0/inputs/1/rate"])
+
+    def test_a_text_that_breaks_off(self):
+        self.assertEqual([line for line, _ in self.faults(('"sets":["n"]},', '"sets":["n"] # one\n},'))], ["graph: 1 json"])
+        self.assertEqual([line for line, _ in self.faults(('"top":"g",', '"top":None,'))], ["graph: 1 json"])
+
+
 @needs_program
 class Calls(unittest.TestCase):
     def test_all_faults_of_a_file(self):
