@@ -27,7 +27,7 @@ CASES = [
     ([(INNER, '{"from":"a.o","to":"b.i"},{"from":"r.o","to":"r.i","delay":1,"life":"permanent"}'), ('"actors":[', f'"actors":[{RING},')], 1,
      "The actor `r` is joined to no interface whose rate is over 0."),
     ([(INNER, '{"from":"a.o","to":"b.i"},{"from":"r.o","to":"r.i"}'), ('"actors":[', f'"actors":[{RING},')], 1, "The graph is refused as `deadlock r 1`."),
-    ([('{"name":"x","rate":"2"}', '{"name":"x","rate":"1"}')], 1, "The input `x` has the rate 1, and `a` reads 2 x 1 = 2 in an iteration. With a rate of 2 it would be exact there."),
+    ([('{"name":"x","rate":"2"}', '{"name":"x","rate":"1"}')], 1, "The input `x` has the rate 1, and `a` reads 2 x 1 = 2 in an iteration. With the rate 1 of `y`, or with the rate 2 of `x`, nothing is read again or lost."),
     ([('{"name":"y","rate":"2"}', '{"name":"y","rate":"1"}')], 1, "The output `y` has the rate 1, and `b` gives 2 x 1 = 2 in an iteration."),
     ([('"rate":"2"}],"outputs":[{"name":"y","rate":"2"', '"rate":"100"}],"outputs":[{"name":"y","rate":"100"')], 10,
      "11 iterations as one have 2,200 firings, and at most 2,048 are allowed (`limit firings`)."),

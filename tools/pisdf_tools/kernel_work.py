@@ -121,7 +121,8 @@ def fire_dot(args, ins, outs, sets):
 def fire_fir(args, ins, outs, sets):
     taps, rate = len(args), len(ins[0])
     shape(rate >= taps, f"with {taps} taps the input's rate must be at least {taps}, and it is {rate}")
-    shape(outs[0] == rate - taps + 1, f"with {taps} taps and {rate} tokens the output's rate must be {rate - taps + 1}, and it is {outs[0]}")
+    shape(outs[0] == rate - taps + 1, f"with {taps} taps and {rate} tokens the output's rate must be {rate - taps + 1}, and it is {outs[0]}. "
+          f"That would be right with the input's rate {outs[0] + taps - 1}")
     return [[weighted((args[tap], ins[0][place + taps - 1 - tap]) for tap in range(taps)) for place in range(outs[0])]], []
 
 

@@ -3,9 +3,10 @@ from dataclasses import dataclass
 
 from . import balance
 from .firing import Runner
+from .fitting import fitting_words
 from .levels import Refused
 from .limits import RATE, UNFOLD_TIMES
-from .wording import counted, grouped, named, quoted
+from .wording import counted, grouped, joined, named, quoted
 
 SECONDS = 2
 
@@ -86,8 +87,8 @@ def moving_trouble(level, counts):
     for name, rate, actor, each, does in interface_links(level):
         if counts[actor] * each != rate:
             what = "input" if does == "reads" else "output"
-            return (f"The {what} {quoted(name)} has the rate {rate}, and {quoted(actor)} {does} {counts[actor]} x {each} = {counts[actor] * each} "
-                    f"in an iteration. With a rate of {counts[actor] * each} it would be exact there.")
+            return joined([f"The {what} {quoted(name)} has the rate {rate}, and {quoted(actor)} {does} {counts[actor]} x {each} = {counts[actor] * each} in an iteration.",
+                           fitting_words(level, actor)])
     return ""
 
 
