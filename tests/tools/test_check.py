@@ -25,7 +25,7 @@ class Summaries(unittest.TestCase):
         for line in ("graph g: depth 0, the top graph, fired once in each iteration", "  input x: rate 4", "  output y: rate 2*k = 4",
                      "  parameter n: set by a configuration actor, 1 to 8", "  parameter m: = n+1, 2 to 9", "  parameter k: = 2, 2",
                      "  3 kernel actors, 1 configuration actor and 1 hierarchical actor, 7 FIFOs, keeps 1 token from firing to firing",
-                     "  repetition: a 4, s 4, d 4, b 2", "graph h: depth 1, fired in `g` by its actor `b`", "  parameter p: from an argument, any value from 0 on", "  repetition: e 1 where p = 2"):
+                     "  repetition: a 4, s 4, d 4, b 2", "graph h: depth 1, fired in `g` by its actor `b`", "  parameter p: from an argument, 2", "  input u: rate p = 2", "  repetition: e 1 where p = 2"):
             self.assertIn(line, lines)
 
     def test_each_value_of_a_parameter(self):

@@ -27,7 +27,7 @@ class Ranges:
     def of(self, graph):
         """The bounds of a graph's parameters by name."""
         if graph.pointer not in self.found:
-            ranges = {param.name.text: (param.low, param.high) for param in graph.params if param.kind != "is"}
+            ranges = {param.name.text: self.given(graph, param) for param in graph.params if param.kind != "is"}
             for _ in graph.params:
                 for param in (param for param in graph.of_kind("is") if param.name.text not in ranges):
                     if not all(name in ranges for name in self.names(param)):
@@ -36,6 +36,22 @@ class Ranges:
                     ranges[param.name.text] = (max(low, param.low), min(high, param.high))
             self.found[graph.pointer] = ranges
         return self.found[graph.pointer]
+
+    def given(self, graph, param):
+        """The bounds of a parameter that is given from outside: those that it states, within those of the arguments where it is inherited."""
+        spans = []
+        for other in self.file.graphs if param.kind == "in" else ():
+            for actor in other.actors:
+                if actor.is_hierarchical and actor.child.text == graph.name.text:
+                    argument = self.argument(graph, param, actor)
+                    spans.append(self.exact(argument.tree, other) or bounds(argument.tree, self.of(other)))
+        if not spans or None in spans:
+            return param.low, param.high
+        return max(param.low, min(low for low, _ in spans)), min(param.high, max(high for _, high in spans))
+
+    def argument(self, graph, param, actor):
+        """What an actor gives to an inherited parameter of its graph."""
+        return actor.args[[other.name.text for other in graph.of_kind("in")].index(param.name.text)]
 
     def exact(self, tree, graph):
         """The least and the greatest value of an expression by all values of the parameters in it, or None where these are many. The least
