@@ -5,6 +5,7 @@ import subprocess
 import sys
 import tempfile
 import unittest
+from math import comb
 
 from support import PROGRAM, TOOLS, TOP, call, changed, needs_program, read_text
 
@@ -183,6 +184,16 @@ class Calls(unittest.TestCase):
         self.assertIn("This one has the length 63.", text)
         self.assertIn("2 groups of 4 iterations are fired as one.", text)
         self.assertIn("d:3", text)
+
+    def test_the_outputs_of_the_example(self):
+        """What examples/README.md says that the cascade writes: the fourth sums of ones, which are 1, 5, 15, 35 and so on."""
+        wanted = "".join(f"tokens,{number},y,{comb(number + 4, 4)}\n" for number in range(8))
+        with open(os.path.join(EXAMPLES, "README.md"), encoding="utf-8") as file:
+            self.assertIn("".join(f"    {line}\n" for line in wanted.splitlines()), file.read())
+        graph, tokens = path_of("cascade"), path_of("cascade", "t.csv")
+        for words in (["plain", graph, tokens, "8"], ["run", graph, tokens, "8", "4"], ["unfold", "4", graph, tokens, "8", "4"], ["unfold", "3", graph, tokens, "8", "2"]):
+            done = call(words)
+            self.assertEqual((done.returncode, done.stdout.decode(), done.stderr), (0, wanted, b""))
 
     def test_the_numbers_of_the_example(self):
         """What examples/README.md says of the two pictures of the cascade."""
