@@ -50,6 +50,13 @@ class Summaries(unittest.TestCase):
         fed = changed(wide, ('{"name":"width","rate":"1"}', '{"name":"width","rate":"2"}'))
         self.assertEqual([refused.line for refused, _ in self.refusals(fed)], ["run: g kernel c:0 3"])
 
+    def test_a_long_file_is_read_soon(self):
+        graphs = [changed(example("delay-line"), ('"name":"g"', f'"name":"g{number}"')).split('"graphs":[')[1].rsplit("]}", 1)[0] for number in range(600)]
+        begun = time.monotonic()
+        found = read_text('{"pisdf":3,"top":"g0","graphs":[' + ",\n".join(graphs) + "]}\n")
+        self.assertEqual([fault.line for fault in found.faults], ["graph: 13 count graphs"])
+        self.assertLess(time.monotonic() - begun, 20)
+
     def test_a_parameter_with_very_many_values(self):
         begun = time.monotonic()
         lines = self.lines(changed(example("adaptive-mean"), ('"low":1,"high":8', '"low":0,"high":2147483647')))
