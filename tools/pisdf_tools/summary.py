@@ -109,8 +109,9 @@ class Summary:
             yield f"No actor names {with_names('graph', unused)}, so {verb} never fired."
 
     def graph_lines(self, graph, depth):
-        users = [f"{quoted(other.name.text)} by its actor {quoted(actor.name.text)}" for other in self.file.graphs for actor in other.actors
-                 if actor.is_hierarchical and actor.child.text == graph.name.text]
+        namers = {other.name.text: [actor.name.text for actor in other.actors if actor.is_hierarchical and actor.child.text == graph.name.text]
+                  for other in self.file.graphs}
+        users = [f"{quoted(name)} by its {with_names('actor', found).removeprefix('the ')}" for name, found in namers.items() if found]
         yield f"graph {graph.name.text}: depth {depth}, " + (f"fired in {listed(users)}" if users else "the top graph, fired once in each iteration")
         for what, ports in (("input", graph.inputs), ("output", graph.outputs)):
             for port in ports:
