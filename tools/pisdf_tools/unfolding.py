@@ -22,6 +22,25 @@ class Unfolding:
         return "" if times <= self.most else self.why
 
 
+@dataclass
+class Meeting:
+    """An interface of positive rate, and the tokens that all firings of the actor at it move there in an iteration, with its port's rate."""
+    name: str
+    rate: int
+    actor: str
+    count: int
+    each: int
+    is_input: bool
+
+    @property
+    def moved(self):
+        return self.count * self.each
+
+    def words(self):
+        return (f"The {'input' if self.is_input else 'output'} {quoted(self.name)} has the rate {self.rate}, and {quoted(self.actor)} "
+                f"{'reads' if self.is_input else 'gives'} {self.count} x {self.each} = {self.moved} in an iteration.")
+
+
 def unfolding_of(file):
     """What can be told of the graphs of a file without a fault."""
     why = state_trouble(file.top_graph)
@@ -31,7 +50,8 @@ def unfolding_of(file):
         early, level, counts = first_level(file)
     except Refused as refused:
         return Unfolding(1, f"The graph is refused as {quoted(refused.cause)}.")
-    why = component_trouble(level, counts) or moving_trouble(level, counts)
+    meetings = list(meetings_of(level, counts))
+    why = component_trouble(level, meetings) or moving_trouble(level, meetings)
     if why:
         return Unfolding(1, why)
     for times in range(2, UNFOLD_TIMES + 1):
@@ -62,34 +82,29 @@ def first_level(file):
     return early, level, counts
 
 
-def interface_links(level):
-    """The links to interfaces of positive rate, each with the interface, its rate, the actor at it, and the rate there."""
+def meetings_of(level, counts):
     for link in level.links:
         if link.source is not None and link.head and link.production:
-            yield link.source, link.production, link.head, link.consumption, "reads"
+            yield Meeting(link.source, link.production, link.head, counts[link.head], link.consumption, True)
         if link.sink is not None and link.tail and link.consumption:
-            yield link.sink, link.consumption, link.tail, link.production, "gives"
+            yield Meeting(link.sink, link.consumption, link.tail, counts[link.tail], link.production, False)
 
 
-def component_trouble(level, counts):
+def component_trouble(level, meetings):
     """Which actors hang at no interface: nothing says how often they fire in several iterations."""
-    at_interface = {actor for _, _, actor, _, _ in interface_links(level)}
+    joined_actors = {meeting.actor for meeting in meetings}
     for component in balance.solve(level).components:
-        if not at_interface & set(component):
+        if not joined_actors & set(component):
             if len(component) == 1:
                 return f"The actor {quoted(component[0])} is joined to no interface whose rate is over 0."
             return f"The actors {named(component)} are joined to no interface whose rate is over 0."
     return ""
 
 
-def moving_trouble(level, counts):
+def moving_trouble(level, meetings):
     """At which interface the firings move other than the tokens of one iteration."""
-    for name, rate, actor, each, does in interface_links(level):
-        if counts[actor] * each != rate:
-            what = "input" if does == "reads" else "output"
-            return joined([f"The {what} {quoted(name)} has the rate {rate}, and {quoted(actor)} {does} {counts[actor]} x {each} = {counts[actor] * each} in an iteration.",
-                           fitting_words(level, actor)])
-    return ""
+    meeting = next((meeting for meeting in meetings if meeting.moved != meeting.rate), None)
+    return joined([meeting.words(), fitting_words(level, meeting.actor)]) if meeting else ""
 
 
 def limit_trouble(early, level, counts, times):
