@@ -87,8 +87,9 @@ class Explanation:
                 "What was written before stands. Nothing was written after it.")
 
     def memory(self):
-        return ("The system gave no more memory. The texts of the iterations before stand. Call with fewer workers, since each holds a firing of its own, "
-                "or let an iteration take fewer tokens. `ulimit -v` tells whether memory is limited here.")
+        fewer = ", fire fewer iterations as one" if self.call and self.call.command == "unfold" else ""
+        return ("The system gave no more memory. The texts of the iterations before stand. Call with fewer workers, since each holds a firing of its own"
+                f"{fewer}, or let an iteration take fewer tokens. `ulimit -v` tells whether memory is limited here.")
 
     # ---- runs
 
