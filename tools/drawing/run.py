@@ -64,7 +64,6 @@ class Run:
             planned = self.put_planned(room)
             self.planned = self.file if self.group == 1 else read_graphs(planned)
             self.call_all(planned)
-        self.levels = self.levels_of_first() if self.file else {}
         self.names = self.top_names() if not self.plan.status else None
 
     def group_of(self):
@@ -83,13 +82,14 @@ class Run:
         return path
 
     def call_all(self, graph):
-        """Calls what tells of the first iteration or group, and explains the run."""
+        """Calls what tells of the first iteration or group. Meanwhile the run is explained, and the levels are worked out."""
         calls = [(command, graph, self.token_file, self.workers) for command in ("plan", "schedule", "memory")]
         calls.append(("journal", graph, self.token_file, str(min(1, int(self.iterations))), self.workers))
         with concurrent.futures.ThreadPoolExecutor() as pool:
-            told_run = pool.submit(told, self)
-            self.plan, self.schedule, self.memory, self.journal = pool.map(lambda words: self.call(*words), calls)
-            self.told = told_run.result()
+            answers = pool.map(lambda words: self.call(*words), calls)
+            told_run, levels = pool.submit(told, self), pool.submit(self.levels_of_first)
+            self.plan, self.schedule, self.memory, self.journal = answers
+            self.told, self.levels = told_run.result(), levels.result()
 
     def call(self, *words):
         try:
@@ -102,6 +102,8 @@ class Run:
 
     def levels_of_first(self):
         """The levels of the first iteration or group by the paths of their firings, as far as they are found soon."""
+        if not self.file:
+            return {}
         recorder = None
         try:
             streams = token_file.Streams(read_source(self.token_file).data, {port.name.text for port in self.planned.top_graph.inputs})
