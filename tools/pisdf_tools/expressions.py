@@ -70,10 +70,14 @@ class Parser:
     def hint(self):
         if self.token == "-":
             return " There is no sign before a number: write `0-1` for -1."
-        if self.token in (".", "^", "&", "|", "<", ">", "=", "!", "?", ":") and self.token:
+        if self.token in (".", "&", "|", "<", ">", "=", "!", "?", ":") and self.token:
             return " The operators are `+`, `-`, `*`, `/` and `%`, on whole numbers."
+        if self.token == "^":
+            return " There is no power: write `n*n` for the square of `n`."
         if self.token == "(" and not self.open:
             return " A `*` may be missing before it. The only functions are `min` and `max`."
+        if self.token and (self.token[0].isalpha() or self.token[0] == "_") and self.text[self.at - 1:self.at].isdigit():
+            return " A `*` is missing before it: write `2*n` for twice `n`."
         return ""
 
     def whole(self):

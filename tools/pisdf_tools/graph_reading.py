@@ -115,7 +115,8 @@ class GraphReading:
         if value is None:
             return None
         if value.kind != "list":
-            self.shape(f"{pointer}/{name}", value, f"A list was wanted, and {shown(value)} stands here. A list stands in `[` and `]`.")
+            write = f" Write `[\"{shortened(value.value)}\"]`." if value.kind == "string" else ""
+            self.shape(f"{pointer}/{name}", value, f"A list was wanted, and {shown(value)} stands here. A list stands in `[` and `]`.{write}")
             return None
         read_parts = [read(part, f"{pointer}/{name}/{place}") for place, part in enumerate(value.value)]
         return [part for part in read_parts if part is not None]

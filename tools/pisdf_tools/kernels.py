@@ -9,13 +9,20 @@ PAGE = os.path.join(os.path.dirname(__file__), "..", "..", "docs", "KERNELS.md")
 HEADING = re.compile(r"^\| Kernel \|.*\|$", re.M)
 ROW = re.compile(r"\| \[`(\w+)`\]\(#\w+\) \| ([^|]*) \| ([^|]*) \| ([^|]*) \| ([^|]*) \| ([^|]*) \|")
 EXAMPLE = re.compile(r"^Example: `(\{.*?\})`", re.M)
-# Words of other tools that one may look for among the kernels, with what stands for them here.
+# Words of other tools and everyday ones that one may look for among the kernels, with what stands for them here.
 OTHER_WORDS = {
     "broadcast": "The kernel `dup` gives each token twice, and a chain of them more often.",
     "fork": "The compiler adds forks by itself where a FIFO feeds several firings. The kernel `dup` gives each token twice.",
     "join": "The compiler adds joins by itself where several firings feed a FIFO.",
     "delay": "A delay is a member of a FIFO: `\"delay\":[0]` or `\"delay\":1`.",
     "init": "The first tokens of a delay are a member of a FIFO, as `\"delay\":[5,-6]`.",
+    "average": "The kernel `mean` gives the mean of its input.",
+    "constant": "The kernel `ramp` with the arguments N and 0 gives the number N again and again.",
+    "copy": "The kernel `pass` gives its input, and `dup` gives it twice.",
+    "decimate": "The kernel `down` gives one token of each run of several.",
+    "multiply": "The kernel `gain` multiplies tokens by its argument, and `mul` by the tokens of a second input.",
+    "subtract": "The kernel `sub` gives differences, place by place.",
+    "upsample": "The kernel `up` gives each token several times in a row.",
 }
 CODES = {1: "overflow", 2: "division", 3: "shape", 4: "value"}
 
