@@ -39,7 +39,8 @@ def refused_lines(found, line):
     yield found.text_of(first) if first else "This tool finds no more about it. docs/FORMATS.md has the table of the faults."
     if others:
         yield ""
-        yield f"{counted(len(others), 'more fault')} can be seen. One that follows from another goes with it."
+        mended = " where that is mended" if others[0].number > 1 and first and first.number == 1 else ""
+        yield f"{counted(len(others), 'more fault')} can be seen{mended}. One that follows from another goes with it."
     for fault in others[:MOST_FAULTS]:
         yield ""
         yield fault.line

@@ -6,6 +6,7 @@
                                         for each actor where there are more than 200 nodes
     ./pisdf draw gantt SCHEDULE [PLAN]  what `schedule` wrote as an SVG chart of the workers, with names where PLAN is given
     ./pisdf draw cells PLAN [MEMORY]    which buffer lies in which cells, as SVG: as `plan` has it, or as `memory` has it
+    ./pisdf draw unfolded TIMES GRAPH   the graph file in which TIMES iterations are one, as `unfold` fires them, for a plan of them
 
 The files PLAN, SCHEDULE and MEMORY are what `pisdf plan`, `pisdf schedule` and `pisdf memory` wrote for one graph and as many
 workers; `-` stands for the standard input. The picture is written to the standard output.
@@ -16,13 +17,15 @@ import sys
 sys.dont_write_bytecode = True
 sys.path.insert(0, os.path.dirname(os.path.realpath(__file__)))
 
-from drawing import charts, dot
-from drawing.inputs import Refused, read_graphs, rows_with
+from drawing import charts, dot, svg
+from drawing.inputs import Refused, read_graphs, rows_with, whole_graphs
 from drawing.parts import Names
+from pisdf_tools.unfolding import unfolded_text, unfolding_of
+from pisdf_tools.words import number_trouble
 
 
 def draw_graph(path):
-    return dot.graph_dot(*read_graphs(path))
+    return dot.graph_dot(read_graphs(path))
 
 
 def draw_plan(path, schedule=None):
@@ -31,22 +34,36 @@ def draw_plan(path, schedule=None):
 
 
 def draw_gantt(path, plan=None):
-    return [charts.gantt(rows_with(path, ["critical", "work", "length", "path"]), Names(rows_with(plan, ["node"])) if plan else None)]
+    return [svg.alone(charts.gantt(rows_with(path, ["critical", "work", "length", "path"]), Names(rows_with(plan, ["node"])) if plan else None))]
 
 
 def draw_cells(path, memory=None):
-    return [charts.cells(rows_with(path, ["node", "height"]), rows_with(memory, ["ordered", "offset"]) if memory else None)]
+    return [svg.alone(charts.cells(rows_with(path, ["node", "height"]), rows_with(memory, ["ordered", "offset"]) if memory else None))]
 
 
-DRAWINGS = {"graph": (draw_graph, 1), "plan": (draw_plan, 2), "gantt": (draw_gantt, 2), "cells": (draw_cells, 2)}
+def draw_unfolded(times, path):
+    trouble = number_trouble("TIMES", times)
+    if trouble:
+        raise Refused(trouble)
+    file = whole_graphs(path)
+    why = unfolding_of(file).why_not(int(times))
+    if why:
+        raise Refused(f"{int(times)} iterations of {path} can't be fired as one. {why}")
+    return [unfolded_text(file, int(times)).rstrip("\n")]
+
+
+# Each drawing, and how many words it takes at least and at most.
+DRAWINGS = {"graph": (draw_graph, 1, 1), "plan": (draw_plan, 1, 2), "gantt": (draw_gantt, 1, 2), "cells": (draw_cells, 1, 2),
+            "unfolded": (draw_unfolded, 2, 2)}
 
 
 def main(words):
-    if len(words) < 2 or words[0] not in DRAWINGS or len(words) - 1 > DRAWINGS[words[0]][1]:
+    draw, least, most = DRAWINGS.get(words[0] if words else "", (None, 0, 0))
+    if draw is None or not least <= len(words) - 1 <= most:
         print(__doc__.strip(), file=sys.stderr)
         return 1
     try:
-        for line in DRAWINGS[words[0]][0](*words[1:]):
+        for line in draw(*words[1:]):
             print(line)
         sys.stdout.flush()
     except Refused as refused:

@@ -1,10 +1,11 @@
 #!/usr/bin/env python3
 """Makes a page about a graph and its run, which needs nothing from outside.
 
-usage: report.py PROGRAM GRAPH TOKENS ITERATIONS WORKERS FILE.html
+usage: report.py PROGRAM GRAPH TOKENS ITERATIONS WORKERS FILE.html [TIMES]
 
 The page has the graph by hierarchy, the plan of its first iteration, the schedule beside its bounds, the map of cells, what each worker
-did by a journal, the values of parameters over the iterations, the output tokens, and a table of sizes and counts.
+did by a journal, the values of parameters over the iterations, the output tokens, and a table of sizes and counts. With TIMES the run is
+one of `unfold`, and the plan is that of the first group of iterations that are fired as one.
 """
 import os
 import sys
@@ -18,12 +19,12 @@ from drawing.run import Run
 
 
 def main(words):
-    if len(words) != 6:
-        print("report: give GRAPH TOKENS ITERATIONS WORKERS FILE.html", file=sys.stderr)
+    if len(words) not in (6, 7):
+        print("report: give GRAPH TOKENS ITERATIONS WORKERS FILE.html, and TIMES where iterations are to be fired as one", file=sys.stderr)
         return 1
-    program, graph, tokens, iterations, workers, target = words
+    program, graph, tokens, iterations, workers, target, *times = words
     try:
-        text = page.page(Run(program, graph, tokens, iterations, workers))
+        text = page.page(Run(program, graph, tokens, iterations, workers, *times))
         with open(target, "w", encoding="utf-8") as file:
             file.write(text)
     except Refused as refused:

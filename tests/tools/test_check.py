@@ -1,5 +1,6 @@
 """`check`: all faults of a file, and what is told of a file without one."""
 import os
+import time
 import unittest
 
 from support import TOP, WHOLE, call, changed, needs_program, read_text
@@ -24,7 +25,7 @@ class Summaries(unittest.TestCase):
         for line in ("graph g: depth 0, the top graph, fired once in each iteration", "  input x: rate 4", "  output y: rate 2*k = 4",
                      "  parameter n: set by a configuration actor, 1 to 8", "  parameter m: = n+1, 2 to 9", "  parameter k: = 2, 2",
                      "  3 kernel actors, 1 configuration actor and 1 hierarchical actor, 7 FIFOs, keeps 1 token from firing to firing",
-                     "  repetition: a 4, s 4, d 4, b 2", "graph h: depth 1, fired in `g` by its actor `b`", "  parameter p: from an argument, any value from 0 on", "  repetition: e 1 where p = 2"):
+                     "  repetition: a 4, s 4, d 4, b 2", "graph h: depth 1, fired in `g` by its actor `b`", "  parameter p: from an argument, 2", "  input u: rate p = 2", "  repetition: e 1 where p = 2"):
             self.assertIn(line, lines)
 
     def test_each_value_of_a_parameter(self):
@@ -48,6 +49,27 @@ class Summaries(unittest.TestCase):
         self.assertEqual(self.refusals(wide), [])
         fed = changed(wide, ('{"name":"width","rate":"1"}', '{"name":"width","rate":"2"}'))
         self.assertEqual([refused.line for refused, _ in self.refusals(fed)], ["run: g kernel c:0 3"])
+
+    def test_a_long_file_is_read_soon(self):
+        graphs = [changed(example("delay-line"), ('"name":"g"', f'"name":"g{number}"')).split('"graphs":[')[1].rsplit("]}", 1)[0] for number in range(600)]
+        begun = time.monotonic()
+        found = read_text('{"pisdf":3,"top":"g0","graphs":[' + ",\n".join(graphs) + "]}\n")
+        self.assertEqual([fault.line for fault in found.faults], ["graph: 13 count graphs"])
+        self.assertLess(time.monotonic() - begun, 20)
+
+    def test_a_parameter_with_very_many_values(self):
+        begun = time.monotonic()
+        lines = self.lines(changed(example("adaptive-mean"), ('"low":1,"high":8', '"low":0,"high":2147483647')))
+        self.assertLess(time.monotonic() - begun, 10)
+        self.assertTrue(any("64 values were tried" in line for line in lines), lines)
+
+    def test_a_parameter_without_a_value(self):
+        text = changed(WHOLE, ('"expr":"n+1"', '"expr":"(0-7)/2"'))
+        self.assertIn("  parameter m: = (0-7)/2, no value in its range", self.lines(text))
+
+    def test_parameters_that_decide_nothing_arent_told(self):
+        told = self.refusals(changed(WHOLE, ('{"name":"x","rate":"4"}', '{"name":"x","rate":"0"}')))[0][1]
+        self.assertIn("The parameter is `k` = 2.", told)
 
     def test_ranges_are_those_of_the_values(self):
         ranged = changed(WHOLE, ('"expr":"n+1"', '"expr":"(12+n-1)/n"'))
@@ -79,6 +101,31 @@ class Summaries(unittest.TestCase):
         from pisdf_tools.summary import certain_refusals
         found = read_text(text)
         return certain_refusals(found, Explorer(found.file))
+
+
+class BrokenTexts(unittest.TestCase):
+    """What is told behind a slip of the text, where it is plain what was meant."""
+
+    def faults(self, *pairs):
+        return [(fault.line, fault.start) for fault in read_text(changed(SPOILED, *pairs)).faults]
+
+    def test_further_faults_have_their_places(self):
+        for old, new, at in (('"graphs":[', 'graphs":[', "graphs"), ('"graphs":[', "graphs:[", "graphs"), ('"top":"g",', '"top":g,', "g,"), ('"sets":["n"]},', '"sets":["n"]}', '{"name":"a","kind"'),
+                             ('{"from":"b.v","to":"y"}],', '{"from":"b.v","to":"y"},],', ",],")):
+            text = changed(SPOILED, (old, new))
+            found = self.faults((old, new))
+            with self.subTest(new):
+                self.assertEqual([line for line, _ in found], ["graph: 1 json", "graph: 2 shape /graphs/0/inputs/1/rate", "graph: 5 unknown a.k", "graph: 6 kernel gian"])
+                self.assertEqual(text[found[0][1]:].startswith(at), True)
+                self.assertEqual([text[start:start + 4] for _, start in found[1:]], ["4}],", '"a.k', '"gia'])
+
+    def test_two_slips(self):
+        self.assertEqual([line for line, _ in self.faults(('"graphs":[', 'graphs":['), ('"sets":["n"]},', '"sets":["n"]}'))][:3],
+                         ["graph: 1 json", "graph: 1 json", "graph: 2 shape /graphs/0/inputs/1/rate"])
+
+    def test_a_text_that_breaks_off(self):
+        self.assertEqual([line for line, _ in self.faults(('"sets":["n"]},', '"sets":["n"] # one\n},'))], ["graph: 1 json"])
+        self.assertEqual([line for line, _ in self.faults(('"top":"g",', '"top":None,'))], ["graph: 1 json"])
 
 
 @needs_program

@@ -55,6 +55,12 @@ class Graphs(unittest.TestCase):
 
         self.assertIn("delay 1, 2, 3, 4, .. (6 tokens)", draw("graph", "-", stdin=spoiled(change))[1])
 
+    def test_a_delay_of_too_many_tokens(self):
+        def change(graph):
+            graph["graphs"][0]["fifos"][1]["delay"] = 10 ** 15
+
+        self.assertIn("delay 0, 0, 0, 0, .. (1000000000000000 tokens)", draw("graph", "-", stdin=spoiled(change))[1])
+
     def test_all_examples(self):
         for name in os.listdir(os.path.join(TOP, "examples")):
             if os.path.exists(example(name)):
@@ -64,13 +70,26 @@ class Graphs(unittest.TestCase):
 
     def refused(self, stdin, words):
         status, out, error = draw("graph", "-", stdin=stdin)
-        self.assertEqual((status, out, error), (2, "", f"draw: {words}\n"))
+        self.assertEqual((status, out, error.count("\n")), (2, "", 1))
+        self.assertTrue(error.startswith(f"draw: {words}"), error)
 
     def test_bad_graphs_are_answered_with_a_line(self):
-        self.refused("{", "- is no JSON, from line 1, column 2 on: ./pisdf check tells what is wrong there")
-        self.refused("[" * 100000, "- is no JSON that can be read here: a number is too long, or values nest too deep")
-        self.refused("[]", "-, line 1, column 1: this has to be an object")
-        self.refused("{}", "-, line 1, column 1: there is no member 'top'")
+        self.refused("{", "-, line 1, column 2: The file is no JSON.")
+        self.refused("[" * 100000, "-, line 1, column 128: The file is no JSON.")
+        self.refused("[]", "-, line 1, column 1: A graph file is one object with `pisdf`, `top` and `graphs`, and a list stands here.")
+        self.refused("{}", "-, line 1, column 1: The file lacks `pisdf`, `top` and `graphs`.")
+        self.refused(" " * 4194305, "-, line 1, column 1: The file has 4,194,305 bytes.")
+
+    def test_a_graph_with_faults_of_wires_is_drawn(self):
+        status, out, error = draw("graph", "-", stdin=spoiled(lambda graph: graph["graphs"][0]["fifos"].pop()))
+        self.assertEqual((status, error), (0, ""))
+        self.assertNotIn('"g/m" -> "g/y"', out)
+
+    def test_delays_of_a_top_graph_of_version_1_are_permanent(self):
+        with open(example("first"), encoding="utf-8") as file:
+            graph = json.load(file)
+        graph["graphs"][0]["fifos"][0]["delay"] = 1
+        self.assertIn('label=" delay 0, permanent "', draw("graph", "-", stdin=json.dumps(graph))[1])
 
     def test_a_bad_graph_is_told_with_line_and_column(self):
         def first(graph, *steps):
@@ -79,23 +98,25 @@ class Graphs(unittest.TestCase):
             return graph
 
         cases = [
-            (lambda graph: graph["graphs"][0].pop("fifos"), "{\"name\": \"g\"", "graph `g`: there is no member 'fifos'"),
-            (lambda graph: first(graph, "graphs", 0, "inputs", 0).update(rate=1), "1}", "graph `g`, input `width`, member `rate`: this has to be a text"),
-            (lambda graph: first(graph, "graphs", 0, "actors", 0).update(kind="actor"), '"actor"', "graph `g`, actor `c`, member `kind`: 'actor' is no kind of actor. The kinds are kernel, config, graph, setgraph"),
-            (lambda graph: first(graph, "graphs", 0, "fifos", 0).update(to="m.k"), '"m.k"', "graph `g`, FIFO 0 (`width` to `m.k`), member `to`: 'm.k' is no interface and no port of this graph"),
-            (lambda graph: graph.update(top="h"), '"h"', "member `top`: the file has no graph 'h'"),
+            (lambda graph: graph["graphs"][0].pop("fifos"), "{\"name\": \"g\"", "graph `g`: A graph of version 3 lacks `fifos`."),
+            (lambda graph: first(graph, "graphs", 0, "inputs", 0).update(rate=1), "1}", "graph `g`, input `width`, member `rate`: An expression is a text"),
+            (lambda graph: first(graph, "graphs", 0, "actors", 0).update(kind="actor"), '"kind": "actor"', "graph `g`, actor `c`: The text \"actor\" is no kind of actor."),
+            (lambda graph: first(graph, "graphs", 0, "fifos", 0).update(to="m.k"), '"m.k"', "graph `g`, FIFO 0 (`width` to `m.k`), member `to`: The actor `m` has no port `k`."),
+            (lambda graph: first(graph, "graphs", 0, "actors", 1).update(kernel="delay"), '"delay"', "graph `g`, actor `m`, member `kernel`: There is no kernel `delay`."),
+            (lambda graph: graph.update(top="h"), '"h"', "member `top`: There is no graph `h`."),
         ]
         for change, at, words in cases:
             text = spoiled(change)
             with self.subTest(words):
-                self.refused(text, f"-, line 1, column {text.index(at) + 1}, {words}")
+                self.refused(text, f"-, line 1, column {text.index(at) + 1}, in {words}")
 
     def test_files_that_cant_be_read(self):
         self.assertEqual(draw("graph", "/nowhere/g.json")[::2], (2, "draw: /nowhere/g.json can't be read: No such file or directory\n"))
         with tempfile.NamedTemporaryFile() as file:
             file.write(b"\xff")
             file.flush()
-            self.assertEqual(draw("graph", file.name)[2], f"draw: {file.name} is no text in UTF-8: byte 0 begins no letter\n")
+            self.assertEqual(draw("graph", file.name)[2], f"draw: {file.name}, line 1, column 1: The file is no JSON. One JSON value was wanted here, and the byte 0xff stands here.\n")
+            self.assertEqual(draw("plan", file.name)[2], f"draw: {file.name} is no text in UTF-8: byte 0 begins no letter\n")
 
     def test_words(self):
         self.assertEqual(draw()[0], 1)

@@ -42,7 +42,7 @@ class Limits(unittest.TestCase):
                       f"from 0 to {limits.PARAMETER_HIGH}", f"nested more than {limits.NESTED_GRAPHS} deep", f"| a rate | {limits.RATE:,} |",
                       f"1 to {limits.BASE_ENTRY:,} | `rates`", f"| {limits.FIRINGS:,} | `limit firings N`", f"| {limits.LINKS:,} | `limit links N`",
                       f"| {limits.TOKENS:,} | `limit tokens N`", f"ITERATIONS is 0 to {limits.ITERATIONS:,}", f"WORKERS is 1 to {limits.WORKERS},",
-                      f"NUMBER is 0 to {limits.SOAK_NUMBER:,}"):
+                      f"NUMBER is 0 to {limits.SOAK_NUMBER:,}", f"TIMES 1 to {limits.UNFOLD_TIMES}, of 1 or 2 digits"):
             self.assertIn(words, formats)
 
 
@@ -52,7 +52,8 @@ class Kernels(unittest.TestCase):
         from pisdf_tools.kernels import code_meaning, table
         self.assertEqual(set(table()), set(FIRES))
         self.assertEqual(len(table()), page("KERNELS.md").count("\n### "))
-        self.assertEqual([name for name, row in table().items() if row.is_config], ["read_param", "pick", "spread"])
+        of_configuration = page("KERNELS.md").partition("\n## Kernels of configuration actors\n")[2]
+        self.assertEqual([name for name, row in table().items() if row.is_config], re.findall(r"^### (\w+)$", of_configuration, re.M))
         self.assertTrue(all(code_meaning(code) for code in (1, 2, 3, 4)))
 
     def test_kernels_give_what_the_rows_want(self):

@@ -16,6 +16,8 @@ ROWS = [
     (b"1,2\n", "name 1", ["looks like a token", "Each row begins with the name"]),
     (b"x;1;2\n", "name 1", ["Fields are separated by commas"]),
     (b'{"pisdf":3}\n', "name 1", ["another kind of file"]),
+    (b"# ones\nx,1,2\n", "name 1", ["A token file has no comments"]),
+    (b"name,tokens\nx,1,2\n", "name 1", ["A token file has no header row"]),
     (b"x,1,2\n\n\nx,3\n", "repeated 2", ["line 4, column 1 (row 2, field 1)", "The first is row 1", "one row with all its tokens"]),
     (b"x,1,+2\n", "number 1 3", ["line 1, column 5", "Token 1 of the input `x`", "`+2`", "no `+`"]),
     (b"x,1, 2\n", "number 1 3", ["Blanks aren't taken away"]),

@@ -36,6 +36,12 @@ sys.exit(int(text(word + ".status") or 0))
 """
 
 
+def frame_of(drawn):
+    """Where the frame of a chart ends."""
+    frame, = [shape for shape in drawn.iter(f"{XHTML}rect") if shape.get("class") == "frame"]
+    return float(frame.get("y")) + float(frame.get("height"))
+
+
 class Report(unittest.TestCase):
     def setUp(self):
         room = tempfile.TemporaryDirectory()
@@ -110,10 +116,22 @@ class Report(unittest.TestCase):
         drawn, = self.labelled(page, "Tokens of y")
         shown = [words.text for words in drawn.iter(f"{XHTML}text")]
         self.assertTrue({"6", "7", "4", "token", "iteration 0", "iteration 1"} <= set(shown), shown)
+        self.assertEqual(self.below([words for words in drawn.iter(f"{XHTML}text") if words.text.startswith("iteration")], frame_of(drawn)), 2)
         turns = [line for line in drawn.iter(f"{XHTML}line") if line.get("class") == "turn"]
         dots = [dot.get("cx") for dot in drawn.iter(f"{XHTML}circle")]
         self.assertEqual(len(turns), 2)
         self.assertTrue(float(dots[1]) < float(turns[1].get("x1")) < float(dots[2]))
+
+    def below(self, shapes, bottom):
+        return sum(float(shape.get("y")) > bottom for shape in shapes)
+
+    def test_labels_of_ports_and_delays_lie_apart(self):
+        from drawing.layout import Arrow, Box, drawing
+        boxes = [Box(name, [name], "#fff") for name in "st"]
+        drawn = xml.fromstring(drawing(boxes, [Arrow("s", "t", ("o 1", "", "i 1")), Arrow("t", "s", ("p 1", "delay 0, permanent", "j 1"))], "a ring"))
+        row = sorted((float(shape.get("x")), shape.text) for shape in drawn.iter(f"{XHTML}text") if shape.text in ("j 1", "delay 0, permanent", "p 1"))
+        self.assertEqual([words for _, words in row], ["j 1", "delay 0, permanent", "p 1"])
+        self.assertGreater(row[2][0] - row[0][0], 6 * len("j 1delay 0, permanentp 1"))
 
     def test_shares_make_a_hundred(self):
         from drawing.page import shares
@@ -245,7 +263,7 @@ class Report(unittest.TestCase):
         self.put("run.status", "1")
         self.assertEqual(self.call(iterations="x")[0], 2)
         done = subprocess.run([sys.executable, "-B", REPORT, "x"], capture_output=True, text=True, timeout=60)
-        self.assertEqual((done.returncode, done.stderr), (1, "report: give GRAPH TOKENS ITERATIONS WORKERS FILE.html\n"))
+        self.assertEqual((done.returncode, done.stderr), (1, "report: give GRAPH TOKENS ITERATIONS WORKERS FILE.html, and TIMES where iterations are to be fired as one\n"))
         words = ["/nowhere/program", GRAPH, "t.csv", "1", "1", "page.html"]
         done = subprocess.run([sys.executable, "-B", REPORT, *words], capture_output=True, text=True, timeout=60)
         self.assertEqual((done.returncode, done.stderr), (2, "report: the program /nowhere/program can't be called: No such file or directory\n"))

@@ -158,9 +158,9 @@ def line(points, label, axis, turns=(), height=180):
     drawn = element("polyline", points=" ".join(f"{x:.1f},{y:.1f}" for x, y in at), class_="value")
     ends = [text(MARGIN - 8, 44, short(high), "small end"), text(MARGIN - 8, 44 + height, short(low), "small end")]
     steps = [text(MARGIN + mark * across, 58 + height, str(mark), "small middle") for mark in marks(length, 12)]
-    names = [text(MARGIN, 24, label, "wide"), text(MARGIN + WIDTH / 2, 76 + height, axis, "small middle")]
+    names = [text(MARGIN, 24, label, "wide"), text(MARGIN + WIDTH / 2, 92 + height, axis, "small middle")]
     frame = element("rect", x=MARGIN, y=40, width=WIDTH, height=height, class_="frame")
-    return picture(WIDTH + 2 * MARGIN, height + 86, label, [*names, frame, *ends, *steps, *turn_parts(turns, across, height), drawn, *dots(points, at, axis)])
+    return picture(WIDTH + 2 * MARGIN, height + 102, label, [*names, frame, *ends, *steps, *turn_parts(turns, across, height), drawn, *dots(points, at, axis)])
 
 
 def dots(points, at, axis):
@@ -172,14 +172,14 @@ def dots(points, at, axis):
 
 
 def turn_parts(turns, across, height):
-    """A line between iterations, and the number of each where there is room."""
+    """A line between iterations, and below the axis the number of each where there is room."""
     if not 1 < len(turns) <= MOST_TURNS:
         return
     for number, place in enumerate(turns):
         x = MARGIN + max(0, place - 0.5) * across
         yield element("line", x1=x, y1=40, x2=x, y2=40 + height, class_="turn")
         if WIDTH / len(turns) > 70:
-            yield text(x + 3, 36 + height, f"iteration {number}", "small over")
+            yield text(x + 3, 74 + height, f"iteration {number}")
 
 
 def grey_image(rows, label):

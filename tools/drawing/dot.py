@@ -1,8 +1,7 @@
 """Graph files and plans as text for Graphviz."""
-from drawing.inputs import rates_of
-from drawing.parts import Names, actor_lines, delay_label, end_label, param_lines, uses
+from drawing.parts import Names, actor_lines, delay_label, end_label, param_lines, rates_of, uses
 from drawing.svg import colour
-from drawing.words import counted
+from pisdf_tools.wording import counted
 
 LOOKS = {
     "kernel": 'shape=box, fillcolor="#eaf1f8"',
@@ -25,45 +24,45 @@ def quoted(text):
 
 
 def node(graph, name):
-    return quoted(f"{graph['name']}/{name}")
+    return quoted(f"{graph.name.text}/{name}")
 
 
 def fifo_line(graph, fifo, rates):
-    ends = [fifo["from"], fifo["to"]]
-    tail, head = (node(graph, end.split(".")[0]) for end in ends)
+    ends = fifo.tail, fifo.head
+    tail, head = (node(graph, end.text.partition(".")[0]) for end in ends)
     delay = delay_label(fifo)
     label = f"label={quoted(' ' + delay + ' ')}, " if delay else ""
-    tail_label, head_label = (quoted(end_label(end, rates[end])) for end in ends)
+    tail_label, head_label = (quoted(end_label(end, rates)) for end in ends)
     return f"    {tail} -> {head} [{label}taillabel={tail_label}, headlabel={head_label}];"
 
 
-def cluster_lines(graph, graphs):
-    name = graph["name"]
-    exports = f", exports {', '.join(graph['exports'])}" if graph.get("exports") else ""
+def cluster_lines(graph, file):
+    name = graph.name.text
+    exports = f", exports {', '.join(word.text for word in graph.exports)}" if graph.exports else ""
     yield f"  subgraph {quoted('cluster_' + name)} {{"
     yield f"    label={quoted(f'graph {name}{exports}')}; labeljust=l; color=\"#8094a8\"; style=rounded;"
-    for part in graph["inputs"] + graph["outputs"]:
-        yield f"    {node(graph, part['name'])} [label={quoted(part['name'])}, {LOOKS['interface']}];"
-    for actor in graph["actors"]:
-        yield f"    {node(graph, actor['name'])} [label={quoted(chr(10).join(actor_lines(actor)))}, {LOOKS[actor['kind']]}];"
-    for param in graph["params"]:
-        yield f"    {node(graph, param['name'])} [label={quoted(chr(10).join(param_lines(param)))}, {LOOKS['param']}];"
+    for part in graph.inputs + graph.outputs:
+        yield f"    {node(graph, part.name.text)} [label={quoted(part.name.text)}, {LOOKS['interface']}];"
+    for actor in graph.actors:
+        yield f"    {node(graph, actor.name.text)} [label={quoted(chr(10).join(actor_lines(actor)))}, {LOOKS[actor.kind]}];"
+    for param in graph.params:
+        yield f"    {node(graph, param.name.text)} [label={quoted(chr(10).join(param_lines(param)))}, {LOOKS['param']}];"
     for one, other in uses(graph):
         yield f'    {node(graph, one)} -> {node(graph, other)} [style=dashed, color="#5577bb", arrowsize=0.6];'
-    rates = rates_of(graph, graphs)
-    for fifo in graph["fifos"]:
+    rates = rates_of(graph, file)
+    for fifo in graph.fifos:
         yield fifo_line(graph, fifo, rates)
     yield "  }"
 
 
-def graph_dot(top, graphs):
+def graph_dot(file):
     yield "digraph {"
     yield f"  rankdir=LR; ranksep=0.7; nodesep=0.35; {FONT}; fontsize=13;"
     yield f'  node [style=filled, {FONT}, fontsize=13, height=0.45, color="#445566"];'
     yield f'  edge [{FONT}, fontsize=11, labelfontsize=11, labeldistance=1.7, labelangle=22, arrowsize=0.7, color="#445566"];'
     # Graphviz draws the boxes from below.
-    for graph in sorted(graphs.values(), key=lambda graph: graph["name"] == top):
-        yield from cluster_lines(graph, graphs)
+    for graph in sorted(file.graphs, key=lambda graph: graph is file.top_graph):
+        yield from cluster_lines(graph, file)
     yield "}"
 
 

@@ -1,32 +1,38 @@
 """Graphs and plans as pictures that need nothing else."""
 from drawing.dot import flow_words, groups_of
-from drawing.inputs import rates_of
 from drawing.layout import Arrow, Box, drawing
-from drawing.parts import actor_lines, delay_label, end_label, param_lines, uses
+from drawing.parts import actor_lines, delay_label, end_label, param_lines, rates_of, uses
 from drawing.svg import colour
-from drawing.words import counted
+from pisdf_tools.wording import counted
 
 FILLS = {"kernel": "#dce9f5", "config": "#fde3c0", "graph": "#dcefd3", "setgraph": "#fde3c0", "interface": "#ffffff", "param": "#d6e4ff"}
 # On a page a plan with more nodes is drawn with a box for each actor.
 MOST_NODES = 60
 
 
-def graph_picture(graph, graphs):
+def graph_picture(graph, file):
     """One graph: its interfaces, actors and parameters, its FIFOs with ports, rates and delays, and who sets and uses a parameter."""
-    boxes = [Box(part["name"], [part["name"]], FILLS["interface"], "interface") for part in graph["inputs"]]
-    for actor in graph["actors"]:
-        boxes.append(Box(actor["name"], actor_lines(actor), FILLS[actor["kind"]], "config" if "sets" in actor else "box"))
-    boxes += [Box(param["name"], param_lines(param), FILLS["param"], "param") for param in graph["params"]]
-    boxes += [Box(part["name"], [part["name"]], FILLS["interface"], "interface") for part in graph["outputs"]]
-    rates = rates_of(graph, graphs)
+    boxes = interface_boxes(graph.inputs)
+    for actor in graph.actors:
+        boxes.append(Box(actor.name.text, actor_lines(actor), FILLS[actor.kind], "config" if actor.is_config else "box"))
+    boxes += [Box(param.name.text, param_lines(param), FILLS["param"], "param") for param in graph.params]
+    boxes += interface_boxes(graph.outputs)
+    rates = rates_of(graph, file)
     arrows = []
-    for fifo in graph["fifos"]:
-        ends = fifo["from"], fifo["to"]
-        labels = end_label(ends[0], rates[ends[0]]), delay_label(fifo), end_label(ends[1], rates[ends[1]])
-        arrows.append(Arrow(ends[0].split(".")[0], ends[1].split(".")[0], labels))
+    for fifo in graph.fifos:
+        labels = end_label(fifo.tail, rates), delay_label(fifo), end_label(fifo.head, rates)
+        arrows.append(Arrow(fifo.tail.text.partition(".")[0], fifo.head.text.partition(".")[0], labels))
     arrows += [Arrow(one, other, look="use") for one, other in uses(graph)]
-    label = f"The graph {graph['name']}: {counted(len(graph['actors']), 'actor')}, {counted(len(graph['fifos']), 'FIFO')}, {counted(len(graph['params']), 'parameter')}"
-    return drawing(boxes, arrows, label)
+    return drawing(boxes, arrows, f"The graph {graph.name.text}: {part_words(graph)}")
+
+
+def interface_boxes(ports):
+    return [Box(port.name.text, [port.name.text], FILLS["interface"], "interface") for port in ports]
+
+
+def part_words(graph):
+    """How many parts a graph has."""
+    return ", ".join(counted(len(found), thing) for found, thing in ((graph.actors, "actor"), (graph.fifos, "FIFO"), (graph.params, "parameter")))
 
 
 def is_grouped(rows):

@@ -122,7 +122,8 @@ def gaps_of(arrows, links, layer):
     for arrow, link in zip(arrows, links):
         first, middle, last = (len(label) * CHARACTER for label in arrow.labels)
         across = len(link) - 1
-        need = max(first + last + 36 if across == 1 else max(first, last) + 36, middle / across + 24)
+        beside = middle + 12 if middle and first + last else 0
+        need = max(first + last + beside + 36 if across == 1 else max(first, last) + 36, middle / across + 24)
         for at in range(layer[link[0]], layer[link[-1]]):
             gaps[at] = max(gaps.get(at, GAP_X), need)
     return gaps
@@ -241,12 +242,20 @@ def is_free(x, y, wide, taken):
     return all(abs(x - other) > wide + reach or abs(y - at) > 6 + high for other, at, reach, high in taken)
 
 
+def beside(end, move, words):
+    """Where a label stands that begins or ends so far from an end of a link."""
+    half = 3.2 * len(words)
+    return end[0] + move + (half if move > 0 else -half), end[1] - 8, half, 6.5
+
+
 def label_parts(labels, ends, side, taken):
     first, middle, last = labels
     near, far = ("small", "small end") if side > 0 else ("small end", "small")
     if first:
+        taken.append(beside(ends[0], side * 3, first))
         yield text(ends[0][0] + side * 3, ends[0][1] - 4, first, near)
     if last:
+        taken.append(beside(ends[-1], side * -9, last))
         yield text(ends[-1][0] - side * 9, ends[-1][1] - 4, last, far)
     if middle:
         yield text(*free_place(middle, ends, taken), middle, "small middle over")

@@ -5,8 +5,9 @@ from itertools import accumulate, groupby
 
 from drawing import charts
 from drawing.dot import MOST_NODES as WHOLE_PLAN
-from drawing.graphs import graph_picture, is_grouped, plan_picture
-from drawing.words import KINDS_OF_ANSWERS, counted
+from drawing.graphs import graph_picture, is_grouped, part_words, plan_picture
+from drawing.words import KINDS_OF_ANSWERS
+from pisdf_tools.wording import counted
 
 # So many pictures of one kind stand on a page; the rest is counted.
 MOST_SERIES = 12
@@ -77,26 +78,26 @@ def told(words):
 
 
 def summary(run):
-    made = len({row[0] for row in run.run.of("tokens")}) if run.graphs and run.graphs[run.top]["outputs"] else None
-    words = f"{counted(run.iterations, 'iteration')} {'was' if int(run.iterations) == 1 else 'were'} asked for, by {counted(run.workers, 'worker')}."
+    made = len({row[0] for row in run.run.of("tokens")}) if run.file and run.file.top_graph.outputs else None
+    asked = int(run.iterations)
+    words = f"{counted(asked, 'iteration')} {'was' if asked == 1 else 'were'} asked for, by {counted(int(run.workers), 'worker')}"
+    words += f" and with {int(run.times)} fired as one where that can be." if run.words[0] == "unfold" else "."
     done = "<p>The run is done.</p>" if run.run.status == 0 else refusal(run.run, run)
     before = "" if made is None or run.run.status == 0 else note(f"{counted(made, 'iteration')} {'was' if made == 1 else 'were'} done before.")
-    more = "".join(told(run.told))
+    more = "".join(told(run.told.removeprefix("The call is done.").strip()))
     return f"<p>{escape(words)}</p>{done}{before}" + (f'<div class="told">{more}</div>' if more else "")
 
 
 def graph_part(run):
-    for name in ordered(run.top, run.graphs):
+    for graph in ordered(run.file):
+        name = graph.name.text
         yield f"<h3>{'The top graph ' if name == run.top else 'The graph '}<code>{escape(name)}</code></h3>"
-        yield figure(graph_picture(run.graphs[name], run.graphs), f"The graph {name}")
+        yield figure(graph_picture(graph, run.file), f"The graph {name}")
 
 
-def ordered(top, graphs):
-    """The graphs from the top downwards, each after one that it stands in."""
-    found = [top]
-    for name in found:
-        found += [actor["graph"] for actor in graphs[name]["actors"] if "graph" in actor and actor["graph"] not in found]
-    return list(dict.fromkeys(found)) + [name for name in graphs if name not in found]
+def ordered(file):
+    """The graphs from the top downwards, each after one that it stands in, and then those that are never fired."""
+    return [graph for graph, _ in file.hierarchy()] + file.unused()
 
 
 def plan_part(run):
@@ -109,12 +110,18 @@ def plan_part(run):
     return note(parameter_words(run)) + figure(plan_picture(rows, run.names), "The plan") + note(words)
 
 
+def first_of(run):
+    """What is planned at once."""
+    return "iteration" if run.group == 1 else "group"
+
+
 def parameter_words(run):
-    """With which parameters the plan is made."""
+    """Of which iterations the plan is, and with which parameters it is made."""
     values = list(run.values_of_first().items())
     more = f" and {len(values) - MOST_SERIES} more" if len(values) > MOST_SERIES else ""
     listed = ", ".join(f"{name} = {value}" for name, value in values[:MOST_SERIES])
-    return f"This is the plan of iteration 0 of the top graph `{run.top}`" + (f", with {listed}{more}." if values else ".")
+    which = "iteration 0" if run.group == 1 else f"the iterations 0 to {run.group - 1}, fired as one,"
+    return f"This is the plan of {which} of the top graph `{run.top}`" + (f", with {listed}{more}." if values else ".")
 
 
 def schedule_part(run):
@@ -145,7 +152,7 @@ def workers_part(run):
     if not run.journal.rows:
         return note("There is no board: no iteration began.")
     steps = run.steps()
-    label = f"The journal of the first iteration: {counted(len(run.journal.rows), 'line')}, {counted(run.workers, 'worker')}"
+    label = f"The journal of the first {first_of(run)}: {counted(len(run.journal.rows), 'line')}, {counted(int(run.workers), 'worker')}"
     items = [sum(1 for step in steps if step[0] == worker) for worker in range(int(run.workers))]
     rows = [(f"worker {worker}", count, f"{share} %") for worker, (count, share) in enumerate(zip(items, shares(items)))]
     words = (
@@ -203,10 +210,8 @@ def lines_of(rows):
 
 
 def counts(run):
-    rows = [("Graphs in the file", len(run.graphs))]
-    for name in ordered(run.top, run.graphs):
-        graph = run.graphs[name]
-        rows.append((f"Graph {name}", ", ".join(counted(len(graph[kind]), thing) for kind, thing in (("actors", "actor"), ("fifos", "FIFO"), ("params", "parameter")))))
+    rows = [("Graphs in the file", len(run.file.graphs))]
+    rows += [(f"Graph {graph.name.text}", part_words(graph)) for graph in ordered(run.file)]
     if not run.plan.status:
         rows += [(f"Firings of {name}", int(count)) for name, count in run.plan.of("repetition")]
         rows += [("Nodes", len(run.plan.of("node"))), ("Edges", len(run.plan.of("edge"))), ("Cells of the plan", int(run.plan.of("height")[0][0]))]
@@ -216,12 +221,12 @@ def counts(run):
         rows += [(words, int(run.schedule.of(kind)[0][0])) for kind, words in (("critical", "Critical path"), ("work", "Work"), ("length", "Length of the schedule"))]
     rows += [(f"Tokens of {name}", sum(len(row) for row in lists)) for name, lists in run.outputs().items()]
     rows += [(f"Tokens left of {name}", count) for name, count in run.left()]
-    return table("Of the file, of the plan of the first iteration, and of the run", ["What", "How many"], rows)
+    return table(f"Of the file, of the plan of the first {first_of(run)}, and of the run", ["What", "How many"], rows)
 
 
 PARTS = [
     ("graph", "The graph", lambda run: "".join(graph_part(run))),
-    ("plan", "The plan of the first iteration", plan_part),
+    ("plan", "The plan of the first {}", plan_part),
     ("schedule", "The list schedule", schedule_part),
     ("cells", "The map of cells", cells_part),
     ("workers", "What each worker did", workers_part),
@@ -234,7 +239,7 @@ PARTS = [
 def page(run):
     """The whole page. Where the graph file is refused there is nothing but that."""
     name = f"{run.graph_file} with {run.token_file}"
-    parts = PARTS if run.graphs else []
+    parts = [(key, title.format(first_of(run)), make) for key, title, make in PARTS] if run.file else []
     links = "".join(f'<li><a href="#{key}">{escape(title)}</a></li>' for key, title, _ in parts)
     parts_list = f'<nav aria-label="Parts of the report"><ul>{links}</ul></nav>' if parts else ""
     sections = "".join(f'<section id="{key}"><h2>{escape(title)}</h2>{make(run)}</section>' for key, title, make in parts)

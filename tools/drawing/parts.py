@@ -1,7 +1,7 @@
 """What the parts of graphs are called in pictures."""
-import re
+from pisdf_tools.limits import PARAMETER_HIGH
+from pisdf_tools.rate_params import names_in
 
-FULL_RANGE = (0, 2147483647)
 SHOWN_TOKENS = 4
 
 
@@ -11,55 +11,58 @@ def called(name, words):
 
 def actor_lines(actor):
     """An actor's name, and what it does."""
-    what = f"graph {actor['graph']}" if "graph" in actor else actor["kernel"]
-    return [actor["name"], called(what, actor["args"])]
+    what = f"graph {actor.child.text}" if actor.child else actor.kernel.text
+    return [actor.name.text, called(what, [argument.text for argument in actor.args])]
 
 
 def param_lines(param):
-    """A parameter's name, its expression where it has one, and its range where one is stated."""
-    expression = f" = {param['expr']}" if "expr" in param else ""
-    low, high = param.get("low", FULL_RANGE[0]), param.get("high", FULL_RANGE[1])
-    return [param["name"] + expression] + ([] if (low, high) == FULL_RANGE else [f"{low} to {high}"])
+    """A parameter's name, its expression where it has one, and its range where it isn't the widest."""
+    expression = f" = {param.expression.text}" if param.expression else ""
+    is_widest = (param.low, param.high) == (0, PARAMETER_HIGH)
+    return [param.name.text + expression] + ([] if is_widest else [f"{param.low} to {param.high}"])
 
 
 def delay_label(fifo):
     """What stands on a FIFO at first, and how long it lives: the first tokens, and how many there are."""
-    delay = fifo.get("delay", 0)
-    tokens = [0] * min(delay, SHOWN_TOKENS + 1) if isinstance(delay, int) else delay
-    count = delay if isinstance(delay, int) else len(delay)
+    count = fifo.delay_length
     if not count:
         return ""
-    shown = ", ".join(str(token) for token in tokens[:SHOWN_TOKENS])
+    tokens = ["0"] * min(count, SHOWN_TOKENS) if isinstance(fifo.delay, int) else fifo.delay[:SHOWN_TOKENS]
+    shown = ", ".join(map(str, tokens))
     more = f", .. ({count} tokens)" if count > SHOWN_TOKENS else ""
-    return f"delay {shown}{more}" + (", permanent" if fifo.get("life") == "permanent" else "")
+    return f"delay {shown}{more}" + (", permanent" if fifo.life == "permanent" else "")
 
 
-def end_label(end, rate):
+def end_label(end, rates):
     """What stands at an end of a FIFO: the port's name and its rate. An interface's name stands in its own box."""
-    port = end.split(".")[1] if "." in end else ""
-    return " ".join(word for word in (port, rate) if word)
+    return " ".join(word for word in (end.text.partition(".")[2], rates[end.text]) if word)
 
 
-def names_in(expressions):
-    return set(re.findall(r"[A-Za-z_]\w*", " ".join(expressions)))
+def rates_of(graph, file):
+    """The rate at each end of a graph, as it is written: of an interface, or of an actor's port. An input of a configuration actor has
+    none."""
+    rates = {part.name.text: part.rate.text for part in graph.inputs + graph.outputs}
+    for actor in graph.actors:
+        ins, outs = file.ports_of(actor)
+        rates.update({f"{actor.name.text}.{port.name.text}": port.rate.text if port.rate else "" for port in ins + outs})
+    return rates
 
 
 def uses(graph):
     """Who sets a parameter of a graph and who uses it, as pairs: an actor and the parameter, or the parameter and whoever names it."""
-    for param in graph["params"]:
-        name = param["name"]
-        for actor in graph["actors"]:
-            if name in actor.get("sets", []):
-                yield actor["name"], name
-            ports = actor.get("ins", []) + actor.get("outs", [])
-            if name in names_in(actor["args"] + [port.get("rate", "") for port in ports]):
-                yield name, actor["name"]
-        for part in graph["inputs"] + graph["outputs"]:
-            if name in names_in([part["rate"]]):
-                yield name, part["name"]
-        for other in graph["params"]:
-            if name in names_in([other.get("expr", "")]):
-                yield name, other["name"]
+    for param in graph.params:
+        name = param.name.text
+        for actor in graph.actors:
+            if name in [word.text for word in actor.sets or []]:
+                yield actor.name.text, name
+            if name in names_in(actor.args + [port.rate for port in (actor.ins or []) + (actor.outs or []) if port.rate]):
+                yield name, actor.name.text
+        for part in graph.inputs + graph.outputs:
+            if name in names_in([part.rate]):
+                yield name, part.name.text
+        for other in graph.of_kind("is"):
+            if name in names_in([other.expression]):
+                yield name, other.name.text
 
 
 # ---- nodes of a single-rate graph

@@ -2,16 +2,20 @@
 import concurrent.futures
 import csv
 import io
+import os
 import subprocess
+import tempfile
 
 from drawing import nodes
-from drawing.inputs import Refused, graphs_in, text_of
+from drawing.inputs import Refused, read_graphs
 from drawing.parts import Names
 from drawing.told import told
-from pisdf_tools import reading, token_file
+from pisdf_tools import token_file
 from pisdf_tools.firing import TooLong
 from pisdf_tools.levels import Refused as RunRefused
 from pisdf_tools.source import read_source
+from pisdf_tools.unfolding import unfolded_text, unfolding_of
+from pisdf_tools.words import explain_usage
 
 SECONDS = 120
 # The status of a call that took longer.
@@ -41,25 +45,51 @@ class Answer:
 
 
 class Run:
-    """A graph with its tokens, and what the commands say of it. Each command is called once."""
+    """A graph with its tokens, and what the commands say of it. Each command is called once.
 
-    def __init__(self, program, graph, tokens, iterations, workers):
+    `words` are those of the run. `group` is how many iterations are planned as one, and `planned` the graphs in which they are one.
+    """
+
+    def __init__(self, program, graph, tokens, iterations, workers, times="1"):
         self.program, self.graph_file, self.token_file = program, graph, tokens
-        self.iterations, self.workers = iterations, workers
-        self.run = self.call("run", graph, tokens, iterations, workers)
+        self.iterations, self.workers, self.times = iterations, workers, times
+        self.words = ["run", graph, tokens, iterations, workers] if times == "1" else ["unfold", times, graph, tokens, iterations, workers]
+        self.run = self.call(*self.words)
         if self.run.status == 1:
-            raise Refused(f"'{iterations}' iterations by '{workers}' workers: a run has 0 to 65536 iterations, and 1 to 16 workers")
-        self.top, self.graphs = None, {}
-        if self.run.status not in (2, 5):
-            self.top, self.graphs = graphs_in(text_of(graph), graph)
-        calls = [(command, graph, tokens, workers) for command in ("plan", "schedule", "memory")]
-        calls.append(("journal", graph, tokens, str(min(1, int(iterations))), workers))
-        with concurrent.futures.ThreadPoolExecutor() as pool:
-            told_run = pool.submit(told, self)
-            self.plan, self.schedule, self.memory, self.journal = pool.map(lambda words: self.call(*words), calls)
-            self.told = told_run.result()
-        self.levels = self.levels_of_first() if self.graphs else {}
+            raise Refused(explain_usage(self.words))
+        self.file = read_graphs(graph) if self.run.status not in (2, 5) else None
+        self.top = self.file.top.text if self.file else None
+        self.group = self.group_of()
+        with tempfile.TemporaryDirectory() as room:
+            planned = self.put_planned(room)
+            self.planned = self.file if self.group == 1 else read_graphs(planned)
+            self.call_all(planned)
         self.names = self.top_names() if not self.plan.status else None
+
+    def group_of(self):
+        """How many iterations are fired as one, where so many are asked for."""
+        times = int(self.times)
+        is_group = self.file and times <= int(self.iterations) and not unfolding_of(self.file).why_not(times)
+        return times if is_group else 1
+
+    def put_planned(self, room):
+        """The name of a graph file whose iteration is a group."""
+        if self.group == 1:
+            return self.graph_file
+        path = os.path.join(room, "g.json")
+        with open(path, "w", encoding="utf-8") as file:
+            file.write(unfolded_text(self.file, self.group))
+        return path
+
+    def call_all(self, graph):
+        """Calls what tells of the first iteration or group. Meanwhile the run is explained, and the levels are worked out."""
+        calls = [(command, graph, self.token_file, self.workers) for command in ("plan", "schedule", "memory")]
+        calls.append(("journal", graph, self.token_file, str(min(1, int(self.iterations))), self.workers))
+        with concurrent.futures.ThreadPoolExecutor() as pool:
+            answers = pool.map(lambda words: self.call(*words), calls)
+            told_run, levels = pool.submit(told, self), pool.submit(self.levels_of_first)
+            self.plan, self.schedule, self.memory, self.journal = answers
+            self.told, self.levels = told_run.result(), levels.result()
 
     def call(self, *words):
         try:
@@ -71,12 +101,13 @@ class Run:
         return Answer(words, done)
 
     def levels_of_first(self):
-        """The levels of the first iteration by the paths of their firings, as far as they are found soon."""
+        """The levels of the first iteration or group by the paths of their firings, as far as they are found soon."""
+        if not self.file:
+            return {}
         recorder = None
         try:
-            file = reading.read(read_source(self.graph_file)).file
-            streams = token_file.Streams(read_source(self.token_file).data, {port.name.text for port in file.top_graph.inputs})
-            recorder = nodes.Recorder(file, LEVEL_SECONDS)
+            streams = token_file.Streams(read_source(self.token_file).data, {port.name.text for port in self.planned.top_graph.inputs})
+            recorder = nodes.Recorder(self.planned, LEVEL_SECONDS)
             recorder.run(1, streams.tokens)
         except (RunRefused, TooLong, OSError, RecursionError):
             pass
@@ -93,7 +124,7 @@ class Run:
         return {**found, self.top: self.names} if self.names else found
 
     def values_of_first(self):
-        """The parameters of the top graph in the first iteration, each with its value."""
+        """The parameters of the top graph in the first iteration or group, each with its value."""
         found = self.levels.get(self.top)
         return dict(found[0].values) if found else {}
 
@@ -117,7 +148,7 @@ class Run:
         return [(name, int(count)) for _, name, count in lines]
 
     def steps(self):
-        """What each worker did in the first iteration: the worker, the places of the claim and of the finish in the journal, what it was,
+        """What each worker did in the first iteration or group: the worker, the places of the claim and of the finish in the journal, what it was,
         and the job that it was of."""
         names, running, found = self.names_by_path(), {}, []
         for place, row in enumerate(self.journal.rows[:MOST_LINES]):

@@ -1,5 +1,6 @@
 """Pictures as SVG: elements, colours, and images of many points."""
 import base64
+import re
 import struct
 import zlib
 from xml.sax.saxutils import escape, quoteattr
@@ -48,6 +49,12 @@ def picture(width, height, label, parts):
     head = element("title", escape(label)) + element("style", STYLE)
     size = {"width": number(width), "height": number(height), "viewBox": f"0 0 {number(width)} {number(height)}"}
     return element("svg", head + "".join(parts), xmlns="http://www.w3.org/2000/svg", role="img", aria_label=label, **size)
+
+
+def alone(drawn):
+    """A picture for a file of its own: on white, and with colours that stand in it, since not every reader of SVG knows variables."""
+    style = re.sub(r"var\(--\w+,(#\w+)\)", r"\1", STYLE)
+    return drawn.replace(element("style", STYLE), element("style", style) + '<rect width="100%" height="100%" fill="#ffffff"/>', 1)
 
 
 def marks(length, count):

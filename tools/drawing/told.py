@@ -15,8 +15,7 @@ def told(run):
     answer = run.run
     if answer.status == REFUSED_GRAPH:
         return checked(run)
-    words = ["run", run.graph_file, run.token_file, run.iterations, run.workers]
-    return explain.explained(run.program, words, answer.status, answer.line.encode())
+    return explain.explained(run.program, run.words, answer.status, answer.line.encode())
 
 
 def checked(run):

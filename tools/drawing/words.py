@@ -1,4 +1,4 @@
-"""What the exit codes of the program say, and numbers of things."""
+"""What the exit codes of the program say."""
 
 REFUSED_GRAPH = 2
 KINDS_OF_ANSWERS = {
@@ -12,8 +12,3 @@ KINDS_OF_ANSWERS = {
     7: "memory ran out",
     124: "the call was ended, since it took too long",
 }
-
-
-def counted(count, thing):
-    """So many things, where an s makes more of them."""
-    return f"{count} {thing}" + "s" * (int(count) != 1)

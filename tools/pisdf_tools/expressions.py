@@ -70,10 +70,14 @@ class Parser:
     def hint(self):
         if self.token == "-":
             return " There is no sign before a number: write `0-1` for -1."
-        if self.token in (".", "^", "&", "|", "<", ">", "=", "!", "?", ":") and self.token:
+        if self.token in (".", "&", "|", "<", ">", "=", "!", "?", ":") and self.token:
             return " The operators are `+`, `-`, `*`, `/` and `%`, on whole numbers."
+        if self.token == "^":
+            return " There is no power: write `n*n` for the square of `n`."
         if self.token == "(" and not self.open:
             return " A `*` may be missing before it. The only functions are `min` and `max`."
+        if self.token and (self.token[0].isalpha() or self.token[0] == "_") and self.text[self.at - 1:self.at].isdigit():
+            return " A `*` is missing before it: write `2*n` for twice `n`."
         return ""
 
     def whole(self):
@@ -177,10 +181,10 @@ def operation(operator, left, right):
     shown = f"{operator}({left},{right})" if operator in CALLS else f"{left} {operator} {right}"
     if operator in "/%":
         if left < 0:
-            raise NoValue("division", f"{shown} has no value: the dividend must be at least 0",
+            raise NoValue("division", f"in {shown} the dividend must be at least 0",
                           "Form the sign behind the division, as `0-7/2` in place of `(0-7)/2`, or bound the dividend as by `max(0,n)`.")
         if right < 1:
-            raise NoValue("division", f"{shown} has no value: the divisor must be at least 1",
+            raise NoValue("division", f"in {shown} the divisor must be at least 1",
                           "Keep the divisor at 1 or more, as by `max(1,n)` or by `low`.")
         return left // right if operator == "/" else left % right
     value = {"+": lambda: left + right, "-": lambda: left - right, "*": lambda: left * right,

@@ -42,8 +42,12 @@ class Faults:
         return nearest(name, known) if self.guesses <= MOST_GUESSES else None
 
 
+def fault_head(source, root, fault):
+    """Where a fault stands."""
+    where = place_words(root, fault.pointer) if root else ""
+    return source.place(fault.start) + (f", in {where}" if where else "") + ":"
+
+
 def fault_text(source, root, fault):
     """A fault as a paragraph: its place, the line of the file, what is there and what is wanted."""
-    where = place_words(root, fault.pointer) if root else ""
-    head = source.place(fault.start) + (f", in {where}" if where else "") + ":"
-    return f"{head}\n{source.snippet(fault.start, fault.end)}\n{fault.text}"
+    return f"{fault_head(source, root, fault)}\n{source.snippet(fault.start, fault.end)}\n{fault.text}"

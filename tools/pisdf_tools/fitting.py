@@ -4,6 +4,7 @@ from dataclasses import replace
 from .balance import solve, zero_links
 from .expressions import names
 from .limits import RATE
+from .wording import listed, quoted
 
 
 def fitting_rate(level, link):
@@ -34,10 +35,11 @@ def moved_at(link, counts):
 
 
 def fitting_interfaces(level, actor):
-    """The fewest interfaces to change, with their new rates, so that those by an actor's component lose and repeat nothing."""
+    """The fewest interfaces to change, with their new rates, so that those by an actor's component lose and repeat nothing. There may be two
+    such changes."""
     found = solve(level)
     if not is_fixed(level.graph) or found.counts is None:
-        return {}
+        return []
     component = next(component for component in found.components if actor in component)
     most = found.counts[actor] // found.base[actor]
     fits = []
@@ -45,5 +47,11 @@ def fitting_interfaces(level, actor):
         counts = {other: found.base[other] * factor for other in component}
         ends = [moved_at(link, counts) for link in level.links if (link.head or link.tail) in counts]
         fits.append({name: moved for name, rate, moved in filter(None, ends) if moved != rate})
-    best = min(fits, key=len)
-    return best if all(rate <= RATE for rate in best.values()) else {}
+    least = min(map(len, fits))
+    return [fit for fit in fits if len(fit) == least and all(rate <= RATE for rate in fit.values())]
+
+
+def fitting_words(level, actor):
+    """The rates of interfaces with which nothing is lost or read again."""
+    fits = [listed([f"the rate {rate} of {quoted(name)}" for name, rate in fit.items()]) for fit in fitting_interfaces(level, actor)]
+    return f"With {', or with '.join(fits)}{',' * (len(fits) > 1)} nothing is read again or lost." if fits else ""

@@ -156,6 +156,20 @@ class GraphFile:
         child = self.child_of(actor)
         return (child.inputs, child.outputs) if child else None
 
+    def hierarchy(self):
+        """The graphs that are fired, each with its depth: the top first, and each after one that names it."""
+        depths, pending = {}, [(self.top_graph, 0)]
+        for graph, depth in pending:
+            if graph.name.text not in depths:
+                depths[graph.name.text] = depth
+                pending += [(self.child_of(actor), depth + 1) for actor in graph.actors if actor.is_hierarchical]
+        return [(self.graph(name), depth) for name, depth in depths.items()]
+
+    def unused(self):
+        """The graphs that are never fired, since no actor on the way from the top names them."""
+        fired = {graph.name.text for graph, _ in self.hierarchy()}
+        return [graph for graph in self.graphs if graph.name.text not in fired]
+
     def kept_by(self, graph):
         """How many tokens a graph keeps from one of its firings to the next. A graph that holds itself counts once."""
         if graph.pointer not in self.kept:

@@ -4,6 +4,7 @@ import re
 from . import graph_file as parts
 from .expressions import ExpressionFault, parse
 from .faults import Faults
+from .kernels import table
 from .limits import NAME_BYTES, PARAMETER_HIGH, VERSIONS, is_whole
 from .wording import joined, listed, named, nearest, quoted, sentence, shortened
 
@@ -114,7 +115,8 @@ class GraphReading:
         if value is None:
             return None
         if value.kind != "list":
-            self.shape(f"{pointer}/{name}", value, f"A list was wanted, and {shown(value)} stands here. A list stands in `[` and `]`.")
+            write = f" Write `[\"{shortened(value.value)}\"]`." if value.kind == "string" else ""
+            self.shape(f"{pointer}/{name}", value, f"A list was wanted, and {shown(value)} stands here. A list stands in `[` and `]`.{write}")
             return None
         read_parts = [read(part, f"{pointer}/{name}/{place}") for place, part in enumerate(value.value)]
         return [part for part in read_parts if part is not None]
@@ -330,7 +332,7 @@ class GraphReading:
         stated = value.value.get("kind")
         kind = stated.value.value if stated and stated.value.kind == "string" else None
         if kind in known:
-            return kind, []
+            return self.fitting_kind(kind, value.value)
         all_kinds = f"The kinds of version {self.version} are {named(known)}."
         if kind == "setgraph":
             return "setgraph", ["The kind `setgraph` exists from version 3 on.", all_kinds]
@@ -339,6 +341,18 @@ class GraphReading:
             meant = self.kind_by_members(value.value)
         sentences = [f"{sentence(shown(stated.value))} is no kind of actor." if stated else "The actor lacks the member `kind`.", all_kinds]
         return meant, sentences + [f"Do you mean {quoted(meant)}?" if meant else ""]
+
+    def fitting_kind(self, kind, members):
+        """The stated kind of an actor, or the one whose members it has where these aren't those of the stated one, and sentences on it."""
+        meant = self.kind_by_members(members)
+        if meant in (kind, None) or set(members) == set(ACTOR_MEMBERS[kind]) or set(members) != set(ACTOR_MEMBERS[meant]):
+            return kind, []
+        kernel = members["kernel"].value.value if "kernel" in members else None
+        row = table().get(kernel) if isinstance(kernel, str) else None
+        if row and row.actor_kind != meant:
+            return kind, []
+        what = f", and {quoted(kernel)} is a kernel of such actors" if row else ""
+        return meant, [f"The kind is {quoted(kind)}, but the members are those of an actor of the kind {quoted(meant)}{what}. Write `\"kind\":\"{meant}\"`."]
 
     def kind_by_members(self, members):
         base = "graph" if "graph" in members else "kernel" if "kernel" in members else None

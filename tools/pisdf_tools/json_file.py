@@ -16,6 +16,10 @@ HEX = re.compile(r"[0-9a-fA-F]{4}")
 WORD = re.compile(r"[A-Za-z_][A-Za-z_0-9.]*")
 ESCAPES = {'"': '"', "\\": "\\", "/": "/", "b": "\b", "f": "\f", "n": "\n", "r": "\r", "t": "\t"}
 LITERALS = {"true": True, "false": False, "null": None}
+BARE_NAME = re.compile(r'([A-Za-z_][A-Za-z_0-9]*)"?[ \t]*:')
+BARE_TEXT = re.compile(r'([A-Za-z_][A-Za-z_0-9.]*)"?[ \t]*(?=[],}\n])')
+OTHER_LITERALS = ("True", "False", "None", "NaN", "Infinity")
+MOST_MENDED = 10
 
 
 @dataclass(slots=True)
@@ -45,10 +49,19 @@ class JsonFault(Exception):
 
 
 class Reader:
-    """Reads one text from the front. `at` is the place of the next character."""
+    """Reads one text from the front. `at` is the place of the next character.
+
+    Where it is plain what was meant, the reader goes on as if it stood there, and keeps the fault in `mended`.
+    """
 
     def __init__(self, source):
-        self.source, self.text, self.at, self.depth = source, source.text, 0, 0
+        self.source, self.text, self.at, self.depth, self.mended = source, source.text, 0, 0, []
+
+    def mend(self, fault):
+        """Keeps a fault that what follows doesn't depend on."""
+        self.mended.append(fault)
+        if len(self.mended) == MOST_MENDED:
+            raise self.mended.pop()
 
     def skip(self):
         self.at = BLANKS.match(self.text, self.at).end()
@@ -87,7 +100,13 @@ class Reader:
         if word and word[0] in LITERALS:
             self.at = word.end()
             return Value(word[0], LITERALS[word[0]], word.start(), self.at)
-        raise JsonFault(self.at, self.unfit(wanted), word and word.end())
+        fault = JsonFault(self.at, self.unfit(wanted), word and word.end())
+        bare = BARE_TEXT.match(self.text, self.at)
+        if self.depth == 0 or not bare or bare[1] in OTHER_LITERALS:
+            raise fault
+        self.mend(fault)
+        self.at = bare.end()
+        return Value("string", bare[1], bare.start(1), bare.end(1))
 
     def deeper(self):
         self.depth += 1
@@ -107,9 +126,7 @@ class Reader:
         return Value("object", members, start, self.at)
 
     def read_member(self, opened, members):
-        if self.peek() != '"':
-            raise JsonFault(self.at, self.unfit(f"the name of a member in double quotes, or `}}` for the object from {self.opened(opened)},"))
-        name = self.read_string()
+        name = self.read_string() if self.peek() == '"' else self.read_bare_name(opened)
         self.skip()
         if self.peek() != ":":
             raise JsonFault(self.at, f"A `:` was wanted after the member name {quoted(name.value)}, and {self.found()} stands here.")
@@ -117,6 +134,16 @@ class Reader:
         self.skip()
         value = self.read_value(f"the value of the member {quoted(name.value)}")
         members[name.value] = Member(name.start, name.end, value, name.value in members)
+
+    def read_bare_name(self, opened):
+        """The name of a member that lacks its quotes, or the first of them."""
+        fault = JsonFault(self.at, self.unfit(f"the name of a member in double quotes, or `}}` for the object from {self.opened(opened)},"))
+        bare = BARE_NAME.match(self.text, self.at)
+        if not bare:
+            raise fault
+        self.mend(fault)
+        self.at = bare.end() - 1
+        return Value("string", bare[1], bare.start(1), bare.end(1))
 
     def read_list(self):
         start, values = self.at, []
@@ -141,12 +168,15 @@ class Reader:
             self.at += 1
             self.skip()
             if self.peek() == closing:
-                raise JsonFault(comma, f"A comma stands before `{closing}`. The last part of {what_is(what)} has no comma after it.")
+                self.mend(JsonFault(comma, f"A comma stands before `{closing}`. The last part of {what_is(what)} has no comma after it."))
             return
         if not letter:
             raise JsonFault(self.at, f"The file ends here, and the {what} from {self.opened(start)} isn't closed. A `{closing}` is missing.")
-        raise JsonFault(self.at, f"A `,` or `{closing}` was wanted here, and {self.found()} stands here. "
-                                 f"The {what} begins at {self.opened(start)}.{self.hint()}")
+        fault = JsonFault(self.at, f"A `,` or `{closing}` was wanted here, and {self.found()} stands here. "
+                                   f"The {what} begins at {self.opened(start)}.{self.hint()}")
+        if letter not in '{["':
+            raise fault
+        self.mend(fault)
 
     def read_number(self):
         match = NUMBER.match(self.text, self.at)
@@ -257,5 +287,9 @@ def what_is(what):
 
 
 def read_json(source):
-    """The value of a file with all places, or a JsonFault."""
-    return Reader(source).read_file()
+    """The value of a file with all places, None where it can't be read, and the faults of the text."""
+    reader = Reader(source)
+    try:
+        return reader.read_file(), reader.mended
+    except JsonFault as fault:
+        return None, reader.mended + [fault]

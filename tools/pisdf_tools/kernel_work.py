@@ -3,6 +3,7 @@
 It serves explanations alone. A test compares it with the rows by which the program's kernels are tested.
 """
 from .limits import is_whole
+from .wording import counted
 
 OVERFLOW, DIVISION, SHAPE, VALUE = 1, 2, 3, 4
 
@@ -120,14 +121,15 @@ def fire_dot(args, ins, outs, sets):
 def fire_fir(args, ins, outs, sets):
     taps, rate = len(args), len(ins[0])
     shape(rate >= taps, f"with {taps} taps the input's rate must be at least {taps}, and it is {rate}")
-    shape(outs[0] == rate - taps + 1, f"with {taps} taps and {rate} tokens the output's rate must be {rate - taps + 1}, and it is {outs[0]}")
+    shape(outs[0] == rate - taps + 1, f"with {taps} taps and {rate} tokens the output's rate must be {rate - taps + 1}, and it is {outs[0]}. "
+          f"That would be right with the input's rate {outs[0] + taps - 1}")
     return [[weighted((args[tap], ins[0][place + taps - 1 - tap]) for tap in range(taps)) for place in range(outs[0])]], []
 
 
 def fire_moving(args, ins, outs, sets):
     same(ins, outs)
     value(1 <= args[0] <= 64, f"the window must be 1 to 64 wide, and it is {args[0]}")
-    windows = [ins[0][max(0, place + 1 - args[0]):place + 1] for place in range(outs[0])]
+    windows = (ins[0][max(0, place + 1 - args[0]):place + 1] for place in range(outs[0]))
     return [[towards_zero(total(window, "the sum of a window"), len(window)) for window in windows]], []
 
 
@@ -178,7 +180,7 @@ def fire_count_above(args, ins, outs, sets):
 
 
 def fire_read_param(args, ins, outs, sets):
-    shape(len(ins[0]) == sets, f"the interface must have one token for each parameter that is set. It has {len(ins[0])}, and {sets} are set")
+    shape(len(ins[0]) == sets, f"the interface must have one token for each parameter that is set. It has {len(ins[0])}, and {counted(sets, 'parameter is', 'parameters are')} set")
     return [], list(ins[0])
 
 

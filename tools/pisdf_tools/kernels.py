@@ -1,18 +1,28 @@
 """The table of kernels, as docs/KERNELS.md has it: counts, formulas, and what each rate and argument must be."""
 import functools
+import json
 import os
 import re
 from dataclasses import dataclass
 
 PAGE = os.path.join(os.path.dirname(__file__), "..", "..", "docs", "KERNELS.md")
+HEADING = re.compile(r"^\| Kernel \|.*\|$", re.M)
 ROW = re.compile(r"\| \[`(\w+)`\]\(#\w+\) \| ([^|]*) \| ([^|]*) \| ([^|]*) \| ([^|]*) \| ([^|]*) \|")
-# Words of other tools that one may look for among the kernels, with what stands for them here.
+EXAMPLE = re.compile(r"^Example: `(\{.*?\})`", re.M)
+# Words of other tools and everyday ones that one may look for among the kernels, with what stands for them here.
 OTHER_WORDS = {
     "broadcast": "The kernel `dup` gives each token twice, and a chain of them more often.",
     "fork": "The compiler adds forks by itself where a FIFO feeds several firings. The kernel `dup` gives each token twice.",
     "join": "The compiler adds joins by itself where several firings feed a FIFO.",
     "delay": "A delay is a member of a FIFO: `\"delay\":[0]` or `\"delay\":1`.",
     "init": "The first tokens of a delay are a member of a FIFO, as `\"delay\":[5,-6]`.",
+    "average": "The kernel `mean` gives the mean of its input.",
+    "constant": "The kernel `ramp` with the arguments N and 0 gives the number N again and again.",
+    "copy": "The kernel `pass` gives its input, and `dup` gives it twice.",
+    "decimate": "The kernel `down` gives one token of each run of several.",
+    "multiply": "The kernel `gain` multiplies tokens by its argument, and `mul` by the tokens of a second input.",
+    "subtract": "The kernel `sub` gives differences, place by place.",
+    "upsample": "The kernel `up` gives each token several times in a row.",
 }
 CODES = {1: "overflow", 2: "division", 3: "shape", 4: "value"}
 
@@ -32,11 +42,11 @@ class Span:
 
 @dataclass(frozen=True)
 class Kernel:
-    """A row of the table with the sentences of its section. `counts` are those of `args`, `ins`, `outs` and `sets`."""
+    """A row of the table with its section. `counts` are those of `args`, `ins`, `outs` and `sets`."""
     name: str
     counts: dict
     short: str
-    sentences: dict
+    section: str
 
     @property
     def is_config(self):
@@ -48,7 +58,17 @@ class Kernel:
 
     def sentence(self, about):
         """What the page says of `Rates`, `Arguments`, `Value` and so on, or an empty text."""
-        return self.sentences.get(about, "")
+        return dict(re.findall(r"^- (\w+): (.*)$", self.section, re.M)).get(about, "")
+
+    def example(self):
+        """The first example of the section: a row of the table of kernels, with numbers for arguments and rates."""
+        return json.loads(EXAMPLE.search(self.section).group(1))
+
+
+@functools.cache
+def page():
+    with open(PAGE, encoding="utf-8") as file:
+        return file.read()
 
 
 def span(text):
@@ -56,33 +76,27 @@ def span(text):
     return Span(numbers[0], numbers[-1])
 
 
-def sentences_of(section):
-    """The points of a kernel's section, by the word before the colon."""
-    return dict(re.findall(r"^- (\w+): (.*)$", section, re.M))
-
-
-def sections_of(page):
-    """The text of each section with the name of a kernel."""
-    parts = re.split(r"^### (\w+)$", page, flags=re.M)
-    return dict(zip(parts[1::2], parts[2::2]))
+def sections():
+    """The text of each section with the name of a kernel, up to the next heading."""
+    return dict(re.findall(r"^### (\w+)\n(.*?)(?=^##|\Z)", page(), re.M | re.S))
 
 
 @functools.cache
 def table():
     """All kernels by name, in the order of the page."""
-    with open(PAGE, encoding="utf-8") as file:
-        page = file.read()
-    sections = sections_of(page)
-    kernels = {}
-    for name, *counts, short in ROW.findall(page):
+    found, kernels = sections(), {}
+    for name, *counts, short in ROW.findall(page()):
         spans = dict(zip(("args", "ins", "outs", "sets"), map(span, counts)))
-        kernels[name] = Kernel(name, spans, short, sentences_of(sections.get(name, "")))
+        kernels[name] = Kernel(name, spans, short, found.get(name, ""))
     return kernels
 
 
-@functools.cache
+def heading():
+    """The words over the columns of the table."""
+    return [word.strip() for word in HEADING.search(page()).group().strip("|").split("|")]
+
+
 def code_meaning(code):
     """What the page says of a code of a kernel's fault."""
-    with open(PAGE, encoding="utf-8") as file:
-        rows = dict(re.findall(r"^\| (\d) \| \w+ \| (.*) \|$", file.read(), re.M))
+    rows = dict(re.findall(r"^\| (\d) \| \w+ \| (.*) \|$", page(), re.M))
     return rows.get(str(code), "")

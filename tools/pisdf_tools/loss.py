@@ -1,5 +1,5 @@
 """Where a run that is done loses tokens at an interface, or reads them again."""
-from .fitting import fitting_interfaces
+from .fitting import fitting_words
 from .summary import range_words
 from .wording import counted, joined, listed, quoted, times
 
@@ -41,12 +41,6 @@ def often_words(note, runner):
     of = f"{every} {what}" if runner.is_done else f"the first {every} {what}"
     amounts = f", with {range_words(min(note.amounts), max(note.amounts))} tokens" if len(note.amounts) > 1 else ""
     return f"This is so in all of {of}{amounts}." if note.times == every else f"This is so in {note.times} of {of}{amounts}."
-
-
-def fitting_words(level, actor):
-    """The rates of interfaces with which nothing is lost or read again."""
-    fits = fitting_interfaces(level, actor)
-    return f"With {listed([f'the rate {rate} of {quoted(name)}' for name, rate in fits.items()])} nothing is read again or lost." if fits else ""
 
 
 def notes(runner, source, most=4):

@@ -2,10 +2,10 @@
 from dataclasses import dataclass
 
 from . import name_faults, wiring_faults
-from .faults import Fault, Faults, fault_text
+from .faults import Fault, Faults, fault_head, fault_text
 from .graph_file import GraphFile
 from .graph_reading import read_graphs
-from .json_file import JsonFault, read_json
+from .json_file import read_json
 from .limits import GRAPH_FILE_BYTES
 from .source import Source
 from .wording import grouped
@@ -13,7 +13,7 @@ from .wording import grouped
 
 @dataclass
 class Reading:
-    """What was read of a graph file. `file` is None where the file is no JSON or no object."""
+    """What was read of a graph file. `file` is None where the text breaks off as JSON, or is no object."""
     source: Source
     root: object
     file: GraphFile | None
@@ -21,6 +21,10 @@ class Reading:
 
     def text_of(self, fault):
         return fault_text(self.source, self.root, fault)
+
+    def line_of(self, fault):
+        """A fault in one line, without the line of the file."""
+        return f"{fault_head(self.source, self.root, fault)} {fault.text}"
 
     def fault_of(self, line):
         """The fault with the program's line, or None."""
@@ -32,14 +36,14 @@ def read(source):
     if len(source.data) > GRAPH_FILE_BYTES:
         text = f"The file has {grouped(len(source.data))} bytes. A graph file may have {grouped(GRAPH_FILE_BYTES)}."
         return Reading(source, None, None, [Fault(0, "length", "", 0, 1, text)])
-    try:
-        root = read_json(source)
-    except JsonFault as fault:
-        return Reading(source, None, None, [Fault(1, "json", "", fault.start, fault.end, f"The file is no JSON. {fault.text}")])
+    root, faults_of_text = read_json(source)
+    texts = [Fault(1, "json", "", fault.start, fault.end, f"The file is no JSON. {fault.text}") for fault in faults_of_text]
+    if root is None:
+        return Reading(source, None, None, texts)
     file, shapes = read_graphs(source, root)
     faults = Faults(source, root)
     if file:
         name_faults.find(file, faults)
         wiring_faults.find(file, faults)
-    found = sorted(shapes + faults.found, key=lambda fault: fault.number)
+    found = sorted(texts + shapes + faults.found, key=lambda fault: fault.number)
     return Reading(source, root, file, found)

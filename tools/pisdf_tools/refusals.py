@@ -11,7 +11,8 @@ from .run_refusals import RunRefusals
 from .source import read_source
 from .static_refusals import plain_words
 from .token_file import TokenFaults
-from .wording import counted, joined, listed, named, nearest, quoted
+from .unfolding import group_words
+from .wording import counted, joined, named, nearest, quoted
 from .words import call_of, explain_usage
 
 SECONDS = 4
@@ -86,8 +87,9 @@ class Explanation:
                 "What was written before stands. Nothing was written after it.")
 
     def memory(self):
-        return ("The system gave no more memory. The texts of the iterations before stand. Call with fewer workers, since each holds a firing of its own, "
-                "or let an iteration take fewer tokens. `ulimit -v` tells whether memory is limited here.")
+        fewer = ", fire fewer iterations as one" if self.call and self.call.command == "unfold" else ""
+        return ("The system gave no more memory. The texts of the iterations before stand. Call with fewer workers, since each holds a firing of its own"
+                f"{fewer}, or let an iteration take fewer tokens. `ulimit -v` tells whether memory is limited here.")
 
     # ---- runs
 
@@ -158,8 +160,13 @@ class Explanation:
             runner.run(self.iterations(), self.stream(found.file))
         except (Refused, firing.TooLong):
             pass
-        text = joined_paragraphs(*loss.notes(runner, found.source), loss.delay_words(found.file, self.iterations()), self.left(runner))
+        text = joined_paragraphs(*loss.notes(runner, found.source), loss.delay_words(found.file, self.iterations()), self.left(runner),
+                                 self.groups(found.file))
         return text or ("The call is done. No interface lost tokens or gave them again." if runner.is_done else "The call is done.")
+
+    def groups(self, file):
+        """Which iterations `unfold` fires as one."""
+        return group_words(file, self.call.number("TIMES", 1), self.iterations()) if self.call.command == "unfold" else ""
 
     def left(self, runner):
         """What is left of the inputs' tokens."""
@@ -167,7 +174,7 @@ class Explanation:
         if not pairs:
             return ""
         rates = runner.top_early().inputs
-        each = listed([f"{quoted(name)} has {counted(int(count), 'token')} left, and an iteration takes {rates[name]}" for name, count in pairs])
+        each = "; ".join(f"{quoted(name)} has {counted(int(count), 'token')} left, and an iteration takes {rates[name]}" for name, count in pairs)
         return f"The token file holds more than {counted(self.iterations(), 'iteration')} took: {each}. The tokens that are left were not used."
 
 

@@ -5,6 +5,7 @@ from .fitting import fitting_rate
 from .graph_file import shown_place
 from .kernels import code_meaning, table
 from .limits import BASE_ENTRY, PARAMETER_HIGH, RATE, TOKENS
+from .rate_params import RateParams, names_in, with_sources
 from .static_refusals import graph_at
 from .wording import counted, grouped, joined, listed, quoted, shortened, times
 
@@ -144,11 +145,12 @@ class RunRefusals:
         ins, outs = self.reading.file.ports_of(actor) if actor else (self.graph.inputs, self.graph.outputs)
         return next(part.rate for part in ins + outs if part.name.text == (port or name))
 
-    def env_words(self):
-        """The values of the parameters, where there are some."""
-        if not self.values:
+    def env_words(self, names=None):
+        """The values of these parameters, or of those that decide rates."""
+        names = RateParams(self.reading.file).of(self.graph) if names is None else names
+        shown = [f"{quoted(name)} = {value}" for name, value in self.values.items() if name in names][:12]
+        if not shown:
             return ""
-        shown = [f"{quoted(name)} = {value}" for name, value in list(self.values.items())[:12]]
         return f"The parameter is {shown[0]}." if len(shown) == 1 else f"The parameters are {listed(shown)}."
 
     def zero_words(self, link):
@@ -267,7 +269,11 @@ class RunRefusals:
         return self.at(actor.kernel, f"Firing {more['firing']} of the actor {quoted(actor.name.text)} met code {fault.code}: {code_meaning(fault.code)}.",
                        f"{quoted(row.name)} in short: {row.short}. Here {fault.text}." if row.is_config else
                        f"The kernel {quoted(row.name)}{args} gives {row.short}. Here {fault.text}.", self.feeding_words(actor), f"{reads[:1].upper()}{reads[1:]}." if reads else "",
-                       f"{gives[:1].upper()}{gives[1:]}." if gives else "", f"{about} of {quoted(row.name)}: {rule}" if rule else "", self.env_words())
+                       f"{gives[:1].upper()}{gives[1:]}." if gives else "", f"{about} of {quoted(row.name)}: {rule}" if rule else "", self.env_words(self.used_by(actor)))
+
+    def used_by(self, actor):
+        """The parameters that an actor's arguments and rates name, and those that these are derived from."""
+        return with_sources(self.graph, names_in(actor.args + [port.rate for port in actor.ins + actor.outs if port.rate]))
 
     def feeding_words(self, actor):
         """The interfaces that feed a configuration actor, with their rates."""

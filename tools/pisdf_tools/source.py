@@ -1,5 +1,8 @@
 """A file as it was read, with the lines and columns of its places."""
+import re
+from bisect import bisect_right
 from dataclasses import dataclass, field
+from functools import cached_property
 
 SNIPPET_WIDTH = 100
 
@@ -16,8 +19,12 @@ class Source:
 
     def position(self, offset):
         """The line and the column of a place, both counted from 1, columns in characters."""
-        line = self.text.count("\n", 0, offset) + 1
-        return line, offset - (self.text.rfind("\n", 0, offset) + 1) + 1
+        line = bisect_right(self.line_starts, offset)
+        return line, offset - self.line_starts[line - 1] + 1
+
+    @cached_property
+    def line_starts(self):
+        return [0] + [match.end() for match in re.finditer("\n", self.text)]
 
     def place(self, offset):
         """A place in words, as `g.json, line 3, column 5`."""

@@ -3,14 +3,19 @@ from math import prod
 
 from .exploring import MOST_CHOICES, choices
 from .expressions import NoValue, bounds, evaluate, names
-from .limits import PARAMETER_HIGH
+from .limits import PARAMETER_HIGH, UNFOLD_TIMES
 from .rate_params import with_sources
 from .run_refusals import RunRefusals
+from .unfolding import unfolding_of
 from .wording import counted, listed, quoted, with_names
 
 
 def range_words(low, high):
     return str(low) if low == high else f"{low} to {high}"
+
+
+# The bounds of an expression that has no value.
+NONE = (1, 0)
 
 
 class Ranges:
@@ -22,26 +27,42 @@ class Ranges:
     def of(self, graph):
         """The bounds of a graph's parameters by name."""
         if graph.pointer not in self.found:
-            ranges = {param.name.text: (param.low, param.high) for param in graph.params if param.kind != "is"}
+            ranges = {param.name.text: self.given(graph, param) for param in graph.params if param.kind != "is"}
             for _ in graph.params:
                 for param in (param for param in graph.of_kind("is") if param.name.text not in ranges):
                     if not all(name in ranges for name in self.names(param)):
                         continue
-                    span = self.exact(param.expression.tree, graph) or bounds(param.expression.tree, ranges)
-                    low, high = span or (param.low, param.high)
+                    low, high = self.exact(param.expression.tree, graph) or bounds(param.expression.tree, ranges) or (param.low, param.high)
                     ranges[param.name.text] = (max(low, param.low), min(high, param.high))
             self.found[graph.pointer] = ranges
         return self.found[graph.pointer]
 
+    def given(self, graph, param):
+        """The bounds of a parameter that is given from outside: those that it states, within those of the arguments where it is inherited."""
+        spans = []
+        for other in self.file.graphs if param.kind == "in" else ():
+            for actor in other.actors:
+                if actor.is_hierarchical and actor.child.text == graph.name.text:
+                    argument = self.argument(graph, param, actor)
+                    spans.append(self.exact(argument.tree, other) or bounds(argument.tree, self.of(other)))
+        if not spans or None in spans:
+            return param.low, param.high
+        return max(param.low, min(low for low, _ in spans)), min(param.high, max(high for _, high in spans))
+
+    def argument(self, graph, param, actor):
+        """What an actor gives to an inherited parameter of its graph."""
+        return actor.args[[other.name.text for other in graph.of_kind("in")].index(param.name.text)]
+
     def exact(self, tree, graph):
-        """The least and the greatest value of an expression by all values of the parameters in it, or None where these are many or none."""
+        """The least and the greatest value of an expression by all values of the parameters in it, or None where these are many. The least
+        is the greater one where there is no value."""
         found = [name.name for name in names(tree)]
         sources = [graph.param(name) for name in sorted(with_sources(graph, found)) if graph.param(name).kind != "is"]
         if prod(param.high - param.low + 1 for param in sources) > MOST_CHOICES:
             return None
         values = [self.value(tree, graph, chosen) for chosen in choices(sources, {})[0]]
         known = [value for value in values if value is not None]
-        return (min(known), max(known)) if known else None
+        return (min(known), max(known)) if known else NONE
 
     def value(self, tree, graph, chosen):
         """The value of an expression by `chosen`, which has those of the parameters that it comes from, and gets those of derived ones.
@@ -64,7 +85,7 @@ class Ranges:
     def rate_words(self, rate, graph):
         """A rate as it is written, with its bounds where it names parameters."""
         span = self.exact(rate.tree, graph) or bounds(rate.tree, self.of(graph))
-        if span is None or rate.text.strip() == str(span[0]):
+        if span is None or span == NONE or rate.text.strip() == str(span[0]):
             return rate.text
         return f"{rate.text} = {span[0]}" if span[0] == span[1] else f"{rate.text} = {span[0]} to {span[1]}"
 
@@ -80,28 +101,17 @@ class Summary:
         self.reading, self.file, self.ranges, self.explorer = reading, reading.file, Ranges(reading.file), explorer
 
     def lines(self):
-        order, depths = self.hierarchy()
-        for graph in order:
-            yield from self.graph_lines(graph, depths[graph.name.text])
-        unused = [graph.name.text for graph in self.file.graphs if graph.name.text not in depths]
+        for graph, depth in self.file.hierarchy():
+            yield from self.graph_lines(graph, depth)
+        unused = [graph.name.text for graph in self.file.unused()]
         if unused:
             verb = "it is" if len(unused) == 1 else "they are"
             yield f"No actor names {with_names('graph', unused)}, so {verb} never fired."
 
-    def hierarchy(self):
-        """The graphs that are fired, the top first, each after one that names it, and how deep each lies."""
-        order, depths, pending = [], {}, [(self.file.top_graph, 0)]
-        while pending:
-            graph, depth = pending.pop(0)
-            if graph.name.text not in depths:
-                depths[graph.name.text] = depth
-                order.append(graph)
-                pending += [(self.file.child_of(actor), depth + 1) for actor in graph.actors if actor.is_hierarchical]
-        return order, depths
-
     def graph_lines(self, graph, depth):
-        users = [f"{quoted(other.name.text)} by its actor {quoted(actor.name.text)}" for other in self.file.graphs for actor in other.actors
-                 if actor.is_hierarchical and actor.child.text == graph.name.text]
+        namers = {other.name.text: [actor.name.text for actor in other.actors if actor.is_hierarchical and actor.child.text == graph.name.text]
+                  for other in self.file.graphs}
+        users = [f"{quoted(name)} by its {with_names('actor', found).removeprefix('the ')}" for name, found in namers.items() if found]
         yield f"graph {graph.name.text}: depth {depth}, " + (f"fired in {listed(users)}" if users else "the top graph, fired once in each iteration")
         for what, ports in (("input", graph.inputs), ("output", graph.outputs)):
             for port in ports:
@@ -115,6 +125,8 @@ class Summary:
             yield f"  exports {listed([word.text for word in graph.exports])}"
         yield from self.actor_lines(graph)
         yield from self.repetition_lines(graph)
+        if graph is self.file.top_graph:
+            yield from self.unfolding_lines(graph)
 
     def actor_lines(self, graph):
         kinds = [f"{counted(len(found), what)}" for what, found in (
@@ -123,6 +135,18 @@ class Summary:
             ("hierarchical configuration actor", [a for a in graph.actors if a.kind == "setgraph"])) if found]
         kept = self.file.kept_by(graph)
         yield f"  {listed(kinds) or 'no actors'}, {counted(len(graph.fifos), 'FIFO')}" + (f", keeps {counted(kept, 'token')} from firing to firing" if kept else "")
+
+    def unfolding_lines(self, graph):
+        """How many iterations can be fired as one. Nothing is said of a graph that is refused."""
+        if any(outcome.refused for outcome in self.explorer.outcomes.get(graph.name.text, ())):
+            return
+        found = unfolding_of(self.file)
+        if found.most == UNFOLD_TIMES:
+            yield f"  unfold: up to {UNFOLD_TIMES} iterations can be fired as one"
+        elif found.most > 1:
+            yield f"  unfold: up to {found.most} iterations can be fired as one. {found.why}"
+        else:
+            yield f"  unfold: no two iterations can be fired as one. {found.why}"
 
     # ---- repetition vectors
 
@@ -159,7 +183,7 @@ class Summary:
             return ""
         if len(names) == 1 and len(found) > 2:
             numbers = sorted({values[names[0]] for values in found})
-            if numbers == list(range(numbers[0], numbers[-1] + 1)):
+            if len(numbers) == numbers[-1] - numbers[0] + 1:
                 return f" where {names[0]} = {numbers[0]} to {numbers[-1]}"
         shown = [" and ".join(f"{name} = {values[name]}" for name in names if name in values) for values in found]
         shown = [words for words in dict.fromkeys(shown) if words]

@@ -176,6 +176,12 @@ def is_token(field):
     return bool(TOKEN.fullmatch(field)) and is_whole(int(field[:4000]))
 
 
+def is_heading(record):
+    """Whether a record looks like the names of columns: words alone, and at least two."""
+    fields = record.part(0, record.count())
+    return len(fields) > 1 and all(re.fullmatch(rb" *[A-Za-z_].*", field) for field in fields)
+
+
 class TokenFaults:
     """Tells of the faults of a token file. `inputs` has the names of the top graph's inputs."""
 
@@ -224,6 +230,10 @@ class TokenFaults:
             hints.append("This looks like a token. Each row begins with the name of an input, and has all tokens of it.")
         if ";" in name or "\t" in name:
             hints.append("Fields are separated by commas.")
+        if name[:1] in ("#", "/"):
+            hints.append("A token file has no comments.")
+        elif row == 1 and not meant and is_heading(record):
+            hints.append("A token file has no header row: take it away.")
         if name[:1] in "{[<" and name:
             hints.append("This looks like another kind of file. The words of the call may be in the wrong order: the graph file comes first.")
         return joined([f"Row {row} begins with {quoted(name)}, which is no input of the top graph.", known, *hints])

@@ -17,7 +17,7 @@ COMMANDS = {
     "upgrade": ("GRAPH",),
 }
 # Words of the launcher, each with those behind it.
-LAUNCHER = {"explain": "COMMAND WORDS..", "check": "GRAPH", "report": "GRAPH TOKENS ITERATIONS WORKERS FILE.html", "draw": "WORDS..", "kernels": "[NAME]"}
+LAUNCHER = {"explain": "COMMAND WORDS..", "check": "GRAPH", "report": "GRAPH TOKENS ITERATIONS WORKERS FILE.html [TIMES]", "draw": "WORDS..", "kernels": "[NAME]"}
 # The bounds of each number, and how many digits it may have.
 NUMBERS = {"ITERATIONS": (0, ITERATIONS, 5), "WORKERS": (1, WORKERS, 2), "NUMBER": (0, SOAK_NUMBER, 5), "TIMES": (1, UNFOLD_TIMES, 2)}
 
