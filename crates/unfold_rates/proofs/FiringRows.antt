@@ -4,12 +4,13 @@ use Rattle.std.proofs.lemmas.Bool.{cases_lt}
 use Rattle.std.proofs.lemmas.List.Sums.{get_or-le-sum_by}
 use Rattle.std.specs.Prelude.{slice_range, zip}
 use Rattle.std.specs.List.{AllPass, filter, flat_map, range_with_len}
+use Rattle.firing_laws.specs.Moving.{moved_row}
 use Rattle.level_laws.specs.Unfolded.{multiplied}
 use Rattle.level_laws.proofs.Multiplied.{at_multiplied}
 use Rattle.pisdf_meaning.specs.Endings.{child_path}
 use Rattle.pisdf_meaning.specs.declared.outcome.TraceRow.{TraceRow}
 use Rattle.pisdf_model.specs.declared.actor.Actor.{Actor}
-use Rattle.unfold_rates.specs.Cut.{firings_rows, is_within, moved_row, moved_rows}
+use Rattle.unfold_rates.specs.Cut.{firings_rows, is_within, moved_rows}
 use Rattle.unfold_rates.specs.Spans.{ArePicked}
 use Rattle.unfold_rates.proofs.Picking.{range_snoc}
 
