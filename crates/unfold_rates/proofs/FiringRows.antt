@@ -4,12 +4,13 @@ use Rattle.std.proofs.lemmas.Bool.{cases_lt}
 use Rattle.std.proofs.lemmas.List.Sums.{get_or-le-sum_by}
 use Rattle.std.specs.Prelude.{slice_range, zip}
 use Rattle.std.specs.List.{AllPass, filter, flat_map, range_with_len}
+use Rattle.firing_laws.specs.Moving.{moved_row}
 use Rattle.level_laws.specs.Unfolded.{multiplied}
 use Rattle.level_laws.proofs.Multiplied.{at_multiplied}
 use Rattle.pisdf_meaning.specs.Endings.{child_path}
 use Rattle.pisdf_meaning.specs.declared.outcome.TraceRow.{TraceRow}
 use Rattle.pisdf_model.specs.declared.actor.Actor.{Actor}
-use Rattle.unfold_rates.specs.Cut.{firings_rows, is_within, moved_row, moved_rows}
+use Rattle.unfold_rates.specs.Cut.{firings_rows, is_within, moved_rows}
 use Rattle.unfold_rates.specs.Spans.{ArePicked}
 use Rattle.unfold_rates.proofs.Picking.{range_snoc}
 
@@ -30,20 +31,16 @@ pub filter_passes : (test : TraceRow → Bool) (rows : List TraceRow) → AllPas
 filter_passes test [] k d inside = absurd (omega arith)
 filter_passes test (x ∷ rows) k d inside = passes test (filter test rows) (test x) x refl (filter_passes test rows) k d inside
 
-pub span_passes : (rows : List TraceRow) (top actor : List ℕ) (all : ℕ) (bounds : List ℕ) → ArePicked rows top actor all bounds → (k : ℕ) → k < all → (from : List ℕ) → from ≡ child_path top actor k →
-    AllPass (λ (row : TraceRow). is_within from row.path) (slice_range rows (slice_index bounds k) (slice_index bounds (k + 1)))
-span_passes rows top actor all bounds picked k inside from is =
+pub span_passes : (rows : List TraceRow) (top actor : List ℕ) (all : ℕ) (bounds : List ℕ) → ArePicked rows top actor all bounds → (k : ℕ) → k < all →
+    AllPass (λ (row : TraceRow). is_within (child_path top actor k) row.path) (slice_range rows (slice_index bounds k) (slice_index bounds (k + 1)))
+span_passes rows top actor all bounds picked k inside =
     let own : TraceRow → Bool = λ row. is_within (child_path top actor k) row.path in
     let T : List TraceRow → Type 0 = λ l. AllPass own l in
-    let P : List ℕ → Type 0 = λ f. AllPass (λ (row : TraceRow). is_within f row.path) (slice_range rows (slice_index bounds k) (slice_index bounds (k + 1))) in
-    subst P (sym is) (subst T (sym (picked.picked k inside)) (filter_passes own rows))
+    subst T (sym (picked.picked k inside)) (filter_passes own rows)
 
-pub span_moved : (rows : List TraceRow) (top actor : List ℕ) (all : ℕ) (bounds : List ℕ) → ArePicked rows top actor all bounds → (k : ℕ) → k < all → (from to other : List ℕ) → from ≡ child_path top actor k → to ≡ other →
-    map (moved_row from to) (slice_range rows (slice_index bounds k) (slice_index bounds (k + 1))) ≡ moved_rows (child_path top actor k) other rows
-span_moved rows top actor all bounds picked k inside from to other is is' =
-    let span : List TraceRow = slice_range rows (slice_index bounds k) (slice_index bounds (k + 1)) in
-    ap (λ (f : List ℕ). map (moved_row f to) span) is ∙ ap (λ (t : List ℕ). map (moved_row (child_path top actor k) t) span) is'
-    ∙ ap (λ (l : List TraceRow). map (moved_row (child_path top actor k) other) l) (picked.picked k inside)
+pub span_moved : (rows : List TraceRow) (top actor : List ℕ) (all : ℕ) (bounds : List ℕ) → ArePicked rows top actor all bounds → (k : ℕ) → k < all → (other : List ℕ) →
+    map (moved_row (child_path top actor k) other) (slice_range rows (slice_index bounds k) (slice_index bounds (k + 1))) ≡ moved_rows (child_path top actor k) other rows
+span_moved rows top actor all bounds picked k inside other = ap (λ (l : List TraceRow). map (moved_row (child_path top actor k) other) l) (picked.picked k inside)
 
 pub pushed_more : (before old now more one : List TraceRow) (firings : List TraceRow) → now ≡ old ++ one → old ≡ before ++ firings → more ≡ firings ++ one → now ≡ before ++ more
 pushed_more before old now more one firings pushed so_far next = pushed ∙ ap (λ (l : List TraceRow). l ++ one) so_far ∙ append_assoc before firings one ∙ ap (λ (l : List TraceRow). before ++ l) (sym next)

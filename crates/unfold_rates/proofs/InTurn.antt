@@ -1,4 +1,4 @@
--- What an iteration of the unfolded graphs gives is cut into what the iterations give.
+-- What an iteration of the unfolded graphs gives is cut into what the iterations give, wherever these are all done.
 use Rattle.std.proofs.Common.{◌≡◌, ℕ, zero, suc, ◌+◌, ◌*◌, ◌<◌, ◌≤◌, ◌^◌, ℤ, List, [], ◌∷◌, length, map, slice_get, slice_index, sum, refl, ap, ap₂, sym, ◌∙◌, subst, arith}
 use Rattle.std.specs.Arc.{arc_value}
 use Rattle.std.specs.List.{range_with_len}
@@ -7,7 +7,7 @@ use Rattle.firing_laws.specs.Runs.{path_of}
 use Rattle.kernel_gate.specs.Laws.{GiveLengths}
 use Rattle.kernel_gate.specs.Signed.{Counts}
 use Rattle.level_laws.proofs.Multiplied.{at_multiplied}
-use Rattle.level_laws.specs.Laws.{CountsAreMultiplied}
+use Rattle.level_laws.specs.Laws.{CountsAreMultiplied, UnfoldedIsScheduled}
 use Rattle.level_laws.specs.Parts.{parts, parts_at}
 use Rattle.level_laws.specs.Unfolded.{multiplied}
 use Rattle.param_resolver.specs.Numbering.{acting}
@@ -21,20 +21,23 @@ use Rattle.pisdf_model.specs.declared.actor.Actor.{Actor}
 use Rattle.pisdf_model.specs.declared.graph.Graph.{Graph}
 use Rattle.pisdf_model.specs.declared.graph.Graphs.{Graphs}
 use Rattle.sdf_level.specs.Limits.{firings_limit}
-use Rattle.unfold_rates.specs.Cut.{IsUnfolded, piece_at, piece_rows}
+use Rattle.unfold_rates.specs.Cut.{AreCut, IsUnfolded, piece_at, piece_rows}
 use Rattle.unfold_rates.specs.Exact.{IsExact}
-use Rattle.unfold_rates.specs.InTurn.{CanBegin, GoesInTurn, UnfoldsTo}
+use Rattle.unfold_rates.specs.InTurn.{CanBegin, GiveInTurn, GoesAsOne, GoesInTurn, UnfoldsTo}
 use Rattle.unfold_rates.specs.Multiplied.{multiplied_graph, unfolded_graphs}
 use Rattle.unfold_rates.specs.Spans.{AreInOrder}
 use Rattle.unfold_rates.specs.declared.unfolded.Unfolded.{Unfolded}
+use Rattle.unfold_rates.proofs.AtOnce.{gives_as_one}
 use Rattle.unfold_rates.proofs.FiringRows.{index_le_sum, piece_small}
 use Rattle.unfold_rates.proofs.Fitted.{EarlyUnfolds}
+use Rattle.unfold_rates.proofs.GroupFirings.{CanRun, RunsGoAlong, number_of}
+use Rattle.unfold_rates.proofs.OnlyTurns.{turns_once}
 use Rattle.unfold_rates.proofs.PieceRows.{piece_rows_are}
 use Rattle.unfold_rates.proofs.TopRuns.{TopRan}
 use Rattle.unfold_rates.proofs.TraceOrder.{AreAlike, AreBelow, TheyMove, all_act, in_order, top_there, traces_are}
-use Rattle.unfold_rates.proofs.Turns.{CanRun, RunsGoAlong, all_in_turn, number_of, pieces_from, ran, rows_of}
+use Rattle.unfold_rates.proofs.Turns.{all_in_turn, pieces_from, ran, rows_of}
 
-module _ (unfolds : EarlyUnfolds) (counted : CountsAreMultiplied) (below : AreBelow) (alike : AreAlike) (move : TheyMove) (go_along : RunsGoAlong) (can_run : CanRun) where
+module _ (unfolds : EarlyUnfolds) (counted : CountsAreMultiplied) (below : AreBelow) (alike : AreAlike) (move : TheyMove) (go_along : RunsGoAlong) (can_run : CanRun) (scheduled : UnfoldedIsScheduled) where
   module _ (graphs : Graphs) (times : ℕ) (some : 1 ≤ times) (few : times ≤ 64) (valid : AreValid graphs) (exact : IsExact graphs times) (signatures : List Counts) (kernels : KernelsFit signatures graphs.graphs) (give : GiveLengths signatures)
       (state ins : List (List ℤ)) (begins : CanBegin graphs times state ins) (iteration : Iteration) (left : List (List ℤ)) (gives : IterationGives (unfolded_graphs graphs times) ins state iteration left) where
     abbrev g : Graph
@@ -101,5 +104,14 @@ module _ (unfolds : EarlyUnfolds) (counted : CountsAreMultiplied) (below : AreBe
           };
         }
 
+    goes_as_one : (signatures : List Counts) (state ins : List (List ℤ)) (pieces : List Iteration) (left : List (List ℤ)) → KernelsFit signatures graphs.graphs → GiveLengths signatures → CanBegin graphs u.times state ins →
+        GiveInTurn graphs (parts u.times ins) state pieces left → GoesAsOne u state ins pieces left
+    goes_as_one signatures state ins pieces left kernels give begins go =
+        let one = gives_as_one unfolds counted below alike move go_along can_run scheduled graphs u.times is.some is.few valid is.exact signatures kernels give state ins begins pieces left go in
+        let gives = subst (λ (x : Graphs). IterationGives x ins state one.iteration left) (sym is.graphs_are) one.gives in
+        let turn = goes_in_turn signatures state ins one.iteration left kernels give begins gives in
+        let same = turns_once graphs (parts u.times ins) state turn.pieces pieces left left turn.in_turn go in
+        record { iteration = one.iteration; gives = gives; cut = subst (λ (its : List Iteration). AreCut u one.iteration its) same turn.cut }
+
     pub unfolds_to : UnfoldsTo graphs u
-    unfolds_to = record { there = goes_in_turn }
+    unfolds_to = record { there = goes_in_turn; back = goes_as_one }

@@ -19,6 +19,9 @@ pub mod ServedLinks
 pub mod TraceOrder
 pub mod Restart
 pub mod PartTokens
+pub mod GroupFirings
 pub mod Turns
+pub mod AtOnce
+pub mod OnlyTurns
 pub mod PieceRows
 pub mod InTurn

@@ -1,10 +1,10 @@
 -- The parts of the tokens at the sources of a level are the tokens of the parts.
 use Rattle.std.proofs.Common.{◌≡◌, ℕ, zero, suc, ◌*◌, ◌/◌, ℤ, List, [], ◌∷◌, ◌++◌, length, map, take, drop, slice_index, refl, ap, ap₂, sym, ◌∙◌}
 use Rattle.std.specs.List.{range_with_len}
+use Rattle.level_laws.proofs.Multiplied.{at_multiplied}
 use Rattle.level_laws.specs.Parts.{part, parts, parts_at}
 use Rattle.pisdf_meaning.specs.States.{tokens_at}
 use Rattle.pisdf_meaning.proofs.StateSizes.{size_at}
-use Rattle.unfold_rates.proofs.UnfoldedLevel.{at_multiplied}
 
 abbrev none : List ℤ
 none = []

@@ -1,6 +1,7 @@
 -- The rows of each iteration, among those of the iteration of the unfolded graphs.
 use Rattle.std.proofs.Common.{◌≡◌, ℕ, zero, suc, ◌+◌, ◌*◌, ◌<◌, ◌^◌, List, [], ◌∷◌, ◌++◌, length, map, zip, slice_get, slice_index, Option, Some, refl, ap, ap₂, sym, ◌∙◌, subst, arith}
 use Rattle.std.specs.List.{flat_map, range_with_len}
+use Rattle.firing_laws.specs.Moving.{moved_row}
 use Rattle.firing_laws.specs.Runs.{path_of}
 use Rattle.pisdf_meaning.specs.Endings.{child_path}
 use Rattle.pisdf_meaning.specs.Running.{Traces, child_rows}
@@ -8,7 +9,7 @@ use Rattle.pisdf_meaning.specs.declared.outcome.TraceRow.{TraceRow}
 use Rattle.pisdf_model.specs.declared.actor.Actor.{Actor}
 use Rattle.pisdf_model.specs.declared.graph.Graph.{Graph}
 use Rattle.param_resolver.specs.Numbering.{acting}
-use Rattle.unfold_rates.specs.Cut.{firings_rows, moved_row, moved_rows, piece_rows}
+use Rattle.unfold_rates.specs.Cut.{firings_rows, moved_rows, piece_rows}
 use Rattle.unfold_rates.specs.Spans.{AreInOrder}
 use Rattle.unfold_rates.proofs.Picking.{picked_is, rows_are_from, rows_from}
 use Rattle.unfold_rates.proofs.TraceOrder.{all_act}

@@ -1,7 +1,8 @@
 -- The level of the unfolded top graph is the unfolded level.
-use Rattle.std.proofs.Common.{◌≡◌, ℕ, zero, suc, ◌*◌, false, not, ℤ, List, [], ◌∷◌, ◌++◌, length, map, slice_index, Some, refl, ap, sym, ◌∙◌, arith}
+use Rattle.std.proofs.Common.{◌≡◌, ℕ, ◌*◌, false, not, ℤ, List, [], ◌∷◌, ◌++◌, length, map, slice_index, Some, refl, ap, sym, ◌∙◌}
 use Rattle.std.specs.List.{filter, flat_map, range_with_len}
 use Rattle.std.proofs.lemmas.List.{append-nil, length-map}
+use Rattle.level_laws.proofs.Multiplied.{at_multiplied}
 use Rattle.level_laws.specs.Unfolded.{multiplied, unfolded}
 use Rattle.param_resolver.specs.EarlyCheck.{Checked, check_by, check_of, config_outs, early_numbers, early_of}
 use Rattle.param_resolver.specs.EarlyView.{EarlyView}
@@ -27,11 +28,6 @@ no_outs : (check : ℕ → List ℤ → Checked) (values : List ℤ) (actors : L
 no_outs check values [] all = refl
 no_outs check values (actor ∷ actors) all =
     append_same [] (config_outs check values actor.body) [] _ (no_body_outs check values actor.body (first_configures_nothing actor actors all)) (no_outs check values actors (others_configure_nothing actor actors all))
-
-pub at_multiplied : (times : ℕ) (rates : List ℕ) (i : ℕ) → slice_index (map (λ r. times * r) rates) i ≡ times * slice_index rates i
-at_multiplied times [] i = omega arith
-at_multiplied times (r ∷ rates) zero = refl
-at_multiplied times (r ∷ rates) (suc i) = at_multiplied times rates i
 
 each_multiplied : (times : ℕ) (rates : List ℕ) (places : List ℕ) → map (λ i. slice_index (map (λ r. times * r) rates) i) places ≡ map (λ r. times * r) (map (λ i. slice_index rates i) places)
 each_multiplied times rates [] = refl

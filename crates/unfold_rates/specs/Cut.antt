@@ -1,7 +1,8 @@
 -- One iteration of unfolded graphs, cut into those of the graphs that were unfolded.
-use Rattle.std.specs.Prelude.{◌≡◌, ℕ, ◌+◌, ◌*◌, ◌≤◌, ◌==◌, ◌&&◌, Bool, true, List, [], ◌∷◌, ◌++◌, length, map, take, drop, zip, bytes_eq, slice_get, Some}
+use Rattle.std.specs.Prelude.{◌≡◌, ℕ, ◌+◌, ◌*◌, ◌≤◌, ◌==◌, ◌&&◌, Bool, true, List, [], ◌∷◌, length, map, take, drop, zip, bytes_eq, slice_get, Some}
 use Rattle.std.specs.List.{filter, flat_map, range_with_len}
 use Rattle.std.specs.Arc.{arc_value}
+use Rattle.firing_laws.specs.Moving.{moved_row}
 use Rattle.level_laws.specs.Parts.{parts_at}
 use Rattle.pisdf_meaning.specs.Endings.{child_path}
 use Rattle.pisdf_meaning.specs.declared.outcome.Iteration.{Iteration}
@@ -34,11 +35,7 @@ ends_or_goes_down (b ∷ rest) = b == 47
 abbrev pub is_within : List ℕ → List ℕ → Bool
 is_within path other = bytes_eq path (take (length path) other) && ends_or_goes_down (drop (length path) other)
 
--- the row stands at a path instead of another
-abbrev pub moved_row : List ℕ → List ℕ → TraceRow → TraceRow
-moved_row from to row = record row { path = to ++ drop (length from) row.path }
-
--- the rows within a path, at another instead
+-- the rows within a path, each with the other in place of it
 abbrev pub moved_rows : List ℕ → List ℕ → List TraceRow → List TraceRow
 moved_rows from to rows = map (moved_row from to) (filter (λ (row : TraceRow). is_within from row.path) rows)
 

@@ -31,9 +31,18 @@ pub record GoesInTurn (graphs : Graphs) (u : Unfolded) (state ins : List (List �
   pub in_turn : GiveInTurn graphs (parts u.times ins) state pieces left
   pub cut : AreCut u iteration pieces
 
+-- the iteration of the unfolded graphs that is cut into these, and leaves the same state
+pub record GoesAsOne (u : Unfolded) (state ins : List (List ℤ)) (pieces : List Iteration) (left : List (List ℤ)) : Type 0 where
+  pub iteration : Iteration
+  pub gives : IterationGives (arc_value u.graphs) ins state iteration left
+  pub cut : AreCut u iteration pieces
+
 -- Where an iteration of the unfolded graphs begins with fitting tokens, and kernels give as many tokens as they are asked for, it
--- stands for those of the graphs: if it is done, so are they all, one after the other.
+-- stands for those of the graphs: if it is done, so are they all, one after the other; and if they all are, so is it.
 pub record UnfoldsTo (graphs : Graphs) (u : Unfolded) : Type 0 where
   pub there : (signatures : List Counts) (state ins : List (List ℤ)) (iteration : Iteration) (left : List (List ℤ)) →
       KernelsFit signatures graphs.graphs → GiveLengths signatures → CanBegin graphs u.times state ins →
       IterationGives (arc_value u.graphs) ins state iteration left → GoesInTurn graphs u state ins iteration left
+  pub back : (signatures : List Counts) (state ins : List (List ℤ)) (pieces : List Iteration) (left : List (List ℤ)) →
+      KernelsFit signatures graphs.graphs → GiveLengths signatures → CanBegin graphs u.times state ins →
+      GiveInTurn graphs (parts u.times ins) state pieces left → GoesAsOne u state ins pieces left

@@ -1,15 +1,18 @@
-ghost use Rattle.std.specs.Prelude.{◌≡◌, ◌≤◌, ◌<◌, ◌+◌, ◌*◌, ◌++◌, ℕ, ℤ, List as Seq, length, map, slice_index, sum, IfOk, OnOk};
+ghost use Rattle.std.specs.Prelude.{◌≡◌, ◌≤◌, ◌<◌, ◌+◌, ◌*◌, ◌++◌, ℕ, ℤ, List as Seq, length, map, slice_get, slice_index, sum, IfOk, OnOk, Some};
 ghost use Rattle.std.specs.Arc.{arc_value};
 ghost use Rattle.level_laws.specs.Parts.{part as part_of, parts_at as parts_of};
 ghost use Rattle.level_laws.specs.Unfolded.{multiplied};
+ghost use Rattle.firing_laws.specs.Moving.{moved_row};
+ghost use Rattle.pisdf_meaning.specs.Endings.{child_path};
 ghost use Rattle.pisdf_meaning.specs.Run.{IterationGives};
+ghost use Rattle.pisdf_meaning.specs.declared.outcome.TraceRow.{TraceRow as Row};
 ghost use Rattle.pisdf_model.specs.Valid.{AreValid};
 ghost use Rattle.pisdf_model.specs.declared.graph.Graphs.{Graphs as SomeGraphs};
 ghost use Rattle.sdf_level.specs.Limits.{firings_limit};
-ghost use Rattle.std.specs.List.{range_with_len};
-ghost use Rattle.unfold_rates.specs.Cut.{AreCut, IsUnfolded, firings_rows, piece_at, piece_rows as rows_of_piece};
+ghost use Rattle.std.specs.List.{AllPass, range_with_len};
+ghost use Rattle.unfold_rates.specs.Cut.{AreCut, IsUnfolded, firings_rows, is_within, piece_at, piece_rows as rows_of_piece};
 ghost use Rattle.sdf_level.specs.Lists.{lists_of};
-ghost use Rattle.unfold_rates.specs.Spans.{AreInOrder, ArePicked, ArePickedEach, AreSpans};
+ghost use Rattle.unfold_rates.specs.Spans.{AreInOrder, ArePicked, ArePickedEach, AreSpans, IsSpan};
 
 use crate::rows::{end_of_rows, firing_path, push_moved};
 use crate::unfolded::Unfolded;
@@ -18,7 +21,7 @@ use level_laws::counts_multiplied;
 use param_expr::Name;
 use param_resolver::early_unfolds;
 use pisdf_meaning::{Iteration, TraceRow};
-use pisdf_model::Graph;
+use pisdf_model::{Graph, Graphs};
 use sdf_level::List;
 use std::alloc::{AllocError, Global};
 
@@ -52,6 +55,26 @@ fn parts_at(
     Ok(List::new(parts))
 }
 
+/// Where the rows of this firing of an actor end, that begin at `start`.
+fn end_of_firing(
+    alloc: Global,
+    top: &Name,
+    actor: &Name,
+    firing: u32,
+    rows: &[TraceRow],
+    start: usize,
+) -> Result<usize, AllocError>
+    requires { start ≤ length rows.now }
+    ensures { IfOk result (IsSpan rows.now (child_path top.now actor.now firing) start) }
+{
+    // Where no row is left, as in graphs without parameters that are chosen, no path is made.
+    if start == rows.len() {
+        return Ok(start);
+    }
+    let path = firing_path(alloc, top, actor, firing)?;
+    Ok(end_of_rows(rows, start, &path))
+}
+
 /// Where the rows of each firing of an actor begin, and where those of the last one end. Those of the first begin at `start`.
 fn bounds_of(
     alloc: Global,
@@ -68,8 +91,7 @@ fn bounds_of(
     bounds.push(start)?;
     let mut end = start;
     for firing in 0..firings {
-        let path = firing_path(alloc, top, actor, firing)?;
-        end = end_of_rows(rows, end, &path);
+        end = end_of_firing(alloc, top, actor, firing, rows, end)?;
         bounds.push(end)?;
     }
     Ok(bounds)
@@ -107,6 +129,28 @@ fn all_bounds(
     Ok(all)
 }
 
+/// Adds these rows of one firing of an actor, as those of its firing `turn`.
+fn push_firing(
+    alloc: Global,
+    top: &Name,
+    actor: &Name,
+    firing: u32,
+    turn: u32,
+    rows: &[TraceRow],
+    trace: &mut Vec<TraceRow>,
+) -> Result<(), AllocError>
+    requires { AllPass (λ (row : Row). is_within (child_path top.now actor.now firing) row.path) rows.now }
+    ensures { OnOk result (trace.new.items ≡ trace.old.items ++ map (moved_row (child_path top.now actor.now firing) (child_path top.now actor.now turn)) rows.now) }
+{
+    // Most firings have no rows, and need no paths.
+    if rows.is_empty() {
+        return Ok(());
+    }
+    let from = firing_path(alloc, top, actor, firing)?;
+    let to = firing_path(alloc, top, actor, turn)?;
+    push_moved(alloc, rows, &from, &to, trace)
+}
+
 /// Adds the rows of so many firings of an actor from `first` on, as those of its firings from 0 on.
 fn push_firings(
     alloc: Global,
@@ -124,11 +168,9 @@ fn push_firings(
 {
     for turn in 0..count {
         let firing = first + turn;
-        let from = firing_path(alloc, top, actor, firing)?;
-        let to = firing_path(alloc, top, actor, turn)?;
         let start = bounds[firing as usize];
         let end = bounds[firing as usize + 1];
-        push_moved(alloc, &rows[start..end], &from, &to, trace)?;
+        push_firing(alloc, top, actor, firing, turn, &rows[start..end], trace)?;
     }
     Ok(())
 }
@@ -190,6 +232,14 @@ fn pieces_of(
     Ok(List::new(pieces))
 }
 
+/// The top graph.
+fn top_of(graphs: &Graphs) -> &Graph
+    requires { graphs.now.top < length graphs.now.graphs }
+    ensures { slice_get graphs.now.graphs graphs.now.top ≡ Some result.now }
+{
+    &graphs.graphs.items()[graphs.top as usize]
+}
+
 impl Unfolded {
     /// The iterations that one of the unfolded graphs stands for, in their order. Each has the part of the outputs with its number,
     /// and of each actor's firings those from its number times the actor's count on, as firings from 0 on.
@@ -207,8 +257,7 @@ impl Unfolded {
         graphs_below();
         levels_alike();
         actors_move();
-        let graphs = self.graphs.graphs.items();
-        let top = &graphs[self.graphs.top as usize];
+        let top = top_of(&self.graphs);
         let outs = iteration.outs.items();
         let rows = iteration.trace.items();
         pieces_of(alloc, top, self.counts.items(), self.times, outs, rows)

@@ -3,7 +3,8 @@ ghost use Rattle.std.specs.Prelude.{◌≡◌, ◌≤◌, ◌++◌, IsTrue, drop
 ghost use Rattle.std.specs.List.{AllPass};
 ghost use Rattle.pisdf_meaning.specs.declared.outcome.TraceRow.{TraceRow as Row};
 ghost use Rattle.pisdf_meaning.specs.Endings.{child_path};
-ghost use Rattle.unfold_rates.specs.Cut.{is_within as within, moved_row as moved};
+ghost use Rattle.firing_laws.specs.Moving.{moved_row as moved};
+ghost use Rattle.unfold_rates.specs.Cut.{is_within as within};
 ghost use Rattle.unfold_rates.specs.Spans.{IsSpan};
 
 use param_expr::Name;

@@ -11,7 +11,7 @@ use crate::fault::UnfoldFault;
 use crate::multiplying::unfolded_graphs;
 use crate::unfolded::Unfolded;
 use firing_laws::{actors_move, graphs_below, level_runs_move, levels_alike};
-use level_laws::counts_multiplied;
+use level_laws::{counts_multiplied, unfolded_scheduled};
 use param_resolver::early_unfolds;
 use pisdf_meaning::runnable;
 use pisdf_model::Graphs;
@@ -45,6 +45,7 @@ pub fn unfold(alloc: Global, graphs: &Graphs, times: u32) -> Result<Unfolded, Un
     levels_alike();
     actors_move();
     level_runs_move();
+    unfolded_scheduled();
     let schedule = exact(alloc, graphs, times)?;
     let unfolded = unfolded_graphs(alloc, graphs, times)?;
     let shared = Arc::new(alloc, unfolded)?;

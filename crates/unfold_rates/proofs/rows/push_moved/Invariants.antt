@@ -1,5 +1,5 @@
 use Rattle.std.proofs.Common.{◌≡◌, ◌++◌, map, take}
-use Rattle.unfold_rates.specs.Cut.{moved_row}
+use Rattle.firing_laws.specs.Moving.{moved_row}
 use Rattle.unfold_rates.proofs.rows.push_moved.Given as goal
 
 abbrev pub invariant-loop-row : goal.invariant-loop-row

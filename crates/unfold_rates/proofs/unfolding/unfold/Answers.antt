@@ -23,7 +23,7 @@ returns-clause-fits c =
 
 pub returns-clause-unfolds : goal.returns-clause-unfolds
 returns-clause-unfolds c =
-    unfolds_to c.early_unfolds.ensures c.counts_multiplied.ensures c.graphs_below.ensures c.levels_alike.ensures.level c.actors_move.ensures c.level_runs_move.ensures c.runnable.ensures c.args.graphs.now
+    unfolds_to c.early_unfolds.ensures c.counts_multiplied.ensures c.graphs_below.ensures c.levels_alike.ensures.level c.actors_move.ensures c.level_runs_move.ensures c.runnable.ensures c.unfolded_scheduled.ensures c.args.graphs.now
     record { graphs = c.in_ok-shared.shared; counts = c.in_ok-schedule.schedule.counts; times = c.args.times } c.requires.valid
     record {
       some = c.requires.some;
