@@ -40,6 +40,9 @@ near_abs (negsuc n) h = omega (arith, ints)
 pub central : (a : ℤ) → a <ℤ pos (2 ^ 62) → int_lt (negsuc 4611686018427387903) a ≡ true → IsCentral a
 central a below above = (below, grind (arith, ints))
 
+pub at_zero : IsCentral (pos 0)
+at_zero = (omega (arith, ints), omega (arith, ints))
+
 pub product_fits : (x z : ℤ) → IsNear x → IsNear z → FitsSigned w64 (x *ℤ z)
 product_fits x z h k = fits_signed_mul w64 x z (2 ^ 27) (2 ^ 27) (near_abs x h) (near_abs z k) (omega arith)
 
