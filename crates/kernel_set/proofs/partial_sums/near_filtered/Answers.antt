@@ -1,4 +1,4 @@
-use Rattle.std.proofs.Common.{◌≡◌, ◌-◌, ◌^◌, ◌<◌, zip, length, get_or, reverse, ap, sym, ◌∙◌, rules, arith, FitsSigned, w64, to_z, of_z}
+use Rattle.std.proofs.Common.{◌≡◌, ◌-◌, ◌^◌, ◌<◌, zip, length, get_or, reverse, ap, sym, ◌∙◌, rules, arith, FitsSigned, w64, to_z}
 use Rattle.std.specs.Prelude.{ℤ, pos, Ok, ◌+ℤ◌, ◌*ℤ◌}
 use Rattle.std.proofs.lemmas.Int.{to_z-of_z}
 use Rattle.std.proofs.lemmas.List.{length-reverse}

@@ -1,4 +1,4 @@
-use Rattle.std.proofs.Common.{◌≡◌, ℕ, ◌+◌, length, take, ap, ◌∙◌, sym, rules, arith, FitsSigned, w64}
+use Rattle.std.proofs.Common.{◌≡◌, ℕ, ◌+◌, length, take, ◌∙◌, sym, rules, arith, FitsSigned, w64}
 use Rattle.std.specs.Prelude.{pos}
 use Rattle.std.proofs.lemmas.Int.{to_z-of_z}
 use Rattle.kernel_gate.specs.Tokens.{mean_of, last, places, quotient}
