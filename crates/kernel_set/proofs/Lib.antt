@@ -1,5 +1,6 @@
-pub mod Steps
-pub mod Near
-pub mod Firings
 pub mod Bins
+pub mod Firings
 pub mod Middles
+pub mod Windows
+pub mod Near
+pub mod Steps

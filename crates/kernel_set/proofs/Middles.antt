@@ -1,14 +1,12 @@
 -- An odd number of tokens has exactly one number in the middle.
-use Rattle.std.proofs.Common.{◌≡◌, ℕ, ◌+◌, ◌-◌, ◌/◌, ◌%◌, ◌≤◌, ◌<◌, Bool, true, false, cond, List, [], ◌∷◌, length, get_or, suc, refl, sym, ap, ◌∙◌, arith}
-use Rattle.std.specs.Prelude.{ℤ, pos, nat_le, ◌<ℤ◌, int_lt, count_by, sum_by, find, Some}
+use Rattle.std.proofs.Common.{◌≡◌, ℕ, ◌+◌, ◌-◌, ◌/◌, ◌%◌, ◌≤◌, ◌<◌, Bool, true, false, cond, List, [], ◌∷◌, ◌++◌, length, get_or, suc, refl, sym, ap, ◌∙◌, arith, length-append}
+use Rattle.std.specs.Prelude.{ℤ, pos, nat_le, ◌<ℤ◌, int_lt, count_by, sum_by, find, Contains, Some}
 use Rattle.std.specs.Ordering.{int_cmp, is_lt}
-use Rattle.std.specs.List.Sorted.{IsPermutation, IsSorted}
+use Rattle.std.specs.List.Sorted.{IsPermutation, IsSplitAround}
 use Rattle.std.proofs.lemmas.Int.{ints, by_lt_z}
 use Rattle.std.proofs.lemmas.Bool.Decides.{nat_tests}
-use Rattle.std.proofs.lemmas.Cmp.{int_cmp_total}
-use Rattle.std.proofs.lemmas.List.Elements.{Contains-get_or}
 use Rattle.std.proofs.lemmas.List.Recursion.{is_count_by, is_sum_by}
-use Rattle.std.proofs.lemmas.List.Sorted.{Contains-permutation, IsPermutation-sym, length_permutation, ranks_by, sorted_far, sum_by-IsPermutation}
+use Rattle.std.proofs.lemmas.List.Sorted.{Contains-permutation, IsPermutation-sym, length_permutation, sum_by-IsPermutation}
 use Rattle.kernel_gate.specs.Counted.{smaller, larger, in_the_middle}
 use Rattle.kernel_set.proofs.Firings.{both}
 
@@ -60,7 +58,7 @@ pub find_passes : (p : ℤ → Bool) (xs : List ℤ) (t : ℤ) → find p xs ≡
 find_passes p [] t e = cc
 find_passes p (x ∷ xs) t e = first_passes p x xs t (p x) refl (find_passes p xs t) e
 
--- tokens in order have the middle one in the middle
+-- tokens that are split around one of them, half of them on each side, have it in the middle
 weighed : (b : Bool) (n : ℕ) → cond b (1 + n) n ≡ cond b 1 0 + n
 weighed true n = refl
 weighed false n = omega arith
@@ -79,40 +77,56 @@ one : (b : Bool) (t n : ℕ) → t ≤ n → cond b (1 + t) t ≤ suc n
 one true t n le = omega arith
 one false t n le = omega arith
 
--- where only tokens before a place pass, no more pass than stand there
-few_before : (p : ℤ → Bool) (ys : List ℤ) (n : ℕ) → ((k : ℕ) → n ≤ k → k < length ys → p (get_or ys k (pos 0)) ≡ false) → tally p ys ≤ n
-few_before p [] n fails = omega arith
-few_before p (y ∷ ys) Prim.Native.Nat.zero fails =
-    none (p y) (tally p ys) 0 (fails 0 (omega arith) (omega arith)) (few_before p ys 0 (λ k le lt. fails (suc k) (omega arith) (omega arith)))
-few_before p (y ∷ ys) (Prim.Native.Nat.suc n) fails =
-    one (p y) (tally p ys) n (few_before p ys n (λ k le lt. fails (suc k) (omega arith) (omega arith)))
-
--- where only tokens from a place on pass
-few_after : (p : ℤ → Bool) (ys : List ℤ) (n : ℕ) → ((k : ℕ) → k < n → k < length ys → p (get_or ys k (pos 0)) ≡ false) → tally p ys ≤ length ys - n
-few_after p [] n fails = omega arith
-few_after p (y ∷ ys) Prim.Native.Nat.zero fails =
-    let fewer = few_after p ys 0 (λ k lt. absurd (omega arith)) in
-    let all = one (p y) (tally p ys) (length ys) (omega arith) in
-    omega arith
-few_after p (y ∷ ys) (Prim.Native.Nat.suc n) fails =
-    let fewer = none (p y) (tally p ys) (length ys - n) (fails 0 (omega arith) (omega arith)) (few_after p ys n (λ k lt lt_all. fails (suc k) (omega arith) (omega arith))) in
-    omega arith
-
 not_less : (x y : ℤ) → is_lt (int_cmp x y) ≡ false → int_lt x y ≡ false
 not_less x y e = grind (arith, ints)
 
-in_order : (ys : List ℤ) → IsSorted int_cmp ys → (i j : ℕ) → i ≤ j → j < length ys → int_lt (get_or ys j (pos 0)) (get_or ys i (pos 0)) ≡ false
-in_order ys sorted i j le lt =
-    not_less (get_or ys j (pos 0)) (get_or ys i (pos 0)) (sorted_far (λ x y. is_lt (int_cmp x y)) (ranks_by int_cmp_total (λ (x : ℤ). x)) ys sorted i j (pos 0) le lt)
+not_itself : (x : ℤ) → int_lt x x ≡ false
+not_itself x = grind (arith, ints)
 
-middle_passes : (xs ys : List ℤ) → length xs % 2 ≡ 1 → IsPermutation xs ys → IsSorted int_cmp ys → in_the_middle xs (get_or ys (length xs / 2) (pos 0)) ≡ true
-middle_passes xs ys odd moved sorted =
-    let h = length xs / 2 in
-    let t = get_or ys h (pos 0) in
+join : (b : Bool) (m k n : ℕ) → m ≡ k + n → cond b (1 + m) m ≡ cond b (1 + k) k + n
+join true m k n e = omega arith
+join false m k n e = e
+
+tally_append : (p : ℤ → Bool) (xs ys : List ℤ) → tally p (xs ++ ys) ≡ tally p xs + tally p ys
+tally_append p [] ys = omega arith
+tally_append p (x ∷ xs) ys = join (p x) (tally p (xs ++ ys)) (tally p xs) (tally p ys) (tally_append p xs ys)
+
+-- where no token passes
+none_pass : (p : ℤ → Bool) (ys : List ℤ) → ((k : ℕ) → k < length ys → p (get_or ys k (pos 0)) ≡ false) → tally p ys ≤ 0
+none_pass p [] fails = omega arith
+none_pass p (y ∷ ys) fails = none (p y) (tally p ys) 0 (fails 0 (omega arith)) (none_pass p ys (λ k lt. fails (suc k) (omega arith)))
+
+at_most_all : (p : ℤ → Bool) (ys : List ℤ) → tally p ys ≤ length ys
+at_most_all p [] = omega arith
+at_most_all p (y ∷ ys) = one (p y) (tally p ys) (length ys) (at_most_all p ys)
+
+length_split : (front back : List ℤ) (t : ℤ) → length (front ++ t ∷ back) ≡ length front + suc (length back)
+length_split front back t = length-append front (t ∷ back)
+
+-- tokens of which those before one aren't larger, and those after it aren't smaller
+few_smaller_than : (front back : List ℤ) (t : ℤ) → IsSplitAround int_cmp front t back → tally (λ u. int_lt u t) (front ++ t ∷ back) ≤ length front
+few_smaller_than front back t split =
+    let p : ℤ → Bool = λ u. int_lt u t in
+    let before = at_most_all p front in
+    let after = none_pass p back (λ k lt. not_less (get_or back k (pos 0)) t (split.1 k (pos 0) lt)) in
+    let here = none (p t) (tally p back) 0 (not_itself t) after in
+    omega (arith, tally_append p front (t ∷ back))
+
+few_larger_than : (front back : List ℤ) (t : ℤ) → IsSplitAround int_cmp front t back → tally (λ u. int_lt t u) (front ++ t ∷ back) ≤ length back
+few_larger_than front back t split =
+    let p : ℤ → Bool = λ u. int_lt t u in
+    let before = none_pass p front (λ k lt. not_less t (get_or front k (pos 0)) (split.0 k (pos 0) lt)) in
+    let here = none (p t) (tally p back) (length back) (not_itself t) (at_most_all p back) in
+    omega (arith, tally_append p front (t ∷ back))
+
+middle_passes : (xs front back : List ℤ) (t : ℤ) → length xs % 2 ≡ 1 → length front ≡ length xs / 2 → IsPermutation xs (front ++ t ∷ back) → IsSplitAround int_cmp front t back
+    → in_the_middle xs t ≡ true
+middle_passes xs front back t odd at moved split =
+    let ys : List ℤ = front ++ t ∷ back in
     let len : length ys ≡ length xs = length_permutation xs ys moved in
-    let here : h < length ys = omega arith in
-    let before = few_before (λ u. int_lt u t) ys h (λ k le lt. in_order ys sorted h k le lt) in
-    let after = few_after (λ u. int_lt t u) ys (h + 1) (λ k lt lt_all. in_order ys sorted k h (omega arith) here) in
+    let sizes : length ys ≡ length front + suc (length back) = length_split front back t in
+    let before = few_smaller_than front back t split in
+    let after = few_larger_than front back t split in
     let few : smaller xs t ≤ (length xs - 1) / 2 = omega (arith, tally_is (λ u. int_lt u t) xs, tally_moved (λ u. int_lt u t) xs ys moved) in
     let many : larger xs t ≤ (length xs - 1) / 2 = omega (arith, tally_is (λ u. int_lt t u) xs, tally_moved (λ u. int_lt t u) xs ys moved) in
     both _ _ (is_le (smaller xs t) ((length xs - 1) / 2) few) (is_le (larger xs t) ((length xs - 1) / 2) many)
@@ -129,12 +143,18 @@ found_at p (x ∷ xs) (Prim.Native.Nat.suc k) d lt passes = later (p x) (found_a
     later true rest = (x, refl)
     later false rest = rest
 
--- an odd number of tokens has one in the middle, and an order shows it
-pub middle_found : (xs ys : List ℤ) → length xs % 2 ≡ 1 → IsPermutation xs ys → IsSorted int_cmp ys → find (in_the_middle xs) xs ≡ Some (get_or ys (length xs / 2) (pos 0))
-middle_found xs ys odd moved sorted =
-    let t = get_or ys (length xs / 2) (pos 0) in
-    let len : length ys ≡ length xs = length_permutation xs ys moved in
-    let passes = middle_passes xs ys odd moved sorted in
-    let held = Contains-permutation ys xs t (IsPermutation-sym xs ys moved) (Contains-get_or ys (length xs / 2) (pos 0) (omega arith)) in
+at_front : (front back : List ℤ) (t d : ℤ) → get_or (front ++ t ∷ back) (length front) d ≡ t
+at_front [] back t d = refl
+at_front (x ∷ front) back t d = at_front front back t d
+
+-- an odd number of tokens has one in the middle, which splits them around it
+pub middle_found : (xs front back : List ℤ) (t : ℤ) → length xs % 2 ≡ 1 → length front ≡ length xs / 2 → IsPermutation xs (front ++ t ∷ back) → IsSplitAround int_cmp front t back
+    → find (in_the_middle xs) xs ≡ Some t
+middle_found xs front back t odd at moved split =
+    let ys : List ℤ = front ++ t ∷ back in
+    let passes = middle_passes xs front back t odd at moved split in
+    let within : length front < length ys = omega (arith, length_split front back t) in
+    let holds : Contains ys t = (length front, within, at_front front back t t) in
+    let held = Contains-permutation ys xs t (IsPermutation-sym xs ys moved) holds in
     let found = found_at (in_the_middle xs) xs held.0 t held.1 (ap (in_the_middle xs) held.2 ∙ passes) in
     found.1 ∙ ap Some (the_same xs found.0 t odd (find_passes (in_the_middle xs) xs found.0 found.1) passes)

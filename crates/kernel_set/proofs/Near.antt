@@ -1,15 +1,14 @@
 -- Sums of tokens near 0 stay within i64.
-use Rattle.std.proofs.Common.{◌≡◌, ℕ, [], ◌∷◌, ◌++◌, refl, zip, take, drop, zero, suc, ◌-◌, ◌+◌, ◌*◌, ◌^◌, ◌<◌, ◌≤◌, ◌⊎◌, ⊎_elim, Bool, true, ◌&&◌, List, length, get_or, sym, ap, ◌∙◌, subst, arith, FitsSigned, w64}
+use Rattle.std.proofs.Common.{◌≡◌, ℕ, [], ◌∷◌, ◌++◌, refl, zip, take, drop, zero, suc, ◌-◌, ◌+◌, ◌*◌, ◌^◌, ◌<◌, ◌≤◌, ⊎_elim, Bool, true, ◌&&◌, List, length, get_or, sym, ap, ◌∙◌, subst, arith, FitsSigned, w64}
 use Rattle.std.specs.Prelude.{ℤ, pos, negsuc, int_lt, unsigned_abs, ◌+ℤ◌, ◌*ℤ◌, ◌≤ℤ◌, ◌<ℤ◌, Result, Ok, Err}
 use Rattle.std.proofs.lemmas.Int.{ints, unsigned_abs-mul, fits_signed_mul}
 use Rattle.std.proofs.lemmas.Bool.{and_parts, cases_lt}
 use Rattle.std.proofs.lemmas.List.{take-append-drop, drop-append-le, length-take-le, length-drop}
 use Rattle.std.proofs.lemmas.Slice.{between_is}
 use Rattle.std.specs.List.{between}
-use Rattle.kernel_gate.specs.Tokens.{bounded, running, onward}
+use Rattle.kernel_gate.specs.Tokens.{running, onward}
 use Rattle.kernel_gate.specs.declared.fault.KernelFault.{KernelFault}
 use Rattle.kernel_set.specs.Near.{IsNear, IsCentral}
-use Rattle.kernel_set.proofs.Steps.{bounded_fits}
 
 near_token : (t : ℤ) → int_lt t (pos (2 ^ 27)) ≡ true → int_lt (negsuc 134217727) t ≡ true → IsNear t
 near_token t below above = (grind (arith, ints), grind (arith, ints))
@@ -39,6 +38,9 @@ near_abs (negsuc n) h = omega (arith, ints)
 
 pub central : (a : ℤ) → a <ℤ pos (2 ^ 62) → int_lt (negsuc 4611686018427387903) a ≡ true → IsCentral a
 central a below above = (below, grind (arith, ints))
+
+pub at_zero : IsCentral (pos 0)
+at_zero = (omega (arith, ints), omega (arith, ints))
 
 pub product_fits : (x z : ℤ) → IsNear x → IsNear z → FitsSigned w64 (x *ℤ z)
 product_fits x z h k = fits_signed_mul w64 x z (2 ^ 27) (2 ^ 27) (near_abs x h) (near_abs z k) (omega arith)

@@ -21,8 +21,8 @@ fn above(limit: i64, x: &[i64]) -> usize
     count
 }
 
-/// The token in the middle by size: of the tokens in order, the one with as many before it as after it.
-#[tactic(auto, using(crate::proofs::Middles::middle_found))]
+/// The token in the middle by size: of the tokens in order, the one with as many before it as after it. It is
+/// selected (Hoare 1961, as std has it), since the others needn't be put in order.
 fn middle(x: &[i64]) -> i64
     requires odd { length x.now % 2 ≡ 1 }
     requires few { length x.now ≤ most_median_tokens }
@@ -31,8 +31,8 @@ fn middle(x: &[i64]) -> i64
     let mut room = [0i64; MAX_MEDIAN_TOKENS];
     let tokens = &mut room[..x.len()];
     tokens.copy_from_slice(x);
-    tokens.sort_unstable();
-    tokens[x.len() / 2]
+    let (_, token, _) = tokens.select_nth_unstable(x.len() / 2);
+    *token
 }
 
 /// The bin of a token, of bins from `low` on that are so wide, where it isn't below the first.

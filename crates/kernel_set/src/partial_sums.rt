@@ -1,7 +1,7 @@
 // Sums from the front, of tokens and of the products of two, up to the first fault. They are made part by part: where
 // the sum so far isn't far from 0, and all tokens of the next part are near 0, none of its steps can leave i64, and so
 // none has to be looked at. A processor compares and adds such tokens several at a time.
-ghost use Rattle.std.specs.Prelude.{◌≡◌, ◌≤◌, ◌<◌, ◌+◌, pos, length, zip, Ok};
+ghost use Rattle.std.specs.Prelude.{◌≡◌, ◌≤◌, ◌<◌, ◌+◌, pos, length, reverse, zip, Ok};
 ghost use Rattle.std.specs.Bool.{OnTrue};
 ghost use Rattle.kernel_gate.specs.Tokens.{running, plus_product, total, dot_product};
 ghost use Rattle.kernel_set.specs.Near.{AreNear, IsCentral, plus};
@@ -11,7 +11,7 @@ use crate::tokens::{checked_product, checked_sum, fold};
 use kernel_gate::KernelFault;
 
 /// The most tokens that are added at once.
-const PART: usize = 64;
+pub(crate) const PART: usize = 64;
 
 /// A token below this, and above its negative, is near 0.
 const NEAR: i64 = 134_217_728;
@@ -21,7 +21,7 @@ const CENTRAL: i64 = 4_611_686_018_427_387_904;
 
 /// Whether all tokens are near 0. It looks at all of them, so that several are compared at a time.
 #[inline(always)]
-fn are_near(x: &[i64]) -> bool
+pub(crate) fn are_near(x: &[i64]) -> bool
     ensures { OnTrue result (AreNear x.now) }
 {
     let mut near = true;
@@ -65,6 +65,22 @@ fn near_products(start: i64, x: &[i64], z: &[i64]) -> i64
     let mut all = start;
     for i in 0..x.len() {
         all += x[i] * z[i];
+    }
+    all
+}
+
+/// The sum of the products of taps near 0 and of the tokens of a window near 0, the first tap with the newest token.
+#[inline(always)]
+pub(crate) fn near_filtered(taps: &[i64], tokens: &[i64]) -> i64
+    requires taps { AreNear taps.now }
+    requires tokens { AreNear tokens.now }
+    requires few { length taps.now ≤ 64 }
+    requires same { length taps.now ≡ length tokens.now }
+    ensures { dot_product taps.now (reverse tokens.now) ≡ Ok result }
+{
+    let mut all = 0;
+    for j in 0..taps.len() {
+        all += taps[j] * tokens[taps.len() - 1 - j];
     }
     all
 }

@@ -1,12 +1,14 @@
 // The kernels that add up, over the whole input or over windows of it.
 ghost use Rattle.std.specs.Prelude.{◌≡◌, ◌+◌, ◌<◌, ◌≤◌, length, reverse, take};
+ghost use Rattle.std.specs.Bool.{OnTrue};
 ghost use Rattle.kernel_gate.specs.Value.{SameFrame, answer_of, told_by};
 ghost use Rattle.kernel_gate.specs.Signed.{Fits};
 ghost use Rattle.kernel_gate.specs.Tokens.{each, places, mean_of, dot_product, plus_product, window, last};
 ghost use Rattle.kernel_gate.specs.Sums.{sum_signature, sum_answer, mean_signature, mean_answer, dot_signature, dot_answer, fir_signature, fir_answer, moving_signature, moving_answer};
+ghost use Rattle.kernel_set.specs.Near.{AreNear, last_sum};
 ghost use Rattle.kernel_set.specs.Written.{Writes, alone};
 
-use crate::partial_sums::{accumulated, products, total};
+use crate::partial_sums::{PART, accumulated, are_near, near_filtered, products, total};
 use crate::tokens::checked_quotient;
 use kernel_gate::{Frame, KernelFault, MAX_MOVING_WIDTH};
 
@@ -50,14 +52,85 @@ fn filtered(taps: &[i64], tokens: &[i64]) -> Result<i64, KernelFault>
     Ok(all)
 }
 
+/// The fewest tokens for which a look at all of them takes less than the looks at each product and sum that it saves.
+const WORTH_A_LOOK: usize = 16;
+
+/// Whether taps and tokens are near 0, and the taps few, so that no sum of their products can leave i64. It is false of
+/// few tokens, where it isn't worth the look.
+fn can_only_fit(taps: &[i64], x: &[i64]) -> bool
+    ensures { OnTrue result (AreNear taps.now × AreNear x.now × (length taps.now ≤ 64)) }
+{
+    if x.len() < WORTH_A_LOOK {
+        return false;
+    }
+    if PART < taps.len() {
+        return false;
+    }
+    if !are_near(taps) {
+        return false;
+    }
+    if !are_near(x) {
+        return false;
+    }
+    true
+}
+
+/// A filtered window. Where it can only fit, no step is looked at.
+#[inline(always)]
+fn window_filtered(fits: bool, taps: &[i64], tokens: &[i64]) -> Result<i64, KernelFault>
+    requires fits { OnTrue fits (AreNear taps.now × AreNear tokens.now × (length taps.now ≤ 64)) }
+    requires same { length taps.now ≡ length tokens.now }
+    ensures { result ≡ dot_product taps.now (reverse tokens.now) }
+{
+    if fits {
+        return Ok(near_filtered(taps, tokens));
+    }
+    filtered(taps, tokens)
+}
+
 /// Writes the filtered windows, up to the first fault.
 fn write_filtered(taps: &[i64], x: &[i64], o: &mut [i64]) -> Result<(), KernelFault>
     requires taps { 1 ≤ length taps.now }
     requires shape { length o.old + length taps.now ≡ length x.now + 1 }
     ensures { Writes (each (λ n. dot_product taps.now (reverse (window x.now n (length taps.now)))) (places (length o.old))) result o.new }
 {
+    let fits = can_only_fit(taps, x);
     for n in 0..o.len() {
-        match filtered(taps, &x[n..n + taps.len()]) {
+        match window_filtered(fits, taps, &x[n..n + taps.len()]) {
+            Ok(y) => o[n] = y,
+            Err(fault) => return Err(fault),
+        }
+    }
+    Ok(())
+}
+
+/// The sum of the last tokens once the token at a place has come, and the one before all of them has left.
+#[inline(always)]
+fn moved_sum(all: i64, width: usize, n: usize, x: &[i64]) -> i64
+    requires width { width ≤ 64 }
+    requires place { n < length x.now }
+    requires near { AreNear x.now }
+    requires before { all ≡ last_sum width x.now n }
+    ensures { result ≡ last_sum width x.now (n + 1) }
+{
+    let grown = all + x[n];
+    if n < width {
+        return grown;
+    }
+    grown - x[n - width]
+}
+
+/// Writes the means of tokens near 0, each from the sum that the place before it has.
+fn write_near_means(width: usize, x: &[i64], o: &mut [i64]) -> Result<(), KernelFault>
+    requires width { width ≤ 64 }
+    requires same { length x.now ≡ length o.old }
+    requires near { AreNear x.now }
+    ensures { Writes (each (λ n. mean_of (last width (take (n + 1) x.now))) (places (length o.old))) result o.new }
+{
+    let mut all = 0;
+    for n in 0..o.len() {
+        all = moved_sum(all, width, n, x);
+        match checked_quotient(all, width.min(n + 1) as i64) {
             Ok(y) => o[n] = y,
             Err(fault) => return Err(fault),
         }
@@ -70,6 +143,9 @@ fn write_means(width: usize, x: &[i64], o: &mut [i64]) -> Result<(), KernelFault
     requires { length x.now ≡ length o.old }
     ensures { Writes (each (λ n. mean_of (last width (take (n + 1) x.now))) (places (length o.old))) result o.new }
 {
+    if width <= PART && are_near(x) {
+        return write_near_means(width, x, o);
+    }
     for n in 0..o.len() {
         let from = (n + 1).saturating_sub(width);
         match mean_of_tokens(&x[from..n + 1]) {

@@ -14,10 +14,10 @@ pub record IsReadTo (ds : List ℕ) (i v : ℕ) : Type 0 where
 pub read-start : (ds : List ℕ) → IsReadTo ds 0 0
 read-start ds = record { digits = refl; value = refl }
 
-one_more : (ds : List ℕ) (i : ℕ) → i < length ds → drop i ds ≡ get_or ds i 0 ∷ drop (i + 1) ds
+pub one_more : (ds : List ℕ) (i : ℕ) → i < length ds → drop i ds ≡ get_or ds i 0 ∷ drop (i + 1) ds
 one_more ds i h = rw (add-one, drop-cons ds i 0) refl
 
-digit_is : (c : ℕ) → is_ascii_digit c ≡ true → digit_value c ≡ c - 48
+pub digit_is : (c : ℕ) → is_ascii_digit c ≡ true → digit_value c ≡ c - 48
 digit_is c h = grind arith
 
 pub read-more : (ds : List ℕ) (i v : ℕ) → IsReadTo ds i v → i < length ds → is_ascii_digit (get_or ds i 0) ≡ true

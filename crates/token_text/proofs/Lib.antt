@@ -5,3 +5,5 @@ pub mod FieldFacts
 pub mod RowFacts
 pub mod StreamFacts
 pub mod ReadingFacts
+pub mod PlainFacts
+pub mod PlainRows

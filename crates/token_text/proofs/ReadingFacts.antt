@@ -137,14 +137,20 @@ map-twice : {A B C : Type 0} (f : A → B) (g : B → C) (xs : List A) → map g
 map-twice f g [] = refl
 map-twice f g (x ∷ xs) = ap (λ t. g (f x) ∷ t) (map-twice f g xs)
 
+-- the streams of all records, where no row has a fault
+pub all-read : (bytes : List ℕ) (names : List (List ℕ)) (before : List Record) (streams : List (Option (List ℤ))) → records_of bytes ≡ before → first_fault names [] 1 before ≡ None
+    → streams ≡ map (tokens_named before) names → read_of bytes names ≡ Ok (map (λ stream. unwrap_or stream []) streams)
+all-read bytes names before streams all sound given =
+    with-none bytes names (ap (first_fault names [] 1) all ∙ sound)
+    ∙ ap Ok (ap (streams_of names) all ∙ streams-are names before
+    ∙ sym (map-twice (tokens_named before) (λ stream. unwrap_or stream []) names) ∙ ap (map (λ stream. unwrap_or stream [])) (sym given))
+
 pub at-end : (bytes : List ℕ) (names : List (List ℕ)) (a b : Reader (Bor (List ℕ))) (row : ℕ) (streams : List (Option (List ℤ))) (r : Record)
     → IsReading bytes names a row streams → ReadRecord known a b false r → read_of bytes names ≡ Ok (map (λ stream. unwrap_or stream []) streams)
 unfolding records_of
 at-end bytes names a b row streams r h read =
-    let all = records-end (strip_bom bytes) h.left a.state h.before h.reached (rows-end known a b r default_config h.left h.by_default h.source read) in
-    with-none bytes names (ap (first_fault names [] 1) all ∙ h.sound)
-    ∙ ap Ok (ap (streams_of names) all ∙ streams-are names h.before
-    ∙ sym (map-twice (tokens_named h.before) (λ stream. unwrap_or stream []) names) ∙ ap (map (λ stream. unwrap_or stream [])) (sym h.given))
+    all-read bytes names h.before streams
+    (records-end (strip_bom bytes) h.left a.state h.before h.reached (rows-end known a b r default_config h.left h.by_default h.source read)) h.sound h.given
 
 -- a read of records of any length from bytes in memory fails for memory alone
 pub only-want : (a b : Reader (Bor (List ℕ))) (k : ErrorKind) → a.flexible ≡ true → ExplainsRead known a b false k → IsWant k

@@ -253,10 +253,10 @@ given-start old names row r e = record {
   whole = λ place h same. absurd (omega arith);
 }
 
-here-given : (f : List ℕ → Option (List ℤ)) (name other : List ℕ) (tokens : List ℤ) → bytes_eq other name ≡ true → with_tokens f name tokens other ≡ Some tokens
+pub here-given : (f : List ℕ → Option (List ℤ)) (name other : List ℕ) (tokens : List ℤ) → bytes_eq other name ≡ true → with_tokens f name tokens other ≡ Some tokens
 here-given f name other tokens e = rw e refl
 
-not-given : (f : List ℕ → Option (List ℤ)) (name other : List ℕ) (tokens : List ℤ) → bytes_eq other name ≡ false → with_tokens f name tokens other ≡ f other
+pub not-given : (f : List ℕ → Option (List ℤ)) (name other : List ℕ) (tokens : List ℤ) → bytes_eq other name ≡ false → with_tokens f name tokens other ≡ f other
 not-given f name other tokens e = rw e refl
 
 pub given-more : (old : List (Option (List ℤ))) (names : List (List ℕ)) (row : ℕ) (r : Record) (i : ℕ) (streams next : List (Option (List ℤ))) (tokens : List ℤ)

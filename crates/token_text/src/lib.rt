@@ -2,6 +2,7 @@
 #![tactic(auto)]
 
 mod fault;
+mod plain;
 mod reading;
 mod record;
 mod rows;

@@ -7,6 +7,7 @@ ghost use Rattle.token_text.specs.Records.{AreAllRecords, IsWant, Record, name_o
 ghost use Rattle.token_text.specs.Streams.{fault_at, number_fault, read_of, tokens_named, tokens_of, with_tokens};
 
 use crate::fault::TokenFault;
+use crate::plain::plain_streams;
 use crate::record::{name_field, tokens};
 use csv::{ByteRecord, Error, ErrorKind, ReaderBuilder};
 use param_expr::Name;
@@ -26,7 +27,7 @@ fn want_of_memory(error: Error) -> TokenFault
 }
 
 /// The first place of a name.
-fn place_of(names: &[Name], name: &[u8]) -> Option<usize>
+pub(crate) fn place_of(names: &[Name], name: &[u8]) -> Option<usize>
     ensures { result ≡ position_from (λ other. bytes_eq other name.now) 0 names.now }
 {
     names
@@ -35,14 +36,17 @@ fn place_of(names: &[Name], name: &[u8]) -> Option<usize>
 }
 
 /// A stream for each name, none of which a record has given yet.
-fn not_given(alloc: Global, names: &[Name]) -> Result<Vec<Option<List<i64>>>, AllocError>
+pub(crate) fn not_given(alloc: Global, names: &[Name]) -> Result<Vec<Option<List<i64>>>, AllocError>
     ensures { IfOk result (λ streams. streams.items ≡ map (tokens_named []) names.now) }
 {
     names.iter().map(|_| None).collect(alloc)
 }
 
 /// The streams, those that no record gave being empty.
-fn all_streams(alloc: Global, given: Vec<Option<List<i64>>>) -> Result<List<List<i64>>, AllocError>
+pub(crate) fn all_streams(
+    alloc: Global,
+    given: Vec<Option<List<i64>>>,
+) -> Result<List<List<i64>>, AllocError>
     ensures { IfOk result (λ streams. streams ≡ map (λ stream. unwrap_or stream []) given.items) }
 {
     let streams: Vec<List<i64>> = given
@@ -100,17 +104,8 @@ fn take_row(
     give(alloc, names, row, fields, streams)
 }
 
-/// Reads a token file: CSV records (RFC 4180) of a name and its tokens, which may differ in length, with no header row.
-///
-/// The answer has one list for each of `names`, in their order, which holds the tokens of the record of that name and
-/// is empty where no record has it. A name that stands at several places of `names` gives each of them its tokens.
-/// Otherwise it is the fault of the first row that has one: its name is none of `names`, an earlier row had it, or, of
-/// the first field that is no token, its number. Want of memory is possible at any time.
-pub fn read_tokens(
-    alloc: Global,
-    bytes: &[u8],
-    names: &[Name],
-) -> Result<List<List<i64>>, TokenFault>
+/// Reads a token file record by record, whatever its fields.
+fn read_records(alloc: Global, bytes: &[u8], names: &[Name]) -> Result<List<List<i64>>, TokenFault>
     ensures records { AreAllRecords bytes.now (records_of bytes.now) }
     ensures streams { IfOk result (λ streams. read_of bytes.now names.now ≡ Ok streams) }
     ensures fault { IfErr result (λ fault. (fault ≡ TokenFault.Memory) ⊎ (read_of bytes.now names.now ≡ Err fault)) }
@@ -132,4 +127,25 @@ pub fn read_tokens(
             Err(error) => return Err(want_of_memory(error)),
         }
     }
+}
+
+/// Reads a token file: CSV records (RFC 4180) of a name and its tokens, which may differ in length, with no header row.
+///
+/// The answer has one list for each of `names`, in their order, which holds the tokens of the record of that name and
+/// is empty where no record has it. A name that stands at several places of `names` gives each of them its tokens.
+/// Otherwise it is the fault of the first row that has one: its name is none of `names`, an earlier row had it, or, of
+/// the first field that is no token, its number. Want of memory is possible at any time.
+pub fn read_tokens(
+    alloc: Global,
+    bytes: &[u8],
+    names: &[Name],
+) -> Result<List<List<i64>>, TokenFault>
+    ensures records { AreAllRecords bytes.now (records_of bytes.now) }
+    ensures streams { IfOk result (λ streams. read_of bytes.now names.now ≡ Ok streams) }
+    ensures fault { IfErr result (λ fault. (fault ≡ TokenFault.Memory) ⊎ (read_of bytes.now names.now ≡ Err fault)) }
+{
+    if let Some(streams) = plain_streams(alloc, bytes, names)? {
+        return Ok(streams);
+    }
+    read_records(alloc, bytes, names)
 }

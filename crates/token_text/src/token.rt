@@ -4,10 +4,10 @@ ghost use Rattle.std.specs.Str.Parse.{digits_value};
 ghost use Rattle.token_text.specs.Token.{are_digits, token_of};
 
 /// The number of largest magnitude to which one more digit can be appended within an i64.
-const LAST_TO_EXTEND: u64 = 922_337_203_685_477_580;
+pub(crate) const LAST_TO_EXTEND: u64 = 922_337_203_685_477_580;
 
 /// The magnitude of the least i64.
-const LEAST_MAGNITUDE: u64 = 9_223_372_036_854_775_808;
+pub(crate) const LEAST_MAGNITUDE: u64 = 9_223_372_036_854_775_808;
 
 /// The number that one or more digits write, where it is at most the magnitude of the least i64.
 fn magnitude(digits: &[u8]) -> Option<u64>

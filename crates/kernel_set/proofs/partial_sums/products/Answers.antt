@@ -1,4 +1,4 @@
-use Rattle.std.proofs.Common.{◌≡◌, ◌≤◌, length, zip, ap, sym, ◌∙◌, rules, arith, FitsSigned, w64}
+use Rattle.std.proofs.Common.{◌≤◌, length, zip, ap, sym, ◌∙◌, rules, arith, FitsSigned, w64}
 use Rattle.std.proofs.lemmas.Int.{to_z-of_z}
 use Rattle.std.proofs.lemmas.Slice.Zip.{length-zip}
 use Rattle.kernel_gate.specs.Tokens.{running, plus_product}

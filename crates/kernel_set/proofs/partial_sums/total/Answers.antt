@@ -1,4 +1,4 @@
-use Rattle.std.proofs.Common.{◌≡◌, ap, sym, ◌∙◌, rules, arith, FitsSigned, w64}
+use Rattle.std.proofs.Common.{sym, rules, arith, FitsSigned, w64}
 use Rattle.std.proofs.lemmas.Int.{to_z-of_z}
 use Rattle.kernel_set.specs.Near.{plus}
 use Rattle.kernel_set.proofs.Near.{part_more, part_fault}

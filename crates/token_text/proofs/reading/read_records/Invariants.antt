@@ -1,6 +1,6 @@
 use Rattle.std.proofs.Common.{◌-◌, length}
 use Rattle.token_text.proofs.ReadingFacts.{IsReading}
-use Rattle.token_text.proofs.reading.read_tokens.Given as goal
+use Rattle.token_text.proofs.reading.read_records.Given as goal
 
 abbrev pub invariant-rows : goal.invariant-rows
 invariant-rows l = IsReading l.bytes l.names l.reader l.row l.streams.items
