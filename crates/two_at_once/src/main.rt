@@ -1,6 +1,7 @@
 //! Shows what no contract says: that workers run beside each other. Graphs are run by crews of 2, 4 and 16 workers, with kernels
 //! that wait for one another: as many as there are workers must have begun before one of them goes on. In two of the graphs
-//! kernels of one job meet, in two others the configuration actors of as many jobs, and in the last one kernels of two iterations.
+//! kernels of one job meet, in two others the configuration actors of as many jobs, and in the last one kernels of two
+//! or four iterations.
 #![tactic(auto)]
 
 mod meeting;
@@ -21,9 +22,9 @@ struct Run {
     workers: u32,
 }
 
-/// The runs, one after the other. An iteration of the last graph has one firing of a kernel, so two meet only where two iterations
-/// are fired as one.
-const RUNS: [Run; 7] = [
+/// The runs, one after the other. An iteration of the last graph has one firing of a kernel, so two or four meet only where
+/// as many iterations are fired as one.
+const RUNS: [Run; 8] = [
     Run {
         words: "run kernels.json kernels.csv 1 2",
         workers: 2,
@@ -51,6 +52,10 @@ const RUNS: [Run; 7] = [
     Run {
         words: "unfold 2 iterations.json iterations.csv 2 2",
         workers: 2,
+    },
+    Run {
+        words: "unfold 4 iterations.json four.csv 4 4",
+        workers: 4,
     },
 ];
 
