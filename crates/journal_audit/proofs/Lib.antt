@@ -1,0 +1,4 @@
+pub mod WholeLines
+pub mod NextLine
+pub mod Judging
+pub mod OneVerdict

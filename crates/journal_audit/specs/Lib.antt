@@ -1,0 +1,4 @@
+pub mod FirstBad
+pub mod Verdicts
+pub mod Reading
+pub mod Laws
