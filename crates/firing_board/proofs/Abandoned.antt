@@ -30,7 +30,7 @@ use Rattle.firing_board.specs.declared.run.Run.{Run}
 use Rattle.firing_board.proofs.Compilations.{compiles_at}
 use Rattle.firing_board.proofs.Framed.{FinishLaws, IsBack, LastsAs}
 use Rattle.firing_board.proofs.Leaving.{Mine, finishes_by, keeps_by, lent_at_worker, mine, starves_next}
-use Rattle.firing_board.proofs.Rows.{stays_same, the_same}
+use Rattle.firing_board.proofs.Rows.{firings_go_on, last_go_on, rows_same, stays_same, the_same}
 
 -- what a compilation is that may end so
 pub record IsCompilation (key : Key) (end : CompileEnd) (work : words.Work) : Type 0 where
@@ -128,7 +128,8 @@ module _ (key : Key) (laws : FinishLaws key) (old : Core) (starved : Bool) (keep
         let lends = λ (v : ℕ) (r : Run) (other : v ≢ w) (is : get_or old.running.items v None ≡ Some r). ap (λ (t : TableView). lent_in t r.row r.item) table_is in
         record {
           finishes = finishes_by laws.held key laws.lawful starved old keeps w lt work a answer ok runs new running_are journal_is lasts lends only laws.entered laws.one laws.tell true;
-          keeps = keeps_by laws.held key laws.lawful starved old keeps w lt work a answer ok runs new running_are journal_is lasts lends only true
+          firings = firings_go_on old.table new.table (last_go_on old.table new.table (rows_same old.table new.table table_is));
+          keeps = keeps_by laws.held key laws.lawful starved old keeps w lt work a answer ok runs new running_are journal_is lasts lends only true (last_go_on old.table new.table (rows_same old.table new.table table_is))
               (starves_next laws.held key laws.lawful starved old keeps w lt work a answer ok runs new running_are journal_is lasts lends only laws.entered);
           stays = λ e. refl;
         }

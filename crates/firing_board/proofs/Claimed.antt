@@ -3,6 +3,7 @@ use Rattle.std.proofs.Common.{◌≡◌, ◌≢◌, ◌⊎◌, ⊎_elim, ℕ, �
 use Rattle.std.proofs.lemmas.Bool.{cases_eq}
 use Rattle.std.proofs.lemmas.List.{get_or-set_same, get_or-set_other}
 use Rattle.kernel_gate.specs.Value.{Places}
+use Rattle.one_job.specs.Leased.{OneOwnerEach}
 use Rattle.job_preparing.specs.Handing.{mark_at}
 use Rattle.job_rules.specs.Items.{graph_of, rule}
 use Rattle.job_rules.specs.Words as words
@@ -33,7 +34,7 @@ use Rattle.job_table.specs.Laws.{ClaimsSuit, TablesMark}
 use Rattle.job_table.specs.Suits.{Suits}
 use Rattle.job_table.specs.View.{job_row, lent_in, row_at, table_of}
 use Rattle.job_table.specs.declared.row.Row.{Row}
-use Rattle.firing_board.specs.Core.{AreNumbered, HasEnd, IsLentToRunners, IsNumbered, StandsAt, held_of, lent_of}
+use Rattle.firing_board.specs.Core.{AreNumbered, HasEnd, IsLentToRunners, IsNumbered, RowsHaveOwners, StandsAt, held_of, lent_of}
 use Rattle.firing_board.specs.Finding.{IsFound}
 use Rattle.firing_board.specs.Handing.{path_in}
 use Rattle.firing_board.specs.Kept.{Keeps}
@@ -157,7 +158,7 @@ module _ (laws : ClaimLaws) (key : Key) (old : Core) (w : ℕ) (may : MayClaim k
       state_next : state_after key next ≡ after (rules key) (state_after key taken) (steps.Claim w place)
       state_next = state-snoc (rules key) (start (top_job key)) taken (steps.Claim w place)
 
-      suits_next : Suits key (state_after key next).marks new.table
+      pub suits_next : Suits key (state_after key next).marks new.table
       suits_next =
           let offered = subst (λ (r : Row). IsOfferedWork r.job run.item) (sym is_before) found.offered in
           let mine = laws.suit key found.marks run.row run.item mid.table new.table marks offered found.suits in
@@ -235,11 +236,25 @@ module _ (laws : ClaimLaws) (key : Key) (old : Core) (w : ℕ) (may : MayClaim k
           (λ other. from_old (sym (lends.others k i other) ∙ is))
           (cases_eq k run.row)
 
-      pub keeps_next : Keeps key new false
-      keeps_next = record {
+      -- of the row's job no cell has two owners
+      owners_next : OneOwnerEach (lent_in new.table run.row) → RowsHaveOwners new.table
+      owners_next own = record {
+        each = λ k. ⊎_elim
+            (λ (e : k ≡ run.row). subst (λ (x : ℕ). OneOwnerEach (lent_in new.table x)) (sym e) own)
+            (λ other. λ i j p q a b cell one two has again. may.keeps.owners.each k i j p q a b cell (was k i p other one) (was k j q other two) has again)
+            (cases_eq k run.row);
+        apart = λ k l i j p q one other lends_one lends_other here there same. kept_next.stands.apart k l (job_row one) (job_row other) (in_table new.table k one here) (in_table new.table l other there) same;
+      }
+        where
+          was : (k i : ℕ) (p : Places) → (k ≡ run.row → ⊥) → lent_in new.table k i ≡ Some p → lent_in old.table k i ≡ Some p
+          was k i p other is = sym (lends.others k i other ∙ kept.lent k i) ∙ is
+
+      pub keeps_next : OneOwnerEach (lent_in new.table run.row) → Keeps key new false
+      keeps_next own = record {
         is_key = may.keeps.is_key;
         one_each = ap (λ (rs : List (Option Run)). length rs) running_are ∙ (length-set old.running.items w (Some run) ∙ may.keeps.one_each);
         lent = to_runners;
+        owners = owners_next own;
         room = let room = t.room in omega (arith, room);
         taken = next;
         at = stands_next;

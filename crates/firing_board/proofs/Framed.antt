@@ -32,7 +32,7 @@ use Rattle.job_table.specs.Laws.{FinishesSuit, TablesMark}
 use Rattle.job_table.specs.View.{TableView, job_row, lent_by, lent_in, row_at, table_of}
 use Rattle.job_table.specs.declared.row.Row.{Row}
 use Rattle.firing_board.specs.Closing.{ClosesOn, KeepsJournal, latest}
-use Rattle.firing_board.specs.Core.{AreNumbered, HasEnd, IsEndFor, IsNumbered, held_of, lent_of, lent_with}
+use Rattle.firing_board.specs.Core.{AreNumbered, HasEnd, IsEndFor, IsNumbered, RowsGoOn, RowsLast, held_of, lent_of, lent_with}
 use Rattle.firing_board.specs.Finishes.{Finishes}
 use Rattle.firing_board.specs.Kept.{Keeps, StandsOrStarves, view_with}
 use Rattle.firing_board.specs.OnCore.{FinishesOn}
@@ -44,7 +44,7 @@ use Rattle.firing_board.specs.declared.run.Run.{Run}
 use Rattle.firing_board.proofs.Leaving.{Mine, finishes_by, keeps_by, lent_at_worker, mine, others_apart, starves_next}
 use Rattle.firing_board.proofs.Fields.{same_steps}
 use Rattle.firing_board.proofs.Openings.{task_by}
-use Rattle.firing_board.proofs.Rows.{in_table, stays_same, the_same}
+use Rattle.firing_board.proofs.Rows.{firings_go_on, in_table, last_go_on, marks_rows, rows_close, stays_same, the_same}
 use Rattle.firing_board.proofs.Runners.{held_as, held_set, inside_of, runners_less}
 
 -- the laws that are used here
@@ -179,13 +179,17 @@ module _ (key : Key) (laws : FinishLaws key) (old : Core) (starved : Bool) (keep
         (λ g. (sym (lends.others k i g) ∙ is, λ p. g p.0))
         (cases_eq k a.run.row)
 
+    rows_mid : RowsLast old.table mid.table
+    rows_mid = marks_rows a.run.row a.run.item (Done answer) old.table mid.table marks
+
     -- the board starved before
     pub starved_finishes : starved ≡ true → FinishesOn key old starved w mid starved
     starved_finishes is =
         let at = starves_next laws.held key laws.lawful starved old keeps w lt work a answer ok runs mid running_are journal_is lasts lends_so only laws.entered in
         record {
           finishes = finishes_by laws.held key laws.lawful starved old keeps w lt work a answer ok runs mid running_are journal_is lasts lends_so only laws.entered laws.one laws.tell starved;
-          keeps = keeps_by laws.held key laws.lawful starved old keeps w lt work a answer ok runs mid running_are journal_is lasts lends_so only starved (subst (λ (b : Bool). StandsOrStarves b key next mid) (sym is) at);
+          firings = firings_go_on old.table mid.table (last_go_on old.table mid.table rows_mid);
+          keeps = keeps_by laws.held key laws.lawful starved old keeps w lt work a answer ok runs mid running_are journal_is lasts lends_so only starved (last_go_on old.table mid.table rows_mid) (subst (λ (b : Bool). StandsOrStarves b key next mid) (sym is) at);
           stays = λ e. e;
         }
 
@@ -211,6 +215,7 @@ module _ (key : Key) (laws : FinishLaws key) (old : Core) (starved : Bool) (keep
               graphs_are = n.2.graphs_are ∙ m.2.graphs_are;
               workers_are = n.2.workers_are ∙ m.2.workers_are;
               firing_is = n.2.firing_is ∙ m.2.firing_is;
+              cells_stay = λ cells is. n.2.cells_stay cells (m.2.cells_stay cells is);
             },
             n.3 r.item m.3,
             λ i x was. n.4 i x (m.4 i x was),
@@ -237,6 +242,9 @@ module _ (key : Key) (laws : FinishLaws key) (old : Core) (starved : Bool) (keep
       only_new : (k i : ℕ) (places : Places) → lent_in new.table k i ≡ Some places → (lent_in old.table k i ≡ Some places) × ((k ≡ a.run.row) × (i ≡ a.run.item) → ⊥)
       only_new k i places is = only k i places (only_by k i places (row_at new.table k) refl is)
 
+      pub rows_new : RowsGoOn old.table new.table
+      rows_new = rows_close old.table mid.table new.table rows_mid kept.stay
+
       pub finishes_new : (after : Bool) → Finishes (view_with key old starved) (view_with key new after) w
       finishes_new after = finishes_by laws.held key laws.lawful starved old keeps w lt work a answer ok runs new running_new journal_new lasts_new lends_new only_new laws.entered laws.one laws.tell after
 
@@ -247,7 +255,8 @@ module _ (key : Key) (laws : FinishLaws key) (old : Core) (starved : Bool) (keep
       pub wanted_finishes : starved ≡ false → FinishesOn key old starved w new true
       wanted_finishes is = record {
         finishes = finishes_new true;
-        keeps = keeps_by laws.held key laws.lawful starved old keeps w lt work a answer ok runs new running_new journal_new lasts_new lends_new only_new true
+        firings = firings_go_on old.table new.table rows_new;
+        keeps = keeps_by laws.held key laws.lawful starved old keeps w lt work a answer ok runs new running_new journal_new lasts_new lends_new only_new true rows_new
             (starves_next laws.held key laws.lawful starved old keeps w lt work a answer ok runs new running_new journal_new lasts_new lends_new only_new laws.entered);
         stays = λ e. refl;
       }
@@ -331,10 +340,12 @@ module _ (key : Key) (laws : FinishLaws key) (old : Core) (keeps : Keeps key old
           let c = closes.closes in
           record {
             finishes = finishes_new key laws old false keeps w lt work runs answer ok mid marks lends running_are journal_is new kept false;
+            firings = starves.firings;
             keeps = record {
               is_key = starves.keeps.is_key;
               one_each = starves.keeps.one_each;
               lent = starves.keeps.lent;
+              owners = starves.keeps.owners;
               room = starves.keeps.room;
               taken = then;
               at = record {

@@ -1,8 +1,13 @@
 -- What a worker is handed is what a claim says.
 use Rattle.std.proofs.Common.{◌≡◌, ⊎_elim, inl, inr, ℕ, ◌-◌, true, false, Bool, eqb, nat_lt, List, [], ◌∷◌, ◌++◌, length, map, slice_index, get_or, Option, Some, None, refl, sym, ap, ◌∙◌, subst, arith}
-use Rattle.std.proofs.lemmas.Bool.{eq-eqb, eqb-true, le-ltb}
+use Rattle.std.proofs.lemmas.Bool.{eq-eqb, eqb-true, le-ltb, ltb-true}
+use Rattle.kernel_gate.specs.Leased.{AreWhole}
 use Rattle.kernel_gate.specs.Value.{Places}
-use Rattle.job_rules.specs.Items.{compile_number, node_base}
+use Rattle.nested_jobs.specs.Journals as steps
+use Rattle.one_job.specs.Leased.{OneOwnerEach}
+use Rattle.job_preparing.specs.Handing.{lent_at}
+use Rattle.board_rules.specs.Asking.{JobRow}
+use Rattle.job_rules.specs.Items.{compile_number, graph_of, node_base}
 use Rattle.job_rules.specs.Words as words
 use Rattle.nested_jobs.specs.Marks.{Busy}
 use Rattle.nested_jobs.specs.Rules.{Task, Work}
@@ -21,11 +26,12 @@ use Rattle.board_rules.specs.declared.entry.Entry.{Entry}
 use Rattle.board_rules.specs.declared.entry.Entry.TheVariants as entry
 use Rattle.board_rules.specs.declared.entry.Item.{Item}
 use Rattle.board_rules.specs.declared.entry.Item.TheVariants as items
-use Rattle.job_table.specs.Calls.{LendsItem, MarksItem}
-use Rattle.job_table.specs.View.{lent_in, job_row, row_at, table_of}
+use Rattle.job_table.specs.Calls.{LendsItem, MarksItem, StaysAs}
+use Rattle.job_table.specs.View.{TableView, firings_of, lent_by, lent_in, job_row, row_at, table_of}
 use Rattle.job_table.specs.declared.row.Row.{Row}
 use Rattle.firing_board.specs.Claims.{Claims, EntersAs, EntersItem, IsTicket, Picks}
-use Rattle.firing_board.specs.Core.{HasRoom}
+use Rattle.firing_board.specs.Core.{HasRoom, held_of}
+use Rattle.firing_board.specs.Firings.{FiringsGoOn, LeasesFrame, LeasesNode}
 use Rattle.firing_board.specs.Finding.{IsFound}
 use Rattle.firing_board.specs.Handing.{HandsCompilation, HandsFrame, HandsOut, claim_of, path_in}
 use Rattle.firing_board.specs.Kept.{view_with}
@@ -38,9 +44,10 @@ use Rattle.firing_board.specs.declared.claim.Claim.TheVariants as claim
 use Rattle.firing_board.specs.declared.claim.Ticket.{Ticket}
 use Rattle.firing_board.specs.declared.state.Core.{Core}
 use Rattle.firing_board.specs.declared.run.Run.{Run}
-use Rattle.firing_board.proofs.Claimed.{ClaimLaws, apart, entered_next, keeps_next, kept_next, lent_next, task_stands, work_next}
+use Rattle.firing_board.proofs.Claimed.{ClaimLaws, apart, entered_next, keeps_next, kept_next, lent_next, runs_next, suits_next, task_stands, work_next}
+use Rattle.firing_board.proofs.LeasedFrames.{behind_compilation, leases_node}
 use Rattle.firing_board.proofs.Openings.{task_by}
-use Rattle.firing_board.proofs.Rows.{in_table, the_same}
+use Rattle.firing_board.proofs.Rows.{firings_go_on, in_table, last_go_on, marks_rows, rows_on, the_same}
 use Rattle.firing_board.proofs.Runners.{held_as}
 use Rattle.firing_board.proofs.Took.{Took, as_before_through, lends_through, marks_through, took}
 
@@ -61,6 +68,26 @@ handed_claims false (words.Copies node read lens) (handed.Fire frame) ticket old
 handed_claims false (words.Copies node read lens) (handed.Copy other frame) ticket old new w is t p = (t, read, lens, is.1, subst (λ n. Picks old new w (words.Copies n read lens) (Some frame.places)) (sym is.0) p)
 handed_claims true (words.Compiles firing left) h ticket old new w is t p = absurd is
 handed_claims false (words.Compiles firing left) h ticket old new w is t p = absurd is
+
+handed_leases : (before : Bool) (work : words.Work) (h : Handed) (ticket : Ticket) (b : BoardView) (w : ℕ) → IsHandedFor before (Some (Work work)) h → (before ≡ false → LeasesNode b w (frame_of h).places) → (before ≡ true → AreWhole (frame_of h).places)
+    → LeasesFrame b w (claim_of ticket h)
+handed_leases true (words.Fires spot asked) (handed.Configure frame) ticket b w is node whole = whole refl
+handed_leases true (words.Fires spot asked) (handed.Fire frame) ticket b w is node whole = absurd is
+handed_leases true (words.Fires spot asked) (handed.Copy which frame) ticket b w is node whole = absurd is
+handed_leases false (words.Fires spot asked) (handed.Configure frame) ticket b w is node whole = absurd is
+handed_leases false (words.Fires spot asked) (handed.Fire frame) ticket b w is node whole = node refl
+handed_leases false (words.Fires spot asked) (handed.Copy which frame) ticket b w is node whole = absurd is
+handed_leases true (words.Copies which read lens) (handed.Configure frame) ticket b w is node whole = absurd is
+handed_leases true (words.Copies which read lens) (handed.Fire frame) ticket b w is node whole = absurd is
+handed_leases true (words.Copies which read lens) (handed.Copy other frame) ticket b w is node whole = absurd is
+handed_leases false (words.Copies which read lens) (handed.Configure frame) ticket b w is node whole = absurd is
+handed_leases false (words.Copies which read lens) (handed.Fire frame) ticket b w is node whole = absurd is
+handed_leases false (words.Copies which read lens) (handed.Copy other frame) ticket b w is node whole = node refl
+handed_leases true (words.Compiles firing left) h ticket b w is node whole = absurd is
+handed_leases false (words.Compiles firing left) h ticket b w is node whole = absurd is
+
+same_number : (before after : Row) → StaysAs before after → compilation_of after.job ≡ compilation_of before.job
+same_number before after stays = λ t. compile_number (graph_of (stays.graphs_are t).graphs (stays.firing_is t))
 
 -- ---- what is entered
 
@@ -139,8 +166,11 @@ module _ (laws : ClaimLaws) (key : Key) (old : Core) (w : ℕ) (may : MayClaim k
         after = record { legal = next.legal; entered = entered_next laws key old w may mid run found kept new item ticket item_is marks frame lends t };
         runs = work_next laws key old w may mid run found kept new item ticket item_is marks frame lends t;
         live = refl;
-        new_is = ap (λ (l : List (Option Places)). record { key = key; journal = new.journal.entries; starved = false; lent = l; kept = false }) (lent_next laws key old w may mid run found kept new item ticket item_is marks frame lends t);
+        new_is = ap (λ (l : List (Option Places)). record { key = key; journal = new.journal.entries; starved = false; firings = firings_of new.table; lent = l; kept = false }) (lent_next laws key old w may mid run found kept new item ticket item_is marks frame lends t);
       }
+
+  firings_claimed : MarksItem run.row run.item Busy mid.table new.table → FiringsGoOn (firings_of old.table) (firings_of new.table)
+  firings_claimed marks = firings_go_on old.table new.table (last_go_on old.table new.table (rows_on old.table mid.table new.table kept.rows (marks_rows run.row run.item Busy mid.table new.table marks)))
 
   entered_in : (item : Item) (ticket : Ticket) → Took mid w run item ticket new → EntersItem old.journal.entries new.journal.entries w item
   entered_in item ticket t = record { path = path_in mid run.row; entered = t.entries_are ∙ ap (λ (es : List Entry). es ++ entry.Claim w (path_in mid run.row) item ∷ []) kept.entries_are }
@@ -205,10 +235,29 @@ module _ (laws : ClaimLaws) (key : Key) (old : Core) (w : ℕ) (may : MayClaim k
         let e = handed_enters (graph_in found.row.job) run.item found.offered.work f.handed f.ticket (view_with key old false) (view_with key new false) w work
         (λ (at : run.item ≡ compilation_of found.row.job). f.framed (at ∙ ap (λ (r : Row). compilation_of r.job) (sym row)))
         (subst (EntersItem old.journal.entries new.journal.entries w) item_is entered) in
+        let here : row_at new.table run.row ≡ Some f.marks.after = ap (λ (v : TableView). row_at v run.row) f.enters.table_is ∙ f.marks.now in
+        let own : OneOwnerEach (lent_in new.table run.row) = subst (λ (o : Option Row). OneOwnerEach (lent_by o)) (sym here) f.owners in
+        let lent : lent_at f.marks.after.job.lent run.item ≡ places = sym (ap (λ (o : Option Row). lent_by o run.item) here) ∙ lends.here in
+        let was : f.marks.before ≡ found.row = the_same (row_at mid.table run.row) f.marks.before found.row f.marks.here found.here in
+        let number : compilation_of f.marks.after.job ≡ compilation_of found.row.job = same_number f.marks.before f.marks.after f.marks.stays ∙ ap (λ (r : Row). compilation_of r.job) was in
+        let next = kept_next laws key old w may mid run found kept new item f.ticket item_is marks places lends t in
+        let entries = entered_next laws key old w may mid run found kept new item f.ticket item_is marks places lends t in
+        let suits = suits_next laws key old w may mid run found kept new item f.ticket item_is marks places lends t in
+        let runs = runs_next laws key old w may mid run found kept new item f.ticket item_is marks places lends t in
+        let runs_here = runs.2 ∙ ap (λ (r : JobRow). Some (run.item ∷ r.place)) (the_same (table_of new.table run.row) runs.0 (job_row f.marks.after) runs.1 (in_table new.table run.row f.marks.after here)) in
+        let other : run.item ≡ compilation_of found.row.job → ⊥ = λ at. f.framed (at ∙ ap (λ (r : Row). compilation_of r.job) (sym row)) in
+        let leases = handed_leases before found.offered.work f.handed f.ticket (view_with key new false) w work
+        (λ (late : nat_lt run.item (compilation_of found.row.job) ≡ false).
+        leases_node key (may.keeps.taken ++ steps.Claim w (run.item ∷ found.row.place) ∷ []) new (held_of new.running.items) next entries suits w run.row run.item f.marks.after here runs_here f.leases (frame_of f.handed).places lent
+        (behind_compilation (compilation_of f.marks.after.job) run.item (ap (nat_lt run.item) number ∙ late) (λ at. other (at ∙ number))))
+        (λ (early : nat_lt run.item (compilation_of found.row.job) ≡ true).
+        f.leases.actors run.item (frame_of f.handed).places (ltb-true run.item (compilation_of f.marks.after.job) (ap (nat_lt run.item) number ∙ early)) lent) in
         record {
           claims = subst (Claims (view_with key old false) (view_with key new false) w) (sym f.result_is) c;
           enters = subst (EntersAs (view_with key old false) (view_with key new false) w) (sym f.result_is) e;
-          keeps = keeps_next laws key old w may mid run found kept new item f.ticket item_is marks places lends t;
+          firings = firings_claimed marks;
+          leases = subst (LeasesFrame (view_with key new false) w) (sym f.result_is) leases;
+          keeps = keeps_next laws key old w may mid run found kept new item f.ticket item_is marks places lends t own;
         }
 
     compilation_claims : run.item ≡ compilation_of h.row.job → HandsCompilation mid w run new result → ClaimsOn key old w new result
@@ -238,7 +287,10 @@ module _ (laws : ClaimLaws) (key : Key) (old : Core) (w : ℕ) (may : MayClaim k
         record {
           claims = subst (Claims (view_with key old false) (view_with key new false) w) (sym f.result_is) (c f.row row);
           enters = subst (EntersAs (view_with key old false) (view_with key new false) w) (sym f.result_is) (entered_in items.Compile f.ticket t);
-          keeps = keeps_next laws key old w may mid run found kept new items.Compile f.ticket named marks None lends t;
+          firings = firings_claimed marks;
+          leases = subst (LeasesFrame (view_with key new false) w) (sym f.result_is) tt;
+          keeps = keeps_next laws key old w may mid run found kept new items.Compile f.ticket named marks None lends t
+              (λ i j p q a b cell one two has again. may.keeps.owners.each run.row i j p q a b cell (sym (as_before run.row i ∙ kept.lent run.row i) ∙ one) (sym (as_before run.row j ∙ kept.lent run.row j) ∙ two) has again);
         }
 
     pub hands_claims : ClaimsOn key old w new result

@@ -16,6 +16,7 @@ use Rattle.firing_board.specs.OnCore.{ClaimsOn, MayClaim}
 use Rattle.firing_board.specs.declared.claim.Claim.TheVariants as claim
 use Rattle.firing_board.specs.declared.state.Core.{Core}
 use Rattle.firing_board.specs.declared.run.Run.{Run}
+use Rattle.firing_board.proofs.Rows.{firings_go_on, last_go_on, rows_same}
 use Rattle.firing_board.proofs.Runners.{held_as, inside_of}
 
 -- a worker that runs something, where not all run nothing
@@ -47,6 +48,8 @@ module _ (key : Key) (old : Core) (w : ℕ) (may : MayClaim key old w) (none : (
       new_is = refl;
     };
     enters = refl;
+    firings = firings_go_on old.table old.table (last_go_on old.table old.table (rows_same old.table old.table refl));
+    leases = tt;
     keeps = may.keeps;
   }
 
@@ -64,5 +67,7 @@ module _ (key : Key) (old : Core) (w : ℕ) (may : MayClaim key old w) (none : (
           new_is = refl;
         };
         enters = refl;
+        firings = firings_go_on old.table old.table (last_go_on old.table old.table (rows_same old.table old.table refl));
+        leases = tt;
         keeps = may.keeps;
       }

@@ -7,6 +7,7 @@ use Rattle.board_rules.specs.Laws.{JournalsTellSteps}
 use Rattle.firing_board.specs.Claims.{Claims, EntersAs, Picks, Stays}
 use Rattle.firing_board.specs.Ends.{EndsAs, HasFinished, HasLongTraces, IsOver}
 use Rattle.firing_board.specs.Finishes.{Finishes}
+use Rattle.firing_board.specs.Firings.{LeasesFrame, LeasesNode}
 use Rattle.firing_board.specs.Kept.{IsBoard, Keeps, key_of, view_of, view_with}
 use Rattle.firing_board.specs.OnCore.{MayClaim}
 use Rattle.firing_board.specs.Runs.{AreAllIdle, IsIdle, IsSound, Runs}
@@ -59,6 +60,32 @@ claims_as k old new w claim.Wait h = stays_as k old new _ h
 claims_as k old new w claim.Finished h = stays_as k old new _ h
 claims_as k old new w claim.Starved h = ap (keeping k) h
 
+node_as : (k : Bool) (b : BoardView) (w : ℕ) (places : Places) → LeasesNode b w places → LeasesNode (keeping k b) w places
+node_as k b w places h = record {
+  number = h.number;
+  firing = h.firing;
+  here = h.here;
+  cells = h.cells;
+  cells_are = h.cells_are;
+  taken = h.taken;
+  at = at_as k b h.taken h.at;
+  job = h.job;
+  is_open = h.is_open;
+  of_job = h.of_job;
+  node = h.node;
+  runs = h.runs;
+  leases = h.leases;
+}
+
+pub leases_as : (k : Bool) (b : BoardView) (w : ℕ) (c : Claim) → LeasesFrame b w c → LeasesFrame (keeping k b) w c
+leases_as k b w (claim.Fire ticket frame) h = node_as k b w frame.places h
+leases_as k b w (claim.Configure ticket frame) h = h
+leases_as k b w (claim.Copy ticket node frame) h = node_as k b w frame.places h
+leases_as k b w (claim.Compile ticket task) h = h
+leases_as k b w claim.Wait h = h
+leases_as k b w claim.Finished h = h
+leases_as k b w claim.Starved h = h
+
 pub enters_as : (k : Bool) (old new : BoardView) (w : ℕ) (c : Claim) → EntersAs old new w c → EntersAs (keeping k old) (keeping k new) w c
 enters_as k old new w (claim.Fire ticket frame) h = h
 enters_as k old new w (claim.Configure ticket frame) h = h
@@ -80,7 +107,7 @@ finishes_as k old new w h = record {
 }
 
 pub sound_as : (k : Bool) (b : BoardView) → IsSound b → IsSound (keeping k b)
-sound_as k b h = record { is_key = h.is_key; one_each = h.one_each; taken = h.taken; at = at_as k b h.taken h.at; unlent = h.unlent }
+sound_as k b h = record { is_key = h.is_key; one_each = h.one_each; taken = h.taken; at = at_as k b h.taken h.at; unlent = h.unlent; owners = h.owners; open_so = h.open_so }
 
 finished_as : (k : Bool) (b : BoardView) → HasFinished b → HasFinished (keeping k b)
 finished_as k b h = record { taken = h.taken; at = at_as k b h.taken h.at; ended = h.ended }

@@ -28,9 +28,9 @@ use Rattle.board_rules.specs.Legal.{AreLegal, ArePickedFrom, IsPicked, journal_o
 use Rattle.board_rules.specs.declared.entry.Entry.TheVariants as entry
 use Rattle.board_rules.specs.declared.entry.Entry.{Entry}
 use Rattle.job_table.specs.Calls.{StaysAs}
-use Rattle.job_table.specs.View.{TableView, lent_in, row_at}
+use Rattle.job_table.specs.View.{TableView, firings_of, lent_in, row_at}
 use Rattle.job_table.specs.declared.row.Row.{Row}
-use Rattle.firing_board.specs.Core.{IsLentToRunners, held_of, lent_of, lent_with, runners}
+use Rattle.firing_board.specs.Core.{IsLentToRunners, RowsGoOn, held_of, lent_of, lent_with, runners}
 use Rattle.firing_board.specs.Finishes.{Finishes}
 use Rattle.firing_board.specs.Kept.{Keeps, StandsOrStarves, view_with}
 use Rattle.firing_board.specs.Returning.{HasFinish}
@@ -42,7 +42,7 @@ use Rattle.firing_board.specs.declared.run.Run.{Run}
 use Rattle.firing_board.proofs.Fields.{entered_by, legal_by, same_steps}
 use Rattle.firing_board.proofs.Found.{task_in}
 use Rattle.firing_board.proofs.Handed.{run_of}
-use Rattle.firing_board.proofs.Rows.{lasts_refl, the_same}
+use Rattle.firing_board.proofs.Rows.{lasts_refl, owners_stay, the_same}
 use Rattle.firing_board.proofs.Runners.{held_as, inside_of, lent_set, runners_less}
 use Rattle.firing_board.proofs.Starving.{still_runs}
 
@@ -241,11 +241,12 @@ module _ (held_busy : HeldAreBusy) (key : Key) (lawful : Lawful (rules key) (ran
             o.1 (sym r.2 ∙ ap (λ (x : Run). x.row) same, sym r.3 ∙ ap (λ (x : Run). x.item) same)) in
             (v.0, ap held_as (held_other v.0 other) ∙ v.1)
 
-        pub keeps_by : (after : Bool) → StandsOrStarves after key next new → Keeps key new after
-        keeps_by after at = record {
+        pub keeps_by : (after : Bool) → RowsGoOn old.table new.table → StandsOrStarves after key next new → Keeps key new after
+        keeps_by after rows at = record {
           is_key = keeps.is_key;
           one_each = ap (λ (rs : List (Option Run)). length rs) running_are ∙ (length-set old.running.items w None ∙ keeps.one_each);
           lent = to_runners;
+          owners = owners_stay old.table new.table keeps.owners rows (λ k i p is. (only k i p is).0);
           room =
               let less = runners_less old.running.items w a.run a.runs in
               let now : runners new.running.items ≡ runners (set old.running.items w None) = ap runners running_are in
@@ -266,5 +267,5 @@ module _ (held_busy : HeldAreBusy) (key : Key) (lawful : Lawful (rules key) (ran
               let answer_is : answer ≡ other_answer = one key.graphs work answer other_answer ok (subst (λ (x : words.Work). Answers key.graphs.graphs x other_answer) work_is other_ok) in
               let steps_are : next ≡ others ++ steps.Finish w other_answer ∷ [] = ap (λ (x : Answer). taken ++ steps.Finish w x ∷ []) answer_is ∙ ap (λ (x : List Step). x ++ steps.Finish w other_answer ∷ []) (sym same) in
               subst (IsAt (view_with key new after)) steps_are (record { legal = legal_next; entered = entered_next law });
-          new_is = ap (λ (l : List (Option Places)). record { key = key; journal = new.journal.entries; starved = after; lent = l; kept = false }) lent_next;
+          new_is = ap (λ (l : List (Option Places)). record { key = key; journal = new.journal.entries; starved = after; firings = firings_of new.table; lent = l; kept = false }) lent_next;
         }

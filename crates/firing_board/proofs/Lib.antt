@@ -6,6 +6,7 @@ pub mod Runners
 pub mod RoomSteps
 pub mod Took
 pub mod Claimed
+pub mod LeasedFrames
 pub mod Starving
 pub mod Handed
 pub mod Idle

@@ -28,7 +28,7 @@ use Rattle.firing_board.specs.Core.{AreNumbered}
 use Rattle.firing_board.specs.Opening.{Calls, IsOpenTo, KeepsRuns, Reaches}
 use Rattle.firing_board.specs.declared.run.Run.{Run}
 use Rattle.firing_board.specs.declared.state.Core.{Core}
-use Rattle.firing_board.proofs.Rows.{in_table, lasts_on, the_same}
+use Rattle.firing_board.proofs.Rows.{in_table, lasts_on, rows_on, the_same}
 
 -- ---- paths
 
@@ -72,6 +72,7 @@ keeps_on a b c one two = record {
   end_is = two.end_is ∙ one.end_is;
   more = let a = one.more in let b = two.more in omega arith;
   lasts = lasts_on a.table b.table c.table one.lasts two.lasts;
+  rows = rows_on a.table b.table c.table one.rows two.rows;
   lent = λ k i. two.lent k i ∙ one.lent k i;
 }
 

@@ -1,8 +1,9 @@
 -- A board at its start.
-use Rattle.std.proofs.Common.{◌≡◌, ⊎_elim, ℕ, zero, suc, false, List, [], ◌∷◌, length, replicate, get_or, Option, Some, None, refl, sym, ap, ◌∙◌, subst, arith}
+use Rattle.std.proofs.Common.{◌≡◌, ⊎_elim, ℕ, zero, suc, false, List, [], ◌∷◌, length, map, replicate, get_or, Option, Some, None, refl, sym, ap, ◌∙◌, subst, arith}
 use Rattle.std.specs.Prelude.{slice_index_or}
 use Rattle.std.proofs.lemmas.Bool.{cases_eq}
 use Rattle.std.proofs.lemmas.List.{length-replicate}
+use Rattle.std.specs.Option.{option_map}
 use Rattle.kernel_gate.specs.Value.{Places}
 use Rattle.job_rules.specs.Words.{Answer}
 use Rattle.nested_jobs.specs.Journals.{start}
@@ -15,7 +16,7 @@ use Rattle.board_rules.specs.Keys.{IsKey, Key, top_job}
 use Rattle.board_journal.specs.View.{path_at}
 use Rattle.job_table.specs.Calls.{IsStarted}
 use Rattle.job_table.specs.Laws.{StartsSuit, TablesStart}
-use Rattle.job_table.specs.View.{NothingIsLent, TableView, lent_by, lent_in, row_at, table_of}
+use Rattle.job_table.specs.View.{FiringView, NothingIsLent, TableView, firing_of, firings_of, lent_by, lent_in, row_at, table_of}
 use Rattle.job_table.specs.declared.row.Row.{Row}
 use Rattle.firing_board.specs.Beginning.{IsStartedOn}
 use Rattle.firing_board.specs.Core.{AreNumbered, IsLentToRunners, StandsAt, held_of, lent_of, runners}
@@ -51,6 +52,12 @@ none_held n =
 
 open_not_done : (job : Firing) (x : Answer) → ◌≡◌ {A = Mark Firing Answer} (Open job) (Done x) → ⊥
 open_not_done job x is = cc
+
+-- the one firing
+pub started_firings : (graphs : Graphs) (workers : ℕ) (top : Firing) (v : TableView) → IsStarted graphs workers top v → firings_of v ≡ Some record { place = []; cells = None } ∷ []
+started_firings graphs workers top v s =
+    ap (λ (rows : List (Option Row)). map (option_map firing_of) rows) s.rows_are
+    ∙ (λ x. Some record { place = s.place_is x; cells = s.fresh.unplaced x } ∷ [])
 
 -- nothing is lent then
 pub started_unlent : (graphs : Graphs) (workers : ℕ) (top : Firing) (v : TableView) → IsStarted graphs workers top v → NothingIsLent v
@@ -108,6 +115,10 @@ module _ (boards_start : BoardsStart) (tables_start : TablesStart) (suit : Start
     is_key = is_key;
     one_each = ap (λ (rs : List (Option Run)). length rs) s.running_are ∙ length-replicate key.workers None;
     lent = to_runners;
+    owners = record {
+      each = λ k i j p q a b cell one. absurd (let none = started_unlent key.graphs key.workers (top_job key) c.table st k i in cc);
+      apart = λ k l i j p q one other lends. absurd (let none = started_unlent key.graphs key.workers (top_job key) c.table st k i in cc);
+    };
     room = let none = ap runners s.running_are ∙ none_run key.workers in omega (arith, none);
     taken = [];
     at = stands;

@@ -17,8 +17,8 @@ use Rattle.board_rules.specs.Keys.{Key, rules}
 use Rattle.board_rules.specs.Legal.{state_after}
 use Rattle.board_rules.specs.declared.entry.Entry.{Entry}
 use Rattle.job_table.specs.Calls.{LendsAsBefore}
-use Rattle.job_table.specs.View.{TableView, row_at, table_of}
-use Rattle.firing_board.specs.Core.{StandsAt, held_of, lent_of, runners}
+use Rattle.job_table.specs.View.{TableView, firings_of, row_at, table_of}
+use Rattle.firing_board.specs.Core.{RowsLast, StandsAt, held_of, lent_of, runners}
 use Rattle.firing_board.specs.Kept.{Keeps}
 use Rattle.firing_board.specs.OnCore.{StarvesOn}
 use Rattle.firing_board.specs.Starved.{Lasts, StillRuns}
@@ -26,6 +26,7 @@ use Rattle.firing_board.specs.declared.state.Core.{Core}
 use Rattle.firing_board.specs.declared.run.Run.{Run}
 use Rattle.firing_board.proofs.Claimed.{task_stands}
 use Rattle.firing_board.proofs.Found.{row_behind, task_in}
+use Rattle.firing_board.proofs.Rows.{firings_go_on, last_go_on, owners_stay}
 use Rattle.firing_board.proofs.Runners.{lent_stays}
 
 module _ (held_busy : HeldAreBusy) (key : Key) (lawful : Lawful (rules key) (rank key.graphs.graphs)) where
@@ -58,17 +59,19 @@ module _ (held_busy : HeldAreBusy) (key : Key) (lawful : Lawful (rules key) (ran
         same = subst (λ (p : Place). task_of (rules key) (state_after key taken).marks (h.1 ∷ p) ≡ Some (Work busy.work)) place_was there;
       }
 
-  pub starves : (old new : Core) → Keeps key old false → Lasts old.table new.table → LendsAsBefore old.table new.table → new.running.items ≡ old.running.items → new.journal.entries ≡ old.journal.entries
+  pub starves : (old new : Core) → Keeps key old false → Lasts old.table new.table → RowsLast old.table new.table → LendsAsBefore old.table new.table → new.running.items ≡ old.running.items → new.journal.entries ≡ old.journal.entries
       → old.journal.room ≤ new.journal.room → StarvesOn key old new
-  starves old new keeps lasts lends running entries room =
+  starves old new keeps lasts rows lends running entries room =
       let lent : lent_of new.table new.running.items ≡ lent_of old.table old.running.items =
       ap (lent_of new.table) running ∙ lent_stays old.table new.table old.running.items (λ v run is. lends run.row run.item) in
       record {
-        starves = ap₂ (λ (es : List Entry) (l : List (Option Places)). record { key = key; journal = es; starved = true; lent = l; kept = false }) entries lent;
+        starves = ap₂ (λ (es : List Entry) (l : List (Option Places)). record { key = key; journal = es; starved = true; firings = firings_of new.table; lent = l; kept = false }) entries lent;
+        firings = firings_go_on old.table new.table (last_go_on old.table new.table rows);
         keeps = record {
           is_key = keeps.is_key;
           one_each = ap (λ (rs : List (Option Run)). length rs) running ∙ keeps.one_each;
           lent = λ k i places is. let v = keeps.lent k i places (sym (lends k i) ∙ is) in (v.0, ap (λ (rs : List (Option Run)). held_of rs v.0) running ∙ v.1);
+          owners = owners_stay old.table new.table keeps.owners (last_go_on old.table new.table rows) (λ k i p is. sym (lends k i) ∙ is);
           room = let same : runners new.running.items ≡ runners old.running.items = ap runners running in let was = keeps.room in omega arith;
           taken = keeps.taken;
           at = record {

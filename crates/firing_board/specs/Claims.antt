@@ -29,7 +29,7 @@ pub record Picks (old new : BoardView) (w : ℕ) (work : Work) (frame : Option P
   pub after : IsAt new (taken ++ steps.Claim w (item ∷ place) ∷ [])
   pub runs : RunsWork old.key (state_after old.key (taken ++ steps.Claim w (item ∷ place) ∷ [])) w work
   pub live : old.starved ≡ false
-  pub new_is : new ≡ record old { journal = new.journal; lent = slice_set old.lent w frame }
+  pub new_is : new ≡ record old { journal = new.journal; firings = new.firings; lent = slice_set old.lent w frame }
 
 -- a ticket of this worker and of the entry that comes after these
 abbrev pub IsTicket : BoardView → ℕ → Ticket → Type 0
@@ -55,7 +55,7 @@ Claims old new w (claim.Compile ticket task) =
     IsTicket old w ticket × (task.graphs ≡ old.key.graphs) × (task.workers ≡ old.key.workers) × Picks old new w (Compiles task.firing task.left) None
 Claims old new w claim.Wait = Stays old new (λ taken. HasToWait old.key (state_after old.key taken))
 Claims old new w claim.Finished = Stays old new (HasEnded old.key)
-Claims old new w claim.Starved = new ≡ record old { starved = true }
+Claims old new w claim.Starved = new ≡ record old { starved = true; firings = new.firings }
 
 -- ---- what is entered
 

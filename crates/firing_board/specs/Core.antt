@@ -6,6 +6,7 @@ use Rattle.nested_jobs.specs.Marks.{Done, Mark}
 use Rattle.job_preparing.specs.Handing.{end_of}
 use Rattle.job_preparing.specs.declared.handing.JobGiven.{JobGiven}
 use Rattle.job_rules.specs.Words.{Answer, answer_of}
+use Rattle.one_job.specs.Leased.{OneOwnerEach}
 use Rattle.pisdf_meaning.specs.declared.firing.Firing.{Firing}
 use Rattle.pisdf_meaning.specs.declared.refusal.Refusal.{Refusal}
 use Rattle.board_rules.specs.Board.{Held, KeptAs}
@@ -13,6 +14,7 @@ use Rattle.board_rules.specs.Entries.{Step}
 use Rattle.board_rules.specs.Keys.{Key}
 use Rattle.board_rules.specs.Legal.{journal_of, state_after}
 use Rattle.board_journal.specs.View.{path_at}
+use Rattle.job_table.specs.Calls.{StaysAs}
 use Rattle.job_table.specs.Suits.{Suits}
 use Rattle.job_table.specs.View.{TableView, free_items, lent_in, row_at, table_of}
 use Rattle.job_table.specs.declared.row.Row.{Row}
@@ -45,6 +47,21 @@ lent_of table running = map (lent_with table) running
 abbrev pub IsLentToRunners : TableView → List (Option Run) → Type 0
 IsLentToRunners table running =
     (k i : ℕ) (places : Places) → lent_in table k i ≡ Some places → (w : ℕ) × (held_of running w ≡ Some (k, i))
+
+-- of what is lent, no cell of a row's job has two owners, and no two rows that lend have one place
+pub record RowsHaveOwners (table : TableView) : Type 0 where
+  pub each : (k : ℕ) → OneOwnerEach (lent_in table k)
+  pub apart : (k l i j : ℕ) (p q : Places) (one other : Row) → lent_in table k i ≡ Some p → lent_in table l j ≡ Some q → row_at table k ≡ Some one → row_at table l ≡ Some other → one.place ≡ other.place → k ≡ l
+
+-- ---- rows that go on
+
+-- each row that was there, and is there still
+abbrev pub RowsGoOn : (old new : TableView) → Type 0
+RowsGoOn old new = (k : ℕ) (before after : Row) → row_at old k ≡ Some before → row_at new k ≡ Some after → StaysAs before after
+
+-- each row that was there is there still
+abbrev pub RowsLast : (old new : TableView) → Type 0
+RowsLast old new = (k : ℕ) (before : Row) → row_at old k ≡ Some before → (after : Row) × (row_at new k ≡ Some after) × StaysAs before after
 
 -- ---- paths
 

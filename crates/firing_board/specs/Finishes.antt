@@ -34,4 +34,4 @@ MayEnd key end (words.Compiles firing left) =
 pub record Finishes (old new : BoardView) (w : ℕ) : Type 0 where
   pub entered : (taken : List Step) (work : words.Work) (answer : Answer) →
       IsAt old taken → RunsWork old.key (state_after old.key taken) w work → Answers old.key.graphs.graphs work answer → IsAt new (taken ++ steps.Finish w answer ∷ [])
-  pub new_is : new ≡ record old { journal = new.journal; starved = new.starved; lent = slice_set old.lent w None }
+  pub new_is : new ≡ record old { journal = new.journal; starved = new.starved; firings = new.firings; lent = slice_set old.lent w None }

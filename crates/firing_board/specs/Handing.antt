@@ -2,7 +2,10 @@
 use Rattle.std.specs.Prelude.{◌≡◌, ◌≢◌, ◌⊎◌, ℕ, ◌-◌, ◌<◌, List, [], ◌∷◌, ◌++◌, Option, Some, length, slice_index_or, slice_set}
 use Rattle.nested_jobs.specs.Marks.{Busy}
 use Rattle.job_compiler.specs.Compilation.{Compilation}
+use Rattle.job_preparing.specs.Handing.{lent_at}
+use Rattle.one_job.specs.Leased.{OneOwnerEach}
 use Rattle.open_job.specs.Calls.{IsHanded, frame_of}
+use Rattle.open_job.specs.Leases.{LendsItems}
 use Rattle.open_job.specs.View.{compilation_of, graph_in, left_by}
 use Rattle.open_job.specs.declared.handed.Handed.{Handed}
 use Rattle.open_job.specs.declared.handed.Handed.TheVariants as handed
@@ -58,6 +61,9 @@ pub record HandsFrame (old : Core) (w : ℕ) (run : Run) (item : Item) (new : Co
   pub claimed : Core
   pub marks : MarksItem run.row run.item Busy old.table claimed.table
   pub lends : LendsItem run.row run.item (Some (frame_of handed).places) old.table claimed.table
+  -- what the job lends then
+  pub leases : LendsItems marks.after.job
+  pub owners : OneOwnerEach (lent_at marks.after.job.lent)
   pub running_is : claimed.running ≡ old.running
   pub numbers_are : claimed.numbers ≡ old.numbers
   pub journal_is : claimed.journal ≡ old.journal

@@ -3,7 +3,8 @@ use Rattle.std.specs.Prelude.{◌≡◌, ◌≤◌, Bool, true, false, List, is_
 use Rattle.pisdf_meaning.specs.declared.firing.Firing.{Firing}
 use Rattle.board_rules.specs.Entries.{Step}
 use Rattle.board_rules.specs.Keys.{IsKey, Key}
-use Rattle.firing_board.specs.Core.{HasRoom, IsLentToRunners, StandsAt, lent_of, runners}
+use Rattle.job_table.specs.View.{firings_of}
+use Rattle.firing_board.specs.Core.{HasRoom, IsLentToRunners, RowsHaveOwners, StandsAt, lent_of, runners}
 use Rattle.firing_board.specs.Starved.{StarvesAt}
 use Rattle.firing_board.specs.Counted.{counts_kept}
 use Rattle.firing_board.specs.View.{BoardView}
@@ -15,7 +16,7 @@ abbrev pub key_with : List KernelCounts → Firing → Core → Key
 key_with signatures top c = record { graphs = c.table.graphs; signatures = map counts_kept signatures; delays = top.state; ins = top.inputs; workers = c.table.workers }
 
 abbrev pub view_with : Key → Core → Bool → BoardView
-view_with key c starved = record { key = key; journal = c.journal.entries; starved = starved; lent = lent_of c.table c.running.items; kept = false }
+view_with key c starved = record { key = key; journal = c.journal.entries; starved = starved; firings = firings_of c.table; lent = lent_of c.table c.running.items; kept = false }
 
 abbrev pub key_of : Inside → Key
 key_of i = key_with i.signatures.items i.top.value i.core
@@ -32,6 +33,7 @@ pub record Keeps (key : Key) (c : Core) (starved : Bool) : Type 0 where
   pub is_key : IsKey key
   pub one_each : length c.running.items ≡ key.workers
   pub lent : IsLentToRunners c.table c.running.items
+  pub owners : RowsHaveOwners c.table
   -- each finish of what runs has its room
   pub room : runners c.running.items ≤ c.journal.room
   pub taken : List Step

@@ -1,4 +1,5 @@
 pub mod View
+pub mod Firings
 pub mod Starts
 pub mod Runs
 pub mod Claims

@@ -4,7 +4,9 @@ use Rattle.kernel_gate.specs.Value.{Places}
 use Rattle.job_rules.specs.Words.{Work}
 use Rattle.board_rules.specs.Keys.{Key}
 use Rattle.firing_board.specs.Claims.{Claims, EntersAs}
+use Rattle.job_table.specs.View.{firings_of}
 use Rattle.firing_board.specs.Finishes.{Finishes}
+use Rattle.firing_board.specs.Firings.{FiringsGoOn, LeasesFrame}
 use Rattle.firing_board.specs.Kept.{Keeps, view_with}
 use Rattle.firing_board.specs.Runs.{Runs}
 use Rattle.firing_board.specs.View.{lent_to}
@@ -28,11 +30,14 @@ pub record MayClaim (key : Key) (c : Core) (w : ℕ) : Type 0 where
 pub record ClaimsOn (key : Key) (old : Core) (w : ℕ) (new : Core) (claim : Claim) : Type 0 where
   pub claims : Claims (view_with key old false) (view_with key new false) w claim
   pub enters : EntersAs (view_with key old false) (view_with key new false) w claim
+  pub firings : FiringsGoOn (firings_of old.table) (firings_of new.table)
+  pub leases : LeasesFrame (view_with key new false) w claim
   pub keeps : Keeps key new false
 
 -- memory was wanted
 pub record StarvesOn (key : Key) (old new : Core) : Type 0 where
-  pub starves : view_with key new true ≡ view_with key old true
+  pub starves : view_with key new true ≡ record (view_with key old true) { firings = firings_of new.table }
+  pub firings : FiringsGoOn (firings_of old.table) (firings_of new.table)
   pub keeps : Keeps key new true
 
 -- ---- finishes
@@ -45,5 +50,6 @@ pub record MayLeave (key : Key) (c : Core) (starved : Bool) (w : ℕ) (P : Work 
 
 pub record FinishesOn (key : Key) (old : Core) (starved : Bool) (w : ℕ) (new : Core) (after : Bool) : Type 0 where
   pub finishes : Finishes (view_with key old starved) (view_with key new after) w
+  pub firings : FiringsGoOn (firings_of old.table) (firings_of new.table)
   pub keeps : Keeps key new after
   pub stays : starved ≡ true → after ≡ true

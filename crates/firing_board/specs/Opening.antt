@@ -15,7 +15,7 @@ use Rattle.job_table.specs.Calls.{LendsAsBefore, OpensChild}
 use Rattle.job_table.specs.Suits.{Suits}
 use Rattle.job_table.specs.View.{TableView, row_at, table_of}
 use Rattle.job_table.specs.declared.row.Row.{Row}
-use Rattle.firing_board.specs.Core.{AreNumbered}
+use Rattle.firing_board.specs.Core.{AreNumbered, RowsLast}
 use Rattle.firing_board.specs.Starved.{Lasts}
 use Rattle.firing_board.specs.declared.state.Core.{Core}
 use Rattle.firing_board.specs.declared.run.Run.{Run}
@@ -41,6 +41,7 @@ pub record KeepsRuns (old new : Core) : Type 0 where
   pub end_is : new.end ≡ old.end
   pub more : old.journal.room ≤ new.journal.room
   pub lasts : Lasts old.table new.table
+  pub rows : RowsLast old.table new.table
   pub lent : LendsAsBefore old.table new.table
 
 -- a job is opened, and the journal has its path

@@ -1,5 +1,5 @@
 // The board and its calls.
-ghost use Rattle.std.specs.Prelude.{◌≡◌, ◌≤◌, ◌*◌, [], IfOk, IsErr, IsOk, None, OnErr, OnOk, Some, false, is_some, replicate, true};
+ghost use Rattle.std.specs.Prelude.{◌≡◌, ◌≤◌, ◌*◌, [], ◌∷◌, IfOk, IsErr, IsOk, None, OnErr, OnOk, Some, false, is_some, replicate, true};
 ghost use Rattle.std.specs.Arc.{arc_value};
 
 use crate::claim::{Claim, Ticket};
@@ -14,6 +14,7 @@ use board_journal::Journal;
 use board_rules::{boards_end, boards_keep, entries_tell_steps, few_jobs_are_open};
 use job_compiler::{Kept, Key};
 use job_preparing::CompileEnd;
+use job_rules::rules_are_lawful;
 use job_table::tables_suit;
 use kernel_gate::{Frame, KernelFault, Signature};
 use pisdf_meaning::{Delays, Firing, runnable, top_firing};
@@ -61,6 +62,7 @@ impl Board {
     ghost use Rattle.firing_board.specs.Claims.{Claims, EntersAs};
     ghost use Rattle.firing_board.specs.Ends.{EndsAs, HasLongTraces, IsOver};
     ghost use Rattle.firing_board.specs.Finishes.{Finishes, MayComeBack, MayEnd};
+    ghost use Rattle.firing_board.specs.Firings.{FiringsGoOn, LeasesFrame, open_count};
     ghost use Rattle.firing_board.specs.Runs.{AreAllIdle, IsIdle, IsSound, Runs};
     ghost use Rattle.firing_board.specs.Starts.{key_from};
     ghost use Rattle.firing_board.specs.View.{lent_to};
@@ -81,7 +83,7 @@ impl Board {
         workers: u32,
     ) -> Result<Board, AllocError>
         requires { IsKey (key_from (arc_value graphs) signatures.now delays.now ins.now workers) }
-        ensures { IfOk result (λ b. b ≡ record { key = key_from (arc_value graphs) signatures.now delays.now ins.now workers; journal = []; starved = false; lent = replicate workers None; kept = false }) }
+        ensures { IfOk result (λ b. b ≡ record { key = key_from (arc_value graphs) signatures.now delays.now ins.now workers; journal = []; starved = false; firings = Some record { place = []; cells = None } ∷ []; lent = replicate workers None; kept = false }) }
     {
         runnable();
         boards_keep();
@@ -105,13 +107,16 @@ impl Board {
     /// Claims the item that is picked for a worker that runs nothing. `Wait` comes exactly where nothing may be claimed and
     /// another worker runs something, and `Finished` exactly where the journal has ended. Once a claim or a finish wanted
     /// memory, each later claim is `Starved`. Before that a claim is so only where the item that is picked for the worker is in
-    /// a job that isn't open yet, or is a compilation: each other claim takes no memory.
+    /// a job that isn't open yet, or is a compilation: each other claim takes no memory. The leases of a node's frame are those of
+    /// its buffers, in the block of its firing, at the offsets of the firing's placement.
     pub fn claim(&mut self, alloc: Global, worker: u32) -> Claim
         requires { IsIdle self.old worker }
         ensures claims { Claims self.old self.new worker result }
         ensures enters { EntersAs self.old self.new worker result }
         ensures licensed { result ≡ Claim.Starved → self.old.starved ≡ false → MayStarve self.old worker }
         ensures starved { self.old.starved ≡ true → result ≡ Claim.Starved }
+        ensures leases { LeasesFrame self.new worker result }
+        ensures firings { FiringsGoOn self.old.firings self.new.firings }
     {
         entries_tell_steps();
         if self.starved {
@@ -139,6 +144,7 @@ impl Board {
         requires runs { Runs self.old ticket.worker (MayComeBack self.old.key frame answer (IsOk answer)) }
         requires lent { lent_to self.old ticket.worker ≡ Some frame.places }
         ensures finishes { Finishes self.old self.new ticket.worker }
+        ensures firings { FiringsGoOn self.old.firings self.new.firings }
         ensures starved { self.old.starved ≡ true → self.new.starved ≡ true }
         ensures live { self.old.starved ≡ false → self.new.starved ≡ true → HasLongTraces self.new }
     {
@@ -155,6 +161,7 @@ impl Board {
         requires runs { Runs self.old ticket.worker (MayComeBack self.old.key frame answer (IsOk answer)) }
         requires lent { lent_to self.old ticket.worker ≡ Some frame.places }
         ensures finishes { Finishes self.old self.new ticket.worker }
+        ensures firings { FiringsGoOn self.old.firings self.new.firings }
         ensures starved { self.old.starved ≡ true → self.new.starved ≡ true }
         ensures live { self.old.starved ≡ false → self.new.starved ≡ true → HasLongTraces self.new }
     {
@@ -175,6 +182,7 @@ impl Board {
         requires runs { Runs self.old ticket.worker (MayEnd self.old.key end) }
         requires lent { lent_to self.old ticket.worker ≡ None }
         ensures finishes { Finishes self.old self.new ticket.worker }
+        ensures firings { FiringsGoOn self.old.firings self.new.firings }
         ensures live { OnOk result (self.new.starved ≡ false) }
         ensures starved { OnErr result (self.new.starved ≡ true) }
         ensures memory { end ≡ CompileEnd.Memory → IsErr result }
@@ -186,9 +194,10 @@ impl Board {
         unless_wanted(self.starved)
     }
 
-    /// How many jobs are open: at most 8 for each worker, unless memory was wanted.
+    /// How many firings are open: at most 8 for each worker, unless memory was wanted.
     pub fn open_jobs(&self) -> usize
-        ensures { self.now.starved ≡ false → result ≤ 8 * self.now.key.workers }
+        ensures count { result ≡ open_count self.now.firings }
+        ensures few { self.now.starved ≡ false → result ≤ 8 * self.now.key.workers }
     {
         few_jobs_are_open();
         tables_suit();
@@ -201,6 +210,7 @@ impl Board {
         ensures sound { IsSound self.now }
     {
         entries_tell_steps();
+        rules_are_lawful();
         &self.core.journal
     }
 

@@ -60,6 +60,8 @@ fn hand_frame(core: &mut Core, worker: u32, run: Run, item: Item) -> Claim
     ensures room { HasRoom core.new }
 {
     let handed = core.table.claim(run.row, run.item);
+    // The leases of the frame are now known to be those of the node's buffers.
+    core.table.job(run.row).compiled();
     let ticket = enter(core, worker, run, item);
     match handed {
         Handed::Configure(frame) => Claim::Configure(ticket, frame),

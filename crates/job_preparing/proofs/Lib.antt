@@ -12,3 +12,4 @@ pub mod Events
 pub mod Readied
 pub mod Started
 pub mod Marked
+pub mod OwnBlocks

@@ -1,6 +1,7 @@
 -- What a job hands out and takes back: where its items stand, frames, and how a firing of a graph ends.
 use Rattle.std.specs.Prelude.{◌≡◌, ℕ, ◌<◌, ℤ, List, [], ◌∷◌, map, length, slice_get, slice_index_or, Option, Some, None, Result, Ok, Err}
 use Rattle.std.specs.List.{flat_map}
+use Rattle.kernel_gate.specs.Leased.{AreWhole}
 use Rattle.kernel_gate.specs.Value.{FrameView, Places, lengths}
 use Rattle.kernel_gate.specs.declared.fault.KernelFault.{KernelFault}
 use Rattle.nested_jobs.specs.Marks as mark
@@ -46,6 +47,10 @@ lent_at lent i = slice_index_or lent i None
 -- no frame is out
 pub record IsNothingLent (lent : Lent) : Type 0 where
   pub each : (i : ℕ) → lent_at lent i ≡ None
+
+-- each frame that is out has blocks of its own, which are no pool's
+abbrev pub AreOwnBlocks : Lent → Type 0
+AreOwnBlocks lent = (i : ℕ) (places : Places) → lent_at lent i ≡ Some places → AreWhole places
 
 -- the least number of which this holds, or none where it holds of none
 abbrev pub IsLeast : (ℕ → Type 0) → Option ℕ → Type 0

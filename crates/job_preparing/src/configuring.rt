@@ -67,7 +67,7 @@ impl Configuring {
     ghost use Rattle.pisdf_meaning.specs.declared.firing.Firing.{Firing as FiringOf};
     ghost use Rattle.job_rules.specs.Items.{compile_number, first_refusal};
     ghost use Rattle.job_rules.specs.Words.{answer_of};
-    ghost use Rattle.job_preparing.specs.Handing.{EndSuits, IsFrameFor, IsLeast, LeftSuits, answer_with, answers, end_of, lent_at, mark_at, with_traces, without_trace};
+    ghost use Rattle.job_preparing.specs.Handing.{AreOwnBlocks, EndSuits, IsFrameFor, IsLeast, LeftSuits, answer_with, answers, end_of, lent_at, mark_at, with_traces, without_trace};
     ghost use Rattle.job_preparing.specs.View.{HasInherited, IsOfferedCall, IsOfferedWork, IsReady, IsSettled, graph_in, key_of, left_by, task};
 
     /// How many configuration actors the graph has.
@@ -75,6 +75,13 @@ impl Configuring {
         ensures { result ≡ compile_number (graph_in self.now) }
     {
         self.places.len() as u32
+    }
+
+    /// What is lent of a configuration actor lies in blocks of its own, which are no pool's. This call does nothing.
+    pub fn own_blocks(&self)
+        ensures { AreOwnBlocks self.now.lent }
+    {
+        let _stages = self.stages.as_slice();
     }
 
     /// The firing.

@@ -19,3 +19,4 @@ pub mod FiringEnds
 pub mod EndSizes
 pub mod SuitedEnds
 pub mod LongTraces
+pub mod LentNodes

@@ -1,4 +1,6 @@
 -- A running firing at its start.
+use denote.RawPtr.{null_ptr}
+use Rattle.split_block.specs.View.{Block}
 use Rattle.std.proofs.Common.{◌≡◌, ℕ, zero, suc, ◌+◌, ◌<◌, ◌≤◌, ⊎_elim, ℤ, Bool, true, false, List, [], ◌∷◌, ◌++◌, length, map, get_or, replicate, slice_get, Option, Some, None, Ok, Vec, Global, refl, sym, ap, ◌∙◌, subst, arith}
 use Rattle.std.specs.Prelude.{is_none, if◌then◌else◌, slice_index}
 use Rattle.std.proofs.Math.Seq.{get_or-append_seam}
@@ -98,6 +100,10 @@ marks_free path own (which ∷ nodes) = ap (λ (l : List (Mark Firing Answer)). 
 lents_free : (n : ℕ) → lents_of (replicate n Free) ≡ replicate n None
 lents_free zero = refl
 lents_free (suc n) = ap (λ (l : List (Option Places)). None ∷ l) (lents_free n)
+
+-- a block, of no job
+abbrev pub no_block : Block
+no_block = record { ptr = null_ptr; len = 0; pooled = true }
 
 -- ---- the graph that is fired
 
@@ -213,7 +219,7 @@ module _ (f : Fixed) (workers : ℕ) (values : List ℤ) (valid : AreValid f.gra
       pub args_asked : AreOneEach G g (values_of f) → length args ≡ f.compilation.level.actors
       args_asked each = ap length (args_are ∙ set_is.args) ∙ each.args ∙ ap (λ (l : LevelView). l.actors) (sym level_is)
 
-      pub set_up : IsSetUp f record { compilation = f.compilation; kinds = kinds; args = args; sources = sources; stored = stored }
+      pub set_up : IsSetUp f record { compilation = f.compilation; kinds = kinds; args = args; sources = sources; stored = stored; block = f.block }
       set_up = record {
         valid = valid;
         fit = fit;
@@ -221,6 +227,7 @@ module _ (f : Fixed) (workers : ℕ) (values : List ℤ) (valid : AreValid f.gra
         rated = rated_none;
         compiled = compiled.compiled;
         compilation_is = refl;
+        block_is = refl;
         graph_is = graph_same;
         is_job = is_job;
         kinds = kinds_are;
@@ -228,7 +235,7 @@ module _ (f : Fixed) (workers : ℕ) (values : List ℤ) (valid : AreValid f.gra
       }
 
       -- all nodes are free
-      pub keeps_at_start : (j : leased.JobView) → start_of j ≡ record { compilation = f.compilation; kinds = kinds; args = args; sources = sources; stored = stored } → j.kinds ≡ kinds → j.marks ≡ replicate (length f.compilation.graph.nodes) one.Free → (stages : List Stage) → stages ≡ replicate (length f.compilation.graph.nodes) Free →
+      pub keeps_at_start : (j : leased.JobView) → start_of j ≡ record { compilation = f.compilation; kinds = kinds; args = args; sources = sources; stored = stored; block = f.block } → j.kinds ≡ kinds → j.marks ≡ replicate (length f.compilation.graph.nodes) one.Free → (stages : List Stage) → stages ≡ replicate (length f.compilation.graph.nodes) Free →
           (held : List Held) → held ≡ replicate (length held) Nothing → length held ≤ length j.compilation.graph.nodes → ((n : ℕ) → n < length j.compilation.graph.nodes → is_child j n ≡ true → n < length held) → (rows : List (Vec (List TraceRow) Global)) → length rows ≡ length f.compilation.counts → ((a : ℕ) → row_at rows a ≡ replicate (call_count j.kinds f.compilation.counts a) []) → AreParts f →
           KeepsAll f stages held rows j
       keeps_at_start j started j_kinds marks_are stages stages_are held held_are few room rows many row_is parts = record {

@@ -14,6 +14,7 @@ fixed_of i = record {
   firing = i.firing.value;
   left = i.preparing.left;
   compilation = arc_value i.compiled;
+  block = i.cells.block;
   set = i.set;
   place = i.place;
   path = i.path;
@@ -32,6 +33,7 @@ view_with f stages = record {
   firing = f.firing;
   prepared = prepared_of f;
   mapping = f.compilation.mapping;
+  cells = record { compilation = f.compilation; block = f.block };
   marks = marks_of f.firing.path (acting (fired f)) (job_in f).nodes stages;
   lent = lents_of stages;
 }

@@ -4,3 +4,4 @@ pub mod Stages
 pub mod Sizes
 pub mod Parts
 pub mod Kept
+pub mod Leases

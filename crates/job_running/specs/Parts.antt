@@ -8,6 +8,7 @@ use Rattle.sdf_level.specs.declared.node.Node.TheVariants as node
 use Rattle.job_compiler.specs.Compilation.{Compilation, IsCompiled}
 use Rattle.level_schedule.specs.declared.scheduling.LevelSchedule.{LevelSchedule}
 use Rattle.kernel_gate.specs.Value.{FrameView, Places}
+use Rattle.split_block.specs.View.{Block}
 use Rattle.param_resolver.specs.LevelOf.{level_args, level_faults}
 use Rattle.param_resolver.specs.Numbering.{acting, has_state}
 use Rattle.param_resolver.specs.declared.level_set.LevelSet.{LevelSet}
@@ -46,9 +47,10 @@ pub record Start : Type 0 where
   pub args : List (List ℤ)
   pub sources : List (List ℤ)
   pub stored : List (List ℤ)
+  pub block : Block
 
 abbrev pub start_of : leased.JobView → Start
-start_of j = record { compilation = j.compilation; kinds = j.kinds; args = j.args; sources = j.sources; stored = j.stored }
+start_of j = record { compilation = j.compilation; kinds = j.kinds; args = j.args; sources = j.sources; stored = j.stored; block = j.block }
 
 abbrev pub kernel_in : Body → Option ℕ
 kernel_in (Kernel kernel args ins outs) = Some kernel
@@ -70,7 +72,9 @@ pub record Fixed : Type 0 where
   pub graphs : Graphs
   pub firing : Firing
   pub left : List Configured
+  -- and where its cells lie
   pub compilation : Compilation
+  pub block : Block
   -- its level, and with what its actors fire
   pub set : LevelSet
   pub place : ℕ
@@ -106,6 +110,7 @@ pub record IsSetUp (f : Fixed) (s : Start) : Type 0 where
   pub rated : level_faults f.graphs.graphs (fired f) (values_of f) ≡ []
   pub compiled : IsCompiled f.compilation
   pub compilation_is : s.compilation ≡ f.compilation
+  pub block_is : s.block ≡ f.block
   pub graph_is : leased.job_graph s.compilation s.sources s.stored ≡ job_in f
   pub is_job : IsJobGraph f.compilation.counts f.compilation.order (job_in f)
   pub kinds : s.kinds ≡ map kind_of_actor (acting (fired f))

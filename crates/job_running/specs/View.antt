@@ -18,18 +18,20 @@ use Rattle.worker_mapping.specs.declared.mapping.Mapping.{Mapping}
 use Rattle.job_flow.specs.Frames as flow
 use Rattle.job_flow.specs.Graphs.{JobGraph, node_at}
 use Rattle.job_flow.specs.Outcomes.{ended}
+use Rattle.one_job.specs.Leased.{JobCells}
 use Rattle.job_rules.specs.Items.{Prepared, actor_of, first_refusal, graph_of, job_graph, keeps_state, node_result, nodes_in, ready_task, trace_of, values_in}
 use Rattle.job_rules.specs.Words as words
 use Rattle.job_preparing.specs.Handing.{ItemMarks, Lent, answers, mark_at}
 
--- the firing, what its configuration actors left and its schedule, the homes and priorities of its nodes, and where each node
--- stands, by its number
+-- the firing, what its configuration actors left and its schedule, where its cells lie, the homes and priorities of its nodes,
+-- and where each node stands, by its number
 pub record RunningView : Type 0 where
   pub graphs : Graphs
   pub workers : ℕ
   pub firing : Firing
   pub prepared : Prepared
   pub mapping : Mapping
+  pub cells : JobCells
   pub marks : ItemMarks
   pub lent : Lent
 

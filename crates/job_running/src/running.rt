@@ -15,7 +15,7 @@ use crate::frames::{Held, end_frames, measured, put_frame, spend_held, take_fram
 use crate::given::put_trace;
 use crate::handed::{Handed, hand_out};
 use crate::stage::{Stage, ended, waiting};
-use crate::told::{ToldBefore, told_of};
+use crate::told::{ToldBefore, ToldBlock, told_of};
 use crate::writing::write_child;
 use job_compiler::Compiled;
 use job_flow::{faults_renamed, ready_stays};
@@ -41,6 +41,7 @@ pub struct Running {
     pub(crate) compiled: Arc<Compiled>,
     pub(crate) firing: Snapshot<Firing>,
     pub(crate) preparing: ToldBefore,
+    pub(crate) cells: ToldBlock,
     // The place of the graph in its file.
     pub(crate) place: u32,
     pub(crate) path: Path,
@@ -83,6 +84,16 @@ impl Running {
     ghost use Rattle.job_rules.specs.Items.{step_of_node};
     ghost use Rattle.job_running.specs.View.{IsOfferedCall, IsOfferedWork, RunningView, graph_in, is_quiet, nodes_of, outcome_of, task};
     ghost use Rattle.job_running.specs.Calls.{HasLongTrace, IsEndOfCall, IsHanded, IsLeft, frame_of};
+    ghost use Rattle.job_running.specs.Leases.{LendsNodes};
+
+    /// What the firing was compiled to. In every state what is lent of the nodes are the leases of their buffers, in the block of
+    /// the firing, at the offsets of the compilation's placement. What isn't free was claimed in the order of the edges.
+    pub fn compiled(&self) -> &Compiled
+        ensures value { result.now ≡ self.now.cells.compilation }
+        ensures lends { LendsNodes self.now }
+    {
+        self.job.compiled()
+    }
 
     /// The number of nodes.
     pub fn count(&self) -> u32
@@ -269,6 +280,7 @@ impl Running {
             compiled,
             firing: _,
             preparing: _,
+            cells: _,
             place,
             path,
             set: _,
@@ -316,6 +328,7 @@ impl Running {
             compiled: _,
             firing: _,
             preparing: _,
+            cells: _,
             place: _,
             path: _,
             set: _,

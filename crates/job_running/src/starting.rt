@@ -22,7 +22,7 @@ use crate::frames::{Held, nothing_held};
 use crate::given::empty_rows;
 use crate::running::Running;
 use crate::stage::Stage;
-use crate::told::told_before;
+use crate::told::{told_before, told_block};
 use job_compiler::Compiled;
 use job_preparing::Configuring;
 use one_job::{Job, start};
@@ -363,6 +363,7 @@ pub fn run(
     requires compiled { IsReadyWith (arc_value graphs).graphs (arc_value compiled).workers preparing.now.firing (left_by preparing.now) (arc_value compiled) set values }
     ensures given { IfOk result (λ r. (r.graphs ≡ arc_value graphs) × (r.firing ≡ preparing.now.firing)) }
     ensures compilation { IfOk result (λ r. (r.prepared ≡ prepared_with (left_by preparing.now) (arc_value compiled)) × (r.workers ≡ (arc_value compiled).workers) × (r.mapping ≡ (arc_value compiled).mapping)) }
+    ensures cells { IfOk result (λ r. r.cells.compilation ≡ arc_value compiled) }
     ensures free { IfOk result (λ r. r.marks ≡ replicate (length (nodes_of r)) Free) }
     ensures nothing { IfOk result (λ r. r.lent ≡ replicate (length (nodes_of r)) None) }
 {
@@ -388,6 +389,7 @@ pub fn run(
         compiled: shared,
         firing: told,
         preparing: told_before(preparing),
+        cells: told_block(&job),
         place,
         path: own.path,
         set,

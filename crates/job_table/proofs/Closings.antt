@@ -113,6 +113,7 @@ stays_through one two three a b = record {
   graphs_are = b.graphs_are ∙ a.graphs_are;
   workers_are = b.workers_are ∙ a.workers_are;
   firing_is = b.firing_is ∙ a.firing_is;
+  cells_stay = λ cells is. b.cells_stay cells (a.cells_stay cells is);
 }
 
 pub rows_through : (one two three : TableView) → RowsStay one two → RowsStay two three → RowsStay one three
@@ -249,7 +250,7 @@ module _ (lawful : AllLawful) (v : TableView) (k : ℕ) (c : IsClosingFrom v k) 
         mid_gone = mid_other k (λ e. keys_apart (sym e)) ∙ gone v rest k less (inside_of v.rows k c.row c.here)
 
         up_stays : StaysAs up now_up
-        up_stays = record { place_is = refl; upper_is = refl; steps_are = refl; graphs_are = refl; workers_are = refl; firing_is = refl }
+        up_stays = record { place_is = refl; upper_is = refl; steps_are = refl; graphs_are = refl; workers_are = refl; firing_is = refl; cells_stay = λ cells is. is }
 
         up_marked : job_row now_up ≡ with_mark (job_row up) item (Done y)
         up_marked = marked_row up now_up item (Done y) up_stays

@@ -6,6 +6,7 @@ pub mod Paths
 pub mod Rows
 pub mod Keys
 pub mod Suiting
+pub mod LiveFirings
 pub mod Writes
 pub mod Freeing
 pub mod Closings

@@ -43,7 +43,7 @@ module _ (v now : TableView) (e : v ≡ now) (k : ℕ) (slot : Option Row) (read
     pub item_marked : (item : ℕ) (y : Mark Firing Answer) (places : Option Places) (slot' : Option Row) → slot' ≡ Some (with_job row (with_item row.job item y places)) → item < length row.job.marks → MarksItem k item y now (with_slot slot')
     item_marked item y places slot' is inside =
         subst (λ (x : TableView). MarksItem k item y x (with_slot slot')) e
-        (marks_set v (set v.rows k slot') k row (with_item row.job item y places) here_v (ap (set v.rows k) is) item y refl refl refl refl inside)
+        (marks_set v (set v.rows k slot') k row (with_item row.job item y places) here_v (ap (set v.rows k) is) item y refl refl refl (λ cells is. is) refl inside)
 
     pub item_lent : (item : ℕ) (y : Mark Firing Answer) (places : Option Places) (slot' : Option Row) → slot' ≡ Some (with_job row (with_item row.job item y places)) → item < length row.job.lent → LendsItem k item places now (with_slot slot')
     item_lent item y places slot' is inside =
@@ -53,7 +53,7 @@ module _ (v now : TableView) (e : v ≡ now) (k : ℕ) (slot : Option Row) (read
     pub mark_marked : (item : ℕ) (y : Mark Firing Answer) (slot' : Option Row) → slot' ≡ Some (with_job row (with_mark row.job item y)) → item < length row.job.marks → MarksItem k item y now (with_slot slot')
     mark_marked item y slot' is inside =
         subst (λ (x : TableView). MarksItem k item y x (with_slot slot')) e
-        (marks_set v (set v.rows k slot') k row (with_mark row.job item y) here_v (ap (set v.rows k) is) item y refl refl refl refl inside)
+        (marks_set v (set v.rows k slot') k row (with_mark row.job item y) here_v (ap (set v.rows k) is) item y refl refl refl (λ cells is. is) refl inside)
 
     pub lent_still : (job : OpenView) (slot' : Option Row) → slot' ≡ Some (with_job row job) → ((i : ℕ) → lent_at job.lent i ≡ lent_at row.job.lent i) → LendsAsBefore now (with_slot slot')
     lent_still job slot' is same =
@@ -86,7 +86,7 @@ module _ (v now : TableView) (e : v ≡ now) (k : ℕ) (slot : Option Row) (read
             answer_is = f.answer_is;
             answered = f.answered;
             marks = subst (λ (x : TableView). MarksItem k (compilation_of row.job) (Done f.answer) x (with_slot slot')) e
-                (marks_item v (set v.rows k slot') k row t.0 here_v (ap (set v.rows k) t.2) (compilation_of row.job) (Done f.answer) f.graphs_are f.workers_are f.firing_is f.done f.others);
+                (marks_item v (set v.rows k slot') k row t.0 here_v (ap (set v.rows k) t.2) (compilation_of row.job) (Done f.answer) f.graphs_are f.workers_are f.firing_is (λ cells some. absurd (let none = f.unplaced in cc)) f.done f.others);
             free = let all = job_freed t.0 slot' t.2 in let few = f.free in omega (arith, all, few);
           },
           lent_still t.0 slot' t.2 f.lent,

@@ -27,12 +27,13 @@ repeated zero i d = refl
 repeated (suc n) zero d = refl
 repeated (suc n) (suc i) d = repeated n i d
 
-pub is_fresh : (graphs : Graphs) (workers : ℕ) (firing : Firing) (job : OpenView) (n : ℕ) → job.graphs ≡ graphs → job.workers ≡ workers → job.firing ≡ firing → job.marks ≡ replicate n Free → job.lent ≡ replicate n None
+pub is_fresh : (graphs : Graphs) (workers : ℕ) (firing : Firing) (job : OpenView) (n : ℕ) → job.graphs ≡ graphs → job.workers ≡ workers → job.firing ≡ firing → job.cells ≡ None → job.marks ≡ replicate n Free → job.lent ≡ replicate n None
     → free_in job.marks ≡ compilation_of job + 1 → IsFresh graphs workers firing job
-is_fresh graphs workers firing job n graphs_are workers_are firing_is marks lent many = record {
+is_fresh graphs workers firing job n graphs_are workers_are firing_is unplaced marks lent many = record {
   graphs_are = graphs_are;
   workers_are = workers_are;
   firing_is = firing_is;
+  unplaced = unplaced;
   free = λ i. ap (λ (l : ItemMarks). mark_at l i) marks ∙ repeated n i Free;
   many = many;
   unlent = record { each = λ i. ap (λ (l : Lent). lent_at l i) lent ∙ repeated n i None };
@@ -52,6 +53,7 @@ started graphs workers firing top rows fresh place upper steps are = record {
   upper_is = upper;
   steps_are = steps;
   others = λ k apart. ap (λ (l : List (Option Row)). get_or l k None) are ∙ past k apart;
+  rows_are = are;
   many = let all = ap (total free_by) are in let own = fresh.many in omega (arith, all, own);
 }
   where
@@ -181,7 +183,7 @@ module _ (v now : TableView) (e : v ≡ now) (rows : List (Option Row)) (same : 
   call_of firing slot' calls = subst (λ (s : Option Row). CallsIn item (Ok firing) s slot') row_slot calls
 
   pub opened_stays : (y : Mark Firing Answer) → StaysAs row (with_job row (with_mark row.job item y))
-  opened_stays y = record { place_is = refl; upper_is = refl; steps_are = refl; graphs_are = refl; workers_are = refl; firing_is = refl }
+  opened_stays y = record { place_is = refl; upper_is = refl; steps_are = refl; graphs_are = refl; workers_are = refl; firing_is = refl; cells_stay = λ cells is. is }
 
   pub opened_mark : (y : Mark Firing Answer) → item < length row.job.marks → mark_at (set row.job.marks item y) item ≡ y
   opened_mark y inside = get_or-set_same row.job.marks item y Free inside

@@ -27,7 +27,7 @@ pub in_table : (v : TableView) (k : ℕ) (row : Row) → row_at v k ≡ Some row
 in_table v k row here = ap (option_map job_row) here
 
 pub stays_same : (row : Row) → StaysAs row row
-stays_same row = record { place_is = refl; upper_is = refl; steps_are = refl; graphs_are = refl; workers_are = refl; firing_is = refl }
+stays_same row = record { place_is = refl; upper_is = refl; steps_are = refl; graphs_are = refl; workers_are = refl; firing_is = refl; cells_stay = λ cells is. is }
 
 -- a row with one mark written
 pub marked_row : (before after : Row) (item : ℕ) (mark : Mark Firing Answer) → StaysAs before after → mark_at after.job.marks item ≡ mark

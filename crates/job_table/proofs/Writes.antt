@@ -6,6 +6,7 @@ use Rattle.job_preparing.specs.Handing.{ItemMarks, Lent, lent_at, mark_at}
 use Rattle.job_rules.specs.Words.{Answer}
 use Rattle.kernel_gate.specs.Value.{Places}
 use Rattle.nested_jobs.specs.Marks.{Free, Mark}
+use Rattle.open_job.specs.Leases.{CellsStay}
 use Rattle.open_job.specs.View.{OpenView}
 use Rattle.pisdf_meaning.specs.declared.firing.Firing.{Firing}
 use Rattle.job_table.specs.Calls.{LendsAsBefore, LendsItem, MarksItem}
@@ -48,16 +49,16 @@ module _ (old : TableView) (rows : List (Option Row)) (k : ℕ) (row : Row) (job
   pub others : (j : ℕ) → j ≢ k → row_at new j ≡ row_at old j
   others j apart = ap (λ (l : List (Option Row)). get_or l j None) written ∙ get_or-set_other old.rows k j (Some (with_job row job)) None apart
 
-  pub marks_item : (item : ℕ) (y : Mark Firing Answer) → job.graphs ≡ row.job.graphs → job.workers ≡ row.job.workers → job.firing ≡ row.job.firing
+  pub marks_item : (item : ℕ) (y : Mark Firing Answer) → job.graphs ≡ row.job.graphs → job.workers ≡ row.job.workers → job.firing ≡ row.job.firing → CellsStay row.job.cells job.cells
       → mark_at job.marks item ≡ y → ((i : ℕ) → i ≢ item → mark_at job.marks i ≡ mark_at row.job.marks i) → MarksItem k item y old new
-  marks_item item y graphs workers firing at rest = record {
+  marks_item item y graphs workers firing cells at rest = record {
     graphs_are = refl;
     workers_are = refl;
     before = row;
     here = here;
     after = with_job row job;
     now = now;
-    stays = record { place_is = refl; upper_is = refl; steps_are = refl; graphs_are = graphs; workers_are = workers; firing_is = firing };
+    stays = record { place_is = refl; upper_is = refl; steps_are = refl; graphs_are = graphs; workers_are = workers; firing_is = firing; cells_stay = cells };
     marked = at;
     unmarked = rest;
     others = λ j apart again. others j apart;
@@ -87,9 +88,9 @@ module _ (old : TableView) (rows : List (Option Row)) (k : ℕ) (row : Row) (job
 
 -- one mark of the job
 module _ (old : TableView) (rows : List (Option Row)) (k : ℕ) (row : Row) (job : OpenView) (here : row_at old k ≡ Some row) (written : rows ≡ set old.rows k (Some (with_job row job))) where
-  pub marks_set : (item : ℕ) (y : Mark Firing Answer) → job.graphs ≡ row.job.graphs → job.workers ≡ row.job.workers → job.firing ≡ row.job.firing → job.marks ≡ set row.job.marks item y → item < length row.job.marks
+  pub marks_set : (item : ℕ) (y : Mark Firing Answer) → job.graphs ≡ row.job.graphs → job.workers ≡ row.job.workers → job.firing ≡ row.job.firing → CellsStay row.job.cells job.cells → job.marks ≡ set row.job.marks item y → item < length row.job.marks
       → MarksItem k item y old record { graphs = old.graphs; workers = old.workers; rows = rows }
-  marks_set item y graphs workers firing marks inside =
-      marks_item old rows k row job here written item y graphs workers firing
+  marks_set item y graphs workers firing cells marks inside =
+      marks_item old rows k row job here written item y graphs workers firing cells
       (ap (λ (l : ItemMarks). mark_at l item) marks ∙ get_or-set_same row.job.marks item y Free inside)
       (λ i apart. ap (λ (l : ItemMarks). mark_at l i) marks ∙ get_or-set_other row.job.marks item i y Free apart)

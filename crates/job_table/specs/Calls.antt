@@ -9,6 +9,7 @@ use Rattle.kernel_gate.specs.Value.{Places}
 use Rattle.nested_jobs.specs.Marks.{Done, Free, Mark, Open, answer_of}
 use Rattle.nested_jobs.specs.Rules.{Call, Work}
 use Rattle.open_job.specs.Calls.{compile_answer, nodes_by}
+use Rattle.open_job.specs.Leases.{CellsStay}
 use Rattle.open_job.specs.View.{OpenView, compilation_of, free_in, left_by, task}
 use Rattle.pisdf_model.specs.declared.graph.Graphs.{Graphs}
 use Rattle.pisdf_meaning.specs.declared.firing.Firing.{Firing}
@@ -25,6 +26,7 @@ pub record IsFresh (graphs : Graphs) (workers : ℕ) (firing : Firing) (job : Op
   pub graphs_are : job.graphs ≡ graphs
   pub workers_are : job.workers ≡ workers
   pub firing_is : job.firing ≡ firing
+  pub unplaced : job.cells ≡ None
   pub free : (i : ℕ) → mark_at job.marks i ≡ Free
   pub many : free_in job.marks ≡ compilation_of job + 1
   pub unlent : IsNothingLent job.lent
@@ -42,9 +44,10 @@ pub record IsStarted (graphs : Graphs) (workers : ℕ) (firing : Firing) (v : Ta
   pub upper_is : top.upper ≡ None
   pub steps_are : top.steps ≡ []
   pub others : (k : ℕ) → k ≢ key → row_at v k ≡ None
+  pub rows_are : v.rows ≡ Some top ∷ []
   pub many : free_items v ≡ compilation_of top.job + 1
 
--- the same row, but for its marks and for what is lent
+-- the same row, but for its marks, for what is lent, and for where its cells lie that wasn't compiled
 pub record StaysAs (before after : Row) : Type 0 where
   pub place_is : after.place ≡ before.place
   pub upper_is : after.upper ≡ before.upper
@@ -52,6 +55,7 @@ pub record StaysAs (before after : Row) : Type 0 where
   pub graphs_are : after.job.graphs ≡ before.job.graphs
   pub workers_are : after.job.workers ≡ before.job.workers
   pub firing_is : after.job.firing ≡ before.job.firing
+  pub cells_stay : CellsStay before.job.cells after.job.cells
 
 -- the same rows at all keys but these
 abbrev pub OthersStay : (k l : ℕ) → (old new : TableView) → Type 0

@@ -6,3 +6,4 @@ pub mod Closing
 pub mod Asked
 pub mod AskedRows
 pub mod Laws
+pub mod LiveFirings

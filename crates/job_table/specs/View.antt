@@ -1,10 +1,12 @@
 -- A table of open jobs as plain data.
-use Rattle.std.specs.Prelude.{◌≡◌, ℕ, ◌+◌, List, [], ◌∷◌, Option, Some, None, slice_index_or}
+use Rattle.std.specs.Prelude.{◌≡◌, ℕ, ◌+◌, List, [], ◌∷◌, map, Option, Some, None, slice_index_or}
 use Rattle.std.specs.Option.{option_map}
 use Rattle.board_rules.specs.Asking.{JobRow}
 use Rattle.board_rules.specs.Board.{OpenJobs}
 use Rattle.job_preparing.specs.Handing.{lent_at, mark_at}
 use Rattle.kernel_gate.specs.Value.{Places}
+use Rattle.nested_jobs.specs.Rules.{Place}
+use Rattle.one_job.specs.Leased.{JobCells}
 use Rattle.pisdf_model.specs.declared.graph.Graphs.{Graphs}
 use Rattle.open_job.specs.View.{OpenView, free_in, total}
 use Rattle.job_table.specs.declared.row.Row.{Row}
@@ -55,6 +57,20 @@ free_by (Some row) = free_in row.job.marks
 
 abbrev pub free_items : TableView → ℕ
 free_items v = total free_by v.rows
+
+-- ---- open firings
+
+-- the place of an open firing, and where its cells lie once it is compiled
+pub record FiringView : Type 0 where
+  pub place : Place
+  pub cells : Option JobCells
+
+abbrev pub firing_of : Row → FiringView
+firing_of row = record { place = row.place; cells = row.job.cells }
+
+-- those of all rows, by their keys
+abbrev pub firings_of : TableView → List (Option FiringView)
+firings_of v = map (option_map firing_of) v.rows
 
 -- ---- the words of boards
 

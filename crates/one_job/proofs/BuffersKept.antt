@@ -15,7 +15,8 @@ use Rattle.one_job.specs.Places.{edge_at, buffer_at}
 use Rattle.one_job.specs.Taking.{Layout}
 use Rattle.one_job.specs.Ports.{reads_stored, writes_stored, row_of, EachLeaves, EachLies, LieBehind, port_size}
 use Rattle.one_job.specs.View.{JobView, graph_of}
-use Rattle.one_job.specs.LiveLaws.{LieOut, KeepsBuffers}
+use Rattle.one_job.specs.Leased.{AreLeases, cells_of}
+use Rattle.one_job.specs.LiveLaws.{KeepsBuffers}
 use Rattle.one_job.specs.Kept.{Parts, Keeps}
 use Rattle.one_job.proofs.Phases.{inside_of, claimed_not_free}
 use Rattle.one_job.proofs.Order.{buffer_within}
@@ -78,7 +79,7 @@ module _ (j : JobView) (p : Parts) (pool : PoolView) (outs left : List (List ℤ
       by true = refl
       by false = refl
 
-  lie_out : (n : ℕ) (places : Places) → mark_at j.marks n ≡ Claimed places → LieOut j n places
+  lie_out : (n : ℕ) (places : Places) → mark_at j.marks n ≡ Claimed places → AreLeases (cells_of j) n places
   lie_out n places is =
       let inside : n < length j.compilation.graph.nodes = subst (λ k. n < k) keeps.one_each (inside_of j.marks n (claimed_not_free (phase j.marks n) (ap phase_of is))) in
       let right = keeps.claimed n places is in
@@ -87,10 +88,8 @@ module _ (j : JobView) (p : Parts) (pool : PoolView) (outs left : List (List ℤ
       let which = node_at j.compilation.graph.nodes n in
       let ports = ports_of (graph_of j) p.entering p.leaving n keeps.wired inside in
       record {
-        buffers = record {
-          inputs = λ e e_in here. LieBehind-at place j.block (reads_stored which) (ports_in (graph_of j) which n) (row_of p.entering n) places.inputs (edge_at edges e).head_port e (keeps.wired.ins n inside) right.inputs (ports.heads_at e e_in here);
-          outputs = λ e e_in here. LieBehind-at place j.block (writes_stored which) (length (lens (graph_of j) n)) (row_of p.leaving n) places.outputs (edge_at edges e).tail_port e (outs_long n inside) right.outputs (ports.tails_at e e_in here);
-        };
+        inputs = λ e e_in here. LieBehind-at place j.block (reads_stored which) (ports_in (graph_of j) which n) (row_of p.entering n) places.inputs (edge_at edges e).head_port e (keeps.wired.ins n inside) right.inputs (ports.heads_at e e_in here);
+        outputs = λ e e_in here. LieBehind-at place j.block (writes_stored which) (length (lens (graph_of j) n)) (row_of p.leaving n) places.outputs (edge_at edges e).tail_port e (outs_long n inside) right.outputs (ports.tails_at e e_in here);
         no_input = λ port lease alone none at. behind_empty place j.block (reads_stored which) (row_of p.entering n) places.inputs port lease alone right.inputs
             (no_edge_at (get_or (row_of p.entering n) port None) (λ e found. let there = enters_at edges n 0 (row_of p.entering n) port e (keeps.wired.enters n inside) found in none e there.0 there.1 (there.2 ∙ omega arith))) at;
         no_output = λ port lease alone none at. behind_empty place j.block (writes_stored which) (row_of p.leaving n) places.outputs port lease alone right.outputs

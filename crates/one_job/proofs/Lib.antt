@@ -28,3 +28,4 @@ pub mod Picked
 pub mod FinishReady
 pub mod BuffersKept
 pub mod ImagesHold
+pub mod Owners

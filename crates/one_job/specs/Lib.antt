@@ -11,6 +11,7 @@ pub mod View
 pub mod Pick
 pub mod Ready
 pub mod Calls
+pub mod Leased
 pub mod LiveLaws
 pub mod Images
 pub mod Frames

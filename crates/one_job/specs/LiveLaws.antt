@@ -1,17 +1,14 @@
 -- What holds of the buffers of every job.
-use Rattle.std.specs.Prelude.{◌≡◌, ◌≢◌, ℕ, ◌+◌, ◌<◌, ◌≤◌, List, length, true, false, slice_get, Some}
+use Rattle.std.specs.Prelude.{◌≡◌, ◌≢◌, ℕ, ◌+◌, ◌<◌, ◌≤◌, List, length, true, Option}
 use Rattle.split_block.specs.Places.{Apart}
-use Rattle.split_block.specs.View.{LeasePlace, IsWholePlace}
 use Rattle.kernel_gate.specs.Value.{Places}
 use Rattle.job_compiler.specs.Compilation.{Compilation, IsCompiled}
-use Rattle.job_flow.specs.Graphs.{node_at}
 use Rattle.job_flow.specs.Frames.{on_edge}
 use Rattle.one_job.specs.Marks.{Mark, Claimed, mark_at, values}
 use Rattle.one_job.specs.Places.{edge_at, buffer_at}
 use Rattle.one_job.specs.Live.{InOrder, IsLive, IsLent, IsFull}
-use Rattle.one_job.specs.Ports.{reads_stored, writes_stored}
+use Rattle.one_job.specs.Leased.{AreLeases, JobCells, LendsBuffers, OneOwnerEach, cells_of}
 use Rattle.one_job.specs.View.{JobView}
-use Rattle.one_job.specs.Calls.{LieAtBuffers}
 
 -- two buffers that are live at once share no cell
 abbrev pub LiveBuffersAreApart : Type 0
@@ -38,19 +35,6 @@ abbrev pub FullBuffersAreLive : Type 0
 FullBuffersAreLive =
     (c : Compilation) (marks : List Mark) (e : ℕ) → IsFull c.graph.edges marks e → IsLive c.graph.edges marks e
 
--- the leases of a claimed node are those of its buffers, and a port that no edge enters or leaves has an empty one, but where
--- the node has stored tokens: these lie in a block of their own, which is no pool's
-pub record LieOut (j : JobView) (n : ℕ) (places : Places) : Type 0 where
-  pub buffers : LieAtBuffers j n places
-  pub no_input : (p : ℕ) (lease : LeasePlace) → reads_stored (node_at j.compilation.graph.nodes n) ≡ false
-      → ((e : ℕ) → e < length j.compilation.graph.edges → (edge_at j.compilation.graph.edges e).head ≡ n → (edge_at j.compilation.graph.edges e).head_port ≢ p)
-      → slice_get places.inputs p ≡ Some lease → lease.len ≡ 0
-  pub no_output : (p : ℕ) (lease : LeasePlace) → writes_stored (node_at j.compilation.graph.nodes n) ≡ false
-      → ((e : ℕ) → e < length j.compilation.graph.edges → (edge_at j.compilation.graph.edges e).tail ≡ n → (edge_at j.compilation.graph.edges e).tail_port ≢ p)
-      → slice_get places.outputs p ≡ Some lease → lease.len ≡ 0
-  pub stored_input : (p : ℕ) (lease : LeasePlace) → reads_stored (node_at j.compilation.graph.nodes n) ≡ true → slice_get places.inputs p ≡ Some lease → IsWholePlace lease
-  pub stored_output : (p : ℕ) (lease : LeasePlace) → writes_stored (node_at j.compilation.graph.nodes n) ≡ true → slice_get places.outputs p ≡ Some lease → IsWholePlace lease
-
 -- the buffers lie in one block of a pool, which is as high as the placement; each node has a mark; what is claimed was claimed
 -- in the order of the edges, and its leases are those of its buffers; a full buffer has as many tokens as cells
 pub record KeepsBuffers (j : JobView) : Type 0 where
@@ -59,6 +43,10 @@ pub record KeepsBuffers (j : JobView) : Type 0 where
   pub high : j.block.len ≡ j.compilation.placement.height
   pub one_each : length j.marks ≡ length j.compilation.graph.nodes
   pub order : InOrder j.compilation.graph.edges j.marks
-  pub leases : (n : ℕ) (places : Places) → mark_at j.marks n ≡ Claimed places → LieOut j n places
+  pub leases : (n : ℕ) (places : Places) → mark_at j.marks n ≡ Claimed places → AreLeases (cells_of j) n places
   pub full : (e : ℕ) → e < length j.compilation.graph.edges → IsFull j.compilation.graph.edges j.marks e
       → length (on_edge (values j.marks) (edge_at j.compilation.graph.edges e)) ≡ (edge_at j.compilation.graph.edges e).size
+
+-- no cell of a job has two owners
+abbrev pub CellsHaveOneOwner : Type 0
+CellsHaveOneOwner = (c : JobCells) (marks : List Mark) (lent : ℕ → Option Places) → LendsBuffers c marks lent → OneOwnerEach lent

@@ -17,5 +17,5 @@ mod told;
 mod wiring;
 
 pub use job::{Job, JobEnd};
-pub use laws::{full_buffers_hold_tokens, live_buffers_are_apart};
+pub use laws::{cells_have_one_owner, full_buffers_hold_tokens, live_buffers_are_apart};
 pub use starting::start;

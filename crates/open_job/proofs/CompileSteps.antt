@@ -10,6 +10,7 @@ use Rattle.kernel_gate.specs.Value.{Places}
 use Rattle.nested_jobs.specs.Marks.{Mark, Free, Busy, Done}
 use Rattle.pisdf_meaning.specs.declared.firing.Configured.{Configured}
 use Rattle.pisdf_meaning.specs.declared.firing.Firing.{Firing}
+use Rattle.pisdf_meaning.specs.declared.refusal.Refusal.{Refusal}
 use Rattle.pisdf_model.specs.declared.graph.Graph.{Graph}
 use Rattle.job_compiler.specs.declared.key.Key.{Key}
 use Rattle.job_rules.specs.Doing as doing
@@ -24,8 +25,8 @@ use Rattle.job_preparing.specs.declared.compiling.CompileEnd.{CompileEnd}
 use Rattle.job_preparing.specs.declared.compiling.CompileEnd.TheVariants as compiling
 use Rattle.job_running.specs.View as running
 use Rattle.open_job.specs.View.{OpenView, compilation_of, free_in, free_one, key_in, left_by, left_if_ready}
-use Rattle.open_job.specs.Calls.{FinishesCompilation, compile_answer, nodes_by, with_mark}
-use Rattle.open_job.specs.Kept.{KeepsWith, StageFits, compile_mark, node_lent, node_marks, view_with}
+use Rattle.open_job.specs.Calls.{FinishesCompilation, IsPlacedBy, compile_answer, nodes_by, with_mark}
+use Rattle.open_job.specs.Kept.{KeepsWith, StageFits, compile_mark, node_lent, node_marks, stage_cells, view_with}
 use Rattle.open_job.specs.Stages.{GoesOnWith, HasNoNodes}
 use Rattle.open_job.specs.declared.stage.Stage.{Stage}
 use Rattle.open_job.specs.declared.stage.Stage.TheVariants.{Waiting, Compiling, Refused, Nodes}
@@ -45,6 +46,12 @@ compile_answers graphs workers firing left (compiling.Refused cause) a fit is an
     let same : Refuses record { path = firing.path; cause = cause } ≡ a = cc in
     subst (doing.IsCompiled graphs firing left) same is
 compile_answers graphs workers firing left compiling.Memory a fit is answer = absurd (cc)
+
+-- a job that is refused has no cells
+refused_unplaced : (firing : Firing) (end : CompileEnd) (refusal : Refusal) → compile_answer firing end ≡ Some (Refuses refusal) → IsPlacedBy end None
+refused_unplaced firing (compiling.Ready compiled set values) refusal is = absurd (cc)
+refused_unplaced firing (compiling.Refused cause) refusal is = refl
+refused_unplaced firing compiling.Memory refusal is = refl
 
 -- ---- lists of one element
 
@@ -106,7 +113,7 @@ module _ (c : ConfiguringView) (workers : ℕ) (stage : Stage) (keeps : KeepsWit
   pub claim_view : stage ≡ Waiting → view_with c workers Compiling ≡ with_mark v (compilation_of v) Busy
   claim_view same =
       let marks = put_seam c.marks (compile_mark Waiting) [] Busy k keeps.marks_many in
-      let first : view_with c workers Compiling ≡ with_mark (view_with c workers Waiting) k Busy = λ t. record { graphs = c.graphs; workers = workers; firing = c.firing; marks = sym marks t; lent = c.lent ++ None ∷ [] } in
+      let first : view_with c workers Compiling ≡ with_mark (view_with c workers Waiting) k Busy = λ t. record { graphs = c.graphs; workers = workers; firing = c.firing; cells = None; marks = sym marks t; lent = c.lent ++ None ∷ [] } in
       first ∙ ap (λ (x : OpenView). with_mark x (compilation_of x) Busy) (ap (view_with c workers) (sym same) ∙ is)
 
   -- ---- its finish
@@ -155,8 +162,8 @@ module _ (c : ConfiguringView) (workers : ℕ) (stage : Stage) (keeps : KeepsWit
           rest)
           (where_is k i)
 
-      finishes : (a : Answer) → compile_mark next ≡ Done a → compile_answer c.firing end ≡ Some a → FinishesCompilation end v w
-      finishes a done answer =
+      finishes : (a : Answer) → compile_mark next ≡ Done a → compile_answer c.firing end ≡ Some a → IsPlacedBy end (stage_cells next) → FinishesCompilation end v w
+      finishes a done answer placed =
           let F : OpenView → Type 0 = λ x. FinishesCompilation end x w in
           let left : preparing.left_by c ≡ left_by u = ap (λ o. unwrap_or o []) (sym (early.left_same c workers Compiling keeps.marks_many)) in
           let L : List Configured → Type 0 = λ l. doing.IsCompiled c.graphs.graphs c.firing l a in
@@ -164,6 +171,8 @@ module _ (c : ConfiguringView) (workers : ℕ) (stage : Stage) (keeps : KeepsWit
             graphs_are = refl;
             workers_are = refl;
             firing_is = refl;
+            unplaced = refl;
+            placed = placed;
             answer = a;
             answer_is = answer;
             answered = subst L left (compile_answers c.graphs.graphs workers c.firing (preparing.left_by c) end a keeps.fit is_end answer);
@@ -180,13 +189,13 @@ module _ (c : ConfiguringView) (workers : ℕ) (stage : Stage) (keeps : KeepsWit
     pub finish_view : (next : Stage) → GoesOnWith c workers end next → FinishesCompilation end v (view_with c workers next)
     finish_view Waiting went = absurd went
     finish_view Compiling went = absurd went
-    finish_view (Refused refusal) went = finishes (Refused refusal) (λ n. refl) (λ n. refl) (omega arith) (Refuses refusal) refl went
+    finish_view (Refused refusal) went = finishes (Refused refusal) (λ n. refl) (λ n. refl) (omega arith) (Refuses refusal) refl went (refused_unplaced c.firing end refusal went)
     finish_view (Nodes r) went =
         finishes (Nodes r)
         (λ n. ap (λ (l : List (Mark Firing Answer)). mark_at l n) went.marks_are ∙ read_copies (length (running.nodes_of r)) n Free)
         (λ n. ap (λ (l : List (Option Places)). lent_at l n) went.lent_are ∙ read_copies (length (running.nodes_of r)) n None)
         (let all = ap free_in went.marks_are ∙ free_copies (length (running.nodes_of r)) in let many = went.many in omega arith)
-        (Schedules r.prepared.schedule) refl went.schedule_is
+        (Schedules r.prepared.schedule) refl went.schedule_is went.placed
 
   -- ---- what its calls say of the job's own view
 

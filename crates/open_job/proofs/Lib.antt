@@ -20,3 +20,5 @@ pub mod There
 pub mod Opened
 pub mod OfferedCompilation
 pub mod Totals
+pub mod Lent
+pub mod Owners

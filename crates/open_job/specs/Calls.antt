@@ -2,6 +2,7 @@
 use Rattle.std.specs.Prelude.{◌≡◌, ◌≢◌, ℕ, ℤ, ◌+◌, ◌≤◌, nat_lt, Bool, true, false, List, length, Option, Some, None, slice_set}
 use Rattle.kernel_gate.specs.Value.{FrameView, Places}
 use Rattle.std.specs.Arc.{arc_value}
+use Rattle.job_compiler.specs.Compilation.{Compilation}
 use Rattle.job_preparing.specs.CompileTasks.{schedule_of}
 use Rattle.job_preparing.specs.Handing.{AsksFor, CopiesIn, lent_at, mark_at}
 use Rattle.job_preparing.specs.declared.compiling.CompileEnd.{CompileEnd}
@@ -11,6 +12,7 @@ use Rattle.job_rules.specs.Words as words
 use Rattle.job_rules.specs.Words.{Answer}
 use Rattle.job_running.specs.Parts.{IsLong}
 use Rattle.nested_jobs.specs.Marks.{Mark, Done}
+use Rattle.one_job.specs.Leased.{JobCells}
 use Rattle.nested_jobs.specs.Rules.{Task, Work, Call}
 use Rattle.pisdf_meaning.specs.declared.firing.Firing.{Firing}
 use Rattle.sdf_level.specs.declared.node.Node.{Node}
@@ -98,11 +100,23 @@ nodes_by (Ready compiled set values) = length (arc_value compiled).graph.nodes
 nodes_by (Refused cause) = 0
 nodes_by Memory = 0
 
+-- where the cells lie of a job whose compilation ended so
+abbrev pub PlacedIn : Compilation → Option JobCells → Type 0
+PlacedIn compilation None = ⊥
+PlacedIn compilation (Some cells) = cells.compilation ≡ compilation
+
+abbrev pub IsPlacedBy : CompileEnd → Option JobCells → Type 0
+IsPlacedBy (Ready compiled set values) cells = PlacedIn (arc_value compiled) cells
+IsPlacedBy (Refused cause) cells = cells ≡ None
+IsPlacedBy Memory cells = cells ≡ None
+
 -- the compilation, which ended so, is done, and all else as before; no more items are free than those before and the nodes
 pub record FinishesCompilation (end : CompileEnd) (old new : OpenView) : Type 0 where
   pub graphs_are : new.graphs ≡ old.graphs
   pub workers_are : new.workers ≡ old.workers
   pub firing_is : new.firing ≡ old.firing
+  pub unplaced : old.cells ≡ None
+  pub placed : IsPlacedBy end new.cells
   pub answer : Answer
   pub answer_is : compile_answer old.firing end ≡ Some answer
   pub answered : Answers old.graphs.graphs (words.Compiles old.firing (left_by old)) answer

@@ -1,5 +1,5 @@
 -- The fields of an open job.
-use Rattle.std.specs.Prelude.{◌≡◌, ◌≢◌, ℕ, ◌≤◌, [], ◌∷◌, ◌++◌, length, None}
+use Rattle.std.specs.Prelude.{◌≡◌, ◌≢◌, ℕ, ◌≤◌, [], ◌∷◌, ◌++◌, length, Option, Some, None}
 use Rattle.job_preparing.specs.Handing.{ItemMarks, Lent, mark_at}
 use Rattle.level_schedule.specs.declared.scheduling.LevelSchedule.{LevelSchedule}
 use Rattle.job_preparing.specs.View as preparing
@@ -8,6 +8,7 @@ use Rattle.job_rules.specs.Items.{compile_number}
 use Rattle.job_rules.specs.Meant.{IsFit}
 use Rattle.job_rules.specs.Words.{Answer, Schedules, Refuses}
 use Rattle.nested_jobs.specs.Marks.{Mark, Free, Busy, Done}
+use Rattle.one_job.specs.Leased.{JobCells}
 use Rattle.pisdf_model.specs.Valid.{AreValid}
 use Rattle.pisdf_meaning.specs.declared.firing.Firing.{Firing}
 use Rattle.open_job.specs.Running.{RunsFor}
@@ -35,6 +36,13 @@ node_lent Compiling = []
 node_lent (Refused refusal) = []
 node_lent (Nodes running) = running.lent
 
+-- where the cells lie
+abbrev pub stage_cells : Stage → Option JobCells
+stage_cells Waiting = None
+stage_cells Compiling = None
+stage_cells (Refused refusal) = None
+stage_cells (Nodes running) = Some running.cells
+
 -- configuration actors, the compilation, and nodes
 abbrev pub marks_with : ConfiguringView → Stage → ItemMarks
 marks_with c stage = c.marks ++ compile_mark stage ∷ node_marks stage
@@ -43,7 +51,7 @@ abbrev pub lent_with : ConfiguringView → Stage → Lent
 lent_with c stage = c.lent ++ None ∷ node_lent stage
 
 abbrev pub view_with : ConfiguringView → ℕ → Stage → OpenView
-view_with c workers stage = record { graphs = c.graphs; workers = workers; firing = c.firing; marks = marks_with c stage; lent = lent_with c stage }
+view_with c workers stage = record { graphs = c.graphs; workers = workers; firing = c.firing; cells = stage_cells stage; marks = marks_with c stage; lent = lent_with c stage }
 
 abbrev pub view_of : Inside → OpenView
 view_of i = view_with i.configuring i.workers i.stage

@@ -6,3 +6,4 @@ pub mod Calls
 pub mod Running
 pub mod Stages
 pub mod Kept
+pub mod Leases

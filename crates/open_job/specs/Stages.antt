@@ -23,7 +23,7 @@ use Rattle.nested_jobs.specs.Marks.{Mark, Free, Busy, Done, Open}
 use Rattle.nested_jobs.specs.Rules.{Call}
 use Rattle.pisdf_meaning.specs.declared.firing.Firing.{Firing}
 use Rattle.pisdf_meaning.specs.declared.refusal.Refusal.{Refusal}
-use Rattle.open_job.specs.Calls.{IsHandedFor, compile_answer, frame_of, nodes_by}
+use Rattle.open_job.specs.Calls.{IsHandedFor, IsPlacedBy, compile_answer, frame_of, nodes_by}
 use Rattle.open_job.specs.Offers.{goes_first}
 use Rattle.open_job.specs.Running.{RunsFor}
 use Rattle.open_job.specs.declared.handed.Handed.{Handed}
@@ -166,6 +166,7 @@ pub record AreFresh (c : ConfiguringView) (workers : ℕ) (end : CompileEnd) (r 
   pub marks_are : r.marks ≡ replicate (length (running.nodes_of r)) Free
   pub lent_are : r.lent ≡ replicate (length (running.nodes_of r)) None
   pub many : length (running.nodes_of r) ≡ nodes_by end
+  pub placed : IsPlacedBy end (Some r.cells)
   pub schedule_is : compile_answer c.firing end ≡ Some (words.Schedules r.prepared.schedule)
 
 -- where a job goes on once its compilation ended so

@@ -8,6 +8,7 @@ use Rattle.job_rules.specs.Items.{compile_number, count, graph_of, left_in, outc
 use Rattle.job_rules.specs.Words as words
 use Rattle.job_rules.specs.Words.{Answer}
 use Rattle.nested_jobs.specs.Marks.{Mark, Free, Busy, Open, Done}
+use Rattle.one_job.specs.Leased.{JobCells}
 use Rattle.nested_jobs.specs.Rules.{Task, Work, Call, Values}
 use Rattle.nested_jobs.specs.Steps.{all_below, is_settled}
 use Rattle.pisdf_model.specs.declared.graph.Graph.{Graph}
@@ -15,12 +16,13 @@ use Rattle.pisdf_model.specs.declared.graph.Graphs.{Graphs}
 use Rattle.pisdf_meaning.specs.declared.firing.Configured.{Configured}
 use Rattle.pisdf_meaning.specs.declared.firing.Firing.{Firing}
 
--- the graphs, how many workers the job is mapped on, the firing, where each item stands that is there, and where the leases of
--- those lie whose frames are out
+-- the graphs, how many workers the job is mapped on, the firing, where its cells lie once it is compiled, where each item stands
+-- that is there, and where the leases of those lie whose frames are out
 pub record OpenView : Type 0 where
   pub graphs : Graphs
   pub workers : ℕ
   pub firing : Firing
+  pub cells : Option JobCells
   pub marks : ItemMarks
   pub lent : Lent
 

@@ -1,5 +1,5 @@
 // One open job and its events.
-ghost use Rattle.std.specs.Prelude.{◌≡◌, ◌≢◌, ◌⊎◌, ◌↔◌, ◌<◌, ◌-◌, ℕ, None, Some, IfOk, IsOk, IsTrue, OnErr, OnOk, slice_index};
+ghost use Rattle.std.specs.Prelude.{◌≡◌, ◌≢◌, ◌⊎◌, ◌↔◌, ◌<◌, ◌-◌, ℕ, None, Some, IfOk, IsOk, IsTrue, MatchOption, OnErr, OnOk, slice_index};
 ghost use Rattle.std.specs.Arc.{arc_value};
 ghost use Rattle.std.specs.Option.{option_map};
 
@@ -13,6 +13,7 @@ use crate::stage::Stage;
 use job_compiler::{Compiled, Key};
 use job_preparing::{CompileEnd, CompileTask, Configuring, JobGiven};
 use kernel_gate::{Frame, KernelFault};
+use one_job::cells_have_one_owner;
 use pisdf_meaning::{Firing, Refusal};
 use std::alloc::{AllocError, Global};
 use std::marker::Model;
@@ -54,8 +55,28 @@ impl OpenJob {
     ghost use Rattle.open_job.specs.View.{HasItem, IsOfferedCall, IsOfferedCompilation, IsOfferedWork, IsQuiet, compilation_of, graph_in, key_in, left_by, outcome_in, task};
     ghost use Rattle.open_job.specs.Places.{config_places};
     ghost use Rattle.open_job.specs.Offers.{IsPick};
+    ghost use Rattle.one_job.specs.Leased.{OneOwnerEach};
+    ghost use Rattle.open_job.specs.Leases.{LendsItems};
     ghost use Rattle.open_job.specs.Paths.{IsCall, step_of};
-    ghost use Rattle.open_job.specs.Calls.{FinishesCompilation, HasLongTrace, IsHanded, IsSoundFor, frame_of, with_item, with_mark};
+    ghost use Rattle.open_job.specs.Calls.{FinishesCompilation, HasLongTrace, IsHanded, IsSoundFor, PlacedIn, frame_of, with_item, with_mark};
+
+    /// What the job was compiled to, once it is. In every state what is lent of its nodes are the leases of their buffers, in one
+    /// block, at the offsets of the compilation's placement. What isn't free was claimed in the order of the edges. No cell of
+    /// the job has two owners.
+    pub fn compiled(&self) -> Option<&Compiled>
+        ensures value { MatchOption result (self.now.cells ≡ None) (λ compiled. PlacedIn compiled.now self.now.cells) }
+        ensures lends { LendsItems self.now }
+        ensures owners { OneOwnerEach (lent_at self.now.lent) }
+    {
+        cells_have_one_owner();
+        self.configuring.own_blocks();
+        match &self.stage {
+            Stage::Nodes(running) => Some(running.compiled()),
+            Stage::Waiting => None,
+            Stage::Compiling => None,
+            Stage::Refused(_) => None,
+        }
+    }
 
     /// The firing of which this is the job.
     pub fn firing(&self) -> &Firing

@@ -2,7 +2,7 @@ use Rattle.std.proofs.Common.{◌≡◌, ◌∙◌, inl, false, Option, None, sy
 use Rattle.std.specs.List.{All}
 use Rattle.board_rules.specs.Keys.{Key}
 use Rattle.open_job.specs.View.{OpenView, compilation_of}
-use Rattle.firing_board.specs.Core.{HasRoom}
+use Rattle.firing_board.specs.Core.{HasRoom, RowsLast}
 use Rattle.firing_board.specs.Finding.{Finds}
 use Rattle.firing_board.specs.Handing.{HandsOut}
 use Rattle.firing_board.specs.Kept.{view_with}
@@ -30,7 +30,7 @@ returns-in_err-run-clause-refused c =
     let mid = c.find.new.core in
     let kept = c.in_err-run.ensures.kept in
     on_err_by c.from_residual.result ((key : Key) → MayClaim key old c.args.worker → StarvesOn key old mid)
-    (λ key may. starves c.boards_keep.ensures.held key (c.rules_are_lawful.ensures key.graphs may.keeps.is_key.valid.valid) old mid may.keeps kept.lasts kept.lent (ap (λ rs. rs.items) kept.running_is) kept.entries_are
+    (λ key may. starves c.boards_keep.ensures.held key (c.rules_are_lawful.ensures key.graphs may.keeps.is_key.valid.valid) old mid may.keeps kept.lasts kept.rows kept.lent (ap (λ rs. rs.items) kept.running_is) kept.entries_are
     kept.more)
 
 pub returns-in_err-run-clause-licensed : goal.returns-in_err-run-clause-licensed
@@ -77,6 +77,7 @@ returns-in-Some-clause-refused c =
     (λ (e : new ≡ mid). λ key may.
     starves c.boards_keep.ensures.held key (c.rules_are_lawful.ensures key.graphs may.keeps.is_key.valid.valid) old new may.keeps
     (subst (λ (x : Core). Lasts old.table x.table) (sym e) kept.lasts)
+    (subst (λ (x : Core). RowsLast old.table x.table) (sym e) kept.rows)
     (subst (λ (x : Core). LendsAsBefore old.table x.table) (sym e) kept.lent)
     (ap (λ (x : Core). x.running.items) e ∙ ap (λ rs. rs.items) kept.running_is) (ap (λ (x : Core). x.journal.entries) e ∙ kept.entries_are)
     (let same = ap (λ (x : Core). x.journal.room) e in let more = kept.more in omega (arith, same, more)))

@@ -1,5 +1,9 @@
-use Rattle.std.proofs.Common.{refl, sym, ap, subst, arith}
+use Rattle.std.proofs.Common.{◌≡◌, refl, sym, ap, subst, arith}
+use Rattle.job_preparing.specs.Handing.{lent_at}
+use Rattle.one_job.specs.Leased.{OneOwnerEach}
 use Rattle.open_job.specs.Calls.{IsHanded}
+use Rattle.open_job.specs.Leases.{LendsItems}
+use Rattle.open_job.specs.View.{OpenView}
 use Rattle.job_table.specs.View.{row_at}
 use Rattle.job_table.specs.declared.row.Row.{Row}
 use Rattle.firing_board.specs.Handing.{claim_of}
@@ -43,6 +47,13 @@ returns-in-Configure-clause-handed c =
       claimed = record { table = c.claim-handed.new.self; running = old.running; numbers = old.numbers; journal = old.journal; end = old.end };
       marks = c.claim-handed.ensures.claimed;
       lends = c.claim-handed.ensures.lent;
+      leases =
+          let row : c.job.ensures.0 ≡ c.claim-handed.ensures.claimed.after = the_same (row_at c.claim-handed.new.self c.args.run.row) c.job.ensures.0 c.claim-handed.ensures.claimed.after c.job.ensures.1 c.claim-handed.ensures.claimed.now in
+          subst (λ (r : Row). LendsItems r.job) row (subst LendsItems c.job.ensures.2 c.compiled.ensures.lends);
+      owners =
+          let row : c.job.ensures.0 ≡ c.claim-handed.ensures.claimed.after = the_same (row_at c.claim-handed.new.self c.args.run.row) c.job.ensures.0 c.claim-handed.ensures.claimed.after c.job.ensures.1 c.claim-handed.ensures.claimed.now in
+          let P : OpenView → Type 0 = λ job. OneOwnerEach (lent_at job.lent) in
+          subst (λ (r : Row). P r.job) row (subst P c.job.ensures.2 c.compiled.ensures.owners);
       running_is = refl;
       numbers_are = refl;
       journal_is = refl;
@@ -66,6 +77,13 @@ returns-in-Fire-clause-handed c =
       claimed = record { table = c.claim-handed.new.self; running = old.running; numbers = old.numbers; journal = old.journal; end = old.end };
       marks = c.claim-handed.ensures.claimed;
       lends = c.claim-handed.ensures.lent;
+      leases =
+          let row : c.job.ensures.0 ≡ c.claim-handed.ensures.claimed.after = the_same (row_at c.claim-handed.new.self c.args.run.row) c.job.ensures.0 c.claim-handed.ensures.claimed.after c.job.ensures.1 c.claim-handed.ensures.claimed.now in
+          subst (λ (r : Row). LendsItems r.job) row (subst LendsItems c.job.ensures.2 c.compiled.ensures.lends);
+      owners =
+          let row : c.job.ensures.0 ≡ c.claim-handed.ensures.claimed.after = the_same (row_at c.claim-handed.new.self c.args.run.row) c.job.ensures.0 c.claim-handed.ensures.claimed.after c.job.ensures.1 c.claim-handed.ensures.claimed.now in
+          let P : OpenView → Type 0 = λ job. OneOwnerEach (lent_at job.lent) in
+          subst (λ (r : Row). P r.job) row (subst P c.job.ensures.2 c.compiled.ensures.owners);
       running_is = refl;
       numbers_are = refl;
       journal_is = refl;
@@ -89,6 +107,13 @@ returns-in-Copy-clause-handed c =
       claimed = record { table = c.claim-handed.new.self; running = old.running; numbers = old.numbers; journal = old.journal; end = old.end };
       marks = c.claim-handed.ensures.claimed;
       lends = c.claim-handed.ensures.lent;
+      leases =
+          let row : c.job.ensures.0 ≡ c.claim-handed.ensures.claimed.after = the_same (row_at c.claim-handed.new.self c.args.run.row) c.job.ensures.0 c.claim-handed.ensures.claimed.after c.job.ensures.1 c.claim-handed.ensures.claimed.now in
+          subst (λ (r : Row). LendsItems r.job) row (subst LendsItems c.job.ensures.2 c.compiled.ensures.lends);
+      owners =
+          let row : c.job.ensures.0 ≡ c.claim-handed.ensures.claimed.after = the_same (row_at c.claim-handed.new.self c.args.run.row) c.job.ensures.0 c.claim-handed.ensures.claimed.after c.job.ensures.1 c.claim-handed.ensures.claimed.now in
+          let P : OpenView → Type 0 = λ job. OneOwnerEach (lent_at job.lent) in
+          subst (λ (r : Row). P r.job) row (subst P c.job.ensures.2 c.compiled.ensures.owners);
       running_is = refl;
       numbers_are = refl;
       journal_is = refl;

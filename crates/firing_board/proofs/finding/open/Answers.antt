@@ -8,7 +8,7 @@ use Rattle.pisdf_model.specs.declared.graph.Graphs.{Graphs}
 use Rattle.board_journal.specs.View.{JournalView}
 use Rattle.job_table.specs.View.{row_at}
 use Rattle.job_table.specs.declared.row.Row.{Row}
-use Rattle.firing_board.proofs.Rows.{opens_lasts, spoils_lasts, the_same}
+use Rattle.firing_board.proofs.Rows.{opens_lasts, opens_rows, spoils_lasts, spoils_rows, the_same}
 use Rattle.firing_board.proofs.Openings.{numbered_so}
 use Rattle.firing_board.proofs.finding.open.Goals as goal
 
@@ -38,6 +38,7 @@ returns-in_err-child-clause-kept c =
       end_is = refl;
       more = omega arith;
       lasts = spoils_lasts c.args.at.row c.args.at.item c.args.core.now.table c.open_child.new.self s (ap (λ (r : Row). mark_at r.job.marks c.args.at.item) same ∙ calls.offered.free);
+      rows = spoils_rows c.args.at.row c.args.at.item c.args.core.now.table c.open_child.new.self s;
       lent = c.in_err-child.ensures.lent;
     }
 
@@ -48,6 +49,7 @@ returns-in_err-room_for-clause-kept c = record {
   end_is = refl;
   more = c.in_err-room_for.ensures.kept.2;
   lasts = opens_lasts c.args.at.row c.args.at.item c.in_ok-child.child c.args.core.now.table c.open_child.new.self c.in_ok-child.ensures.opened;
+  rows = opens_rows c.args.at.row c.args.at.item c.in_ok-child.child c.args.core.now.table c.open_child.new.self c.in_ok-child.ensures.opened;
   lent = c.in_ok-child.ensures.lent;
 }
 
@@ -58,6 +60,7 @@ returns-in_err-path-clause-kept c = record {
   end_is = refl;
   more = c.in_ok-room_for.ensures.kept.2;
   lasts = opens_lasts c.args.at.row c.args.at.item c.in_ok-child.child c.args.core.now.table c.open_child.new.self c.in_ok-child.ensures.opened;
+  rows = opens_rows c.args.at.row c.args.at.item c.in_ok-child.child c.args.core.now.table c.open_child.new.self c.in_ok-child.ensures.opened;
   lent = c.in_ok-child.ensures.lent;
 }
 
@@ -68,6 +71,7 @@ returns-in_err-number-clause-kept c = record {
   end_is = refl;
   more = let same = ap (λ (j : JournalView). j.room) c.in_err-number.ensures.refused in let more = c.in_ok-room_for.ensures.kept.2 in omega (arith, same, more);
   lasts = opens_lasts c.args.at.row c.args.at.item c.in_ok-child.child c.args.core.now.table c.open_child.new.self c.in_ok-child.ensures.opened;
+  rows = opens_rows c.args.at.row c.args.at.item c.in_ok-child.child c.args.core.now.table c.open_child.new.self c.in_ok-child.ensures.opened;
   lent = c.in_ok-child.ensures.lent;
 }
 
@@ -78,6 +82,7 @@ returns-in_err-number_row-clause-kept c = record {
   end_is = refl;
   more = let same = ap (λ (j : JournalView). j.room) c.in_ok-number.ensures.added in let more = c.in_ok-room_for.ensures.kept.2 in omega (arith, same, more);
   lasts = opens_lasts c.args.at.row c.args.at.item c.in_ok-child.child c.args.core.now.table c.open_child.new.self c.in_ok-child.ensures.opened;
+  rows = opens_rows c.args.at.row c.args.at.item c.in_ok-child.child c.args.core.now.table c.open_child.new.self c.in_ok-child.ensures.opened;
   lent = c.in_ok-child.ensures.lent;
 }
 
@@ -113,5 +118,6 @@ returns-clause-kept c = record {
   end_is = refl;
   more = let same = ap (λ (j : JournalView). j.room) c.in_ok-number.ensures.added in let more = c.in_ok-room_for.ensures.kept.2 in omega (arith, same, more);
   lasts = opens_lasts c.args.at.row c.args.at.item c.in_ok-child.child c.args.core.now.table c.open_child.new.self c.in_ok-child.ensures.opened;
+  rows = opens_rows c.args.at.row c.args.at.item c.in_ok-child.child c.args.core.now.table c.open_child.new.self c.in_ok-child.ensures.opened;
   lent = c.in_ok-child.ensures.lent;
 }

@@ -8,7 +8,7 @@ use Rattle.job_rules.specs.Meant.{IsFit}
 use Rattle.job_rules.specs.Words.{Schedules}
 use Rattle.pisdf_model.specs.Valid.{AreValid}
 use Rattle.pisdf_model.specs.declared.graph.Graphs.{Graphs}
-use Rattle.open_job.specs.Calls.{compile_answer, nodes_by}
+use Rattle.open_job.specs.Calls.{IsPlacedBy, compile_answer, nodes_by}
 use Rattle.open_job.proofs.Compiling.{many, runs_for}
 use Rattle.open_job.proofs.going.next_stage.Goals as goal
 
@@ -43,5 +43,8 @@ returns-in_ok-running-in-Ready c =
       many = many own c.args.workers (arc_value c.in-Ready.compiled) c.in-Ready.set c.in-Ready.values c.requires.ready (subst P c.in-Ready.is c.requires.end) r
           (made.given.0 ∙ same) made.given.1 made.compilation.0 made.compilation.1 made.compilation.2 made.free made.nothing
           ∙ sym (ap nodes_by c.in-Ready.is);
+      placed =
+          let R : CompileEnd → Type 0 = λ end. IsPlacedBy end (Some r.cells) in
+          subst R (sym c.in-Ready.is) made.cells;
       schedule_is = ap (compile_answer own.firing) c.in-Ready.is ∙ ap (λ (p : Prepared). Some (Schedules p.schedule)) (sym made.compilation.0);
     }

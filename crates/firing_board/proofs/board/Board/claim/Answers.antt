@@ -1,11 +1,14 @@
 use Rattle.std.proofs.Common.{◌≡◌, ◌∙◌, Bool, true, false, is_some, sym, ap, ap₂, subst}
 use Rattle.board_rules.specs.Keys.{Key}
+use Rattle.job_table.specs.View.{firings_of}
 use Rattle.firing_board.specs.Claims.{Claims, EntersAs}
+use Rattle.firing_board.specs.Firings.{FiringsGoOn, LeasesFrame}
 use Rattle.firing_board.specs.Kept.{HasRoomUnless, Keeps, key_of, key_with, view_with}
 use Rattle.firing_board.specs.View.{BoardView}
 use Rattle.firing_board.specs.Wanting.{MayStarve}
 use Rattle.firing_board.proofs.Fields.{key_same}
-use Rattle.firing_board.proofs.KeptViews.{claims_as, enters_as, keeping, may_claim_by, starves_as}
+use Rattle.firing_board.proofs.KeptViews.{claims_as, enters_as, keeping, leases_as, may_claim_by, starves_as}
+use Rattle.firing_board.proofs.Rows.{all_go_on}
 use Rattle.firing_board.proofs.board.Board.claim.Goals as goal
 
 pub claim-claimed-requires-clause-may : goal.claim-claimed-requires-clause-may
@@ -102,7 +105,7 @@ returns-in-Err-clause-claims c =
     let may = may_claim_by c.entries_tell_steps.ensures.steps i c.self.invariant c.args.self.now c.self.view_is c.if-self.false c.args.worker c.requires in
     let same = key_same i.signatures.items i.top.value i.core new c.claim-claimed.ensures.kept.0 in
     ap₂ (λ (k : Key) (h : Bool). keeping h (view_with k new true)) same c.claim-claimed.ensures.kept.2
-    ∙ (ap (keeping (is_some i.kept)) (c.in-Err.ensures.refused key may).starves ∙ ap (λ (b : BoardView). record b { starved = true }) c.self.view_is)
+    ∙ (ap (keeping (is_some i.kept)) (c.in-Err.ensures.refused key may).starves ∙ ap (λ (b : BoardView). record b { starved = true; firings = firings_of new.table }) c.self.view_is)
 
 pub returns-in-Err-clause-enters : goal.returns-in-Err-clause-enters
 returns-in-Err-clause-enters c =
@@ -121,3 +124,35 @@ returns-in-Err-clause-licensed c = λ is was.
     let may = may_claim_by c.entries_tell_steps.ensures.steps i c.self.invariant c.args.self.now c.self.view_is live w c.requires in
     let before : keeping has (view_with key i.core false) ≡ c.args.self.now = ap (λ (b : Bool). keeping has (view_with key i.core b)) (sym live) ∙ c.self.view_is in
     subst (λ (b : BoardView). MayStarve b w) before (starves_as has (view_with key i.core false) w (c.in-Err.ensures.licensed key may))
+
+pub returns-then-self-clause-firings : goal.returns-then-self-clause-firings
+returns-then-self-clause-firings c = all_go_on c.args.self.now.firings
+
+pub returns-in-Ok-clause-leases : goal.returns-in-Ok-clause-leases
+returns-in-Ok-clause-leases c =
+    let i = c.self.inside in
+    let key = key_of i in
+    let live = c.if-self.false in
+    let new = c.claim-claimed.new.core in
+    let w = c.args.worker in
+    let has = is_some i.kept in
+    let may = may_claim_by c.entries_tell_steps.ensures.steps i c.self.invariant c.args.self.now c.self.view_is live w c.requires in
+    let same = key_same i.signatures.items i.top.value i.core new c.claim-claimed.ensures.kept.0 in
+    let after : keeping has (view_with key new false) ≡ keeping (is_some c.claim-claimed.new.kept) (view_with (key_with i.signatures.items i.top.value new) new i.starved) =
+    ap (λ (b : Bool). keeping has (view_with key new b)) (sym live)
+    ∙ ap₂ (λ (k : Key) (h : Bool). keeping h (view_with k new i.starved)) (sym same) (sym c.claim-claimed.ensures.kept.2) in
+    subst (λ (b : BoardView). LeasesFrame b w c.in-Ok.claim) after (leases_as has (view_with key new false) w c.in-Ok.claim (c.in-Ok.ensures.claimed key may).leases)
+
+pub returns-in-Ok-clause-firings : goal.returns-in-Ok-clause-firings
+returns-in-Ok-clause-firings c =
+    let i = c.self.inside in
+    let new = c.claim-claimed.new.core in
+    let may = may_claim_by c.entries_tell_steps.ensures.steps i c.self.invariant c.args.self.now c.self.view_is c.if-self.false c.args.worker c.requires in
+    subst (λ (b : BoardView). FiringsGoOn b.firings (firings_of new.table)) c.self.view_is (c.in-Ok.ensures.claimed (key_of i) may).firings
+
+pub returns-in-Err-clause-firings : goal.returns-in-Err-clause-firings
+returns-in-Err-clause-firings c =
+    let i = c.self.inside in
+    let new = c.claim-claimed.new.core in
+    let may = may_claim_by c.entries_tell_steps.ensures.steps i c.self.invariant c.args.self.now c.self.view_is c.if-self.false c.args.worker c.requires in
+    subst (λ (b : BoardView). FiringsGoOn b.firings (firings_of new.table)) c.self.view_is (c.in-Err.ensures.refused (key_of i) may).firings

@@ -1,5 +1,7 @@
 use Rattle.std.proofs.Common.{◌≡◌, ◌∙◌, Bool, false, is_some, sym, ap, subst}
 use Rattle.board_rules.specs.Keys.{Key}
+use Rattle.job_table.specs.View.{firings_of}
+use Rattle.firing_board.specs.Firings.{FiringsGoOn}
 use Rattle.firing_board.specs.Finishes.{Finishes, MayEnd}
 use Rattle.firing_board.specs.Kept.{Keeps, key_of, key_with, view_of, view_with}
 use Rattle.firing_board.specs.Runs.{Runs}
@@ -74,3 +76,16 @@ returns-clause-stays c = λ is.
 
 pub returns-clause-memory : goal.returns-clause-memory
 returns-clause-memory c = λ is. c.unless_wanted.ensures.told (c.finish_compilation-self-inside.ensures.memory is)
+
+pub returns-clause-firings : goal.returns-clause-firings
+returns-clause-firings c =
+    let i = c.self.inside in
+    let key = key_of i in
+    let w = c.args.ticket.worker in
+    let new = c.finish_compilation-self-inside.new.core in
+    let f = c.finish_compilation-self-inside.ensures.finished key record {
+      keeps = c.self.invariant.0;
+      runs = runs_as false (view_of i) w (MayEnd key c.args.end) (subst (λ (b : BoardView). Runs b w (MayEnd b.key c.args.end)) (sym c.self.view_is) c.requires.runs);
+      lent = ap (λ (b : BoardView). lent_to b w) c.self.view_is ∙ c.requires.lent;
+    } in
+    subst (λ (b : BoardView). FiringsGoOn b.firings (firings_of new.table)) c.self.view_is f.firings

@@ -2,6 +2,8 @@ use Rattle.std.proofs.Common.{◌≡◌, ◌∙◌, Bool, true, false, Some, sym
 use Rattle.std.specs.Prelude.{IsOk, is_some}
 use Rattle.board_rules.specs.Keys.{Key}
 use Rattle.firing_board.specs.Ends.{HasLongTraces}
+use Rattle.job_table.specs.View.{firings_of}
+use Rattle.firing_board.specs.Firings.{FiringsGoOn}
 use Rattle.firing_board.specs.Finishes.{Finishes, MayComeBack}
 use Rattle.firing_board.specs.OnCore.{MayLeave}
 use Rattle.firing_board.specs.Kept.{Keeps, key_of, key_with, view_of, view_with}
@@ -89,3 +91,16 @@ returns-clause-live c = λ live starves.
     let long = long_as has (view_with key new true) (c.finish_frame-self-inside.ensures.live was starves key may) in
     subst (λ (s : Bool). HasLongTraces (keeping has (view_with (key_with i.signatures.items i.top.value new) new s))) (sym starves)
     (subst (λ (k : Key). HasLongTraces (keeping has (view_with k new true))) (sym same) long)
+
+pub returns-clause-firings : goal.returns-clause-firings
+returns-clause-firings c =
+    let i = c.self.inside in
+    let key = key_of i in
+    let w = c.args.ticket.worker in
+    let new = c.finish_frame-self-inside.new.core in
+    let f = c.finish_frame-self-inside.ensures.finished key record {
+      keeps = c.self.invariant.0;
+      runs = runs_as false (view_of i) w (MayComeBack key c.args.frame c.args.answer (IsOk c.args.answer)) (subst (λ (b : BoardView). Runs b w (MayComeBack b.key c.args.frame c.args.answer (IsOk c.args.answer))) (sym c.self.view_is) c.requires.runs);
+      lent = ap (λ (b : BoardView). lent_to b w) c.self.view_is ∙ c.requires.lent;
+    } in
+    subst (λ (b : BoardView). FiringsGoOn b.firings (firings_of new.table)) c.self.view_is f.firings

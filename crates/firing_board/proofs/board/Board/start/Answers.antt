@@ -13,7 +13,7 @@ use Rattle.firing_board.specs.Beginning.{IsStartedOn}
 use Rattle.firing_board.specs.Core.{lent_of}
 use Rattle.firing_board.specs.Kept.{Keeps, key_with}
 use Rattle.firing_board.specs.Starts.{key_from}
-use Rattle.firing_board.proofs.Started.{begins, none_lent}
+use Rattle.firing_board.proofs.Started.{begins, none_lent, started_firings}
 use Rattle.firing_board.proofs.board.Board.start.Goals as goal
 
 firing_so : (graphs : Graphs) (key : Key) (g : Graph) (found : Graphs) (firing : Firing) → found ≡ graphs → graphs ≡ key.graphs → Rattle.std.specs.Prelude.slice_index_or graphs.graphs graphs.top no_graph ≡ g
@@ -77,4 +77,5 @@ returns c =
     (λ x. record { graphs = graphs x; signatures = signatures x; delays = (held x).state; ins = (held x).inputs; workers = workers x }) in
     let lent : lent_of i.table i.running.items ≡ replicate c.args.workers None = ap (lent_of i.table) s.running_are ∙ none_lent i.table c.args.workers in
     let entries = s.entries_are in
-    λ x. record { key = key_is x; journal = entries x; starved = false; lent = lent x; kept = false }
+    let firings = started_firings key.graphs key.workers (top_job key) i.table s.started in
+    λ x. record { key = key_is x; journal = entries x; starved = false; firings = firings x; lent = lent x; kept = false }

@@ -179,7 +179,7 @@ returns-clause-opened c =
     let called = call_of v now e rows same k item slot read row here firing c.call_in.new.slot (subst (λ (r : Result Firing AllocError). CallsIn item r slot c.call_in.new.slot) c.in_ok-firing.was c.call_in.ensures.called) in
     let own : arc_value c.in_ok-graphs.graphs ≡ arc_value s.graphs = c.in_ok-graphs.ensures in
     let graphs : row.job.graphs ≡ arc_value c.in_ok-graphs.graphs = c.requires.offered.2.0 ∙ (ap (λ (x : TableView). x.graphs) (sym e) ∙ sym own) in
-    let fresh = is_fresh v.graphs v.workers firing c.in_ok-job.job (compile_number (graph_of (arc_value c.in_ok-graphs.graphs).graphs firing) + 1) (c.in_ok-job.ensures.given.0 ∙ own) c.in_ok-job.ensures.given.1 c.in_ok-job.ensures.given.2 c.in_ok-job.ensures.free c.in_ok-job.ensures.unlent
+    let fresh = is_fresh v.graphs v.workers firing c.in_ok-job.job (compile_number (graph_of (arc_value c.in_ok-graphs.graphs).graphs firing) + 1) (c.in_ok-job.ensures.given.0 ∙ own) c.in_ok-job.ensures.given.1 c.in_ok-job.ensures.given.2 c.in_ok-job.ensures.unplaced c.in_ok-job.ensures.free c.in_ok-job.ensures.unlent
     (fresh_many (arc_value c.in_ok-graphs.graphs) firing c.in_ok-job.job c.in_ok-job.ensures.given.0 c.in_ok-job.ensures.given.2 c.in_ok-job.ensures.free) in
     let child : Row = record { job = c.in_ok-job.job; upper = Some k; place = c.in_ok-place.place; steps = c.in_ok-steps.steps } in
     let first = read_row v now e rows same k item c.index.result.now c.index.ensures row here c.row_in.result.now c.row_in.ensures in
@@ -207,7 +207,7 @@ returns-clause-lent c =
     let called = call_of v now e rows same k item slot read row here firing c.call_in.new.slot (subst (λ (r : Result Firing AllocError). CallsIn item r slot c.call_in.new.slot) c.in_ok-firing.was c.call_in.ensures.called) in
     let own : arc_value c.in_ok-graphs.graphs ≡ arc_value s.graphs = c.in_ok-graphs.ensures in
     let graphs : row.job.graphs ≡ arc_value c.in_ok-graphs.graphs = c.requires.offered.2.0 ∙ (ap (λ (x : TableView). x.graphs) (sym e) ∙ sym own) in
-    let fresh = is_fresh v.graphs v.workers firing c.in_ok-job.job (compile_number (graph_of (arc_value c.in_ok-graphs.graphs).graphs firing) + 1) (c.in_ok-job.ensures.given.0 ∙ own) c.in_ok-job.ensures.given.1 c.in_ok-job.ensures.given.2 c.in_ok-job.ensures.free c.in_ok-job.ensures.unlent
+    let fresh = is_fresh v.graphs v.workers firing c.in_ok-job.job (compile_number (graph_of (arc_value c.in_ok-graphs.graphs).graphs firing) + 1) (c.in_ok-job.ensures.given.0 ∙ own) c.in_ok-job.ensures.given.1 c.in_ok-job.ensures.given.2 c.in_ok-job.ensures.unplaced c.in_ok-job.ensures.free c.in_ok-job.ensures.unlent
     (fresh_many (arc_value c.in_ok-graphs.graphs) firing c.in_ok-job.job c.in_ok-job.ensures.given.0 c.in_ok-job.ensures.given.2 c.in_ok-job.ensures.free) in
     let child : Row = record { job = c.in_ok-job.job; upper = Some k; place = c.in_ok-place.place; steps = c.in_ok-steps.steps } in
     opens_lent v now e rows same k item slot read row here c.call_in.new.slot (with_job row (with_mark row.job item (Open firing))) called.new_is (opened_stays v now e rows same k item slot read row here (Open firing)) refl c.in_ok-key.key c.in_ok-key.ensures.vacant child c.put_row.new.slot c.put_row.ensures fresh.unlent
