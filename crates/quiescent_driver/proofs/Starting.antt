@@ -38,7 +38,7 @@ is_key graphs signatures kernels delays ins workers told valid give sound inputs
 -- ---- the board that is started
 
 abbrev new_board : Key → ℕ → BoardView
-new_board key workers = record { key = key; journal = []; starved = false; lent = replicate workers None; kept = false }
+new_board key workers = record { key = key; journal = []; starved = false; firings = Some record { place = []; cells = None } ∷ []; lent = replicate workers None; kept = false }
 
 new_is_idle : (key : Key) (workers : ℕ) → AreAllIdle (new_board key workers)
 new_is_idle key workers = record { taken = []; at = record { legal = record { allowed = tt; picked = tt }; entered = refl }; run_none = λ w lt. refl }
