@@ -6,7 +6,7 @@ use Rattle.job_rules.specs.Words.{answer_of}
 use Rattle.nested_jobs.specs.Marks.{Done, Open}
 use Rattle.nested_jobs.specs.Rules.{Place}
 use Rattle.open_job.specs.Calls as job
-use Rattle.open_job.specs.View.{IsQuiet, OpenView, free_in, free_one, outcome_in, total}
+use Rattle.open_job.specs.View.{IsQuiet, OpenView, free_in, free_one, outcome_in}
 use Rattle.pisdf_meaning.specs.declared.firing.Firing.{Firing}
 use Rattle.pisdf_meaning.specs.declared.refusal.Refusal.{Refusal}
 use Rattle.pisdf_model.specs.declared.graph.Graphs.{Graphs}

@@ -1,5 +1,5 @@
 -- How many items are free after a write to the rows of a table.
-use Rattle.std.proofs.Common.{◌≡◌, ℕ, zero, suc, ◌+◌, ◌<◌, ◌≤◌, List, [], ◌∷◌, length, get_or, set, replicate, Option, Some, None, refl, sym, ap, ◌∙◌, subst, arith}
+use Rattle.std.proofs.Common.{◌≡◌, ℕ, suc, ◌+◌, ◌<◌, ◌≤◌, List, [], ◌∷◌, length, get_or, set, replicate, Option, Some, None, refl, sym, ap, ◌∙◌, arith}
 use Rattle.job_preparing.specs.Handing.{ItemMarks, mark_at}
 use Rattle.job_rules.specs.Items.{compile_number, graph_of}
 use Rattle.job_rules.specs.Words.{Answer}

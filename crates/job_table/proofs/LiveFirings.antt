@@ -1,5 +1,5 @@
 -- In the state that a legal journal leaves, the nodes of an open firing were claimed in the order of its edges.
-use Rattle.std.proofs.Common.{◌≡◌, ⊎_elim, ℕ, zero, suc, ◌+◌, ◌<◌, ◌≤◌, Bool, true, false, nat_lt, List, [], ◌∷◌, length, get_or, ℤ, Option, Some, None, Result, Ok, Err, refl, sym, ap, ◌∙◌, subst, arith}
+use Rattle.std.proofs.Common.{◌≡◌, ⊎_elim, ℕ, zero, suc, ◌+◌, ◌<◌, ◌≤◌, Bool, true, false, nat_lt, List, [], ◌∷◌, length, ℤ, Option, Some, None, refl, sym, ap, ◌∙◌, subst, arith}
 use Rattle.std.specs.Prelude.{◌≢◌, ◌&&◌, ◌==◌, if◌then◌else◌}
 use Rattle.std.specs.Option.{option_map}
 use Rattle.std.proofs.lemmas.Bool.{and_parts, cases_lt, eq-eqb, ltb-true}
@@ -9,7 +9,7 @@ use Rattle.sdf_level.specs.declared.single_rate.Edge.{Edge}
 use Rattle.job_compiler.specs.Compilation.{Compilation}
 use Rattle.job_flow.specs.Frames as flow
 use Rattle.job_flow.specs.Graphs.{node_at}
-use Rattle.job_preparing.specs.Handing.{ItemMarks, mark_at}
+use Rattle.job_preparing.specs.Handing.{mark_at}
 use Rattle.job_rules.specs.Items.{Prepared, actor_of, edges_in, graph_of, is_done, is_ready_by, keeps_state, node_base, node_result, node_rule, node_values, nodes_in, prepared_in, ready_task, rule}
 use Rattle.job_rules.specs.Words as words
 use Rattle.job_rules.specs.Words.{Answer}
@@ -18,7 +18,7 @@ use Rattle.job_running.specs.Leases.{as_node, as_nodes}
 use Rattle.nested_jobs.specs.Kept.{Fits, InJob}
 use Rattle.nested_jobs.specs.Marks as mark
 use Rattle.nested_jobs.specs.Marks.{Mark, Marks, answer_of, values}
-use Rattle.nested_jobs.specs.Rules.{Call, Place, Task, Values, Work}
+use Rattle.nested_jobs.specs.Rules.{Call, Place, Task, Work}
 use Rattle.one_job.specs.Live.{InOrder}
 use Rattle.one_job.specs.Marks as one
 use Rattle.one_job.specs.Places.{edge_at}

@@ -1,6 +1,5 @@
 -- The answer of a job that is closed stays.
-use Rattle.std.proofs.Common.{◌≡◌, ◌≢◌, ℕ, suc, ◌+◌, ◌<◌, true, List, [], ◌∷◌, length, Some, refl, sym, ap, ◌∙◌, subst, arith}
-use Rattle.job_rules.specs.Meant.{rank}
+use Rattle.std.proofs.Common.{◌≡◌, ℕ, ◌<◌, true, [], ◌∷◌, length, Some, sym, ap, ◌∙◌, subst, arith}
 use Rattle.job_rules.specs.Words.{Answer}
 use Rattle.nested_jobs.proofs.Appending.{state-snoc}
 use Rattle.nested_jobs.proofs.OneStep.{closed_goes_on, closed_top}
@@ -9,21 +8,20 @@ use Rattle.nested_jobs.proofs.Tabling.{quiet_is}
 use Rattle.nested_jobs.specs.Journals as steps
 use Rattle.nested_jobs.specs.Journals.{after, start}
 use Rattle.nested_jobs.specs.Marks.{Done, Mark, Marks, Open, answer_of, values}
-use Rattle.nested_jobs.specs.Rules.{Place, Values}
+use Rattle.nested_jobs.specs.Rules.{Place}
 use Rattle.nested_jobs.specs.Steps.{close_as, close_one, closed, is_quiet}
-use Rattle.nested_jobs.specs.Tables.{answers_in}
 use Rattle.open_job.specs.Calls.{HasLongTrace}
 use Rattle.open_job.specs.View.{IsQuiet, answered, outcome_in}
 use Rattle.pisdf_meaning.specs.declared.firing.Firing.{Firing}
 use Rattle.pisdf_model.specs.declared.graph.Graphs.{Graphs}
 use Rattle.job_rules.specs.Items.{outcome}
-use Rattle.board_rules.specs.Entries.{BoardState, Step}
+use Rattle.board_rules.specs.Entries.{BoardState}
 use Rattle.board_rules.specs.Keys.{Key, rules, top_job}
 use Rattle.board_rules.specs.Legal.{state_after}
 use Rattle.job_table.specs.Closing.{ClosesLong, IsClosingFrom, steps_with}
-use Rattle.job_table.specs.View.{TableView, job_row, row_at, table_of}
+use Rattle.job_table.specs.View.{TableView, job_row, row_at}
 use Rattle.job_table.specs.declared.row.Row.{Row}
-use Rattle.job_table.proofs.Closings.{AllLawful, quiet_so}
+use Rattle.job_table.proofs.Closings.{quiet_so}
 use Rattle.job_table.proofs.Rows.{in_table, the_same}
 
 -- closings from a place up leave what is deeper

@@ -1,5 +1,5 @@
 -- The path of an open job stays while items are marked.
-use Rattle.std.proofs.Common.{◌≡◌, ◌⊎◌, ⊎_elim, inl, inr, ℕ, zero, suc, ◌-◌, ◌<◌, List, [], ◌∷◌, ◌++◌, length, Option, Some, None, refl, sym, ap, ◌∙◌, arith}
+use Rattle.std.proofs.Common.{◌≡◌, ◌⊎◌, ⊎_elim, inl, inr, ℕ, zero, suc, ◌<◌, List, [], ◌∷◌, ◌++◌, length, Option, Some, None, refl, sym, ap, ◌∙◌, arith}
 use Rattle.job_rules.specs.Items.{Prepared, compile_rule, graph_of, left_in, node_rule, prepared_in, rule, rule_from}
 use Rattle.job_rules.specs.Meant.{rank}
 use Rattle.job_rules.specs.Words.{Answer}

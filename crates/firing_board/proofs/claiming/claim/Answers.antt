@@ -46,6 +46,13 @@ returns-in_err-run-clause-licensed c =
 pub hand_out-requires-clause-room : goal.hand_out-requires-clause-room
 hand_out-requires-clause-room c = c.in_ok-run.ensures.room c.requires.room
 
+pub hand_out-requires-clause-numbered : goal.hand_out-requires-clause-numbered
+hand_out-requires-clause-numbered c =
+    let run = c.in-Some.run' in
+    let may = c.requires.may.1 in
+    let found = subst (λ (o : Option Run). Finds c.requires.may.0 may.keeps.taken c.args.core.now c.args.worker c.find.new.core o) c.in-Some.is (c.in_ok-run.ensures.found c.requires.may.0 may.keeps.taken may.keeps.at) in
+    (found.row.job.firing.path, found.numbered run.row found.row found.here)
+
 pub returns-in-Some-clause-claimed : goal.returns-in-Some-clause-claimed
 returns-in-Some-clause-claimed c =
     let old = c.args.core.now in

@@ -1,14 +1,7 @@
-use Rattle.job_compiler.specs.Compilation.{Compilation}
-use Rattle.nested_jobs.specs.Rules.{Place}
-use Rattle.one_job.specs.Live.{InOrder}
-use Rattle.pisdf_meaning.specs.declared.firing.Firing.{Firing}
-use Rattle.std.proofs.Common.{List}
 use Rattle.board_rules.proofs.Known.{board_laws, known}
-use Rattle.board_rules.specs.Entries.{Step}
 use Rattle.board_rules.specs.JobLaws.{JobsHaveLaws}
-use Rattle.board_rules.specs.Keys.{Key}
 use Rattle.board_rules.specs.Legal.{state_after}
-use Rattle.job_table.specs.LiveFirings.{FiringsKeepOrder, IsOpenWith, nodes_at}
+use Rattle.job_table.specs.LiveFirings.{FiringsKeepOrder, nodes_at}
 use Rattle.job_table.proofs.LiveFirings.{nodes_in_order}
 use Rattle.job_table.proofs.laws.live_buffers_stay_apart.Goals as goal
 
