@@ -1,5 +1,5 @@
 -- What an iteration is given is what a board is started with.
-use Rattle.std.proofs.Common.{◌≡◌, ℕ, ◌<◌, ◌≤◌, ℤ, List, [], map, None, Result, Ok, Err, IfOk, false, refl, sym, ap, ◌∙◌, subst, replicate}
+use Rattle.std.proofs.Common.{◌≡◌, ℕ, ◌<◌, ◌≤◌, ℤ, List, [], ◌∷◌, map, Some, None, Result, Ok, Err, IfOk, false, refl, sym, ap, ◌∙◌, subst, replicate}
 use Rattle.std.proofs.lemmas.Option.{slice_get-get_or}
 use Rattle.std.proofs.lemmas.Simd.{map-map}
 use Rattle.kernel_gate.specs.Signed.{SignatureView, counts_of, signature_view, unnamed}
@@ -38,7 +38,7 @@ is_key graphs signatures kernels delays ins workers told valid give sound inputs
 -- ---- the board that is started
 
 abbrev new_board : Key → ℕ → BoardView
-new_board key workers = record { key = key; journal = []; starved = false; lent = replicate workers None; kept = false }
+new_board key workers = record { key = key; journal = []; starved = false; firings = Some record { place = []; cells = None } ∷ []; lent = replicate workers None; kept = false }
 
 new_is_idle : (key : Key) (workers : ℕ) → AreAllIdle (new_board key workers)
 new_is_idle key workers = record { taken = []; at = record { legal = record { allowed = tt; picked = tt }; entered = refl }; run_none = λ w lt. refl }

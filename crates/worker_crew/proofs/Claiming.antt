@@ -127,7 +127,7 @@ module _ (laws : BoardsHaveLaws) (fits : WorkFits) (p : BoardPass) (x y : BoardV
     starved = λ starved. ap (λ (b : BoardView). b.starved) h.new_is ∙ starved;
   }
 
-  starves : y ≡ record x { starved = true } → Changes x y w []
+  starves : y ≡ record x { starved = true; firings = y.firings } → Changes x y w []
   starves is = record {
     key = ap (λ (b : BoardView). b.key) is;
     journal = ap (λ (b : BoardView). b.journal) is ∙ sym (append-nil x.journal);
