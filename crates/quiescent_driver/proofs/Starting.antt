@@ -1,5 +1,5 @@
 -- What an iteration is given is what a board is started with.
-use Rattle.std.proofs.Common.{◌≡◌, ℕ, ◌<◌, ◌≤◌, ℤ, List, [], map, None, Result, Ok, Err, IfOk, false, refl, sym, ap, ◌∙◌, subst, replicate}
+use Rattle.std.proofs.Common.{◌≡◌, ℕ, ◌<◌, ◌≤◌, ℤ, List, [], ◌∷◌, map, Some, None, Result, Ok, Err, IfOk, false, refl, sym, ap, ◌∙◌, subst, replicate}
 use Rattle.std.proofs.lemmas.Option.{slice_get-get_or}
 use Rattle.std.proofs.lemmas.Simd.{map-map}
 use Rattle.kernel_gate.specs.Signed.{SignatureView, counts_of, signature_view, unnamed}
