@@ -1,5 +1,5 @@
 -- What a pass knows after its numbers have worked.
-use Rattle.std.proofs.Common.{◌≡◌, ℕ, zero, suc, ◌+◌, ◌<◌, Bool, true, false, List, [], ◌∷◌, ◌++◌, length, get_or, refl, sym, ap, ◌∙◌, subst, arith, append_assoc, append-nil}
+use Rattle.std.proofs.Common.{◌≡◌, ℕ, zero, suc, ◌+◌, ◌<◌, ◌≤◌, Bool, true, false, List, [], ◌∷◌, ◌++◌, length, get_or, refl, sym, ap, ◌∙◌, subst, arith, append_assoc, append-nil}
 use Rattle.kernel_gate.specs.Signed.{Counts}
 use Rattle.board_lock.specs.Meant.{entries_of}
 use Rattle.board_lock.specs.Passes.{Later, first_gains}
@@ -8,7 +8,7 @@ use Rattle.board_rules.specs.declared.entry.Entry.TheVariants.{Claim, Finish}
 use Rattle.firing_board.specs.Locking.{worker_of}
 use Rattle.firing_board.specs.declared.claim.Claim.{Claim as claimed}
 use Rattle.worker_crew.specs.Asked.{AskedAfter, HasAsked}
-use Rattle.worker_crew.specs.Passes.{BoardPass, IsIdleAt, MayWork, entries_at, last_claims}
+use Rattle.worker_crew.specs.Passes.{AllMayWork, AreIdle, BoardPass, IsIdleAt, MayWork, entries_at, last_claims}
 use Rattle.worker_crew.specs.Worked.{AddsClaim, AreFinished, HasAdded, HasWorked}
 
 -- ---- later
@@ -144,3 +144,19 @@ asked_on p q r c worked asked = record { between = asked.between; worked = worke
 -- an item was claimed and finished in between
 pub ran_on : (p q s : BoardPass) (c : claimed) → AddsClaim p q → AskedAfter q (Finish q.number ∷ []) s c → HasAsked p s c
 ran_on p q s c claim asked = asked_on p asked.after s c (ran_worked p q asked.after claim asked.added) asked.asked
+
+-- ---- all numbers, later
+
+pub all_may_later : (kernels : List Counts) (p q : BoardPass) → Later p q → AllMayWork kernels p → AllMayWork kernels q
+all_may_later kernels p q later may = record {
+  key = may.key;
+  key_is = later.key ∙ may.key_is;
+  kernels_are = may.kernels_are;
+  some = subst (λ (n : ℕ). 0 < n) (sym later.count) may.some;
+  are_workers = subst (λ (n : ℕ). n + length q.own ≤ may.key.workers) (sym later.number) (subst (λ (n : ℕ). p.number + n ≤ may.key.workers) (sym later.count) may.are_workers);
+}
+
+pub all_idle_later : (p q : BoardPass) → HasWorked p q → AreIdle p → AreIdle q
+all_idle_later p q worked idle k lt =
+    let inside : k < length p.own = subst (λ (n : ℕ). k < n) worked.later.count lt in
+    worked_idle_at p q k inside worked (idle k inside)

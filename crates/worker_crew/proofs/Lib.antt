@@ -2,6 +2,7 @@ pub mod Lists
 pub mod Steps
 pub mod Leaving
 pub mod Framing
+pub mod Kernels
 pub mod Claiming
 pub mod Advancing
 pub mod Holding

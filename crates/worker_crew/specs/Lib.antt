@@ -1,5 +1,6 @@
 pub mod Passes
 pub mod Worked
 pub mod Asked
+pub mod Alone
 pub mod Small
 pub mod Laws

@@ -4,6 +4,7 @@ ghost use Rattle.kernel_gate.specs.Signed.{Counts};
 ghost use Rattle.worker_crew.specs.Asked.{HasAsked};
 ghost use Rattle.worker_crew.specs.Passes.{IsIdleAt, MayWork};
 
+use crate::pace::Pace;
 use crate::under_lock::{MAX_COPIES, claim_held};
 use board_lock::{Lock, Pass, Pauses};
 use firing_board::{Board, Claim};
@@ -26,13 +27,14 @@ fn ask<R: Wait>(
     claim_held(alloc, lock.enter(rt, pass), MAX_COPIES)
 }
 
-/// Asks again and again for the pass's number, which runs none, until there is an item or the board is over. Before each time
-/// it pauses, longer each time.
+/// Asks again and again for the pass's number, which runs none, until there is an item or the board is over. It rests first, where
+/// it doesn't pay that the worker takes part, and it pauses before each time, longer each time.
 pub(crate) fn await_item<R: Wait>(
     rt: &R,
     alloc: Global,
     lock: &Lock<Board>,
     mut pass: Pass<Board>,
+    pace: &mut Pace,
 ) -> (Pass<Board>, Claim)
     requires lock { pass.lock ≡ lock.now }
     requires may { (kernels : Seq Counts) × MayWork kernels pass.known }
@@ -40,6 +42,7 @@ pub(crate) fn await_item<R: Wait>(
     ensures lock { result.0.lock ≡ lock.now }
     ensures asked { HasAsked pass.known result.0.known result.1 }
 {
+    pace.rest();
     let mut pauses = Pauses::new();
     for _ in rt.forever() {
         pauses.pause();

@@ -7,7 +7,9 @@ ghost use Rattle.firing_board.specs.Runs.{AreAllIdle};
 ghost use Rattle.worker_crew.specs.Passes.{AllMayWork, AreIdle, HasSeenOver};
 ghost use Rattle.worker_crew.specs.Worked.{HasWorked};
 
+use crate::alone::work_alone;
 use crate::laws::board_laws;
+use crate::load::Load;
 use crate::slot::{full, put, take};
 use crate::working::work;
 use board_lock::{Lock, NotMade, Pass};
@@ -60,9 +62,95 @@ fn crew<K: Gate + Sync, R: Threads + Wait + Sync>(
     lock.join(full(one), full(other))
 }
 
-/// Runs a board of which no worker runs anything with all its workers, each in a thread, until it is over: its journal has
-/// ended, or memory was wanted. No worker runs anything then. Where a thread can't be started, the half of the workers that
-/// it was for works in the thread that wanted it, once the other half has. It may wait.
+/// The first numbers of the pass work, so many, each in a thread of its own, and then the others look whether the board is over.
+/// With no number but one, that works alone.
+fn crew_of<K: Gate + Sync, R: Threads + Wait + Sync>(
+    rt: &R,
+    alloc: Global,
+    lock: &Lock<Board>,
+    pass: Pass<Board>,
+    gate: &K,
+    threads: u32,
+) -> Pass<Board>
+    requires lock { pass.lock ≡ lock.now }
+    requires may { AllMayWork (unnamed (K.kernels gate.now)) pass.known }
+    requires idle { AreIdle pass.known }
+    ensures lock { result.lock ≡ lock.now }
+    ensures worked { HasWorked pass.known result.known }
+    ensures over { HasSeenOver result.known }
+{
+    let threads = threads.max(1);
+    if threads >= pass.count() {
+        return crew(rt, alloc, lock, pass, gate);
+    }
+    let (first, others) = lock.split(pass, threads);
+    let first = crew(rt, alloc, lock, first, gate);
+    let others = work(rt, alloc, lock, others, gate);
+    lock.join(first, others)
+}
+
+/// The numbers of the pass work in as many threads as the load asks for, at first perhaps one of them alone.
+fn crew_by<K: Gate + Sync, R: Threads + Wait + Sync>(
+    rt: &R,
+    alloc: Global,
+    lock: &Lock<Board>,
+    pass: Pass<Board>,
+    gate: &K,
+    load: &mut Load,
+) -> Pass<Board>
+    requires lock { pass.lock ≡ lock.now }
+    requires may { AllMayWork (unnamed (K.kernels gate.now)) pass.known }
+    requires idle { AreIdle pass.known }
+    ensures lock { result.lock ≡ lock.now }
+    ensures worked { HasWorked pass.known result.known }
+    ensures over { HasSeenOver result.known }
+{
+    let threads = load.begin(pass.count());
+    if threads > 1 {
+        return crew_of(rt, alloc, lock, pass, gate, threads);
+    }
+    let (pass, over) = work_alone(rt, alloc, lock, pass, gate, load);
+    if over {
+        return pass;
+    }
+    let threads = load.call(rt, pass.count());
+    crew_of(rt, alloc, lock, pass, gate, threads)
+}
+
+/// Runs a board of which no worker runs anything until it is over: its journal has ended, or memory was wanted. No worker runs
+/// anything then. All its workers may run items of it, in as many threads as `load` asks for by what the run's boards before it
+/// have shown, at most one for each worker. Where a thread can't be started, the half of the workers that it was for works in
+/// the thread that wanted it, once the other half has. It may wait.
+///
+/// # Errors
+///
+/// Want of memory. The board is as it was given.
+pub fn run_crew_by<K: Gate + Sync, R: Threads + Wait + Sync>(
+    rt: &R,
+    alloc: Global,
+    board: Board,
+    workers: u32,
+    gate: &K,
+    load: &mut Load,
+) -> Result<Board, NotMade<Board>>
+    requires workers { workers ≡ board.key.workers }
+    requires kernels { board.key.signatures ≡ unnamed (K.kernels gate.now) }
+    requires idle { AreAllIdle board }
+    ensures key { IfOk result (λ b. b.key ≡ board.key) }
+    ensures over { IfOk result IsOver }
+    ensures idle { IfOk result AreAllIdle }
+    ensures refused { IfErr result (λ r. r.state ≡ board) }
+{
+    board_laws();
+    let _journal = board.journal();
+    let (lock, pass) = Lock::start(alloc, board, workers)?;
+    let pass = crew_by(rt, alloc, &lock, pass, gate, load);
+    let board = lock.close(pass);
+    let _journal = board.journal();
+    Ok(board)
+}
+
+/// As `run_crew_by`, with each worker in a thread of its own: nothing is known of the board's kernels.
 ///
 /// # Errors
 ///
@@ -82,11 +170,6 @@ pub fn run_crew<K: Gate + Sync, R: Threads + Wait + Sync>(
     ensures idle { IfOk result AreAllIdle }
     ensures refused { IfErr result (λ r. r.state ≡ board) }
 {
-    board_laws();
-    let _journal = board.journal();
-    let (lock, pass) = Lock::start(alloc, board, workers)?;
-    let pass = crew(rt, alloc, &lock, pass, gate);
-    let board = lock.close(pass);
-    let _journal = board.journal();
-    Ok(board)
+    let mut load = Load::new();
+    run_crew_by(rt, alloc, board, workers, gate, &mut load)
 }

@@ -5,7 +5,8 @@ ghost use Rattle.firing_board.specs.Finishes.{MayComeBack, MayEnd};
 ghost use Rattle.worker_crew.specs.Asked.{AskedAfter, HasClaimed};
 
 use crate::laws::board_laws;
-use crate::under_lock::{MAX_COPIES, claim_held};
+use crate::pace::Pace;
+use crate::under_lock::{MAX_COPIES, claim_held, go_on};
 use board_lock::{Lock, Pass};
 use firing_board::{Board, Claim, Ticket};
 use job_preparing::CompileEnd;
@@ -13,7 +14,14 @@ use kernel_gate::{Frame, KernelFault};
 use std::alloc::Global;
 use std::sync::Wait;
 
-/// Gives back the frame of a kernel or a node, and claims the next item, in one holding of the lock.
+/// How many steps were taken since this claim.
+fn steps_since(board: &Board, ticket: Ticket) -> u64 {
+    let steps = board.journal().len().saturating_sub(ticket.entry);
+    steps.saturating_sub(1) as u64
+}
+
+/// Gives back the frame of a kernel or a node, which had so many tokens, and claims the next item, in one holding of the lock;
+/// or leaves the lock without a claim, where it doesn't pay that the worker takes part.
 pub(crate) fn give_back<R: Wait>(
     rt: &R,
     alloc: Global,
@@ -22,6 +30,8 @@ pub(crate) fn give_back<R: Wait>(
     ticket: Ticket,
     frame: Frame,
     answer: Result<(), KernelFault>,
+    tokens: u64,
+    pace: &mut Pace,
 ) -> (Pass<Board>, Claim)
     requires lock { pass.lock ≡ lock.now }
     requires ticket { ticket.worker ≡ pass.known.number }
@@ -32,8 +42,10 @@ pub(crate) fn give_back<R: Wait>(
     board_laws();
     let mut held = lock.enter(rt, pass);
     let _journal = held.state.journal();
+    let steps = steps_since(&held.state, ticket);
+    pace.count(tokens, steps);
     held.state.finish_fire(ticket, frame, answer);
-    claim_held(alloc, held, MAX_COPIES)
+    go_on(alloc, held, pace.is_lost())
 }
 
 /// Gives back the frame of a configuration actor's kernel, and claims the next item, in one holding of the lock.

@@ -48,7 +48,7 @@ fn is_small(frame: &Frame) -> bool
 }
 
 /// Claims an item for the number of the pass that holds the lock, which runs none.
-fn claim_here<'a>(alloc: Global, mut held: Held<'a, Board>) -> (Held<'a, Board>, Claim)
+pub(crate) fn claim_here<'a>(alloc: Global, mut held: Held<'a, Board>) -> (Held<'a, Board>, Claim)
     requires leave { MayLeave board_meant held.turn.known held.turn.found held.state.value }
     requires found { Finds board_meant (known_after board_meant held.turn.known held.state.value) held.state.value }
     requires may { (kernels : Seq Counts) × MayWork kernels (known_after board_meant held.turn.known held.state.value) }
@@ -68,7 +68,7 @@ fn claim_here<'a>(alloc: Global, mut held: Held<'a, Board>) -> (Held<'a, Board>,
 }
 
 /// Copies the inputs of a node to its outputs, and gives back its frame.
-fn copy_here<'a>(
+pub(crate) fn copy_here<'a>(
     mut held: Held<'a, Board>,
     ticket: Ticket,
     node: Node,
@@ -114,4 +114,19 @@ pub(crate) fn claim_held<'a>(
         }
         other => (held.leave(), other),
     }
+}
+
+/// As `claim_held`, or leaves the lock without a claim, where the worker is to rest.
+pub(crate) fn go_on<'a>(alloc: Global, held: Held<'a, Board>, rests: bool) -> (Pass<Board>, Claim)
+    requires leave { MayLeave board_meant held.turn.known held.turn.found held.state.value }
+    requires found { Finds board_meant (known_after board_meant held.turn.known held.state.value) held.state.value }
+    requires may { (kernels : Seq Counts) × MayWork kernels (known_after board_meant held.turn.known held.state.value) }
+    requires idle { IsIdleAt (known_after board_meant held.turn.known held.state.value) 0 }
+    ensures lock { result.0.lock ≡ held.entry.turn.lock }
+    ensures asked { HasAsked (known_after board_meant held.entry.turn.known held.entry.state.value) result.0.known result.1 }
+{
+    if rests {
+        return (held.leave(), Claim::Wait);
+    }
+    claim_held(alloc, held, MAX_COPIES)
 }

@@ -5,6 +5,7 @@ ghost use Rattle.worker_crew.specs.Passes.{HasSeenOver, IsIdleAt, MayWork};
 ghost use Rattle.worker_crew.specs.Worked.{HasWorked};
 
 use crate::asking::await_item;
+use crate::pace::Pace;
 use crate::running::{compile, configure, copy, fire};
 use board_lock::{Lock, Pass};
 use firing_board::{Board, Claim};
@@ -30,16 +31,21 @@ pub fn work<K: Gate + Sync, R: Wait>(
     ensures worked { HasWorked pass.known result.known }
     ensures over { HasSeenOver result.known }
 {
+    let mut pace = Pace::new();
     let mut claim = Claim::Wait;
     for _ in rt.forever() {
         let (next, claimed) = match claim {
-            Claim::Fire(ticket, frame) => fire(rt, alloc, lock, pass, gate, ticket, frame),
+            Claim::Fire(ticket, frame) => {
+                fire(rt, alloc, lock, pass, gate, ticket, frame, &mut pace)
+            }
             Claim::Configure(ticket, frame) => {
                 configure(rt, alloc, lock, pass, gate, ticket, frame)
             }
-            Claim::Copy(ticket, node, frame) => copy(rt, alloc, lock, pass, ticket, node, frame),
+            Claim::Copy(ticket, node, frame) => {
+                copy(rt, alloc, lock, pass, ticket, node, frame, &mut pace)
+            }
             Claim::Compile(ticket, task) => compile(rt, alloc, lock, pass, ticket, task),
-            Claim::Wait => await_item(rt, alloc, lock, pass),
+            Claim::Wait => await_item(rt, alloc, lock, pass, &mut pace),
             Claim::Finished => return pass,
             Claim::Starved => return pass,
         };

@@ -20,8 +20,8 @@ finish_fire-requires-clause-runs g c =
     let here : Runs x c.args.ticket.worker (MayComeBack x.key c.args.frame c.args.answer (IsOk c.args.answer)) = subst (λ (n : ℕ). Runs x n (MayComeBack x.key c.args.frame c.args.answer (IsOk c.args.answer))) (sym c.requires.ticket) runs in
     subst (λ (b : BoardView). Runs b c.args.ticket.worker (MayComeBack b.key c.args.frame c.args.answer (IsOk c.args.answer))) (sym c.deref_mut.ensures.value) here
 
-pub claim_held-requires-clause-leave : goal.claim_held-requires-clause-leave
-claim_held-requires-clause-leave g c =
+pub go_on-requires-clause-leave : goal.go_on-requires-clause-leave
+go_on-requires-clause-leave g c =
     let p = c.args.pass.known in
     let x = c.enter-held.result.state.value in
     let y = c.finish_fire.new.self in
@@ -31,8 +31,8 @@ claim_held-requires-clause-leave g c =
     let changes = gives_back p x y (Some c.args.frame.places) (λ key. MayComeBack key c.args.frame c.args.answer (IsOk c.args.answer)) c.board_laws.ensures c.enter-held.ensures.finds sound c.requires.claimed (λ work may. (answer_with (Some (nested.Work work)) c.args.frame c.args.answer, may.answered)) finishes starved in
     held_leaves p x y (Finish p.number ∷ []) c.enter-held.ensures.finds changes c.enter-held.result.turn.known c.enter-held.result.turn.found c.enter-held.ensures.known c.enter-held.ensures.found
 
-pub claim_held-requires-clause-found : goal.claim_held-requires-clause-found
-claim_held-requires-clause-found g c =
+pub go_on-requires-clause-found : goal.go_on-requires-clause-found
+go_on-requires-clause-found g c =
     let p = c.args.pass.known in
     let x = c.enter-held.result.state.value in
     let y = c.finish_fire.new.self in
@@ -42,8 +42,8 @@ claim_held-requires-clause-found g c =
     let changes = gives_back p x y (Some c.args.frame.places) (λ key. MayComeBack key c.args.frame c.args.answer (IsOk c.args.answer)) c.board_laws.ensures c.enter-held.ensures.finds sound c.requires.claimed (λ work may. (answer_with (Some (nested.Work work)) c.args.frame c.args.answer, may.answered)) finishes starved in
     held_found p x y (Finish p.number ∷ []) c.enter-held.ensures.finds changes c.enter-held.result.turn.known c.enter-held.result.turn.found c.enter-held.ensures.known c.enter-held.ensures.found
 
-pub claim_held-requires-clause-may : goal.claim_held-requires-clause-may
-claim_held-requires-clause-may g c =
+pub go_on-requires-clause-may : goal.go_on-requires-clause-may
+go_on-requires-clause-may g c =
     let p = c.args.pass.known in
     let x = c.enter-held.result.state.value in
     let y = c.finish_fire.new.self in
@@ -55,8 +55,8 @@ claim_held-requires-clause-may g c =
     let may = claimed_may p (Some c.args.frame.places) (λ key. MayComeBack key c.args.frame c.args.answer (IsOk c.args.answer)) c.requires.claimed in
     (_, may_later _ p _ added.later may)
 
-pub claim_held-requires-clause-idle : goal.claim_held-requires-clause-idle
-claim_held-requires-clause-idle g c =
+pub go_on-requires-clause-idle : goal.go_on-requires-clause-idle
+go_on-requires-clause-idle g c =
     let p = c.args.pass.known in
     let x = c.enter-held.result.state.value in
     let y = c.finish_fire.new.self in
@@ -75,4 +75,4 @@ returns-clause-asked g c =
     let finishes : Finishes x y p.number = subst (λ (n : ℕ). Finishes x y n) c.requires.ticket (subst (λ (b : BoardView). Finishes b y c.args.ticket.worker) c.deref_mut.ensures.value c.finish_fire.ensures.finishes) in
     let starved : x.starved ≡ true → y.starved ≡ true = subst (λ (b : BoardView). b.starved ≡ true → y.starved ≡ true) c.deref_mut.ensures.value c.finish_fire.ensures.starved in
     let changes = gives_back p x y (Some c.args.frame.places) (λ key. MayComeBack key c.args.frame c.args.answer (IsOk c.args.answer)) c.board_laws.ensures c.enter-held.ensures.finds sound c.requires.claimed (λ work may. (answer_with (Some (nested.Work work)) c.args.frame c.args.answer, may.answered)) finishes starved in
-    record { after = _; added = held_added p x y (Finish p.number ∷ []) c.enter-held.ensures.finds changes c.enter-held.result.turn.known c.enter-held.result.turn.found c.enter-held.ensures.known c.enter-held.ensures.found; asked = c.claim_held.ensures.asked }
+    record { after = _; added = held_added p x y (Finish p.number ∷ []) c.enter-held.ensures.finds changes c.enter-held.result.turn.known c.enter-held.result.turn.found c.enter-held.ensures.known c.enter-held.ensures.found; asked = c.go_on.ensures.asked }
