@@ -25,6 +25,7 @@ use sdf_level::List;
 use std::alloc::{AllocError, Global};
 use std::sync::{Arc, Wait};
 use std::thread::Threads;
+use worker_crew::Load;
 
 /// The board of an iteration, in which nothing is claimed.
 fn start_board<K: Gate>(
@@ -63,6 +64,7 @@ fn iterate<K: Gate + Sync, R: Threads + Wait + Sync>(
     ins: &[List<i64>],
     workers: u32,
     kept: &mut Option<Kept>,
+    load: &mut Load,
     gate: &K,
 ) -> Result<(Iteration, Journal), IterationFault>
     requires valid { AreValidFor (unnamed (K.kernels gate.now)) (arc_value graphs.now) }
@@ -77,7 +79,7 @@ fn iterate<K: Gate + Sync, R: Threads + Wait + Sync>(
     ensures journal { HasWholeJournal (key_with (arc_value graphs.now) (K.kernels gate.now) delays.old.lists ins.now workers) result }
 {
     let board = start_board(alloc, graphs, delays, ins, workers, gate)?;
-    match drive(rt, alloc, board, workers, kept, gate)? {
+    match drive(rt, alloc, board, workers, kept, load, gate)? {
         BoardEnd::Done {
             iteration,
             delays: left,
@@ -89,6 +91,54 @@ fn iterate<K: Gate + Sync, R: Threads + Wait + Sync>(
         BoardEnd::Refused { refusal, journal } => Err(IterationFault::Refused(refusal, journal)),
         BoardEnd::Starved => Err(IterationFault::Memory),
     }
+}
+
+/// As `run_iteration`, with as many threads as `load` asks for by what the run's iterations before it have shown, at most one for
+/// each worker.
+///
+/// # Errors
+///
+/// - `Refused`: the firing is refused here, and the journal.
+/// - `Memory`: want of memory.
+///
+/// Either leaves `delays` unchanged.
+pub(crate) fn iterate_by<K: Gate + Sync, R: Threads + Wait + Sync>(
+    rt: &R,
+    alloc: Global,
+    graphs: &Arc<Graphs>,
+    delays: &mut Delays,
+    ins: &[List<i64>],
+    workers: u32,
+    kept: &mut Option<Kept>,
+    load: &mut Load,
+    gate: &K,
+) -> Result<(Iteration, Journal), IterationFault>
+    requires valid { AreValidFor (unnamed (K.kernels gate.now)) (arc_value graphs.now) }
+    requires sound { early_faults (arc_value graphs.now).graphs (arc_value graphs.now).top [] ≡ [] }
+    requires inputs { lengths ins.now ≡ top_needs (arc_value graphs.now) }
+    requires state { IsTopState (arc_value graphs.now) delays.old.lists }
+    requires some { 0 < workers }
+    requires few { workers ≤ 16 }
+    ensures gives { IfOk result (λ r. IterationGives (arc_value graphs.now) ins.now delays.old.lists r.0 delays.new.lists) }
+    ensures refused { IfErr result (IfRefused (λ refusal. IterationEnds (arc_value graphs.now) ins.now delays.old.lists (Err refusal))) }
+    ensures unchanged { OnErr result (delays.new ≡ delays.old) }
+
+    // Where the iteration gives something the answer is that, and where it is refused that refusal, unless there was no memory.
+    ensures only_given { (iteration : Outcome) (state : Seq (Seq ℤ)) → IterationGives (arc_value graphs.now) ins.now delays.old.lists iteration state → ((journal : JournalView) × (result ≡ Ok (iteration, journal)) × (delays.new.lists ≡ state)) ⊎ (result ≡ Err IterationFault.Memory) }
+    ensures only_refused { (refusal : Cause) → IterationEnds (arc_value graphs.now) ins.now delays.old.lists (Err refusal) → ((journal : JournalView) × (result ≡ Err (IterationFault.Refused refusal journal))) ⊎ (result ≡ Err IterationFault.Memory) }
+
+    // The journal is one of such a board, and has ended.
+    ensures journal { HasWholeJournal (key_with (arc_value graphs.now) (K.kernels gate.now) delays.old.lists ins.now workers) result }
+
+    // The state that is left suits the next iteration.
+    ensures state { IsTopState (arc_value graphs.now) delays.new.lists }
+{
+    one_meaning();
+    sizes_kept();
+    runnable();
+    // Its clause says that the kernels give outputs of the lengths that they are asked for.
+    let _signatures = gate.signatures();
+    iterate(rt, alloc, graphs, delays, ins, workers, kept, load, gate)
 }
 
 /// One iteration by 1 to 16 workers, each in a thread: a firing of the top graph (Desnos and others 2013, PiMM; Lee and
@@ -133,10 +183,8 @@ pub fn run_iteration<K: Gate + Sync, R: Threads + Wait + Sync>(
     // The state that is left suits the next iteration.
     ensures state { IsTopState (arc_value graphs.now) delays.new.lists }
 {
-    one_meaning();
-    sizes_kept();
-    runnable();
-    // Its clause says that the kernels give outputs of the lengths that they are asked for.
-    let _signatures = gate.signatures();
-    iterate(rt, alloc, graphs, delays, ins, workers, kept, gate)
+    let mut load = Load::new();
+    iterate_by(
+        rt, alloc, graphs, delays, ins, workers, kept, &mut load, gate,
+    )
 }

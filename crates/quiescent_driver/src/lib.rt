@@ -2,6 +2,7 @@
 //! on a board, and which gives what one thread gets of it. Beside it the run over the iterations, by workers or by one thread.
 #![tactic(auto)]
 
+mod carried;
 mod driving;
 mod end;
 mod fault;

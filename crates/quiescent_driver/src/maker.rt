@@ -5,9 +5,9 @@ ghost use Rattle.kernel_gate.specs.Signed.{unnamed};
 ghost use Rattle.pisdf_meaning.specs.Sound.{AreValidFor};
 ghost use Rattle.quiescent_driver.specs.Making.{IsMade, MayBegin};
 
-use crate::iteration::run_iteration;
+use crate::carried::Carried;
+use crate::iteration::iterate_by;
 use crate::stop::Stop;
-use job_compiler::Kept;
 use kernel_gate::Gate;
 use pisdf_meaning::{Delays, Iteration, plain_iteration, runnable, sizes_kept};
 use pisdf_model::Graphs;
@@ -42,7 +42,7 @@ pub(crate) fn make_by_queues<K: Gate>(
     }
 }
 
-/// As `make_by_queues`, by so many workers, with the compilations that are kept.
+/// As `make_by_queues`, by so many workers, with what the iterations before it have left.
 pub(crate) fn make_by_workers<K: Gate + Sync, R: Threads + Wait + Sync>(
     rt: &R,
     alloc: Global,
@@ -50,7 +50,7 @@ pub(crate) fn make_by_workers<K: Gate + Sync, R: Threads + Wait + Sync>(
     delays: &mut Delays,
     ins: &[List<i64>],
     workers: u32,
-    kept: &mut Option<Kept>,
+    carried: &mut Carried,
     gate: &K,
 ) -> Made
     requires valid { AreValidFor (unnamed (K.kernels gate.now)) (arc_value graphs.now) }
@@ -59,7 +59,17 @@ pub(crate) fn make_by_workers<K: Gate + Sync, R: Threads + Wait + Sync>(
     requires few { workers ≤ 16 }
     ensures { IsMade (arc_value graphs.now) delays.old.lists ins.now delays.new.lists result }
 {
-    match run_iteration(rt, alloc, graphs, delays, ins, workers, kept, gate) {
+    match iterate_by(
+        rt,
+        alloc,
+        graphs,
+        delays,
+        ins,
+        workers,
+        &mut carried.kept,
+        &mut carried.load,
+        gate,
+    ) {
         Ok((iteration, _journal)) => Ok(iteration),
         Err(fault) => Err(Stop::from(fault)),
     }

@@ -16,12 +16,13 @@ ghost use Rattle.quiescent_driver.specs.Streams.{rest_of};
 ghost use Rattle.quiescent_driver.specs.Texts.{iteration_text};
 ghost use Rattle.quiescent_driver.specs.Top.{top_of};
 
+use crate::carried::Carried;
 use crate::end::RunEnd;
 use crate::maker::{Made, make_by_queues, make_by_workers};
 use crate::stop::Stop;
 use crate::streams::Streams;
 use crate::texts::iteration_text;
-use job_compiler::{Kept, kept};
+use job_compiler::kept;
 use kernel_gate::Gate;
 use outer_world::{Sink, put_text};
 use pisdf_meaning::{Delays, Iteration, first_delays, one_meaning, top_needs};
@@ -284,15 +285,15 @@ pub fn run_all<O: Sink, K: Gate + Sync, R: Threads + Wait + Sync>(
     let Ok(kept) = kept(alloc) else {
         return RunEnd::Memory;
     };
-    let mut kept = Some(kept);
-    let make = |kept: &mut Option<Kept>, delays: &mut Delays, ins: &[List<i64>]| -> Made
+    let mut carried = Carried::new(kept);
+    let make = |carried: &mut Carried, delays: &mut Delays, ins: &[List<i64>]| -> Made
         requires valid { AreValidFor (unnamed (K.kernels gate.now)) (arc_value graphs.now) }
         requires some { 0 < workers }
         requires few { workers ≤ 16 }
         requires begins { MayBegin (arc_value graphs.now) delays.now.lists ins.now }
         ensures { IsMade (arc_value graphs.entry.now) delays.entry.now.lists ins.entry.now delays.exit.now.lists result }
-    { make_by_workers(rt, alloc, graphs, delays, ins, workers, kept, gate) };
-    run_by(alloc, graphs, streams, iterations, &make, &mut kept, out)
+    { make_by_workers(rt, alloc, graphs, delays, ins, workers, carried, gate) };
+    run_by(alloc, graphs, streams, iterations, &make, &mut carried, out)
 }
 
 /// As `run_all`, by one thread that fires over queues in place of workers. It waits for nobody.

@@ -14,13 +14,14 @@ ghost use Rattle.quiescent_driver.specs.Runs.{EndsLike, EndsRun};
 ghost use Rattle.quiescent_driver.specs.Top.{top_of};
 ghost use Rattle.quiescent_driver.specs.Unfolding.{StandsFor};
 
+use crate::carried::Carried;
 use crate::end::RunEnd;
 use crate::fault::IterationFault;
-use crate::iteration::run_iteration;
+use crate::iteration::iterate_by;
 use crate::maker::{Made, make_by_workers};
 use crate::run::{put_iteration, run_all, run_from};
 use crate::streams::Streams;
-use job_compiler::{Kept, kept};
+use job_compiler::kept;
 use kernel_gate::Gate;
 use outer_world::Sink;
 use pisdf_meaning::{Delays, Iteration, first_delays, one_meaning, top_needs};
@@ -64,7 +65,7 @@ fn next_group<K: Gate + Sync, R: Threads + Wait + Sync>(
     streams: &Streams<'_>,
     group: u32,
     workers: u32,
-    kept: &mut Option<Kept>,
+    carried: &mut Carried,
     delays: &mut Delays,
     gate: &K,
 ) -> Result<Option<List<Iteration>>, AllocError>
@@ -87,14 +88,15 @@ fn next_group<K: Gate + Sync, R: Threads + Wait + Sync>(
         None => {}
     }
     let ins = streams.taken(alloc, group)?;
-    let iteration = match run_iteration(
+    let iteration = match iterate_by(
         rt,
         alloc,
         &unfolded.graphs,
         delays,
         ins.as_slice(),
         workers,
-        kept,
+        &mut carried.kept,
+        &mut carried.load,
         gate,
     ) {
         Ok((iteration, _journal)) => iteration,
@@ -115,7 +117,7 @@ fn step_group<O: Sink, K: Gate + Sync, R: Threads + Wait + Sync>(
     streams: &Streams<'_>,
     group: u32,
     workers: u32,
-    kept: &mut Option<Kept>,
+    carried: &mut Carried,
     delays: &mut Delays,
     gate: &K,
     out: &mut O,
@@ -133,7 +135,7 @@ fn step_group<O: Sink, K: Gate + Sync, R: Threads + Wait + Sync>(
     ensures state { IsTopState (arc_value graphs.now) delays.new.lists }
 {
     let Ok(found) = next_group(
-        rt, alloc, graphs, unfolded, streams, group, workers, kept, delays, gate,
+        rt, alloc, graphs, unfolded, streams, group, workers, carried, delays, gate,
     ) else {
         return Err(RunEnd::Memory);
     };
@@ -167,7 +169,7 @@ fn run_groups<O: Sink, K: Gate + Sync, R: Threads + Wait + Sync>(
     streams: &Streams<'_>,
     iterations: u32,
     workers: u32,
-    kept: &mut Option<Kept>,
+    carried: &mut Carried,
     delays: &mut Delays,
     gate: &K,
     out: &mut O,
@@ -189,7 +191,7 @@ fn run_groups<O: Sink, K: Gate + Sync, R: Threads + Wait + Sync>(
     let groups = iterations / unfolded.times;
     for group in 0..groups {
         let put = match step_group(
-            rt, alloc, graphs, unfolded, streams, group, workers, kept, delays, gate, out,
+            rt, alloc, graphs, unfolded, streams, group, workers, carried, delays, gate, out,
         ) {
             Ok(put) => put,
             Err(end) => return Err(end),
@@ -243,20 +245,28 @@ fn run_singly<O: Sink, K: Gate + Sync, R: Threads + Wait + Sync>(
     let Ok(kept) = kept(alloc) else {
         return RunEnd::Memory;
     };
-    let mut kept = Some(kept);
+    let mut carried = Carried::new(kept);
     let feed = Streams {
         needs: needs.items(),
         tokens: streams,
     };
-    let make = |kept: &mut Option<Kept>, delays: &mut Delays, ins: &[List<i64>]| -> Made
+    let make = |carried: &mut Carried, delays: &mut Delays, ins: &[List<i64>]| -> Made
         requires valid { AreValidFor (unnamed (K.kernels gate.now)) (arc_value graphs.now) }
         requires some { 0 < workers }
         requires few { workers ≤ 16 }
         requires begins { MayBegin (arc_value graphs.now) delays.now.lists ins.now }
         ensures { IsMade (arc_value graphs.entry.now) delays.entry.now.lists ins.entry.now delays.exit.now.lists result }
-    { make_by_workers(rt, alloc, graphs, delays, ins, workers, kept, gate) };
+    { make_by_workers(rt, alloc, graphs, delays, ins, workers, carried, gate) };
     run_from(
-        alloc, graphs, &feed, first, iterations, &make, &mut kept, delays, out,
+        alloc,
+        graphs,
+        &feed,
+        first,
+        iterations,
+        &make,
+        &mut carried,
+        delays,
+        out,
     )
 }
 
@@ -293,13 +303,23 @@ fn begin_in_groups<O: Sink, K: Gate + Sync, R: Threads + Wait + Sync>(
     let Ok(kept) = kept(alloc) else {
         return Err(RunEnd::Memory);
     };
-    let mut kept = Some(kept);
+    let mut carried = Carried::new(kept);
     let feed = Streams {
         needs: needs.items(),
         tokens: streams,
     };
     run_groups(
-        rt, alloc, graphs, unfolded, &feed, iterations, workers, &mut kept, delays, gate, out,
+        rt,
+        alloc,
+        graphs,
+        unfolded,
+        &feed,
+        iterations,
+        workers,
+        &mut carried,
+        delays,
+        gate,
+        out,
     )
 }
 
