@@ -1,4 +1,3 @@
-pub mod Writing
-pub mod Searching
-pub mod Ordering
+pub mod Heaping
+pub mod HeldSteps
 pub mod GroupSteps
