@@ -16,7 +16,7 @@ use Rattle.nested_jobs.specs.Steps.{claimed, task_in}
 use Rattle.nested_jobs.specs.Tables.{answers_in, put_row, with_mark}
 use Rattle.nested_jobs.proofs.Appending.{state-snoc}
 use Rattle.nested_jobs.proofs.Tabling.{put_row_at}
-use Rattle.open_job.specs.View.{IsOfferedWork, graph_in, task}
+use Rattle.open_job.specs.View.{IsOfferedWork, graph_in}
 use Rattle.pisdf_meaning.specs.declared.firing.Firing.{Firing}
 use Rattle.pisdf_model.specs.declared.graph.Graphs.{Graphs}
 use Rattle.board_rules.specs.Asking.{JobRow}

@@ -1,5 +1,5 @@
 -- What a worker ran is back, and its item has an answer.
-use Rattle.std.proofs.Common.{◌≡◌, ◌≢◌, ⊎_elim, ℕ, ◌+◌, ◌-◌, ◌<◌, Bool, true, false, List, [], ◌∷◌, ◌++◌, set, get_or, Option, Some, None, Result, Ok, Err, refl, sym, ap, ◌∙◌, subst, arith}
+use Rattle.std.proofs.Common.{◌≡◌, ◌≢◌, ⊎_elim, ℕ, ◌<◌, Bool, true, false, List, [], ◌∷◌, ◌++◌, set, get_or, Option, Some, None, Result, Ok, Err, refl, sym, ap, ◌∙◌, subst, arith}
 use Rattle.std.proofs.lemmas.Bool.{cases_eq}
 use Rattle.std.specs.Prelude.{IfOk, is_err}
 use Rattle.kernel_gate.specs.declared.fault.KernelFault.{KernelFault}
@@ -17,7 +17,7 @@ use Rattle.nested_jobs.specs.Marks.{Busy, Done, Mark, Open, put}
 use Rattle.nested_jobs.specs.Meanings.{Lawful, Within}
 use Rattle.nested_jobs.specs.Rules.{Place, Work}
 use Rattle.nested_jobs.specs.Tables.{put_row, with_mark}
-use Rattle.open_job.specs.View.{answered, task}
+use Rattle.open_job.specs.View.{task}
 use Rattle.pisdf_meaning.specs.declared.firing.Firing.{Firing}
 use Rattle.pisdf_meaning.specs.declared.refusal.Refusal.{Refusal}
 use Rattle.board_rules.specs.Board.{Held, IsClosing, KeptAs, OpenJobs, hold}

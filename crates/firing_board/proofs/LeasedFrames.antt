@@ -1,14 +1,12 @@
 -- The leases of the frame of a node that a worker runs.
 use Rattle.std.proofs.Common.{◌≡◌, ◌⊎◌, ⊎_elim, ℕ, ◌+◌, ◌<◌, true, false, nat_lt, List, ◌∷◌, Option, Some, None, refl, sym, ap, ◌∙◌, subst}
 use Rattle.std.proofs.lemmas.Bool.{lt-ltb}
-use Rattle.sdf_level.specs.declared.node.Node.{Node}
-use Rattle.sdf_level.specs.declared.single_rate.Edge.{Edge}
 use Rattle.kernel_gate.specs.Value.{Places}
 use Rattle.job_preparing.specs.Handing.{lent_at}
 use Rattle.job_rules.specs.Items.{Prepared, compile_number, edges_in, graph_of, nodes_in, prepared_in}
 use Rattle.job_rules.specs.Words.{Answer}
 use Rattle.nested_jobs.specs.Marks.{Marks, answer_of, values}
-use Rattle.nested_jobs.specs.Rules.{Place, Values}
+use Rattle.nested_jobs.specs.Rules.{Values}
 use Rattle.one_job.specs.Leased.{JobCells}
 use Rattle.open_job.proofs.Offered.{IsAfter, where_is}
 use Rattle.open_job.specs.Leases.{LendsAs, LendsItems, node_lent}

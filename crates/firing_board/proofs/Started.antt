@@ -6,7 +6,6 @@ use Rattle.std.proofs.lemmas.List.{length-replicate}
 use Rattle.std.specs.Option.{option_map}
 use Rattle.kernel_gate.specs.Value.{Places}
 use Rattle.job_rules.specs.Words.{Answer}
-use Rattle.nested_jobs.specs.Journals.{start}
 use Rattle.nested_jobs.specs.Marks.{Done, Mark, Open}
 use Rattle.pisdf_meaning.specs.declared.firing.Firing.{Firing}
 use Rattle.pisdf_model.specs.declared.graph.Graphs.{Graphs}
@@ -16,7 +15,7 @@ use Rattle.board_rules.specs.Keys.{IsKey, Key, top_job}
 use Rattle.board_journal.specs.View.{path_at}
 use Rattle.job_table.specs.Calls.{IsStarted}
 use Rattle.job_table.specs.Laws.{StartsSuit, TablesStart}
-use Rattle.job_table.specs.View.{FiringView, NothingIsLent, TableView, firing_of, firings_of, lent_by, lent_in, row_at, table_of}
+use Rattle.job_table.specs.View.{NothingIsLent, TableView, firing_of, firings_of, lent_by, lent_in, row_at, table_of}
 use Rattle.job_table.specs.declared.row.Row.{Row}
 use Rattle.firing_board.specs.Beginning.{IsStartedOn}
 use Rattle.firing_board.specs.Core.{AreNumbered, IsLentToRunners, StandsAt, held_of, lent_of, runners}
