@@ -37,6 +37,7 @@ use Rattle.job_preparing.specs.contracts.stage.Stage as PreparingStage
 use Rattle.job_preparing.proofs.stage.Spare.TheSendSync as spare
 use Rattle.job_running.specs.contracts.told.Told as RunningTold
 use Rattle.job_running.specs.contracts.told.ToldBefore as ToldBefore
+use Rattle.job_running.specs.contracts.told.ToldBlock as ToldBlock
 use Rattle.job_running.specs.contracts.stage.Stage as RunningStage
 use Rattle.job_running.specs.contracts.frames.Held as RunningHeld
 use Rattle.worker_crew.proofs.GraphsSending.{graphs_send, graphs_sync}
@@ -74,6 +75,9 @@ running_told_send = search sendable depth 20
 told_before_send : IsSend ToldBefore.the_row
 told_before_send = search sendable depth 20
 
+told_block_send : IsSend ToldBlock.the_row
+told_block_send = search sendable depth 20
+
 running_stage_send : IsSend RunningStage.the_row
 running_stage_send = search (running_told_send, sendable) depth 20
 
@@ -81,7 +85,7 @@ running_held_send : IsSend RunningHeld.the_row
 running_held_send = search (frame.the_send, refusal.the_field_send, crosses, sendable) depth 20
 
 running_send : IsSend Running.the_row
-running_send = search (running_stage_send, running_held_send, told_before_send, graphs_send, graphs_sync, level_set_field_send, job_send, compiled.the_send, compiled.the_sync, path.the_send, name.the_send, linked.the_send, row.the_send, list.the_send, crosses, sendable) depth 60 fits 6000
+running_send = search (running_stage_send, running_held_send, told_before_send, told_block_send, graphs_send, graphs_sync, level_set_field_send, job_send, compiled.the_send, compiled.the_sync, path.the_send, name.the_send, linked.the_send, row.the_send, list.the_send, crosses, sendable) depth 60 fits 6000
 
 open_send : IsSend OpenJob.the_row
 open_send = search (configuring_send, running_send, crosses, sendable) depth 60 fits 20000
