@@ -15,13 +15,14 @@ sys.dont_write_bytecode = True
 
 from pisdf_tools import reading
 from pisdf_tools.exploring import Explorer
+from pisdf_tools.output import WRITE_FAILED, written
 from pisdf_tools.refusals import why_unread
-from pisdf_tools.source import read_source
+from pisdf_tools.source import once_words, read_source
 from pisdf_tools.summary import Summary, certain_refusals
 from pisdf_tools.wording import counted, quoted
 
 MOST_FAULTS = 20
-RUN_REFUSED = 4
+RUN_REFUSED, UNREAD = 4, 5
 
 
 def first_answer(program, path):
@@ -37,6 +38,7 @@ def refused_lines(found, line):
     yield line
     yield ""
     yield found.text_of(first) if first else "This tool finds no more about it. docs/FORMATS.md has the table of the faults."
+    yield from (f"\n{words}" for words in found.repeated_words())
     if others:
         yield ""
         mended = " where that is mended" if others[0].number > 1 and first and first.number == 1 else ""
@@ -58,15 +60,20 @@ def sound_lines(found, path, explorer, refusals):
         yield ""
     else:
         yield f"{path}: the file has no fault. It has version {found.file.version}."
+    yield from found.repeated_words()
     yield from Summary(found, explorer).lines()
 
 
 def check(program, path):
     """The status of the check. Its lines are written as they come."""
+    once = once_words(path)
+    if once:
+        print(f"The graph file is {quoted(path)}. {once}")
+        return UNREAD
     status, line = first_answer(program, path)
     if status not in (0, 2):
         print(line)
-        if status == 5:
+        if status == UNREAD:
             print(f"\nThe graph file is {quoted(path)}. {why_unread(path)}")
         return status
     found = reading.read(read_source(path))
@@ -83,17 +90,11 @@ def main(words):
     if len(words) != 2:
         print("usage: ./pisdf check GRAPH", file=sys.stderr)
         return 1
-    sys.stdout.reconfigure(errors="backslashreplace")
     try:
-        status = check(*words)
-        sys.stdout.flush()
-        return status
-    except BrokenPipeError:
-        os.dup2(os.open(os.devnull, os.O_WRONLY), sys.stdout.fileno())
-        return 6
+        return written("check", lambda: check(*words), WRITE_FAILED)
     except OSError as fault:
         print(f"check: {fault.strerror or fault}.", file=sys.stderr)
-        return 5
+        return UNREAD
     except Exception as fault:
         if os.environ.get("PISDF_TOOLS_TRACE"):
             raise

@@ -20,7 +20,9 @@ sys.path.insert(0, os.path.dirname(os.path.realpath(__file__)))
 from drawing import charts, dot, svg
 from drawing.inputs import Refused, read_graphs, rows_with, whole_graphs
 from drawing.parts import Names
+from pisdf_tools.output import written
 from pisdf_tools.unfolding import unfolded_text, unfolding_of
+from pisdf_tools.wording import counted, named, nearest, quoted
 from pisdf_tools.words import number_trouble
 
 
@@ -60,12 +62,12 @@ DRAWINGS = {"graph": (draw_graph, 1, 1), "plan": (draw_plan, 1, 2), "gantt": (dr
 def main(words):
     draw, least, most = DRAWINGS.get(words[0] if words else "", (None, 0, 0))
     if draw is None or not least <= len(words) - 1 <= most:
+        if words:
+            print(f"draw: {words_trouble(words, least, most)}\n", file=sys.stderr)
         print(__doc__.strip(), file=sys.stderr)
         return 1
     try:
-        for line in draw(*words[1:]):
-            print(line)
-        sys.stdout.flush()
+        return written("draw", lambda: write_lines(draw(*words[1:])))
     except Refused as refused:
         print(f"draw: {refused}", file=sys.stderr)
         return 2
@@ -74,9 +76,20 @@ def main(words):
             raise
         print(f"draw: this can't be drawn ({type(error).__name__}). Are the files whole, and of one graph?", file=sys.stderr)
         return 2
-    except BrokenPipeError:
-        # Whoever reads has seen enough. What is left has nowhere to go.
-        os.dup2(os.open(os.devnull, os.O_WRONLY), sys.stdout.fileno())
+
+
+def words_trouble(words, least, most):
+    """What is wrong with words that ask for no drawing."""
+    if words[0] not in DRAWINGS:
+        meant = nearest(words[0], DRAWINGS)
+        return f"{quoted(words[0])} is none of {named(DRAWINGS)}." + (f" Do you mean {quoted(meant)}?" if meant else "")
+    wanted = counted(most, "word") if least == most else f"{least} or {counted(most, 'word')}"
+    return f"{quoted(words[0])} takes {wanted} more, and here {'is' if len(words) == 2 else 'are'} {len(words) - 1}."
+
+
+def write_lines(lines):
+    for line in lines:
+        print(line)
     return 0
 
 

@@ -20,7 +20,7 @@ WRITE_FAILED = 6
 
 def call(program, words):
     """The status of a call and what it wrote to the standard error. Its standard output is this one."""
-    done = subprocess.run([program] + words, stderr=subprocess.PIPE)
+    done = subprocess.run([program] + words, stderr=subprocess.PIPE, close_fds=False)
     return done.returncode if done.returncode >= 0 else 128 - done.returncode, done.stderr
 
 

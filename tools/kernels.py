@@ -4,15 +4,15 @@
 usage: kernels.py           a line for each kernel: its name, its numbers of arguments, inputs, outputs and parameters set, and what it gives
        kernels.py NAME      what one kernel takes, gives and refuses
 """
-import difflib
 import json
-import os
 import re
 import sys
 
 sys.dont_write_bytecode = True
 
 from pisdf_tools.kernels import OTHER_WORDS, heading, table
+from pisdf_tools.output import written
+from pisdf_tools.wording import nearest
 
 LETTERS = ("x is the first input, z the second, out the output, all counted from 0. r is the rate of x, s that of the output. "
            "Overflow, Division, Shape and Value are the codes 1, 2, 3 and 4 of a refusal.")
@@ -70,8 +70,8 @@ def answer(words):
         return section(table()[name]), None
     if name.lower() in OTHER_WORDS:
         return None, f"no kernel has the name '{name}'. {plain(OTHER_WORDS[name.lower()])}"
-    near = difflib.get_close_matches(name, table(), 1, 0.5)
-    hint = f"the nearest name is '{near[0]}'" if near else "./pisdf kernels lists them"
+    near = nearest(name, table())
+    hint = f"the nearest name is '{near}'" if near else "./pisdf kernels lists them"
     return None, f"no kernel has the name '{name}': {hint}"
 
 
@@ -80,12 +80,7 @@ def main(words):
     if wrong:
         print(f"kernels: {wrong}", file=sys.stderr)
         return 1
-    try:
-        print(text, flush=True)
-    except BrokenPipeError:
-        # Whoever reads has seen enough. What is left has nowhere to go.
-        os.dup2(os.open(os.devnull, os.O_WRONLY), sys.stdout.fileno())
-    return 0
+    return written("kernels", lambda: print(text) or 0)
 
 
 if __name__ == "__main__":

@@ -16,6 +16,18 @@ sys.path.insert(0, os.path.dirname(os.path.realpath(__file__)))
 from drawing import page
 from drawing.inputs import Refused
 from drawing.run import Run
+from pisdf_tools.source import once_words
+
+
+def file_trouble(graph, tokens, target):
+    """Why no page is made of these files: one is written over, or can't be read again. Else an empty text."""
+    for path, what in ((graph, "graph file"), (tokens, "token file")):
+        if os.path.exists(path) and os.path.exists(target) and os.path.samefile(path, target):
+            return f"the page would be written over the {what} {path}. Give the page a name of its own"
+        once = once_words(path)
+        if once:
+            return f"the {what} is {path}. {once}"
+    return ""
 
 
 def main(words):
@@ -23,9 +35,14 @@ def main(words):
         print("report: give GRAPH TOKENS ITERATIONS WORKERS FILE.html, and TIMES where iterations are to be fired as one", file=sys.stderr)
         return 1
     program, graph, tokens, iterations, workers, target, *times = words
+    trouble = file_trouble(graph, tokens, target)
+    if trouble:
+        print(f"report: {trouble}", file=sys.stderr)
+        return 2
     try:
-        text = page.page(Run(program, graph, tokens, iterations, workers, *times))
-        with open(target, "w", encoding="utf-8") as file:
+        # A name of a file may have bytes that are no UTF-8.
+        text = page.page(Run(program, graph, tokens, iterations, workers, *times)).encode("utf-8", "backslashreplace")
+        with open(target, "wb") as file:
             file.write(text)
     except Refused as refused:
         print(f"report: {refused}", file=sys.stderr)

@@ -33,6 +33,28 @@ class Summaries(unittest.TestCase):
         self.assertIn("  repetition: m 1 where n = 8", lines)
         self.assertTrue(any("x of rate 8 is read 3 x 3 = 9, from the front again" in line and line.endswith("where n = 3") for line in lines), lines)
 
+    def test_values_that_are_picked(self):
+        picked = changed(example("adaptive-mean"), ('"kernel":"read_param","args":[]', '"kernel":"pick","args":["8","2","2","9"]'))
+        lines = [line for line in self.lines(picked) if line.startswith("  repetition")]
+        self.assertEqual([line.rpartition(" where ")[2] for line in lines], ["n = 2", "n = 8"])
+        none = changed(picked, ('["8","2","2","9"]', '["9"]'))
+        self.assertEqual(len([line for line in self.lines(none) if line.startswith("  repetition")]), 8)
+
+    def test_a_graph_of_configuration_actors_alone(self):
+        text = ('{"pisdf":3,"top":"g","graphs":[{"name":"g","params":[{"name":"n","kind":"set"}],"inputs":[{"name":"x","rate":"1"}],"outputs":[],"actors":['
+                '{"name":"c","kind":"config","kernel":"read_param","args":[],"ins":[{"name":"i"}],"outs":[],"sets":["n"]}],"fifos":[{"from":"x","to":"c.i"}],"exports":[]}]}')
+        self.assertIn("  repetition: no actors but configuration actors", self.lines(text))
+
+    def test_ranges_go_down_the_hierarchy(self):
+        deeper = changed(WHOLE, ('{"name":"e","kind":"kernel","kernel":"pass","args":[],"ins":[{"name":"i","rate":"p"}],"outs":[{"name":"o","rate":"p"}]}',
+                                 '{"name":"e","kind":"graph","graph":"l","args":["p+1"]}'),
+                         ('"exports":[]}]}', '"exports":[]},\n {"name":"l","params":[{"name":"q","kind":"in"}],"inputs":[{"name":"i","rate":"q-1"}],"outputs":[{"name":"o","rate":"q-1"}],'
+                          '"actors":[{"name":"f","kind":"kernel","kernel":"pass","args":[],"ins":[{"name":"i","rate":"1"}],"outs":[{"name":"o","rate":"1"}]}],'
+                          '"fifos":[{"from":"i","to":"f.i"},{"from":"f.o","to":"o"}],"exports":[]}]}'))
+        lines = self.lines(deeper)
+        self.assertIn("  parameter q: from an argument, 3", lines)
+        self.assertIn("  input i: rate q-1 = 2", lines)
+
     def test_parameters_that_no_rate_names(self):
         level = changed(WHOLE, ('"low":1,"high":8', '"low":0,"high":255'))
         self.assertIn("  repetition: a 4, s 4, d 4, b 2", self.lines(level))
@@ -110,7 +132,8 @@ class BrokenTexts(unittest.TestCase):
         return [(fault.line, fault.start) for fault in read_text(changed(SPOILED, *pairs)).faults]
 
     def test_further_faults_have_their_places(self):
-        for old, new, at in (('"graphs":[', 'graphs":[', "graphs"), ('"graphs":[', "graphs:[", "graphs"), ('"top":"g",', '"top":g,', "g,"), ('"sets":["n"]},', '"sets":["n"]}', '{"name":"a","kind"'),
+        for old, new, at in (('"graphs":[', 'graphs":[', "graphs"), ('"graphs":[', "'graphs':[", "'graphs'"), ('"name":"c",', "'name':'c',", "'name'"),
+                             ('"graphs":[', '"graphs":[ // all\n # of them\n /* two\n lines */', "// all"), ('"graphs":[', "graphs:[", "graphs"), ('"top":"g",', '"top":g,', "g,"), ('"sets":["n"]},', '"sets":["n"]}', '{"name":"a","kind"'),
                              ('{"from":"b.v","to":"y"}],', '{"from":"b.v","to":"y"},],', ",],")):
             text = changed(SPOILED, (old, new))
             found = self.faults((old, new))
@@ -124,7 +147,7 @@ class BrokenTexts(unittest.TestCase):
                          ["graph: 1 json", "graph: 1 json", "graph: 2 shape /graphs/0/inputs/1/rate"])
 
     def test_a_text_that_breaks_off(self):
-        self.assertEqual([line for line, _ in self.faults(('"sets":["n"]},', '"sets":["n"] # one\n},'))], ["graph: 1 json"])
+        self.assertEqual([line for line, _ in self.faults(('"sets":["n"]},', '"sets":["n"] @ one\n},'))], ["graph: 1 json"])
         self.assertEqual([line for line, _ in self.faults(('"top":"g",', '"top":None,'))], ["graph: 1 json"])
 
 

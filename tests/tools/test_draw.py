@@ -120,7 +120,12 @@ class Graphs(unittest.TestCase):
 
     def test_words(self):
         self.assertEqual(draw()[0], 1)
-        self.assertEqual(draw("tree", "x")[0], 1)
+        for words, told in ((("tree", "x"), "`tree` is none of `graph`, `plan`, `gantt`, `cells` and `unfolded`."), (("grahp", "x"), "Do you mean `graph`?"),
+                            (("graph",), "`graph` takes 1 word more, and here are 0."), (("unfolded", "2"), "`unfolded` takes 2 words more, and here is 1."),
+                            (("cells", "1", "2", "3"), "`cells` takes 1 or 2 words more, and here are 3.")):
+            status, _, error = draw(*words)
+            self.assertEqual(status, 1)
+            self.assertTrue(error.startswith("draw: ") and told in error.split("\n")[0], error)
 
 
 class Plans(unittest.TestCase):

@@ -2,6 +2,7 @@
 import os
 import subprocess
 import sys
+import tempfile
 import unittest
 
 from support import PROGRAM, TOOLS, TOP, WHOLE, call, changed, needs_program
@@ -15,10 +16,11 @@ class Words(unittest.TestCase):
     def test_what_is_wrong_with_words(self):
         from pisdf_tools.words import explain_usage
         rows = [([], ["No command is named", "`run`", "`upgrade`"]), (["rnu", "g", "t"], ["`rnu` is no command", "`./pisdf run GRAPH TOKENS ITERATIONS WORKERS`"]),
-                (["g.json", "t.csv"], ["The first word is the command"]), (["run", "g", "t", "1"], ["takes 4 words more, and here are 3", "WORKERS is missing"]),
+                (["g.json", "t.csv"], ["The first word is the command"]), (["run", "g", "t", "1"], ["takes 4 words more, and here are 3", "WORKERS is missing"]), (["run", "g"], ["TOKENS, ITERATIONS and WORKERS are missing"]),
                 (["check", "g.json"], ["`check` is a word of the launcher", "`./pisdf check GRAPH`"]), (["plain", "g", "t", "1", "1"], ["takes 3 words more, and here are 4"]), (["run", "g", "t", "65537", "1"], ["from 0 to 65536", "`65537`"]),
                 (["run", "g", "t", "1", "17"], ["from 1 to 16", "`17`"]), (["run", "g", "t", "one", "1"], ["in decimal digits", "`one`"]),
-                (["unfold", "65", "g", "t", "1", "1"], ["TIMES is a number from 1 to 64"]), (["soak", "65536", "1"], ["NUMBER is a number from 0 to 65535"])]
+                (["unfold", "65", "g", "t", "1", "1"], ["TIMES is a number from 1 to 64"]), (["soak", "65536", "1"], ["NUMBER is a number from 0 to 65535"]),
+                (["audit", "g", "t", "1", "1"], ["takes 5 words more, and here are 4", "JOURNAL is missing"])]
         for words, wanted in rows:
             with self.subTest(words):
                 for word in wanted:
@@ -40,6 +42,13 @@ class Unread(unittest.TestCase):
         self.assertIn("This is a folder", why_unread(os.path.join(TOP, "examples", "first")))
         self.assertIn("There is no folder", why_unread("no-such-folder/g.json"))
 
+    def test_a_link_that_leads_nowhere(self):
+        from pisdf_tools.refusals import why_unread
+        with tempfile.TemporaryDirectory() as room:
+            path = os.path.join(room, "g.json")
+            os.symlink("nowhere.json", path)
+            self.assertEqual(why_unread(path), "It is a link to `nowhere.json`, which isn't there.")
+
 
 @needs_program
 class Calls(unittest.TestCase):
@@ -47,7 +56,8 @@ class Calls(unittest.TestCase):
         for words, files in ((["run", "g.json", "t.csv", "2", "2"], {"g.json": WHOLE, "t.csv": "w,2,3\nx,1,2,3,4,5,6,7,8\n"}),
                              (["run", "g.json", "t.csv", "2", "2"], {"g.json": WHOLE, "t.csv": "w,2,9\nx,1,2,3,4,5,6,7,8\n"}),
                              (["plan", "g.json", "t.csv", "2"], {"g.json": WHOLE, "t.csv": "w,2\nx,1,2,3,4\n"}), (["nonsense"], {}), ([], {}),
-                             (["upgrade", "g.json"], {"g.json": "{"}), (["run", "g.json", "t.csv", "1", "1"], {"g.json": WHOLE})):
+                             (["upgrade", "g.json"], {"g.json": "{"}), (["run", "g.json", "t.csv", "1", "1"], {"g.json": WHOLE}),
+                             (["audit", "g.json", "t.csv", "1", "1", "j.csv"], {"g.json": PASS, "t.csv": "x,1,2,3,4,5,6,7,8\n", "j.csv": "finish,0,0\n"})):
             with self.subTest(words):
                 plain, told = call(words, files), call(words, files, "explain.py")
                 self.assertEqual((told.returncode, told.stdout), (plain.returncode, plain.stdout))
@@ -70,6 +80,13 @@ class Calls(unittest.TestCase):
         graph = changed(WHOLE, ('"delay":[0],"life":"permanent"', '"delay":[0]'))
         text = call(["run", "g.json", "t.csv", "2", "1"], {"g.json": graph, "t.csv": "w,2,3\nx,1,2,3,4,5,6,7,8\n"}, "explain.py").stderr.decode()
         self.assertIn("The delay of FIFO 4 (`d.p` to `s.j`) begins anew in each iteration, since no `life` is stated.", text)
+
+    def test_delays_of_a_child_whose_life_is_not_stated(self):
+        with open(os.path.join(TOP, "examples", "running-sum", "g.json"), encoding="utf-8") as file:
+            graph = changed(file.read(), (',"life":"permanent"', ""))
+        text = call(["run", "g.json", "t.csv", "1", "1"], {"g.json": graph, "t.csv": "x,1,2,3,4\n"}, "explain.py").stderr.decode()
+        self.assertEqual(text, "The delay of FIFO 3 (`d.p` to `s.j`) in the graph `kept` begins anew at each firing of this graph, since no `life` is stated. "
+                               "With `\"life\":\"permanent\"` the tokens stay for the next firing.\n")
 
     def test_how_often_tokens_are_lost_or_read_again(self):
         with open(os.path.join(TOP, "examples", "adaptive-mean", "g.json"), encoding="utf-8") as file:

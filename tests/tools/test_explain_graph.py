@@ -59,6 +59,11 @@ ROWS = [
     ("an unknown actor", [('"to":"a.i"', '"to":"A.i"')], "graph: 5 unknown A.i", (13, '"A.i"},'), ["no actor `A`", "Do you mean `a.i`?"]),
     ("a renamed actor", [('"name":"a",', '"name":"gained",')], "graph: 5 unknown a.i", (13, '"a.i"},'), ["`gained` has the ports `i` and `o`, and no FIFO", "Write `gained.i` here. Change FIFO 2 in the same way"]),
     ("a renamed output", [('"outputs":[{"name":"y"', '"outputs":[{"name":"out"')], "graph: 5 unknown y", (18, '"y"}],'), ["The output `out` has no FIFO: write `out` here, or call the output `y`"]),
+    ("an actor renamed to what is no name", [('"name":"a",', '"name":"a-1",')], "graph: 2 shape /graphs/0/actors/1/name", (7, '"a-1","kind":"'), ["Write `a_1`"]),
+    ("an input for a parameter", [('"rate":"2*k"', '"rate":"2*x"')], "graph: 5 unknown x", (4, 'x"}],'), ["`x` is an input of the graph, and no number"]),
+    ("an actor for a parameter", [('"rate":"2*k"', '"rate":"2*b"')], "graph: 5 unknown b", (4, 'b"}],'), ["`b` is an actor of the graph, and no number"]),
+    ("a function that isn't there", [('"rate":"2*k"', '"rate":"ceil(k/2)"')], "graph: 2 shape /graphs/0/outputs/0/rate", (4, '(k/2)'), ["`(A+B-1)/B` rounds up"]),
+    ("a sign of another keyboard", [('"rate":"2*k"', '"rate":"2\u00d7k"')], "graph: 2 shape /graphs/0/outputs/0/rate", (4, '\u00d7k'), ["Write `*`."]),
     ("a FIFO too many", [('"to":"y"}', '"to":"y"},{"from":"b.w","to":"z"}')], "graph: 5 unknown b.w", (18, '"b.w","to":"z"'), ["may come from has its FIFO already"]),
     ("an actor without a port", [('"to":"a.i"', '"to":"a"')], "graph: 5 unknown a", (13, '"a"},'), ["is an actor", "one of its ports"]),
     ("an interface with a port", [('"from":"x"', '"from":"x.o"')], "graph: 5 unknown x.o", (13, '"x.o","to":"a.'), ["is an interface", "Do you mean `x`?"]),
@@ -105,6 +110,24 @@ class GraphFaults(unittest.TestCase):
         found = read_text(text)
         self.assertEqual(found.faults[0].line, "graph: 9 interface g 1")
         self.assertEqual(found.source.position(found.faults[0].start), (14, 8))
+
+    def test_an_actor_renamed_to_what_is_no_name_gets_its_name_again(self):
+        found = read_text(changed(WHOLE, ('"name":"a",', '"name":"a-1",')))
+        fault, = [fault for fault in found.faults if fault.number == 5]
+        self.assertTrue(fault.text.endswith("was `a` renamed? `a-1` is no name, so call the actor `a` again."), fault.text)
+
+    def test_a_member_that_stands_twice(self):
+        found = read_text(changed(WHOLE, ('"exports":[]},', '"exports":[],\n"fifos":[]},')))
+        self.assertEqual(found.repeated_words(), ["g.json, line 20, column 1, in graph `g`: The member `fifos` stands here a second time. Only the last one counts."])
+        self.assertEqual(found.faults[0].line, "graph: 8 wire w")
+        self.assertEqual(read_text(WHOLE).repeated_words(), [])
+        self.assertEqual(read_text("[").repeated_words(), [])
+
+    def test_a_file_in_utf_16(self):
+        for name in ("utf-16-le", "utf-16-be"):
+            found = read_text(("\ufeff" + WHOLE).encode(name))
+            self.assertEqual([(fault.line, fault.start) for fault in found.faults], [("graph: 1 json", 0)])
+            self.assertIn("The file is UTF-16. Save it as UTF-8 without a byte order mark.", found.faults[0].text)
 
     def test_a_parameter_of_the_top_graph_that_an_actor_sets(self):
         fault = read_text(changed(WHOLE, ('"kind":"set","low":1,"high":8', '"kind":"in"'))).faults[0]

@@ -27,6 +27,18 @@ LINKS = ('{"pisdf":3,"top":"g","graphs":[{"name":"g","params":[],"inputs":[{"nam
          '{"name":"h","params":[],"inputs":[{"name":"i","rate":"1"},{"name":"j","rate":"1"},{"name":"k","rate":"1"}],"outputs":[{"name":"o","rate":"1"}],'
          '"actors":[{"name":"a",' + ADD + ',"kind":"kernel","outs":[{"name":"o","rate":"1"}]},{"name":"c",' + ADD + ',"kind":"kernel","outs":[{"name":"o","rate":"1"}]}],'
          '"fifos":[{"from":"i","to":"a.i"},{"from":"j","to":"a.j"},{"from":"a.o","to":"c.i"},{"from":"k","to":"c.j"},{"from":"c.o","to":"o"}],"exports":[]}]}')
+# Two rings over the actor `back`. They share the FIFOs of `last`, and those that lead back in the file are others.
+RINGS = ('{"pisdf":3,"top":"g","graphs":[{"name":"g","params":[],"inputs":[{"name":"x","rate":"1"}],"outputs":[{"name":"y","rate":"1"}],"actors":['
+         '{"name":"less","kind":"kernel","kernel":"sub","args":[],"ins":[{"name":"i","rate":"1"},{"name":"j","rate":"1"}],"outs":[{"name":"o","rate":"1"}]},'
+         '{"name":"more","kind":"kernel",' + ADD + ',"outs":[{"name":"o","rate":"1"}]},'
+         '{"name":"last","kind":"kernel","kernel":"dup","args":[],"ins":[{"name":"i","rate":"1"}],"outs":[{"name":"o","rate":"1"},{"name":"p","rate":"1"}]},'
+         '{"name":"back","kind":"kernel","kernel":"dup","args":[],"ins":[{"name":"i","rate":"1"}],"outs":[{"name":"o","rate":"1"},{"name":"p","rate":"1"}]}],'
+         '"fifos":[{"from":"x","to":"less.i"},{"from":"back.o","to":"less.j"},{"from":"less.o","to":"more.i"},{"from":"back.p","to":"more.j"},'
+         '{"from":"more.o","to":"last.i"},{"from":"last.o","to":"y"},{"from":"last.p","to":"back.i"}],"exports":[]}]}')
+# Two rings that share no FIFO.
+APART = changed(RINGS, ('{"from":"back.p","to":"more.j"},', '{"from":"back.p","to":"own.j"},{"from":"own.o","to":"twin.i"},{"from":"twin.o","to":"more.j"},{"from":"twin.p","to":"own.i"},'),
+                ('"actors":[', '"actors":[{"name":"own","kind":"kernel",' + ADD + ',"outs":[{"name":"o","rate":"1"}]},'
+                 '{"name":"twin","kind":"kernel","kernel":"dup","args":[],"ins":[{"name":"i","rate":"1"}],"outs":[{"name":"o","rate":"1"},{"name":"p","rate":"1"}]},'))
 ONES = "".join(f"{name}{',1' * 2046}\n" for name in "uvw")
 TOKENS = "w,3\nx,1,2,3,4\n"
 
@@ -47,7 +59,11 @@ ROWS = [
     ("a parameter that overflows", changed(WHOLE, ('"expr":"2"', '"expr":"9223372036854775807+1"')), TOKENS, "run: g param k overflow",
      '"9223372036854775807+1"', ["lies outside 64 bits", "divide before you multiply"]),
     ("a rate over the limit", changed(WHOLE, ('"rate":"4"', '"rate":"262145"')), TOKENS, "run: g rate x value 262145", '"262145"',
-     ["262,144 at most"]),
+     ["262,144 at most", "Let an iteration take and give fewer tokens, and make more iterations."]),
+    ("a rate of a port over the limit", changed(WHOLE, ('"args":["m"],"ins":[{"name":"i","rate":"1"}]', '"args":["m"],"ins":[{"name":"i","rate":"262145"}]')), TOKENS,
+     "run: g rate a.i value 262145", '"262145"', ["Let the actor fire more often on fewer tokens."]),
+    ("a rate of a child over the limit", changed(WHOLE, ('{"name":"u","rate":"p"}', '{"name":"u","rate":"p+262144"}')), TOKENS, "run: g rate b.u value 262146", '"p+262144"',
+     ["Let a firing of the graph take and give fewer tokens, and fire it more often."]),
     ("a rate below 0", changed(WHOLE, ('"args":["m"],"ins":[{"name":"i","rate":"1"}]', '"args":["m"],"ins":[{"name":"i","rate":"n-4"}]')), TOKENS,
      "run: g rate a.i value -1", '"n-4"', ['"n-4" with `n` = 3 is -1', "can't be below 0"]),
     ("an argument without a value", changed(WHOLE, ('"args":["m"]', '"args":["m%(n-3)"]')), TOKENS, "run: g rate a[0] division", '"m%(n-3)"',
@@ -58,12 +74,19 @@ ROWS = [
      ["`s.j` has the rate 0 (line 8", 'as "n-3" with `n` = 3', "`d.p` gives 1 token a firing", "Most likely the 0 is wrong: 1 fits the other rates"]),
     ("an input of rate 0", changed(WHOLE, ('"rate":"4"', '"rate":"0"')), TOKENS, "run: g rates", '"0"}],',
      ["The input `x` has the rate 0", "`a.i` takes 1 token a firing", "4 fits the other rates, so that nothing is read again or lost"]),
-    ("a base over its limit", UPS % (16, 16, 16), "", "run: g rates", '"g","params"', ["`d` fire 4,096 times for once of `a`", "1,024 firings"]),
+    ("a base over its limit", UPS % (16, 16, 16), "", "run: g rates", '{"from":"a.o"', ["`d` fire 4,096 times for once of `a`", "1,024 firings", "from `a.o` to `b.i`, with 16 to 1, and on FIFO 1"]),
+    ("a base over its limit by rates of which none divides the other", changed(UPS % (64, 32, 5), ('"name":"d","kind":"kernel","kernel":"pass","args":[],"ins":[{"name":"i","rate":"1"}]',
+     '"name":"d","kind":"kernel","kernel":"pass","args":[],"ins":[{"name":"i","rate":"3"}]')), "", "run: g rates", '{"from":"c.o"',
+     ["The rates differ most on FIFO 2", "from `c.o` to `d.i`, with 5 to 3, and on FIFO 0"]),
     ("too many firings", UPS % (1, 1024, 1), "", "run: g limit firings 2050", '"g","params"', ["2,050 firings, and 2,048 are allowed", "`c` 1,024 times"]),
     ("too many tokens", CHAIN, "", "run: g limit tokens 1310720", '"g","params"', ["1,310,720 tokens, and 1,048,576 are allowed", "with 262,144"]),
     ("too many links", LINKS, ONES, "run: g limit links 8196", '"g","params"', ["8,196 links, and 8,192 are allowed", "A link counts the firings at both of its ends, and 2"]),
     ("a ring without a delay", changed(WHOLE, (LOOP, '{"from":"d.p","to":"s.j"}')), TOKENS, "run: g deadlock s 4 d 4 b 2", '{"from":"d.p","to":"s.j"}',
      ["`s` waits for 1 token on FIFO 4", "in a ring", 'A delay of 1 token on FIFO 4 is enough: `"delay":1`']),
+    ("two rings that share a FIFO", RINGS, "x,1", "run: g deadlock less 1 more 1 last 1 back 1", '{"from":"last.p","to":"back.i"}',
+     ['A delay of 1 token on FIFO 6 is enough: `"delay":1`']),
+    ("two rings that share none", APART, "x,1", "run: g deadlock own 1 twin 1 less 1 more 1 last 1 back 1", '{"from":"back.o","to":"less.j"}',
+     ["Firings are left of `own` (1), `twin` (1), `less` (1)", "More than one FIFO needs a delay: begin with this one."]),
     ("an overflow", TWO % ("1", "gain", '["2"]', "1", "1"), "x,4611686018427387904", "run: g kernel a:0 1", '"gain"',
      ["4611686018427387904 * 2 is 9223372036854775808", "`i` read 1 token", "a number lies outside 64 bits"]),
     ("rates that don't fit the kernel", TWO % ("4", "sum", "[]", "4", "2"), "x,1,2,3,4", "run: g kernel a:0 3", '"sum"',

@@ -26,7 +26,10 @@ ROWS = [
     (b"x,1.5\n", "number 1 2", ["whole numbers", "Scale the numbers"]),
     (b"x,9223372036854775808\n", "number 1 2", ["9223372036854775807"]),
     (b"x,one\n", "number 1 2", ["`one`", "decimal digits"]),
-    (b'x,"1,2"\n', "number 1 2", ["`1,2`"]),
+    (b'x,"1,2"\n', "number 1 2", ["`1,2`", "A comma within double quotes separates nothing"]),
+    (b'x,1,"2\nother,1\n', "number 1 3", ["line 1, column 5", "which is no token. The double quote that begins this field isn't closed up to the file's end"]),
+    (b'"x,1,2\nother,1\n', "name 1", ["line 1, column 1", "The double quote that begins this field isn't closed up to the file's end"]),
+    ("x,1,2\n".encode("utf-16"), "name 1", ["line 1, column 1", "The file is UTF-16. Save it as UTF-8."]),
 ]
 
 

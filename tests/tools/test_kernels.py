@@ -38,8 +38,21 @@ class Kernels(unittest.TestCase):
     def test_a_name_that_is_none(self):
         self.assertEqual(call("medain"), (1, "", "kernels: no kernel has the name 'medain': the nearest name is 'median'\n"))
         self.assertEqual(call("zzzzz"), (1, "", "kernels: no kernel has the name 'zzzzz': ./pisdf kernels lists them\n"))
+        self.assertEqual(call("FIR"), (1, "", "kernels: no kernel has the name 'FIR': the nearest name is 'fir'\n"))
         self.assertEqual(call("fir", "dot")[0], 1)
-        self.assertIn("The compiler adds forks by itself", call("fork")[2])
+        for word, told in (("fork", "The compiler adds forks by itself"), ("scale", "The kernel gain multiplies"), ("Sink", "an output interface of the rate 1"),
+                           ("filter", "made of dup, gain, add and delays"), ("integrate", "a ring of add and dup with a delay"), ("const", "ramp")):
+            status, out, error = call(word)
+            self.assertEqual((status, out), (1, ""))
+            self.assertIn(told, error)
+
+    def test_other_words_name_kernels_that_are_there(self):
+        sys.path.insert(0, os.path.join(TOP, "tools"))
+        from pisdf_tools.kernels import OTHER_WORDS, table
+        for word, told in OTHER_WORDS.items():
+            self.assertNotIn(word, table())
+            named = [name for name in re.findall(r"`(\w+)`", told)]
+            self.assertLessEqual(set(named), set(table()), told)
 
 
 if __name__ == "__main__":

@@ -98,8 +98,10 @@ class Launcher(unittest.TestCase):
     def test_help_needs_nothing(self):
         status, out, error = self.call("--help", kit=False)
         self.assertEqual((status, error), (0, ""))
-        for word in "run plain unfold plan schedule memory journal soak upgrade explain check report draw kernels".split():
+        for word in "run plain unfold plan schedule memory journal audit soak upgrade explain check report draw kernels".split():
             self.assertRegex(out, rf"(?m)^  {word} ")
+        for word in ("-h", "help"):
+            self.assertEqual(self.call(word, kit=False), (0, out, ""))
         self.assertEqual(self.builds(), 0)
 
     def test_version(self):

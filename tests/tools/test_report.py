@@ -1,5 +1,7 @@
 """The page of a report, over a program that answers from stored texts."""
+import filecmp
 import os
+import shutil
 import subprocess
 import sys
 import tempfile
@@ -19,6 +21,7 @@ PLAN += "edge,0,0,3,8,0\nedge,1,3,1,4,8\nedge,2,3,2,4,12\nedge,3,1,4,1,0\nedge,4
 SCHEDULE = "critical,20\nwork,24\nlength,20\npath,0,3,1,4,5\nstart,0,0,0,5\nstart,1,0,5,9\nstart,2,1,5,9\nstart,3,0,9,12\nstart,4,0,12,15\nstart,5,0,15,20\n"
 MEMORY = "height,16\nordered,14\n" + "".join(f"offset,{number},{number}\n" for number in range(6)) + "order,0,0,3,1,4,5\norder,1,2\n"
 JOURNAL = "claim,0,0,g,configure,0\nfinish,0,0\nclaim,0,1,g,compile,0\nfinish,0,1\nclaim,0,0,g,node,0\nclaim,0,1,g,node,2\nfinish,0,0\nfinish,0,1\n"
+AUDIT = "audit,legal,1,8\n"
 RUN = "param,0,g,n,4\ntokens,0,y,6\nparam,1,g,n,8\ntokens,1,y,4\n"
 
 # Answers each command with the text that the file of its name holds, and with the status and the line that stand there.
@@ -49,7 +52,7 @@ class Report(unittest.TestCase):
         self.room = room.name
         self.put("program", PROGRAM.format(python=sys.executable))
         os.chmod(os.path.join(self.room, "program"), 0o755)
-        for name, text in (("run", RUN), ("plan", PLAN), ("schedule", SCHEDULE), ("memory", MEMORY), ("journal", JOURNAL)):
+        for name, text in (("run", RUN), ("plan", PLAN), ("schedule", SCHEDULE), ("memory", MEMORY), ("journal", JOURNAL), ("audit", AUDIT)):
             self.put(name, text)
 
     def put(self, name, text):
@@ -182,9 +185,48 @@ class Report(unittest.TestCase):
 
     def test_a_picture_can_be_moved_by_the_keyboard(self):
         _, page = self.page()
-        figures = [part for part in page.iter("div") if part.get("class") == "figure"]
+        figures = [part for part in page.iter("div") if "figure" in part.get("class", "").split()]
         self.assertTrue(figures and all(part.get("tabindex") == "0" and part.get("role") == "region" and part.get("aria-label") for part in figures))
         self.assertTrue(all(picture.get("aria-label") for picture in page.iter(f"{XHTML}svg")))
+
+    def test_what_the_mouse_is_told_stands_in_words_as_well(self):
+        _, page = self.page()
+        lists = {part.find("summary").text: [row.text for row in part.find("ul")] for part in page.iter("details") if part.find("ul") is not None}
+        self.assertEqual(list(lists), ["The schedule in words: 6 nodes", "The cells of the plan in words: 6 buffers", "The cells under fixed orders in words: 6 buffers",
+                                       "What the workers did in words: 4 items", "Values of n in g in words: 2 values", "Tokens of y in words: 2 tokens"])
+        self.assertEqual(lists["The schedule in words: 6 nodes"], [
+            "x: from 0 to 5, worker 0, on the critical path", "m:1: from 5 to 9, worker 1", "m:0: from 5 to 9, worker 0, on the critical path",
+            "fork of x: from 9 to 12, worker 0, on the critical path", "join to y: from 12 to 15, worker 0, on the critical path",
+            "y: from 15 to 20, worker 0, on the critical path"])
+        self.assertEqual(lists["Tokens of y in words: 2 tokens"], ["token 0: 6", "token 1: 4"])
+        for part in page.iter("div"):
+            if "chart" in part.get("class", "").split():
+                self.assertEqual(len(self.told(part)) - 1, next(len(words) for name, words in lists.items() if name.startswith(part.get("aria-label"))))
+
+    def test_a_name_that_is_no_utf_8(self):
+        graph = os.path.join(self.room, b"g\xff.json".decode(errors="surrogateescape"))
+        shutil.copy(GRAPH, graph)
+        text, _ = self.page(graph=graph)
+        self.assertIn("g\\udcff.json", text)
+
+    def test_narrow_bars_show_their_colour(self):
+        lines = [f"{kind},0,{number % 2}{',g,node,' + str(number % 6) if kind == 'claim' else ''}" for number in range(400) for kind in ("claim", "finish")]
+        self.put("journal", "\n".join(lines) + "\n")
+        _, page = self.page()
+        for label, looks in (("What the workers did", {"box thin"}), ("The schedule", {"box", "box critical"})):
+            drawn, = self.labelled(page, label)
+            self.assertEqual({part.get("class") for part in drawn.iter(f"{XHTML}rect")}, looks)
+            self.assertIn(".thin{stroke:none}", next(drawn.iter(f"{XHTML}style")).text)
+
+    def test_a_page_is_not_written_over_its_files(self):
+        graph, tokens = (os.path.join(self.room, name) for name in ("g.json", "t.csv"))
+        for path, source in ((graph, GRAPH), (tokens, TOKENS)):
+            shutil.copy(source, path)
+        for path, what in ((graph, "graph"), (tokens, "token")):
+            status, told = self.call(graph=graph, tokens=tokens, target=path)
+            self.assertEqual((status, told), (2, f"report: the page would be written over the {what} file {path}. Give the page a name of its own\n"))
+        for path, source in ((graph, GRAPH), (tokens, TOKENS)):
+            self.assertTrue(filecmp.cmp(path, source, shallow=False))
 
     def test_many_tokens_are_an_image(self):
         self.put("run", "".join(f"tokens,{number},y,{','.join(str(number * at % 256) for at in range(64))}\n" for number in range(64)))
@@ -205,6 +247,15 @@ class Report(unittest.TestCase):
         self.assertEqual(text.count(line), 1)
         told, = [part for part in page.iter("div") if part.get("class") == "told"]
         self.assertIn('"name":"n"', "".join("".join(lines.itertext()) for lines in told.iter("pre")))
+
+    def test_the_journal_is_judged(self):
+        text, _ = self.page()
+        self.assertIn("judged this journal as legal: 1 board, 8 entries.", text)
+        self.put("audit", "")
+        self.put("audit.status", "9")
+        self.put("audit.line", "journal: line 3\n")
+        text, _ = self.page()
+        self.assertIn("judge this journal as legal: journal: line 3.", text)
 
     def test_a_refused_plan(self):
         for name in ("run", "plan", "schedule", "memory", "journal"):

@@ -111,6 +111,17 @@ class Calls(unittest.TestCase):
                 for line in re.findall(r"`([^`]+)`", row.split("|")[1]):
                     self.assertIn(line, lines)
 
+    def test_each_row_about_the_journal_is_a_line_of_it_and_it_is_legal(self):
+        part = sections(page())["What the compiler makes of a graph"].split("\n### ")[3]
+        (words, _), = calls(part)
+        journal = answer(words)
+        for line in re.findall(r"^\| `([^`]+)`", part, re.M):
+            self.assertIn(line, journal.splitlines())
+        with tempfile.NamedTemporaryFile("w", suffix=".csv") as file:
+            file.write(journal)
+            file.flush()
+            self.assertEqual(answer(["audit", *words[1:], file.name]), re.search(r"writes `(audit,\S+)`", part).group(1) + "\n")
+
     def test_the_outputs_that_are_worked_out_by_hand(self):
         text = sections(page())["A parameter that changes a rate"]
         words = "run examples/adaptive-mean/g.json examples/adaptive-mean/t.csv 1 2".split()
@@ -138,6 +149,25 @@ class Calls(unittest.TestCase):
         wanted = re.search(r"the rows are \(worked out by hand\):\n\n((?:    .*\n)+)", text).group(1)
         tokens = "width,5\nx,1,2,3,4,5,6,7,8,9,10,11,12\n"
         self.assertEqual(answer(words, json.dumps(graph), tokens), re.sub(r"^    ", "", wanted, flags=re.M))
+
+    def test_the_rows_above(self):
+        text = sections(page())["An image in slices"].split("**The rows above.**")[1]
+        actors, fifos = fenced(text)[:2]
+        graph = json.loads(text_of("examples/image-rows/g.json"))
+        top = graph["graphs"][0]
+        top["outputs"][0]["rate"], top["actors"], top["fifos"] = "24", json.loads(f"[{actors}]"), json.loads(f"[{fifos}]")
+        wanted = re.search(r"The row is then \(worked out by hand\):\n\n((?:    .*\n)+)", text).group(1)
+        found = answer("run examples/image-rows/g.json examples/image-rows/t.csv 1 4".split(), json.dumps(graph))
+        self.assertEqual(found, re.sub(r"^    ", "", wanted, flags=re.M))
+
+    def test_tokens_that_nobody_wants(self):
+        graph = json.loads(text_of("examples/first/g.json"))
+        top = graph["graphs"][0]
+        top["inputs"][0]["rate"], top["outputs"] = "3", [{"name": "y", "rate": "3"}, {"name": "none", "rate": "1"}]
+        top["actors"][0].update(kernel="dup", outs=[{"name": "o", "rate": "1"}, {"name": "p", "rate": "1"}])
+        top["fifos"].append({"from": "a.p", "to": "none"})
+        found = answer("run examples/first/g.json examples/first/t.csv 1 1".split(), json.dumps(graph), "x,5,6,7\n")
+        self.assertEqual(found, "tokens,0,y,5,6,7\ntokens,0,none,7\n")
 
     def test_the_delay_line_with_greater_rates(self):
         words = "run examples/delay-line/g.json examples/delay-line/t.csv 2 1".split()

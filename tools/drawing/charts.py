@@ -6,6 +6,8 @@ from drawing.parts import Names
 from drawing.svg import GREY, colour, element, firing_colour, image, marks, picture, text, title
 
 WIDTH, MARGIN, ROW = 900, 70, 32
+# A bar has a border from this width on.
+BORDERED = 3
 # Of more buffers a map of cells is an image, since a browser is slow with so many rectangles.
 MOST_BUFFERS = 3000
 # So many values of a line have their numbers beside them, so many have a dot, and so many iterations are told apart.
@@ -21,8 +23,10 @@ def grid(length, scale, top, bottom):
 
 def bar(start, end, worker, label, scale, critical=False, fill=None):
     x, width, y = MARGIN + start * scale, max(1.0, (end - start) * scale), MARGIN + worker * ROW
-    look = "box critical" if critical else "box"
-    box = element("rect", title(f"{label}: from {start} to {end}, worker {worker}"), x=x, y=y + 4, width=width, height=ROW - 8, fill=fill or colour(worker), class_=look)
+    # The border of a narrow bar would hide its colour.
+    look = "box critical" if critical else "box" if width >= BORDERED else "box thin"
+    on_path = ", on the critical path" if critical else ""
+    box = element("rect", title(f"{label}: from {start} to {end}, worker {worker}{on_path}"), x=x, y=y + 4, width=width, height=ROW - 8, fill=fill or colour(worker), class_=look)
     return box + (text(x + width / 2, y + ROW / 2 + 4, label, "small middle on") if width > 7 * len(label) else "")
 
 
@@ -166,7 +170,7 @@ def line(points, label, axis, turns=(), height=180):
 def dots(points, at, axis):
     """A dot for each value where they aren't many, and its number where they are few."""
     for (place, value), (x, y) in zip(points, at) if len(points) <= MOST_DOTS else ():
-        yield element("circle", title(f"{axis} {place}: {value}"), cx=x, cy=y, r=2.5, fill="#1f6fb2")
+        yield element("circle", title(f"{axis} {place}: {value}"), cx=x, cy=y, r=2.5, class_="dot")
         if len(points) <= MOST_NUMBERS:
             yield text(x + 4, y - 5 if y > 54 else y + 13, short(value), "small over")
 

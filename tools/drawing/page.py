@@ -9,6 +9,8 @@ from drawing.graphs import graph_picture, is_grouped, part_words, plan_picture
 from drawing.words import KINDS_OF_ANSWERS
 from pisdf_tools.wording import counted
 
+# What a picture and its parts are called, and the words of a bar.
+TOLD, BAR = re.compile("<title>([^<]*)</title>"), re.compile(r": from (\d+) to \d+, worker \d+")
 # So many pictures of one kind stand on a page; the rest is counted.
 MOST_SERIES = 12
 # More tokens of an output are drawn as an image.
@@ -24,7 +26,8 @@ a { color: var(--value); } nav ul { display: flex; flex-wrap: wrap; gap: 0.3rem 
 .skip { position: absolute; left: -99rem; } .skip:focus { position: static; }
 .figure { overflow-x: auto; background: var(--panel); border: 1px solid var(--grid); border-radius: 4px; padding: 0.5rem; }
 .figure:focus-visible, pre:focus-visible, a:focus-visible, summary:focus-visible { outline: 3px solid var(--value); outline-offset: 2px; }
-.figure svg { display: block; } .note { color: var(--soft); } .bad { color: var(--bad); font-weight: bold; }
+.figure svg { display: block; } .figure + .figure { margin-top: 0.5rem; } .chart svg { width: 100%; max-width: 65rem; min-width: 52rem; height: auto; }
+details { margin: 0.3rem 0; } .words { columns: 20rem; font-size: 0.9em; } .note { color: var(--soft); } .bad { color: var(--bad); font-weight: bold; }
 .table { overflow-x: auto; } table { border-collapse: collapse; } caption { text-align: left; color: var(--soft); }
 th, td { padding: 0.25rem 0.8rem 0.25rem 0; text-align: left; border-bottom: 1px solid var(--grid); vertical-align: top; } td.number { text-align: right; font-variant-numeric: tabular-nums; }
 .told pre { overflow-x: auto; background: var(--panel); border: 1px solid var(--grid); padding: 0.5rem; } pre { font: 0.9em/1.3 ui-monospace, Consolas, monospace; }
@@ -35,6 +38,20 @@ code { font: 0.9em ui-monospace, Consolas, monospace; overflow-wrap: anywhere; }
 def figure(picture, label):
     """A picture that can be moved to and fro by the keyboard where it is wider than the page."""
     return f'<div class="figure" role="region" tabindex="0" aria-label="{escape(label)}">{picture}</div>'
+
+
+def chart(picture, label, things):
+    """A chart, which becomes narrower with the page. What the mouse is told over its boxes or dots stands behind it in words as well."""
+    words = sorted(TOLD.findall(picture)[1:], key=started)
+    listed = "".join(f"<li>{word}</li>" for word in words)
+    in_words = f"<details><summary>{escape(label)} in words: {counted(len(words), *things)}</summary><ul class=\"words\">{listed}</ul></details>" if words else ""
+    return figure(picture, label).replace('class="figure"', 'class="figure chart"', 1) + in_words
+
+
+def started(words):
+    """When a bar begins. Other words keep their order."""
+    match = BAR.search(words)
+    return int(match[1]) if match else 0
 
 
 def marked(words):
@@ -131,18 +148,18 @@ def schedule_part(run):
     critical, work, length = (int(rows[name][0][0]) for name in ("critical", "work", "length"))
     share = -(-work // int(run.workers))
     words = f"No schedule is shorter than the critical path, {critical}, nor than the work divided by the workers, {share}. This one has the length {length}. A node costs 1 and the tokens at its edges."
-    return figure(charts.gantt(rows, run.names), "The schedule") + note(words)
+    return chart(charts.gantt(rows, run.names), "The schedule", ["node"]) + note(words)
 
 
 def cells_part(run):
     if run.plan.status:
         return refusal(run.plan, run)
     plan, memory = run.plan.by_kind(), run.memory.by_kind()
-    parts = [figure(charts.cells(plan, None, run.names), "The cells of the plan")]
+    parts = [chart(charts.cells(plan, None, run.names), "The cells of the plan", ["buffer"])]
     if run.memory.status:
         parts.append(refusal(run.memory, run))
     else:
-        parts.append("<details><summary>The cells as they would be if each worker kept a fixed order</summary>" + figure(charts.cells(plan, memory, run.names), "The cells under fixed orders") + "</details>")
+        parts.append("<details><summary>The cells as they would be if each worker kept a fixed order</summary>" + chart(charts.cells(plan, memory, run.names), "The cells under fixed orders", ["buffer"]) + "</details>")
     return "".join(parts)
 
 
@@ -159,7 +176,14 @@ def workers_part(run):
         "The journal is of a call of its own, and not of the one that gave the tokens. More than one worker may share the work otherwise in each call. "
         "A bar goes from a claim to its finish. A colour is a firing of a graph. The places are those of lines in the journal; they say nothing of time."
     )
-    return figure(charts.work(steps, int(run.workers), label), "What the workers did") + note(words) + table("What each worker was handed", ["Worker", "Items", "Share of the items"], rows)
+    return chart(charts.work(steps, int(run.workers), label), "What the workers did", ["item"]) + note(words) + note(judged_words(run.audit)) + table("What each worker was handed", ["Worker", "Items", "Share of the items"], rows)
+
+
+def judged_words(audit):
+    """What `audit` says of the journal that is drawn."""
+    for boards, entries in (row[1:] for row in audit.of("audit")):
+        return f"`audit` judged this journal as legal: {counted(int(boards), 'board')}, {counted(int(entries), 'entry', 'entries')}."
+    return f"`audit` didn't judge this journal as legal: {audit.line or f'it ended with {audit.status}'}."
 
 
 def shares(items):
@@ -180,7 +204,7 @@ def parameter_part(run):
     for name, values in list(series.items())[:MOST_SERIES]:
         numbers = [value for _, value in values]
         label = f"{name}: {counted(len(values), 'value')}, from {min(numbers)} to {max(numbers)}"
-        yield figure(charts.line(values[:MOST_VALUES], label, "iteration", (), 100), f"Values of {name}")
+        yield chart(charts.line(values[:MOST_VALUES], label, "iteration", (), 100), f"Values of {name}", ["value"])
     if len(series) > MOST_SERIES:
         yield note(f"{len(series) - MOST_SERIES} more parameters of other firings aren't drawn.")
 
@@ -196,9 +220,9 @@ def token_part(run):
         elif len(values) <= MOST_POINTS:
             label = f"{name}: {counted(len(values), 'token')} of {counted(len(rows), 'iteration')}, from {min(values)} to {max(values)}"
             turns = [0, *accumulate(len(row) for row in rows[:-1])]
-            yield figure(charts.line(list(enumerate(values)), label, "token", turns), f"Tokens of {name}")
+            yield chart(charts.line(list(enumerate(values)), label, "token", turns), f"Tokens of {name}", ["token"])
         else:
-            yield figure(charts.grey_image(lines_of(rows), name), f"Tokens of {name}")
+            yield chart(charts.grey_image(lines_of(rows), name), f"Tokens of {name}", ["token"])
 
 
 def lines_of(rows):

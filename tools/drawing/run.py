@@ -30,7 +30,7 @@ class Answer:
     """What a call of the program wrote, and how it ended."""
 
     def __init__(self, words, done):
-        self.words, self.status = words, done.returncode
+        self.words, self.status, self.written = words, done.returncode, done.stdout
         self.rows = list(csv.reader(io.StringIO(done.stdout.decode(errors="replace"))))
         self.line = done.stderr.decode(errors="replace").strip()
 
@@ -64,6 +64,7 @@ class Run:
             planned = self.put_planned(room)
             self.planned = self.file if self.group == 1 else read_graphs(planned)
             self.call_all(planned)
+            self.audit = self.judge(room)
         self.names = self.top_names() if not self.plan.status else None
 
     def group_of(self):
@@ -90,6 +91,13 @@ class Run:
             told_run, levels = pool.submit(told, self), pool.submit(self.levels_of_first)
             self.plan, self.schedule, self.memory, self.journal = answers
             self.told, self.levels = told_run.result(), levels.result()
+
+    def judge(self, room):
+        """What `audit` says of the journal, with the same words."""
+        path = os.path.join(room, "j.csv")
+        with open(path, "wb") as file:
+            file.write(self.journal.written)
+        return self.call("audit", *self.journal.words[1:], path)
 
     def call(self, *words):
         try:

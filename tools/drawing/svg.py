@@ -12,9 +12,10 @@ GREY = "#d5dae0"
 STYLE = (
     "text{font:12px Helvetica,Arial,sans-serif;fill:var(--ink,#1a222b)} .small{font-size:11px} .middle{text-anchor:middle} .end{text-anchor:end}"
     " .frame{fill:none;stroke:var(--line,#8094a8)} .grid{stroke:var(--grid,#d5dbe1)} .edge{fill:none;stroke:var(--ink,#445566)}"
-    " .head{fill:var(--ink,#445566)} .on{fill:#1a222b} .box{stroke:#445566} .critical{stroke:#c00000;stroke-width:2.5}"
+    " .head{fill:var(--ink,#445566)} .on{fill:#1a222b} .box{stroke:#445566} .thin{stroke:none} .critical{stroke:#c00000;stroke-width:2.5}"
     " .over{paint-order:stroke;stroke:var(--panel,#ffffff);stroke-width:8px;stroke-linejoin:round}"
     " .turn{stroke:var(--line,#8094a8);stroke-dasharray:2 3} .use{fill:none;stroke:var(--use,#5577bb);stroke-dasharray:4 3} .value{fill:none;stroke:var(--value,#1f6fb2);stroke-width:1.5}"
+    " .dot{fill:var(--value,#1f6fb2)}"
 )
 
 

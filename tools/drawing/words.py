@@ -10,5 +10,6 @@ KINDS_OF_ANSWERS = {
     5: "a file can't be read",
     6: "a write failed",
     7: "memory ran out",
+    9: "the journal is refused",
     124: "the call was ended, since it took too long",
 }

@@ -82,8 +82,11 @@ class EndNames:
             ports = [part.name.text for part in ins + outs]
             others = list(dict.fromkeys(f"FIFO {other}" for other, _, _ in asked if other != number))
             also = f" Change {listed(others)} in the same way." if others else ""
+            write = f"Write {quoted(f'{meant}.{port}')} here.{also}"
+            if name_trouble(meant):
+                write = f"{quoted(meant)} is no name, so call the actor {quoted(name)} again."
             self.add(word, f"Graph {quoted(self.graph.name.text)} has no actor {quoted(name)}.",
-                     f"{quoted(meant)} has {with_names('port', ports)}, and no FIFO: was {quoted(name)} renamed? Write {quoted(f'{meant}.{port}')} here.{also}")
+                     f"{quoted(meant)} has {with_names('port', ports)}, and no FIFO: was {quoted(name)} renamed? {write}")
         return self.meaning(word, f"{meant}.{port}")
 
     def add(self, word, *sentences):

@@ -27,19 +27,20 @@ class Outcome:
         return self.refusals[0] if self.refusals else None
 
 
-def spread(param, most):
+def spread(span, most):
     """The values of a parameter, or where they are more, so many of them from the least to the greatest."""
-    count = param.high - param.low + 1
-    if count <= most:
-        return range(param.low, param.high + 1)
-    return sorted({param.low + (count - 1) * place // max(most - 1, 1) for place in range(most)})
+    if len(span) <= most:
+        return span
+    return sorted({span[(len(span) - 1) * place // max(most - 1, 1)] for place in range(most)})
 
 
-def choices(params, values):
-    """Choices of values for these parameters, each with the given values, and how many choices there are at all."""
-    every = prod(param.high - param.low + 1 for param in params)
+def choices(params, values, picked=None):
+    """Choices of values for these parameters, each with the given values, and how many choices there are at all. `picked` has the values of
+    those parameters that have only some of their range."""
+    spans = [(picked or {}).get(param.name.text) or range(param.low, param.high + 1) for param in params]
+    every = prod(map(len, spans))
     most = MOST_CHOICES if every <= MOST_CHOICES else int(MOST_CHOICES ** (1 / len(params)) + 0.001)
-    spreads = [spread(param, most) for param in params]
+    spreads = [spread(span, most) for span in spans]
     if prod(map(len, spreads)) > MOST_CHOICES:
         spreads = [values[:1] for values in spreads]
     return [{**values, **dict(zip((param.name.text for param in params), chosen))} for chosen in product(*spreads)], every
@@ -103,7 +104,7 @@ class Explorer:
         graph, name = setting.graph, setting.graph.name.text
         found, deciding = self.outcomes.setdefault(name, []), self.rate_params.of(graph)
         chosen = graph.of_kind("set")
-        tried, every = choices([param for param in chosen if param.name.text in deciding], given)
+        tried, every = choices([param for param in chosen if param.name.text in deciding], given, self.picked(setting))
         others = [param for param in chosen if param.name.text not in deciding]
         setting.loose |= {param.name.text for param in others}
         if len(tried) < every or setting.loose & deciding:
@@ -115,6 +116,16 @@ class Explorer:
                 setting.loose |= {param.name.text for param in chosen}
                 return
             found.append(self.outcome_of_any(setting, values, others))
+
+    def picked(self, setting):
+        """The values that the kernel `pick` can give to a parameter within its range, by its name."""
+        found = {}
+        for actor in setting.graph.actors:
+            if actor.kind == "config" and actor.kernel.text == "pick" and not setting.is_loose(actor.args):
+                param = setting.graph.param(actor.sets[0].text)
+                args = setting.early.configs[actor.name.text][0]
+                found[param.name.text] = sorted({value for value in args if param.low <= value <= param.high})
+        return found
 
     def outcome_of_any(self, setting, values, others):
         """The outcome with the least values of the other parameters, or where these alone are refused, with the greatest."""

@@ -7,6 +7,8 @@ from .wording import grouped, quoted
 
 TOKEN = re.compile(r" *([0-9]+|[A-Za-z_][A-Za-z0-9_]*|[-+*/%(),]|$)")
 CALLS = ("min", "max")
+# Signs of other keyboards, with what stands for them here.
+OTHER_SIGNS = {"\u00d7": "*", "\u22c5": "*", "\u00b7": "*", "\u00f7": "/", "\u2212": "-", "\u2013": "-"}
 
 
 @dataclass(slots=True)
@@ -74,8 +76,12 @@ class Parser:
             return " The operators are `+`, `-`, `*`, `/` and `%`, on whole numbers."
         if self.token == "^":
             return " There is no power: write `n*n` for the square of `n`."
+        if self.token == "(" and re.search(r"\b(ceil|round|floor|div)\s*$", self.text[:self.at]):
+            return " The only functions are `min` and `max`. `A/B` rounds down, and `(A+B-1)/B` rounds up."
         if self.token == "(" and not self.open:
             return " A `*` may be missing before it. The only functions are `min` and `max`."
+        if self.token in OTHER_SIGNS:
+            return f" Write `{OTHER_SIGNS[self.token]}`."
         if self.token and (self.token[0].isalpha() or self.token[0] == "_") and self.text[self.at - 1:self.at].isdigit():
             return " A `*` is missing before it: write `2*n` for twice `n`."
         return ""

@@ -227,7 +227,8 @@ class GraphReading:
     def version_fault(self, value):
         self.faults.add(3, f"version {value.value}", "/pisdf", value.start, value.end,
                         f"The file says that it has version {value.value} of the format. There are the versions 1, 2 and 3. "
-                        "For a new graph write `\"pisdf\":3`. What else is told of this file is found as in version 3.")
+                        "For a new graph write `\"pisdf\":3`. What else is told of this file is found as in version 3. "
+                        "Whether its parts have their form is looked at once it has a version that is there.")
 
     def graph(self, value, pointer):
         required = ("name", "params", "inputs", "outputs", "actors", "fifos") + (("exports",) if self.version == 3 else ())

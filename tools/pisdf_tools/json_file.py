@@ -18,6 +18,8 @@ ESCAPES = {'"': '"', "\\": "\\", "/": "/", "b": "\b", "f": "\f", "n": "\n", "r":
 LITERALS = {"true": True, "false": False, "null": None}
 BARE_NAME = re.compile(r'([A-Za-z_][A-Za-z_0-9]*)"?[ \t]*:')
 BARE_TEXT = re.compile(r'([A-Za-z_][A-Za-z_0-9.]*)"?[ \t]*(?=[],}\n])')
+SINGLE = re.compile(r"'([^'\"\\\n]*)'")
+COMMENT = re.compile(r"//[^\n]*|#[^\n]*|/\*.*?\*/", re.S)
 OTHER_LITERALS = ("True", "False", "None", "NaN", "Infinity")
 MOST_MENDED = 10
 
@@ -55,16 +57,22 @@ class Reader:
     """
 
     def __init__(self, source):
-        self.source, self.text, self.at, self.depth, self.mended = source, source.text, 0, 0, []
+        self.source, self.text, self.at, self.depth, self.mended, self.told = source, source.text, 0, 0, [], set()
 
-    def mend(self, fault):
-        """Keeps a fault that what follows doesn't depend on."""
+    def mend(self, fault, kind=None):
+        """Keeps a fault that what follows doesn't depend on. Of the faults of a kind only the first is kept."""
+        if kind in self.told:
+            return
+        self.told.update([kind] if kind else [])
         self.mended.append(fault)
         if len(self.mended) == MOST_MENDED:
             raise self.mended.pop()
 
     def skip(self):
         self.at = BLANKS.match(self.text, self.at).end()
+        while comment := COMMENT.match(self.text, self.at):
+            self.mend(JsonFault(self.at, "JSON has no comments. Take this one out, and all others."), "comment")
+            self.at = BLANKS.match(self.text, comment.end()).end()
 
     def peek(self):
         return self.text[self.at:self.at + 1]
@@ -76,6 +84,8 @@ class Reader:
     def read_file(self):
         if self.text.startswith("\ufeff"):
             raise JsonFault(0, "The file begins with a byte order mark. Save it as UTF-8 without one.")
+        if self.source.data.startswith((b"\xff\xfe", b"\xfe\xff")):
+            raise JsonFault(0, "The file is UTF-16. Save it as UTF-8 without a byte order mark.")
         self.skip()
         if not self.peek():
             raise JsonFault(self.at, "The file is empty. A graph file is one JSON object.")
@@ -101,6 +111,8 @@ class Reader:
             self.at = word.end()
             return Value(word[0], LITERALS[word[0]], word.start(), self.at)
         fault = JsonFault(self.at, self.unfit(wanted), word and word.end())
+        if self.depth and SINGLE.match(self.text, self.at):
+            return self.read_single(fault)
         bare = BARE_TEXT.match(self.text, self.at)
         if self.depth == 0 or not bare or bare[1] in OTHER_LITERALS:
             raise fault
@@ -138,12 +150,21 @@ class Reader:
     def read_bare_name(self, opened):
         """The name of a member that lacks its quotes, or the first of them."""
         fault = JsonFault(self.at, self.unfit(f"the name of a member in double quotes, or `}}` for the object from {self.opened(opened)},"))
+        if SINGLE.match(self.text, self.at):
+            return self.read_single(fault)
         bare = BARE_NAME.match(self.text, self.at)
         if not bare:
             raise fault
         self.mend(fault)
         self.at = bare.end() - 1
         return Value("string", bare[1], bare.start(1), bare.end(1))
+
+    def read_single(self, fault):
+        """A text in single quotes."""
+        self.mend(fault, "single quotes")
+        text = SINGLE.match(self.text, self.at)
+        self.at = text.end()
+        return Value("string", text[1], text.start(), text.end())
 
     def read_list(self):
         start, values = self.at, []

@@ -9,18 +9,36 @@ PAGE = os.path.join(os.path.dirname(__file__), "..", "..", "docs", "KERNELS.md")
 HEADING = re.compile(r"^\| Kernel \|.*\|$", re.M)
 ROW = re.compile(r"\| \[`(\w+)`\]\(#\w+\) \| ([^|]*) \| ([^|]*) \| ([^|]*) \| ([^|]*) \| ([^|]*) \|")
 EXAMPLE = re.compile(r"^Example: `(\{.*?\})`", re.M)
+CONSTANT = "The kernel `ramp` with the arguments N and 0 gives the number N again and again."
+FILTER = "The kernel `fir` filters the tokens of one firing. Over an endless stream a filter is made of `dup`, `gain`, `add` and delays."
+RUNNING = "The kernel `sum` adds the tokens of one firing. A running sum is a ring of `add` and `dup` with a delay."
+UNWANTED = "Lead tokens that nobody wants to an output interface of the rate 1, which keeps the last of them."
 # Words of other tools and everyday ones that one may look for among the kernels, with what stands for them here.
 OTHER_WORDS = {
-    "broadcast": "The kernel `dup` gives each token twice, and a chain of them more often.",
-    "fork": "The compiler adds forks by itself where a FIFO feeds several firings. The kernel `dup` gives each token twice.",
-    "join": "The compiler adds joins by itself where several firings feed a FIFO.",
-    "delay": "A delay is a member of a FIFO: `\"delay\":[0]` or `\"delay\":1`.",
-    "init": "The first tokens of a delay are a member of a FIFO, as `\"delay\":[5,-6]`.",
+    "abs": "`max` of the tokens and of the same tokens by `gain` with the argument `0-1` gives what they are without their sign.",
+    "accumulate": RUNNING,
     "average": "The kernel `mean` gives the mean of its input.",
-    "constant": "The kernel `ramp` with the arguments N and 0 gives the number N again and again.",
+    "broadcast": "The kernel `dup` gives each token twice, and a chain of them more often.",
+    "constant": CONSTANT,
+    "const": CONSTANT,
+    "convolve": FILTER,
     "copy": "The kernel `pass` gives its input, and `dup` gives it twice.",
     "decimate": "The kernel `down` gives one token of each run of several.",
+    "delay": "A delay is a member of a FIFO: `\"delay\":[0]` or `\"delay\":1`.",
+    "discard": UNWANTED,
+    "downsample": "The kernel `down` gives one token of each run of several.",
+    "filter": FILTER,
+    "fork": "The compiler adds forks by itself where a FIFO feeds several firings. The kernel `dup` gives each token twice.",
+    "init": "The first tokens of a delay are a member of a FIFO, as `\"delay\":[5,-6]`.",
+    "integrate": RUNNING,
+    "join": "The compiler adds joins by itself where several firings feed a FIFO.",
     "multiply": "The kernel `gain` multiplies tokens by its argument, and `mul` by the tokens of a second input.",
+    "negate": "The kernel `gain` with the argument `0-1` gives each token with the other sign.",
+    "roundbuffer": "An output interface keeps its last tokens by itself.",
+    "scale": "The kernel `gain` multiplies tokens by its argument, and `div` divides them by the tokens of a second input.",
+    "sink": UNWANTED,
+    "source": "Tokens come from an input interface. The kernel `ramp` makes numbers at equal steps, or one number again and again.",
+    "square": "The kernel `dup` gives each token twice, and `mul` behind it multiplies the two.",
     "subtract": "The kernel `sub` gives differences, place by place.",
     "upsample": "The kernel `up` gives each token several times in a row.",
 }

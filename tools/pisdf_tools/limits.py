@@ -1,6 +1,7 @@
 """The limits of files and runs. A test compares them with the tables of docs/FORMATS.md."""
 GRAPH_FILE_BYTES = 4_194_304
 TOKEN_FILE_BYTES = 67_108_864
+JOURNAL_FILE_BYTES = 67_108_864
 JSON_NESTING = 127
 NAME_BYTES = 64
 EXPRESSION_BYTES = 1_024

@@ -51,15 +51,28 @@ def notes(runner, source, most=4):
     return found
 
 
-def delay_words(file, iterations):
-    """Which delays of the top graph begin anew in each iteration because nothing is stated of their life."""
-    if file.version == 1 or iterations < 2:
+def delay_words(file, runner, iterations):
+    """Which delays begin anew because nothing is stated of their life, in graphs that are fired more than once: a paragraph on each graph."""
+    if file.version == 1:
         return ""
-    graph = file.top_graph
-    found = [f"FIFO {number} ({quoted(fifo.tail.text)} to {quoted(fifo.head.text)})" for number, fifo in enumerate(graph.fifos)
-             if fifo.delay_length and "life" not in fifo.value.value]
-    if not found:
-        return ""
-    what = "The delay of" if len(found) == 1 else "The delays of"
-    return (f"{what} {listed(found[:8])} {'begins' if len(found) == 1 else 'begin'} anew in each iteration, since no `life` is stated. "
-            "With `\"life\":\"permanent\"` the tokens stay for the next iteration.")
+    often = {name: count for name, count in runner.levels_done.items() if name != file.top.text}
+    often[file.top.text] = iterations
+    found = [(graph, unstated_delays(graph)) for graph, _ in file.hierarchy() if often.get(graph.name.text, 0) > 1]
+    return "\n\n".join(anew_words(file, graph, fifos) for graph, fifos in found if fifos)
+
+
+def unstated_delays(graph):
+    """The FIFOs with a delay of which no life is stated."""
+    return [f"FIFO {number} ({quoted(fifo.tail.text)} to {quoted(fifo.head.text)})" for number, fifo in enumerate(graph.fifos)
+            if fifo.delay_length and "life" not in fifo.value.value]
+
+
+def anew_words(file, graph, fifos):
+    """That delays of a graph begin anew."""
+    is_one, name = len(fifos) == 1, quoted(graph.name.text)
+    if graph is file.top_graph:
+        inside, when, next_one = "", "in each iteration", "iteration"
+    else:
+        inside, when, next_one = f" in the graph {name}", "at each firing of this graph", "firing"
+    return (f"The {'delay' if is_one else 'delays'} of {listed(fifos[:8])}{inside} {'begins' if is_one else 'begin'} anew {when}, since no `life` is stated. "
+            f"With `\"life\":\"permanent\"` the tokens stay for the next {next_one}.")

@@ -136,7 +136,15 @@ class NameFaults:
         if others:
             elsewhere = (f"Graph {quoted(others[0])} has one of that name. A graph gets values from the graph around it by a "
                          "parameter of the kind `in` and an argument of the actor.")
-        return joined([f"There is no parameter {quoted(name)}.", rule, has, self.ask(self.faults.near(name, known)), elsewhere])
+        meant = "" if self.part_words(name, graph) else self.ask(self.faults.near(name, known))
+        return joined([f"There is no parameter {quoted(name)}.", self.part_words(name, graph), rule, has, meant, elsewhere])
+
+    def part_words(self, name, graph):
+        """What else has the name in the graph, or an empty text."""
+        for what, found in (("an input", graph.inputs), ("an output", graph.outputs), ("an actor", graph.actors)):
+            if any(part.name.text == name for part in found):
+                return f"{quoted(name)} is {what} of the graph, and no number."
+        return ""
 
     # ---- kernels and counts
 

@@ -3,12 +3,15 @@ from dataclasses import dataclass
 
 from . import name_faults, wiring_faults
 from .faults import Fault, Faults, fault_head, fault_text
-from .graph_file import GraphFile
+from .graph_file import GraphFile, place_words
 from .graph_reading import read_graphs
 from .json_file import read_json
 from .limits import GRAPH_FILE_BYTES
 from .source import Source
-from .wording import grouped
+from .wording import grouped, quoted
+
+# So many members that are repeated are told.
+MOST_REPEATED = 8
 
 
 @dataclass
@@ -25,6 +28,22 @@ class Reading:
     def line_of(self, fault):
         """A fault in one line, without the line of the file."""
         return f"{fault_head(self.source, self.root, fault)} {fault.text}"
+
+    def repeated_words(self):
+        """A sentence on each member that stands twice in one object, where the text is read whole."""
+        found, values = [], [("", self.root)] if self.root else []
+        while values:
+            pointer, value = values.pop()
+            if value.kind == "object":
+                found += [(member.start, pointer, name) for name, member in value.value.items() if member.repeated]
+                values += [(f"{pointer}/{name}", member.value) for name, member in value.value.items()]
+            elif value.kind == "list":
+                values += [(f"{pointer}/{place}", part) for place, part in enumerate(value.value)]
+        return [self.repeated_member(*member) for member in sorted(found)[:MOST_REPEATED]]
+
+    def repeated_member(self, start, pointer, name):
+        where = place_words(self.root, pointer)
+        return f"{self.source.place(start)}{', in ' * bool(where)}{where}: The member {quoted(name)} stands here a second time. Only the last one counts."
 
     def fault_of(self, line):
         """The fault with the program's line, or None."""

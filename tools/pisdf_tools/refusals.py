@@ -4,11 +4,11 @@ import re
 import stat
 import subprocess
 
-from . import firing, loss, reading, token_file
+from . import firing, journal_file, loss, reading, token_file
 from .exploring import Explorer
 from .levels import Refused
 from .run_refusals import RunRefusals
-from .source import read_source
+from .source import once_words, read_source
 from .static_refusals import plain_words
 from .token_file import TokenFaults
 from .unfolding import group_words
@@ -16,6 +16,8 @@ from .wording import counted, joined, named, nearest, quoted
 from .words import call_of, explain_usage
 
 SECONDS = 4
+# The files of the call by which it is told what the answers of a status mean.
+READ_AGAIN = {0: ("GRAPH", "TOKENS"), 2: ("GRAPH",), 3: ("GRAPH", "TOKENS"), 4: ("GRAPH", "TOKENS")}
 STARTS = {"plan": 1, "schedule": 1, "memory": 1}
 
 
@@ -30,9 +32,18 @@ class Explanation:
 
     def text(self):
         """A paragraph or several, or an empty text where there is nothing to tell."""
+        once = self.read_once()
+        if once:
+            return once
         tell = {0: self.done, 1: lambda: explain_usage(self.words), 2: self.graph, 3: self.tokens, 4: self.run, 5: self.unread,
-                6: self.unwritten, 7: self.memory}.get(self.status)
+                6: self.unwritten, 7: self.memory, 9: self.journal}.get(self.status)
         return tell() if tell else ""
+
+    def read_once(self):
+        """That a file can't be read again, where that is so of a file of the call."""
+        paths = [self.call.get(name) for name in READ_AGAIN.get(self.status, ())] if self.call else []
+        found = [(path, once_words(path)) for path in paths if path]
+        return next((f"More can't be told of this answer without {quoted(path)}. {words}" for path, words in found if words), "")
 
     def read_graph(self):
         return reading.read(read_source(self.call.get("GRAPH")))
@@ -51,7 +62,7 @@ class Explanation:
         others = len(found.faults) - 1
         more = (f"{counted(others, 'more fault')} can be seen in this file: `./pisdf check {self.call.get('GRAPH')}` lists "
                 f"{'it' if others == 1 else 'them'}.") if others else ""
-        return joined_paragraphs(found.text_of(fault), self.exchanged() if fault.number == 1 else "", more)
+        return joined_paragraphs(found.text_of(fault), *found.repeated_words(), self.exchanged() if fault.number == 1 else "", more)
 
     def exchanged(self):
         """Whether the two files may stand in the wrong order: the token file begins as a graph file does."""
@@ -77,10 +88,18 @@ class Explanation:
         return token_file.short_words(path, data, name, has, needs, rates)
 
     def unread(self):
-        which = {"graph": "GRAPH", "tokens": "TOKENS"}[self.line.split(" ")[1]]
+        which = {"graph": "GRAPH", "tokens": "TOKENS", "journal": "JOURNAL"}[self.line.split(" ")[1]]
         path = self.call.get(which)
-        what = {"GRAPH": "graph file", "TOKENS": "token file"}[which]
+        what = {"GRAPH": "graph file", "TOKENS": "token file", "JOURNAL": "file of journals"}[which]
         return f"The {what} is {quoted(path)} by the words of the call. {why_unread(path)}"
+
+    def journal(self):
+        words, path = self.line.split(" ")[1:], self.call.get("JOURNAL")
+        with open(path, "rb") as file:
+            data = file.read()
+        if words == ["length"]:
+            return journal_file.length_words(path, data)
+        return journal_file.line_words(path, data, int(words[1]), self.iterations(), self.call.number("WORKERS", 1))
 
     def unwritten(self):
         return ("A write to the standard output or to the standard error failed: the disk may be full, or what reads the output has ended. "
@@ -152,7 +171,7 @@ class Explanation:
     # ---- calls that were done
 
     def done(self):
-        if not self.call or "GRAPH" not in self.call.words or self.call.command == "upgrade":
+        if not self.call or "GRAPH" not in self.call.words or self.call.command in ("upgrade", "audit"):
             return ""
         found = self.read_graph()
         runner = self.runner(found.file, SECONDS / 2)
@@ -160,7 +179,7 @@ class Explanation:
             runner.run(self.iterations(), self.stream(found.file))
         except (Refused, firing.TooLong):
             pass
-        text = joined_paragraphs(*loss.notes(runner, found.source), loss.delay_words(found.file, self.iterations()), self.left(runner),
+        text = joined_paragraphs(*loss.notes(runner, found.source), loss.delay_words(found.file, runner, self.iterations()), self.left(runner),
                                  self.groups(found.file))
         return text or ("The call is done. No interface lost tokens or gave them again." if runner.is_done else "The call is done.")
 
@@ -190,6 +209,8 @@ def why_unread(path):
         folder = os.path.dirname(path) or "."
         if not os.path.isdir(folder):
             return f"There is no folder {quoted(folder)}. {from_where(path)}"
+        if os.path.islink(path):
+            return f"It is a link to {quoted(os.readlink(path))}, which isn't there. {from_where(path)}".rstrip()
         meant = nearest(os.path.basename(path), sorted(os.listdir(folder)))
         guess = f"Do you mean {quoted(os.path.join(os.path.dirname(path), meant))}?" if meant else ""
         return joined(["There is no such file.", guess, from_where(path)])

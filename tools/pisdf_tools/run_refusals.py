@@ -1,4 +1,6 @@
 """What a refusal of a run means: the values that led to it, where they come from, and what to do."""
+from math import gcd, lcm
+
 from . import balance
 from .expressions import names
 from .fitting import fitting_rate
@@ -10,6 +12,8 @@ from .static_refusals import graph_at
 from .wording import counted, grouped, joined, listed, quoted, shortened, times
 
 MOST_SHOWN = 8
+# At so many FIFOs of a ring it is tried whether a delay there is enough.
+MOST_TRIED = 16
 
 
 def tokens_words(tokens):
@@ -109,7 +113,15 @@ class RunRefusals:
         value = more["value"]
         wrong = f"A rate may be {grouped(RATE)} at most" if value > RATE else "A rate can't be below 0"
         return self.at(expression, f"The rate {shown} is {value}. {wrong}.",
-                       "Let the actor fire more often on fewer tokens." if value > RATE else "")
+                       self.fewer_words(expression) if value > RATE else "")
+
+    def fewer_words(self, expression):
+        """How to do with a lower rate."""
+        if "/actors/" in expression.pointer:
+            return "Let the actor fire more often on fewer tokens."
+        if self.graph is self.reading.file.top_graph:
+            return "Let an iteration take and give fewer tokens, and make more iterations."
+        return "Let a firing of the graph take and give fewer tokens, and fire it more often."
 
     # ---- balance
 
@@ -127,16 +139,33 @@ class RunRefusals:
             sentences.append(f"{counted(len(found.conflicts) - 4, 'FIFO')} more can't hold either.")
         for actor in found.large[:3] if not found.conflicts else []:
             least = min(found.base, key=lambda other: (found.base[other], other))
-            sentences.append(f"The rates let {quoted(actor)} fire {times(found.base[actor])} for {times(found.base[least])} of {quoted(least)}. "
-                             f"The balance may ask for {grouped(BASE_ENTRY)} firings of an actor. Take rates that are nearer to each other.")
+            sentences.append(f"The rates let {quoted(actor)} fire {times(found.base[actor])} for {times(found.base[least])} of {quoted(least)}.")
+        if found.large and not found.conflicts:
+            sentences += [f"The balance may ask for {grouped(BASE_ENTRY)} firings of an actor.", self.uneven_words(self.uneven_links(found))]
         return self.at(self.place_of_conflict(found), "No numbers of firings fit the rates of this graph.", *sentences, self.env_words())
 
     def place_of_conflict(self, found):
-        """The rate that is 0, or the FIFO whose equation can't hold."""
+        """The rate that is 0, or the FIFO whose equation can't hold, or the one whose rates are the most uneven."""
+        uneven = [] if found.conflicts else self.uneven_links(found)
+        if uneven:
+            return self.graph.fifos[uneven[0].fifo]
         first = found.conflicts[0] if found.conflicts else None
         if first and first.kind == "zero":
             return self.rate_at(first.link.tail_port if first.link.production == 0 else first.link.head_port)
         return self.graph.fifos[first.link.fifo] if first and first.link.fifo is not None else self.graph.name
+
+    def uneven_links(self, found):
+        """The FIFOs that make the counts great, the most uneven first: those of which no rate divides the other, then by how far the rates are
+        from each other."""
+        part = set(next(component for component in found.components if found.large[0] in component)) if found.large else ()
+        links = [link for link in self.refused.more["level"].links if link.fifo is not None and link.tail in part and link.head in part
+                 and link.production != link.consumption and link.production and link.consumption]
+        return sorted(links, key=lambda link: (-(link.production % link.consumption > 0 and link.consumption % link.production > 0),
+                                               -(lcm(link.production, link.consumption) // gcd(link.production, link.consumption))))
+
+    def uneven_words(self, links):
+        shown = ", and on ".join(f"{self.fifo_words(link)}, with {link.production} to {link.consumption}" for link in links[:2])
+        return f"The rates differ most on {shown}. Take rates there of which one divides the other, or that are nearer to each other." if shown else ""
 
     def rate_at(self, end):
         """The expression of the rate at an end."""
@@ -214,12 +243,13 @@ class RunRefusals:
             if link.is_inner and link.head in stuck.left and stuck.on_link[place] < link.consumption:
                 waits.setdefault(link.head, []).append((place, link))
         ring = self.ring_of_waits(waits)
-        sentences = [f"No firing is possible any more. Firings are left of {listed([f'{quoted(actor)} ({count})' for actor, count in stuck.left.items()][:8])}."]
+        left = [f"{quoted(actor)} ({stuck.left[actor]})" for actor in level.actors if actor in stuck.left]
+        sentences = [f"No firing is possible any more. Firings are left of {listed(left[:8])}."]
         for place, link in ring[:6]:
             sentences.append(f"{quoted(link.head)} waits for {counted(link.consumption, 'token')} on {self.fifo_words(link)}, which has {stuck.on_link[place]}.")
         sentences.append("These actors wait for each other in a ring." if len(ring) > 1 else "The actor waits for itself.")
-        place, link = self.best_place(ring)
-        sentences.append(self.delay_advice(level, more["counts"], place, link))
+        link, enough = self.best_place(level, more["counts"], ring)
+        sentences.append(self.delay_advice(link, enough))
         part = self.graph.fifos[link.fifo] if link.fifo is not None else self.graph.name
         return self.at(part, *sentences, self.env_words())
 
@@ -233,27 +263,38 @@ class RunRefusals:
             actor = link.tail
         return way[seen[actor]:]
 
-    def best_place(self, ring):
-        """Where a delay is most likely meant: where one stands already, else at the FIFO that leads back in the file."""
+    def best_place(self, level, counts, ring):
+        """Where a delay is most likely meant, with how many tokens more let all fire there: where one stands already, else at a FIFO that leads
+        back in the file, of those where a longer delay alone is enough. Where it is at none of them, the number is None."""
         order = {actor.name.text: place for place, actor in enumerate(self.graph.actors)}
         inner = [pair for pair in ring if pair[1].fifo is not None] or ring
-        return max(inner, key=lambda pair: (pair[1].delay > 0, order[pair[1].tail] >= order[pair[1].head], pair[1].fifo or 0))
+        inner.sort(key=lambda pair: (pair[1].delay > 0, order[pair[1].tail] >= order[pair[1].head], pair[1].fifo or 0), reverse=True)
+        for place, link in inner[:MOST_TRIED]:
+            enough = self.enough_at(level, counts, place, link)
+            if enough is not None:
+                return link, enough
+        return inner[0][1], None
 
-    def delay_advice(self, level, counts, place, link):
-        """How long a delay on one link lets all fire, found by trying."""
-        high = min(link.consumption * counts[link.head], TOKENS)
+    def enough_at(self, level, counts, place, link):
+        """With how many tokens more on one link all fire, found by trying. None where no number is enough."""
+        low, high = 0, min(link.consumption * counts[link.head], TOKENS)
         if isinstance(balance.order_of(level, counts, {place: high}), balance.Stuck):
-            return "More than one FIFO needs a delay: begin with this one."
-        low = 0
+            return None
         while high - low > 1:
             middle = (low + high) // 2
             if isinstance(balance.order_of(level, counts, {place: middle}), balance.Stuck):
                 low = middle
             else:
                 high = middle
-        now = f" more, {link.delay + high} in all," if link.delay else ""
+        return high
+
+    def delay_advice(self, link, enough):
+        """How long a delay on a link lets all fire."""
+        if enough is None:
+            return "More than one FIFO needs a delay: begin with this one."
+        now = f" more, {link.delay + enough} in all," if link.delay else ""
         life = "With `\"life\":\"permanent\"` its tokens go on to the next firing of the graph." if self.reading.file.version > 1 else ""
-        return joined([f"A delay of {counted(high, 'token')}{now} on FIFO {link.fifo} is enough: `\"delay\":{link.delay + high}`.", life])
+        return joined([f"A delay of {counted(enough, 'token')}{now} on FIFO {link.fifo} is enough: `\"delay\":{link.delay + enough}`.", life])
 
     # ---- kernels
 

@@ -1,10 +1,14 @@
 """A file as it was read, with the lines and columns of its places."""
+import os
 import re
+import stat
 from bisect import bisect_right
 from dataclasses import dataclass, field
 from functools import cached_property
 
 SNIPPET_WIDTH = 100
+# Names of files that are open in one process alone.
+ONE_READERS = ("/dev/stdin", "/dev/fd/", "/proc/self/fd/")
 
 
 @dataclass
@@ -46,6 +50,17 @@ class Source:
         line = "".join(letter if letter.isprintable() else " " for letter in self.text[left:right])
         marks = " " * (len(before) + start - left) + "^" * (end - start)
         return f"    {before}{line.rstrip()}{after}\n    {marks}"
+
+
+def once_words(path):
+    """Why a name can't be given to a tool that reads the file again after the program, or an empty text."""
+    try:
+        mode = os.stat(path).st_mode
+    except OSError:
+        return ""
+    if stat.S_ISFIFO(mode) or stat.S_ISSOCK(mode) or os.path.abspath(path).startswith(ONE_READERS):
+        return "It can be read only once, and the tools read it again behind the program. Write it into a file first, and name that."
+    return ""
 
 
 def read_source(path):

@@ -27,14 +27,14 @@ class Ranges:
     def of(self, graph):
         """The bounds of a graph's parameters by name."""
         if graph.pointer not in self.found:
-            ranges = {param.name.text: self.given(graph, param) for param in graph.params if param.kind != "is"}
+            # They are kept at once, since those of the derived parameters are found by them.
+            ranges = self.found[graph.pointer] = {param.name.text: self.given(graph, param) for param in graph.params if param.kind != "is"}
             for _ in graph.params:
                 for param in (param for param in graph.of_kind("is") if param.name.text not in ranges):
                     if not all(name in ranges for name in self.names(param)):
                         continue
                     low, high = self.exact(param.expression.tree, graph) or bounds(param.expression.tree, ranges) or (param.low, param.high)
                     ranges[param.name.text] = (max(low, param.low), min(high, param.high))
-            self.found[graph.pointer] = ranges
         return self.found[graph.pointer]
 
     def given(self, graph, param):
@@ -58,11 +58,17 @@ class Ranges:
         is the greater one where there is no value."""
         found = [name.name for name in names(tree)]
         sources = [graph.param(name) for name in sorted(with_sources(graph, found)) if graph.param(name).kind != "is"]
-        if prod(param.high - param.low + 1 for param in sources) > MOST_CHOICES:
+        spans = {param.name.text: self.span(graph, param) for param in sources}
+        if prod(map(len, spans.values())) > MOST_CHOICES:
             return None
-        values = [self.value(tree, graph, chosen) for chosen in choices(sources, {})[0]]
+        values = [self.value(tree, graph, chosen) for chosen in choices(sources, {}, spans)[0]]
         known = [value for value in values if value is not None]
         return (min(known), max(known)) if known else NONE
+
+    def span(self, graph, param):
+        """The values of a parameter that is given from outside, as far as they are known. Where none is left, those that it states."""
+        low, high = self.of(graph)[param.name.text]
+        return range(low, high + 1) or range(param.low, param.high + 1)
 
     def value(self, tree, graph, chosen):
         """The value of an expression by `chosen`, which has those of the parameters that it comes from, and gets those of derived ones.
@@ -195,7 +201,8 @@ class Summary:
         """The repetition vector with some values, or why there is none, as a line."""
         if outcome.refused:
             return f"each firing is refused: {listed([refused.cause for refused in outcome.refusals])}"
-        vector = ", ".join(f"{actor} {count}" for actor, count in self.in_order(outcome)) or "no actors"
+        vector = ", ".join(f"{actor} {count}" for actor, count in self.in_order(outcome))
+        vector = vector or f"no actors{' but configuration actors' * bool(outcome.level.graph.actors)}"
         return f"repetition: {vector}{self.losses(outcome.level, outcome.counts)}"
 
     def in_order(self, outcome):

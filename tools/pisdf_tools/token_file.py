@@ -5,6 +5,8 @@ from .limits import GREATEST_WHOLE, LEAST_WHOLE, TOKEN_FILE_BYTES, is_whole
 from .wording import counted, grouped, joined, nearest, quoted, shortened, with_names
 
 MARK = b"\xef\xbb\xbf"
+MARKS_OF_UTF_16 = (b"\xff\xfe", b"\xfe\xff")
+CLOSED = re.compile(rb'"(?:[^"]|"")*"')
 LINE_END = re.compile(rb"[\r\n]")
 TOKEN = re.compile(rb"-?[0-9]+")
 
@@ -198,8 +200,17 @@ class TokenFaults:
         if record is None or record.place(field - 1) is None:
             return None
         text = {"name": self.name, "repeated": self.repeated, "number": self.number}[words[0]](record, row, field)
-        text = joined([text, self.others(row, field)])
+        if self.data.startswith(MARKS_OF_UTF_16):
+            text = "The file is UTF-16. Save it as UTF-8."
+        elif self.is_open(record.place(field - 1)):
+            text = joined([text, "The double quote that begins this field isn't closed up to the file's end, so all behind it is this one field."])
+        else:
+            text = joined([text, self.others(row, field)])
         return f"{place_of(self.path, self.data, record.place(field - 1), row, field)}\n{snippet(record, field - 1)}\n{text}"
+
+    def is_open(self, start):
+        """Whether a field begins with a quote that is never closed."""
+        return self.data[start:start + 1] == b'"' and not CLOSED.match(self.data, start)
 
     def others(self, row, field):
         """Further faults of a file that isn't very long, each in a few words."""
@@ -248,8 +259,8 @@ class TokenFaults:
         value = record.field(field - 1)
         text = value.decode("utf-8", "replace")
         name = name_of(record)
-        return joined([f"Token {field - 2} of the input {quoted(name)}, counted from 0, is {quoted(text) if text else 'empty'}, which is no token.",
-                       self.why_no_token(value, text, field == record.count())])
+        why = "" if self.is_open(record.place(field - 1)) else self.why_no_token(value, text, field == record.count())
+        return joined([f"Token {field - 2} of the input {quoted(name)}, counted from 0, is {quoted(text) if text else 'empty'}, which is no token.", why])
 
     def why_no_token(self, value, text, is_last):
         if not value:
@@ -258,6 +269,8 @@ class TokenFaults:
             return f"A token lies from {LEAST_WHOLE} to {GREATEST_WHOLE}."
         if TOKEN.fullmatch(value.strip()):
             return "Blanks aren't taken away: write the number without them."
+        if b"," in value:
+            return "A comma within double quotes separates nothing: take the quotes away."
         if value.startswith(b"+"):
             return "A token has no `+` before it."
         if re.fullmatch(r"-?\d*[.]\d*([eE][+-]?\d+)?|-?\d+[eE][+-]?\d+", text):

@@ -3,7 +3,7 @@ import re
 from dataclasses import dataclass
 
 from .limits import ITERATIONS, SOAK_NUMBER, UNFOLD_TIMES, WORKERS
-from .wording import counted, joined, named, nearest, quoted
+from .wording import counted, joined, listed, named, nearest, quoted
 
 COMMANDS = {
     "run": ("GRAPH", "TOKENS", "ITERATIONS", "WORKERS"),
@@ -12,6 +12,7 @@ COMMANDS = {
     "schedule": ("GRAPH", "TOKENS", "WORKERS"),
     "memory": ("GRAPH", "TOKENS", "WORKERS"),
     "journal": ("GRAPH", "TOKENS", "ITERATIONS", "WORKERS"),
+    "audit": ("GRAPH", "TOKENS", "ITERATIONS", "WORKERS", "JOURNAL"),
     "unfold": ("TIMES", "GRAPH", "TOKENS", "ITERATIONS", "WORKERS"),
     "soak": ("NUMBER", "WORKERS"),
     "upgrade": ("GRAPH",),
@@ -72,7 +73,7 @@ def explain_usage(words):
     if len(given) != len(wanted):
         sentences.append(f"{quoted(command)} takes {counted(len(wanted), 'word')} more, and here {'is' if len(given) == 1 else 'are'} {len(given)}.")
     if len(given) < len(wanted):
-        sentences.append(f"{' and '.join(wanted[len(given):])} {'is' if len(wanted) == len(given) + 1 else 'are'} missing at the end, or a word before.")
+        sentences.append(f"{listed(wanted[len(given):])} {'is' if len(wanted) == len(given) + 1 else 'are'} missing at the end, or a word before.")
     sentences += [number_trouble(name, word) for name, word in zip(wanted, given) if name in NUMBERS]
     if not any(sentences):
         sentences = ["The words have the form that is wanted, so the program that was called is older than this command."]

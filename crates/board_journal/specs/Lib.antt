@@ -1,2 +1,4 @@
 pub mod View
 pub mod Kept
+pub mod Told
+pub mod Journals

@@ -1,18 +1,26 @@
-ghost use Rattle.std.specs.Prelude.{◌≡◌, ◌+◌, ◌-◌, ◌*◌, ◌<◌, ◌≤◌, [], ◌∷◌, ◌++◌, length, slice_get, Some, OnErr, OnOk, IfOk, IfSome};
+ghost use Rattle.std.specs.Prelude.{◌≡◌, ◌+◌, ◌-◌, ◌*◌, ◌<◌, ◌≤◌, [], ◌∷◌, ◌++◌, true, false, length, slice_get, Some, OnErr, OnOk, IfOk, IfSome};
 
 use crate::entry_at::EntryAt;
-use crate::line::Line;
+use crate::keeping::{keep_claim, keep_finish, keep_path, keep_room};
+use crate::kept::Entries;
+use crate::told::Told;
 use board_rules::Item;
 use pisdf_meaning::Path;
 use std::alloc::{AllocError, Global};
 use std::marker::Model;
+use std::snapshot::Snapshot;
 
-/// The steps of the workers of a board. Contracts see it as its entries, with the paths that were put in and for how many more
-/// entries room was taken.
+/// The steps of the workers of a board. Contracts see it as its entries, with the paths that were put in, for how many more entries
+/// room was taken, and whether its entries can be read.
 #[derive(Drop)]
 pub struct Journal {
-    paths: Vec<Path>,
-    lines: Vec<Line>,
+    told: Told,
+    /// The same, where its entries can be read.
+    kept: Option<Entries>,
+    /// How many paths there are.
+    paths: usize,
+    /// How many entries there are.
+    entries: usize,
     /// For how many entries more room was taken.
     room: usize,
 }
@@ -22,9 +30,9 @@ impl Model for Journal {
 
     ghost Value = { JournalView };
 
-    ghost use Rattle.board_journal.specs.Kept.{view_of, IsJournal};
+    ghost use Rattle.board_journal.specs.Journals.{journal_view, IsJournal};
 
-    ghost view = { λ j. view_of j };
+    ghost view = { λ j. journal_view j };
 
     ghost invariant = { IsJournal };
 }
@@ -41,18 +49,40 @@ impl Journal {
     ghost use Rattle.board_rules.specs.declared.entry.Entry.TheVariants as entry;
     ghost use Rattle.board_journal.specs.View.{entry_told, path_at};
 
-    /// No entries, and room for none.
+    /// No entries, and room for none. Those that are entered can be read.
     pub fn new(alloc: Global) -> Journal
-        ensures { result ≡ record { paths = []; entries = []; room = 0 } }
+        ensures { result ≡ record { paths = []; entries = []; room = 0; readable = true } }
     {
         Journal {
-            paths: Vec::new(alloc),
-            lines: Vec::new(alloc),
+            told: Told::new(),
+            kept: Some(Entries::new(alloc)),
+            paths: 0,
+            entries: 0,
             room: 0,
         }
     }
 
-    #[tactic(auto, using(crate::proofs::Paths::entries_stay, crate::proofs::Paths::names_stay))]
+    /// No entries, and room for none. Those that are entered can't be read: contracts alone see them. The journal takes no memory,
+    /// however many there are.
+    pub fn unreadable() -> Journal
+        ensures { result ≡ record { paths = []; entries = []; room = 0; readable = false } }
+    {
+        Journal {
+            told: Told::new(),
+            kept: None,
+            paths: 0,
+            entries: 0,
+            room: 0,
+        }
+    }
+
+    /// Whether its entries can be read.
+    pub fn is_readable(&self) -> bool
+        ensures { result ≡ self.now.readable }
+    {
+        self.kept.is_some()
+    }
+
     /// Puts in the path of a job, and gives the number by which entries name it.
     ///
     /// # Errors
@@ -63,9 +93,14 @@ impl Journal {
         ensures added { OnOk result (self.new ≡ record self.old { paths = self.old.paths ++ path ∷ [] }) }
         ensures refused { OnErr result (self.new ≡ self.old) }
     {
-        let number = self.paths.len();
-        self.paths.reserve(1)?;
-        self.paths.push_reserved(path);
+        let number = self.paths;
+        let Some(paths) = number.checked_add(1) else {
+            return Err(AllocError);
+        };
+        let shown = Snapshot::of(&path);
+        keep_path(&mut self.kept, path)?;
+        self.told.add_path(shown);
+        self.paths = paths;
         Ok(number)
     }
 
@@ -73,21 +108,22 @@ impl Journal {
     ///
     /// # Errors
     ///
-    /// Want of memory. The journal is as before.
+    /// Want of memory, also where there would be more entries than numbers. The journal is as before.
     pub fn reserve(&mut self, items: usize) -> Result<(), AllocError>
         ensures room { OnOk result (self.new.room ≡ self.old.room + 2 * items) }
         ensures kept { (self.new.paths ≡ self.old.paths) × (self.new.entries ≡ self.old.entries) }
         ensures more { self.old.room ≤ self.new.room }
         ensures refused { OnErr result (self.new ≡ self.old) }
     {
-        match entries_for(self.room, items) {
-            Some(room) => {
-                self.lines.reserve(room)?;
-                self.room = room;
-                Ok(())
-            }
-            None => Err(AllocError),
-        }
+        let Some(room) = entries_for(self.room, items) else {
+            return Err(AllocError);
+        };
+        let Some(_all) = self.entries.checked_add(room) else {
+            return Err(AllocError);
+        };
+        keep_room(&mut self.kept, room)?;
+        self.room = room;
+        Ok(())
     }
 
     /// Enters that a worker claims an item of the job with the path of this number.
@@ -96,7 +132,9 @@ impl Journal {
         requires room { 0 < self.old.room }
         ensures { self.new ≡ record self.old { entries = self.old.entries ++ entry.Claim worker (path_at self.old.paths path) item ∷ []; room = self.old.room - 1 } }
     {
-        self.lines.push_reserved(Line::Claim { worker, path, item });
+        keep_claim(&mut self.kept, worker, path, item);
+        self.told.claim(worker, path, item);
+        self.entries += 1;
         self.room -= 1;
     }
 
@@ -105,7 +143,9 @@ impl Journal {
         requires { 0 < self.old.room }
         ensures { self.new ≡ record self.old { entries = self.old.entries ++ entry.Finish worker ∷ []; room = self.old.room - 1 } }
     {
-        self.lines.push_reserved(Line::Finish { worker });
+        keep_finish(&mut self.kept, worker);
+        self.told.finish(worker);
+        self.entries += 1;
         self.room -= 1;
     }
 
@@ -113,21 +153,18 @@ impl Journal {
     pub fn len(&self) -> usize
         ensures { result ≡ length self.now.entries }
     {
-        self.lines.len()
+        self.entries
     }
 
     /// The entry with this number, in the order in which they were entered.
     pub fn entry(&self, number: usize) -> EntryAt<'_>
-        requires { number < length self.now.entries }
+        requires number { number < length self.now.entries }
+        requires readable { self.now.readable ≡ true }
         ensures { slice_get self.now.entries number ≡ Some (entry_told result) }
     {
-        match self.lines[number] {
-            Line::Claim { worker, path, item } => EntryAt::Claim {
-                worker,
-                path: &self.paths[path],
-                item,
-            },
-            Line::Finish { worker } => EntryAt::Finish { worker },
+        match &self.kept {
+            Some(entries) => entries.entry(number),
+            None => unreachable!(),
         }
     }
 }

@@ -12,32 +12,45 @@ use sdf_level::Level;
 use serde_json::Value;
 use std::alloc::Global;
 
+/// The end at a port of an actor.
+fn port_of(actor: &Value, rate: &Value) -> Result<End, Trouble> {
+    let actor = small_of(actor, "links")?;
+    Ok(End::Actor(actor, small_of(rate, "links")?))
+}
+
+/// The end at a source or a sink, which is the item's member of this name.
+fn interface_of(item: &Value, name: &'static str) -> Result<End, Trouble> {
+    Ok(End::Interface(small(item, name)?))
+}
+
+/// The link between two ends, where they are there.
+fn between(
+    tail: Result<End, Trouble>,
+    head: Result<End, Trouble>,
+    delay: Result<u32, Trouble>,
+) -> Result<Line, Trouble> {
+    Ok(Line {
+        tail: tail?,
+        head: head?,
+        delay: delay?,
+    })
+}
+
 /// The link that an item of a row is.
 fn line_of(parts: &[Value]) -> Result<Line, Trouble> {
     match parts {
-        [tail, put, head, taken] => Ok(Line {
-            tail: End::Actor(small_of(tail, "links")?, small_of(put, "links")?),
-            head: End::Actor(small_of(head, "links")?, small_of(taken, "links")?),
-            delay: 0,
-        }),
-        [tail, put, head, taken, delay] => Ok(Line {
-            tail: End::Actor(small_of(tail, "links")?, small_of(put, "links")?),
-            head: End::Actor(small_of(head, "links")?, small_of(taken, "links")?),
-            delay: small_of(delay, "links")?,
-        }),
+        [tail, put, head, taken] => between(port_of(tail, put), port_of(head, taken), Ok(0)),
+        [tail, put, head, taken, delay] => {
+            let delay = small_of(delay, "links");
+            between(port_of(tail, put), port_of(head, taken), delay)
+        }
         [first, second, third] => {
             if first.is_object() {
-                return Ok(Line {
-                    tail: End::Interface(small(first, "source")?),
-                    head: End::Actor(small_of(second, "links")?, small_of(third, "links")?),
-                    delay: 0,
-                });
+                let source = interface_of(first, "source");
+                return between(source, port_of(second, third), Ok(0));
             }
-            Ok(Line {
-                tail: End::Actor(small_of(first, "links")?, small_of(second, "links")?),
-                head: End::Interface(small(third, "sink")?),
-                delay: 0,
-            })
+            let sink = interface_of(third, "sink");
+            between(port_of(first, second), sink, Ok(0))
         }
         _ => Err(Trouble::Member("links")),
     }

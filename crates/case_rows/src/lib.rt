@@ -16,7 +16,9 @@ mod row;
 mod table;
 mod trouble;
 
-pub use answers::{answer_of, answer_of_lists, answer_of_smalls};
+pub use answers::{
+    Parts, answer_of, answer_of_lists, answer_of_smalls, answer_of_text, answer_of_wides,
+};
 pub use building::{level_between, level_with};
 pub use levels::level_of;
 pub use lines::{End, Line};

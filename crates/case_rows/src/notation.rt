@@ -103,6 +103,21 @@ fn push_quoted(bytes: &mut Vec<u8>, piece: &[u8]) -> Result<(), Trouble> {
     Ok(())
 }
 
+/// The bytes of an object that holds no other piece, behind those that are there.
+fn push_plain(alloc: Global, bytes: &mut Vec<u8>, piece: &Value) -> Result<(), Trouble> {
+    if let Some(numbers) = piece.get("bytes").and_then(Value::as_array) {
+        return push_bytes(bytes, numbers.as_slice());
+    }
+    if let Some(value) = piece.get("json") {
+        bytes.extend_from_slice(value.to_string(alloc)?.as_bytes())?;
+        return Ok(());
+    }
+    match piece.get("each").and_then(Value::as_str) {
+        Some(pattern) => push_each(alloc, bytes, piece, pattern),
+        None => Err(Trouble::Member("times")),
+    }
+}
+
 /// The bytes of a piece, behind those that are there.
 fn push_piece(piece: &Value, alloc: Global, bytes: &mut Vec<u8>) -> Result<(), Trouble> {
     match piece {
@@ -113,16 +128,6 @@ fn push_piece(piece: &Value, alloc: Global, bytes: &mut Vec<u8>) -> Result<(), T
             }
         }
         Value::Object(members) => {
-            if let Some(numbers) = members.get("bytes").and_then(Value::as_array) {
-                return push_bytes(bytes, numbers.as_slice());
-            }
-            if let Some(value) = members.get("json") {
-                bytes.extend_from_slice(value.to_string(alloc)?.as_bytes())?;
-                return Ok(());
-            }
-            if let Some(pattern) = members.get("each").and_then(Value::as_str) {
-                return push_each(alloc, bytes, piece, pattern);
-            }
             let mut inner = Vec::new(alloc);
             if let Some(quoted) = members.get("quoted") {
                 push_piece(quoted, alloc, &mut inner)?;
@@ -132,7 +137,7 @@ fn push_piece(piece: &Value, alloc: Global, bytes: &mut Vec<u8>) -> Result<(), T
                 push_piece(of, alloc, &mut inner)?;
                 return push_copies(alloc, bytes, piece, inner);
             }
-            return Err(Trouble::Member("times"));
+            return push_plain(alloc, bytes, piece);
         }
         _ => return Err(Trouble::Member("text")),
     }

@@ -34,6 +34,32 @@ fn push_list(numbers: &mut Vec<i64>, list: &[Value], times: u32) -> Result<(), T
     Ok(())
 }
 
+/// The number that is the item's member of this name, where it has such a one.
+fn whole(item: &Value, name: &'static str) -> Option<i64> {
+    item.get(name).and_then(Value::as_i64)
+}
+
+/// The first of the numbers that an item stands for, and how much more each next one is.
+fn first_and_step(item: &Value) -> Result<(i64, i64), Trouble> {
+    if let Some(number) = whole(item, "of") {
+        return Ok((number, 0));
+    }
+    match whole(item, "from") {
+        Some(number) => Ok((number, whole(item, "step").unwrap_or(1))),
+        None => Err(Trouble::Member("from")),
+    }
+}
+
+/// So many numbers, each more by the step than the one before, behind those that are there.
+fn push_stepped(numbers: &mut Vec<i64>, first: i64, step: i64, times: u32) -> Result<(), Trouble> {
+    let mut next = first;
+    for _ in 0..times {
+        numbers.push(next)?;
+        next = next.saturating_add(step);
+    }
+    Ok(())
+}
+
 /// The numbers that an item stands for, behind those that are there.
 fn push_numbers(numbers: &mut Vec<i64>, item: &Value) -> Result<(), Trouble> {
     if let Some(number) = item.as_i64() {
@@ -43,22 +69,8 @@ fn push_numbers(numbers: &mut Vec<i64>, item: &Value) -> Result<(), Trouble> {
     if let Some(list) = item.get("of").and_then(Value::as_array) {
         return push_list(numbers, list.as_slice(), small(item, "times")?);
     }
-    let of = item.get("of").and_then(Value::as_i64);
-    let from = item.get("from").and_then(Value::as_i64);
-    let (first, step) = match (of, from) {
-        (Some(number), _) => (number, 0),
-        (None, Some(number)) => (
-            number,
-            item.get("step").and_then(Value::as_i64).unwrap_or(1),
-        ),
-        (None, None) => return Err(Trouble::Member("from")),
-    };
-    let mut next = first;
-    for _ in 0..small(item, "times")? {
-        numbers.push(next)?;
-        next = next.saturating_add(step);
-    }
-    Ok(())
+    let (first, step) = first_and_step(item)?;
+    push_stepped(numbers, first, step, small(item, "times")?)
 }
 
 /// The numbers of a list.
@@ -183,6 +195,16 @@ fn push_rows(alloc: Global, values: &mut Vec<Value>, item: &Value) -> Result<(),
     Ok(())
 }
 
+/// The numbers that an item stands for, behind the values that are there.
+fn push_counted(alloc: Global, values: &mut Vec<Value>, item: &Value) -> Result<(), Trouble> {
+    let mut numbers = Vec::new(alloc);
+    push_numbers(&mut numbers, item)?;
+    for number in numbers {
+        values.push(Value::from(number))?;
+    }
+    Ok(())
+}
+
 /// A wanted answer with its lists written out.
 pub fn written_out(wanted: &Value, alloc: Global) -> Result<Value, Trouble> {
     let Value::Array(list) = wanted else {
@@ -190,14 +212,10 @@ pub fn written_out(wanted: &Value, alloc: Global) -> Result<Value, Trouble> {
     };
     let mut values = Vec::new(alloc);
     for item in list {
-        if item.is_object() && item.get("rows").is_some() {
+        if item.get("rows").is_some() {
             push_rows(alloc, &mut values, item)?;
-        } else if item.is_object() && item.get("times").is_some() {
-            let mut numbers = Vec::new(alloc);
-            push_numbers(&mut numbers, item)?;
-            for number in numbers {
-                values.push(Value::from(number))?;
-            }
+        } else if item.get("times").is_some() {
+            push_counted(alloc, &mut values, item)?;
         } else {
             values.push(written_out(item, alloc)?)?;
         }

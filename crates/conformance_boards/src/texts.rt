@@ -98,12 +98,15 @@ pub(crate) fn push_refusal(text: &mut String, refusal: &Refusal) -> Result<(), T
     Ok(())
 }
 
-/// Appends a line for each entry of a journal.
+/// Appends a line for each entry of a journal. One that can't be read is taken for want of memory.
 pub(crate) fn push_journal(
     text: &mut String,
     number: u32,
     journal: &Journal,
 ) -> Result<(), Trouble> {
+    if !journal.is_readable() {
+        return Err(Trouble::Memory);
+    }
     for entry in 0..journal.len() {
         match journal.entry(entry) {
             EntryAt::Claim { worker, path, item } => {

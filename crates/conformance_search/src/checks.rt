@@ -3,7 +3,6 @@ use crate::relation::FourBuffers;
 use crate::tally::Tally;
 use crate::vectors::vector_at;
 use placement_checker::{Clash, check};
-use std::io;
 
 /// Whether a buffer of this size at this offset has the cell.
 fn covers(offset: u32, size: u32, cell: u32) -> bool {
@@ -56,45 +55,28 @@ fn first_clash(
 }
 
 /// Compares on these buffers, at all heights up to 5.
-fn enter_heights(
-    rt: &impl Print,
-    tally: &mut Tally,
-    sizes: &[u32; 3],
-    relation: &FourBuffers,
-    offsets: &[u32; 3],
-) -> io::Result<()> {
+fn enter_heights(tally: &mut Tally, sizes: &[u32; 3], relation: &FourBuffers, offsets: &[u32; 3]) {
     for height in 0..6 {
         let found = check(sizes, relation, offsets, height).err();
-        if tally.enter(found == first_clash(sizes, relation, offsets, height)) {
-            println!(rt;
-                "check: sizes {sizes:?}, {relation:?}, offsets {offsets:?}, height {height}"
-            )?;
-        }
+        tally.enter(found == first_clash(sizes, relation, offsets, height));
     }
-    Ok(())
 }
 
 /// Compares at all offsets up to 3.
-fn enter_offsets(
-    rt: &impl Print,
-    tally: &mut Tally,
-    sizes: &[u32; 3],
-    relation: &FourBuffers,
-) -> io::Result<()> {
+fn enter_offsets(tally: &mut Tally, sizes: &[u32; 3], relation: &FourBuffers) {
     for number in 0..64 {
-        enter_heights(rt, tally, sizes, relation, &vector_at(number, 4))?;
+        enter_heights(tally, sizes, relation, &vector_at(number, 4));
     }
-    Ok(())
 }
 
 /// All relations among three buffers of 0 to 2 cells.
-pub(crate) fn compare(rt: &impl Print) -> io::Result<Tally> {
+pub(crate) fn compare() -> Tally {
     let mut tally = Tally::new();
     for pairs in [0, 1, 2, 3, 8, 9, 10, 11] {
         let relation = FourBuffers::of_pairs(pairs);
         for number in 0..27 {
-            enter_offsets(rt, &mut tally, &vector_at(number, 3), &relation)?;
+            enter_offsets(&mut tally, &vector_at(number, 3), &relation);
         }
     }
-    Ok(tally)
+    tally
 }

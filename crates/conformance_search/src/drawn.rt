@@ -4,8 +4,8 @@ ghost use Rattle.std.specs.Prelude.{◌<◌, ◌≤◌, length, All, IfOk};
 
 use crate::draws::Draws;
 use crate::graphs::{OnGraphs, rank_at, rise};
+use crate::tally::Tally;
 use std::alloc::{AllocError, Global};
-use std::io;
 
 /// How many graphs there are.
 const GRAPHS: u64 = 300;
@@ -34,29 +34,31 @@ fn edges_between(
 }
 
 /// Compares on one graph.
-fn compare_on<R: Print + AllocGlobal, C: OnGraphs>(
-    rt: &R,
+fn compare_on<C: OnGraphs>(
+    tally: &mut Tally,
+    alloc: Global,
     comparison: &mut C,
     draws: &mut Draws,
-) -> io::Result<()> {
+) -> Result<(), AllocError> {
     let nodes = 5 + draws.below(56);
-    let ranks = draws.numbers(rt.alloc(), nodes, 1_000_000)?;
+    let ranks = draws.numbers(alloc, nodes, 1_000_000)?;
     let count = draws.below(4 * nodes);
-    let edges = edges_between(rt.alloc(), draws, nodes, &ranks, count)?;
+    let edges = edges_between(alloc, draws, nodes, &ranks, count)?;
     if rise(&ranks, &edges) {
-        comparison.compare(rt, nodes, &edges, &ranks)?;
+        comparison.compare(tally, alloc, nodes, &edges, &ranks)?;
     }
     Ok(())
 }
 
-/// All graphs.
-pub(crate) fn drawn_graphs<R: Print + AllocGlobal, C: OnGraphs>(
-    rt: &R,
+/// The comparison on all drawn graphs.
+pub(crate) fn drawn_graphs<C: OnGraphs>(
+    alloc: Global,
     comparison: &mut C,
-) -> io::Result<()> {
+) -> Result<Tally, AllocError> {
+    let mut tally = Tally::new();
     for seed in 0..GRAPHS {
         let mut draws = Draws::new(seed);
-        compare_on(rt, comparison, &mut draws)?;
+        compare_on(&mut tally, alloc, comparison, &mut draws)?;
     }
-    Ok(())
+    Ok(tally)
 }

@@ -4,40 +4,33 @@ use crate::draws::Draws;
 use crate::graphs::OnGraphs;
 use crate::mappings::agrees;
 use crate::tally::Tally;
-use std::io;
+use std::alloc::{AllocError, Global};
 
-/// The comparisons of mappings so far, and what the next costs come from.
+/// What the next costs come from.
 #[derive(Drop)]
 struct Mappings {
-    tally: Tally,
     draws: Draws,
 }
 
 impl OnGraphs for Mappings {
     /// Compares at costs from 1 to 9, with one to eight workers.
-    fn compare<R: Print + AllocGlobal>(
+    fn compare(
         &mut self,
-        rt: &R,
+        tally: &mut Tally,
+        alloc: Global,
         nodes: u32,
         edges: &[(u32, u32)],
         ranks: &[u32],
-    ) -> io::Result<()> {
-        let costs = self.draws.numbers(rt.alloc(), nodes, 9)?;
+    ) -> Result<(), AllocError> {
+        let costs = self.draws.numbers(alloc, nodes, 9)?;
         let workers = 1 + self.draws.below(8);
-        let same = agrees(rt.alloc(), nodes, edges, ranks, &costs, workers)?;
-        if self.tally.enter(same) {
-            println!(rt; "mapping: {edges:?}, costs {costs:?}, {workers} workers")?;
-        }
+        tally.enter(agrees(alloc, nodes, edges, ranks, &costs, workers)?);
         Ok(())
     }
 }
 
 /// Compares on all drawn graphs.
-pub(crate) fn compare(rt: &(impl Print + AllocGlobal)) -> io::Result<Tally> {
-    let mut mappings = Mappings {
-        tally: Tally::new(),
-        draws: Draws::new(11),
-    };
-    drawn_graphs(rt, &mut mappings)?;
-    Ok(mappings.tally)
+pub(crate) fn compare(alloc: Global) -> Result<Tally, AllocError> {
+    let draws = Draws::new(11);
+    drawn_graphs(alloc, &mut Mappings { draws })
 }

@@ -1,274 +1,203 @@
-// `expand` against the run of one thread on queues without a bound, over names of tokens: what arrives over the edges of the
-// graph at each firing, sink and end of a delay is what that run feeds there.
+// `expand` against queues without a bound, over names of tokens: what arrives over the edges of the graph at each firing, sink
+// and end of a delay is what one thread takes from the queue of the link, or leaves there.
 ghost use Rattle.std.specs.Prelude.{◌≤◌};
 
 use crate::factors::{ROWS, row};
-use crate::flows::{are_counted, arriving, flow, names_of, repeated, taken};
-use crate::levels::{Comparison, level_of, levels_of_two_links};
+use crate::flows::{are_counted, entering, token_at};
+use crate::levels::{Comparison, levels_of_two_links};
 use crate::tally::Tally;
 use crate::vectors::Vector;
 use level_schedule::{Unscheduled, schedule};
-use sdf_level::{Head, InnerLink, Level, Link, Maker, Node, SingleRate, Tail, TokenName, Turn};
+use sdf_level::{Head, InnerLink, Level, Link, Maker, Node, SingleRate, Tail, TokenName};
 use single_rate::expand;
 use std::alloc::{AllocError, Global};
-use std::io;
 
-/// The comparisons of single-rate graphs so far.
-#[derive(Drop)]
-struct Expansions {
-    tally: Tally,
+/// The comparison of single-rate graphs.
+struct Expansions {}
+
+/// The entry at a place, 0 where there is none.
+fn at(numbers: &[u32], place: u32) -> u32 {
+    numbers.get(place as usize).copied().unwrap_or(0)
 }
 
-/// A link's queue: all that was put on it, and how many of that was taken.
-#[derive(Drop)]
-struct Queue {
-    put: Vec<TokenName>,
-    taken: usize,
-}
-
-/// The queues of the links before the first firing.
-fn started(alloc: Global, links: &[Link]) -> Result<Vec<Queue>, AllocError> {
-    let mut queues = Vec::new(alloc);
-    let mut number = 0u32;
-    for link in links {
-        let put = names_of(alloc, Maker::Init(number), link.delay)?;
-        queues.push(Queue { put, taken: 0 })?;
-        number = number.saturating_add(1);
-    }
-    Ok(queues)
-}
-
-/// What the next firing of the head takes: from a queue, or from the tokens of a source, which begin again.
-fn next_input(
-    alloc: Global,
-    sources: &[u32],
-    tail: Tail,
-    queue: &Queue,
-    rate: u32,
-) -> Result<Vec<TokenName>, AllocError> {
-    match tail {
-        Tail::Source(source) => {
-            let count = sources.get(source as usize).copied().unwrap_or(0);
-            let tokens = names_of(alloc, Maker::Source(source), count)?;
-            repeated(alloc, &tokens, queue.taken, rate as usize)
+/// Of all tokens that pass over a link, the one at this place: those of the delay come first, then those of one firing of
+/// the tail after the other. A source begins again.
+fn token_on(level: &Level, number: u32, link: &Link, place: u32) -> Option<TokenName> {
+    match link.tail {
+        Tail::Source(source) => Some(TokenName {
+            maker: Maker::Source(source),
+            place: place.checked_rem(at(level.sources.items(), source))?,
+        }),
+        Tail::Port { actor, port, rate } => {
+            if place < link.delay {
+                return Some(TokenName {
+                    maker: Maker::Init(number),
+                    place,
+                });
+            }
+            let made = place - link.delay;
+            let turn = made.checked_div(rate)?;
+            Some(TokenName {
+                maker: Maker::Firing { actor, turn, port },
+                place: made.checked_rem(rate)?,
+            })
         }
-        Tail::Port { .. } => taken(alloc, &queue.put, queue.taken, rate as usize),
+    }
+}
+
+/// How many tokens stand on a link before the first firing, or are put there. What a source gives isn't counted.
+fn put_on(counts: &[u32], link: &Link) -> u32 {
+    match link.tail {
+        Tail::Source(_) => 0,
+        Tail::Port { actor, rate, .. } => {
+            link.delay
+                .saturating_add(rate.saturating_mul(at(counts, actor)))
+        }
     }
 }
 
 /// The number of a node; past the last where there is no such node.
 fn number_of(nodes: &[Node], wanted: Node) -> usize {
-    nodes
-        .iter()
-        .position(|node| *node == wanted)
-        .unwrap_or(nodes.len())
-}
-
-/// What stands on the edges of a graph.
-#[derive(Clone, Copy)]
-struct Standing<'a> {
-    graph: &'a SingleRate,
-    on: &'a [Vec<TokenName>],
-}
-
-/// Whether these tokens arrive at a node's port, or at all its ports.
-fn arrive(
-    alloc: Global,
-    standing: Standing<'_>,
-    node: Node,
-    port: Option<u32>,
-    wanted: &[TokenName],
-) -> Result<bool, AllocError> {
-    let number = number_of(standing.graph.nodes.items(), node);
-    let arrived = arriving(
-        alloc,
-        standing.graph.edges.items(),
-        standing.on,
-        number,
-        port,
-    )?;
-    Ok(arrived.as_slice() == wanted)
-}
-
-/// The actor's port and rate at the head of a link, if it leads to this actor.
-fn input_at(link: &Link, actor: u32) -> Option<(u32, u32)> {
-    match link.head {
-        Head::Sink(_) => None,
-        Head::Port {
-            actor: head,
-            port,
-            rate,
-        } => {
-            if head == actor {
-                Some((port, rate))
-            } else {
-                None
-            }
-        }
-    }
-}
-
-/// The actor's port and rate at the tail of a link, if it leads from this actor.
-fn output_at(link: &Link, actor: u32) -> Option<(u32, u32)> {
-    match link.tail {
-        Tail::Source(_) => None,
-        Tail::Port {
-            actor: tail,
-            port,
-            rate,
-        } => {
-            if tail == actor {
-                Some((port, rate))
-            } else {
-                None
-            }
-        }
-    }
-}
-
-/// Takes a firing's inputs off the queues, and says whether each is what arrives.
-fn takes_what_arrives(
-    alloc: Global,
-    level: &Level,
-    standing: Standing<'_>,
-    queues: &mut [Queue],
-    firing: Turn,
-) -> Result<bool, AllocError> {
-    let Turn { actor, turn } = firing;
-    let node = Node::Firing { actor, turn };
-    for (link, queue) in level.links.items().iter().zip(queues) {
-        if let Some((port, rate)) = input_at(link, actor) {
-            let input = next_input(alloc, level.sources.items(), link.tail, queue, rate)?;
-            queue.taken = queue.taken.saturating_add(rate as usize);
-            if !arrive(alloc, standing, node, Some(port), &input)? {
-                return Ok(false);
-            }
-        }
-    }
-    Ok(true)
-}
-
-/// Puts a firing's outputs on the queues.
-fn put_outputs(
-    alloc: Global,
-    links: &[Link],
-    queues: &mut [Queue],
-    firing: Turn,
-) -> Result<(), AllocError> {
-    let Turn { actor, turn } = firing;
-    for (link, queue) in links.iter().zip(queues) {
-        if let Some((port, rate)) = output_at(link, actor) {
-            let output = names_of(alloc, Maker::Firing { actor, turn, port }, rate)?;
-            queue.put.extend_from_slice(&output)?;
-        }
-    }
-    Ok(())
-}
-
-/// Whether what arrives at the end of a link is what is left on it, and at a sink the last of what was put on its link.
-fn ends_with_what_arrives(
-    alloc: Global,
-    level: &Level,
-    standing: Standing<'_>,
-    number: u32,
-    link: &Link,
-    queue: &Queue,
-) -> Result<bool, AllocError> {
-    let put = queue.put.as_slice();
-    match link.head {
-        Head::Sink(sink) => {
-            let sinks = level.sinks.items();
-            let rate = sinks.get(sink as usize).copied().unwrap_or(0) as usize;
-            let from = put.len().saturating_sub(rate);
-            let kept = taken(alloc, put, from, rate)?;
-            arrive(alloc, standing, Node::Sink(sink), None, &kept)
-        }
-        Head::Port { .. } => {
-            let left = put.len().saturating_sub(queue.taken);
-            let rest = taken(alloc, put, queue.taken, left)?;
-            arrive(alloc, standing, Node::End(number), None, &rest)
-        }
-    }
-}
-
-/// Whether what arrives over the edges of a level's graph is what the run of one thread in this order feeds.
-fn delivers(
-    alloc: Global,
-    level: &Level,
-    order: &[Turn],
-    graph: &SingleRate,
-) -> Result<bool, AllocError> {
-    let on = flow(alloc, graph)?;
-    let standing = Standing { graph, on: &on };
-    let links = level.links.items();
-    let mut queues = started(alloc, links)?;
-    for firing in order {
-        if !takes_what_arrives(alloc, level, standing, &mut queues, *firing)? {
-            return Ok(false);
-        }
-        put_outputs(alloc, links, &mut queues, *firing)?;
-    }
-    let mut number = 0u32;
-    for (link, queue) in links.iter().zip(&queues) {
-        if !ends_with_what_arrives(alloc, level, standing, number, link, queue)? {
-            return Ok(false);
+    let mut number = 0usize;
+    for node in nodes {
+        if *node == wanted {
+            return number;
         }
         number = number.saturating_add(1);
     }
-    Ok(are_counted(graph))
+    number
 }
 
-/// Whether the graph of a level delivers what the run of one thread feeds, where the level has a schedule.
-fn agrees(alloc: Global, level: &Level) -> Result<Option<bool>, AllocError> {
+/// Whether what arrives at a node's port, or at all its ports, is so many of the tokens of a link, from a place on.
+fn arrive(
+    graph: &SingleRate,
+    node: Node,
+    port: Option<u32>,
+    level: &Level,
+    number: u32,
+    link: &Link,
+    from: u32,
+    count: u32,
+) -> bool {
+    let node = number_of(graph.nodes.items(), node);
+    if entering(graph.edges.items(), node, port) != count {
+        return false;
+    }
+    for step in 0..count {
+        let wanted = token_on(level, number, link, from.saturating_add(step));
+        if wanted.is_none() || token_at(graph, node, port, step) != wanted {
+            return false;
+        }
+    }
+    true
+}
+
+/// Whether each firing of an actor is fed at a port what it takes there from a link.
+fn are_fed(
+    graph: &SingleRate,
+    level: &Level,
+    number: u32,
+    link: &Link,
+    actor: u32,
+    port: u32,
+    rate: u32,
+    fired: u32,
+) -> bool {
+    for turn in 0..fired {
+        let node = Node::Firing { actor, turn };
+        let from = turn.saturating_mul(rate);
+        if !arrive(graph, node, Some(port), level, number, link, from, rate) {
+            return false;
+        }
+    }
+    true
+}
+
+/// Whether what arrives over a link is what is fed: at each firing, and at its end what is left; at a sink the last of what
+/// was put on the link.
+fn delivers_on(
+    graph: &SingleRate,
+    level: &Level,
+    counts: &[u32],
+    number: u32,
+    link: &Link,
+) -> bool {
+    let put = put_on(counts, link);
+    match link.head {
+        Head::Sink(sink) => {
+            let rate = at(level.sinks.items(), sink);
+            let from = put.saturating_sub(rate);
+            arrive(
+                graph,
+                Node::Sink(sink),
+                None,
+                level,
+                number,
+                link,
+                from,
+                rate,
+            )
+        }
+        Head::Port { actor, port, rate } => {
+            let fired = at(counts, actor);
+            let taken = fired.saturating_mul(rate);
+            let left = put.saturating_sub(taken);
+            let end = Node::End(number);
+            are_fed(graph, level, number, link, actor, port, rate, fired)
+                && arrive(graph, end, None, level, number, link, taken, left)
+        }
+    }
+}
+
+/// Whether what arrives over the edges of a level's graph is what the run of one thread feeds.
+fn delivers(level: &Level, counts: &[u32], graph: &SingleRate) -> bool {
+    let mut number = 0u32;
+    for link in level.links.items() {
+        if !delivers_on(graph, level, counts, number, link) {
+            return false;
+        }
+        number = number.saturating_add(1);
+    }
+    are_counted(graph)
+}
+
+/// Compares on a level, where it has a schedule.
+fn enter(tally: &mut Tally, alloc: Global, level: &Level) -> Result<(), AllocError> {
     let schedule = match schedule(alloc, level) {
         Ok(schedule) => schedule,
         Err(Unscheduled::Memory) => return Err(AllocError),
-        Err(_) => return Ok(None),
+        Err(_) => return Ok(()),
     };
-    let order = schedule.order.items();
-    let graph = expand(alloc, level, schedule.counts.items(), order)?;
-    Ok(Some(delivers(alloc, level, order, &graph)?))
+    let counts = schedule.counts.items();
+    let graph = expand(alloc, level, counts, schedule.order.items())?;
+    tally.enter(delivers(level, counts, &graph));
+    Ok(())
 }
 
 impl Comparison for Expansions {
     const EACH_ORDER: bool = false;
 
-    fn compare<R: Print + AllocGlobal>(
-        &mut self,
-        rt: &R,
-        actors: u32,
-        links: &[InnerLink],
+    fn compare(
+        tally: &mut Tally,
+        alloc: Global,
+        level: &Level,
+        _links: &[InnerLink],
         solving: &[Vector],
-    ) -> io::Result<()> {
+    ) -> Result<(), AllocError> {
         if solving.is_empty() {
             return Ok(());
         }
-        let Some(level) = level_of(rt.alloc(), actors, links)? else {
-            let _printed = self.tally.enter(false);
-            return Ok(());
-        };
-        if let Some(same) = agrees(rt.alloc(), &level)? {
-            if self.tally.enter(same) {
-                println!(rt; "single-rate graph: {actors} actors, {links:?}")?;
-            }
-        }
-        Ok(())
+        enter(tally, alloc, level)
     }
 }
 
 /// Compares on all small levels of up to two links, and on all levels of two actors in a row between a source and a sink.
-pub(crate) fn compare(rt: &(impl Print + AllocGlobal)) -> io::Result<Tally> {
-    let mut expansions = Expansions {
-        tally: Tally::new(),
-    };
-    levels_of_two_links(rt, &mut expansions, 1)?;
+pub(crate) fn compare(alloc: Global) -> Result<Tally, AllocError> {
+    let mut tally = Tally::new();
+    levels_of_two_links::<Expansions>(&mut tally, alloc, 1)?;
     for number in 0..ROWS {
-        let level = row(rt.alloc(), number)?;
-        if let Some(same) = agrees(rt.alloc(), &level)? {
-            if expansions.tally.enter(same) {
-                println!(rt; "single-rate graph: the row with number {number}")?;
-            }
-        }
+        let level = row(alloc, number)?;
+        enter(&mut tally, alloc, &level)?;
     }
-    Ok(expansions.tally)
+    Ok(tally)
 }

@@ -1,62 +1,15 @@
 // `factor` against trying one factor after the other, on all levels of two actors in a row between a source and a sink, with
 // rates up to 4.
-ghost use Rattle.std.specs.Prelude.{◌≡◌, ◌≤◌};
+ghost use Rattle.std.specs.Prelude.{◌≤◌};
+ghost use Rattle.sdf_level.specs.Balance.{IsBase};
 
+use crate::levels::made;
 use crate::tally::Tally;
 use balance_solver::{Unsolved, repetition};
+use case_rows::{End, Line, level_with};
 use interface_rules::{InterfaceFault, factor};
-use sdf_level::{Head, Level, Link, List, Tail};
+use sdf_level::Level;
 use std::alloc::{AllocError, Global};
-use std::io;
-
-/// The link from source 0 to input 0 of actor 0.
-fn from_source(taken: u32) -> Link
-    ensures { result ≡ record { tail = Tail.Source 0; head = Head.Port 0 0 taken; delay = 0 } }
-{
-    Link {
-        tail: Tail::Source(0),
-        head: Head::Port {
-            actor: 0,
-            port: 0,
-            rate: taken,
-        },
-        delay: 0,
-    }
-}
-
-/// The link from output 0 of actor 0 to input 0 of actor 1.
-fn between(put: u32, got: u32) -> Link
-    ensures { result ≡ record { tail = Tail.Port 0 0 put; head = Head.Port 1 0 got; delay = 0 } }
-{
-    Link {
-        tail: Tail::Port {
-            actor: 0,
-            port: 0,
-            rate: put,
-        },
-        head: Head::Port {
-            actor: 1,
-            port: 0,
-            rate: got,
-        },
-        delay: 0,
-    }
-}
-
-/// The link from output 0 of actor 1 to sink 0.
-fn into_sink(given: u32) -> Link
-    ensures { result ≡ record { tail = Tail.Port 1 0 given; head = Head.Sink 0; delay = 0 } }
-{
-    Link {
-        tail: Tail::Port {
-            actor: 1,
-            port: 0,
-            rate: given,
-        },
-        head: Head::Sink(0),
-        delay: 0,
-    }
-}
 
 /// Of the row with this number, the rate at this place, from 0 on: of the source, of the first actor's input and output, of
 /// the second actor's input and output, and of the sink.
@@ -69,21 +22,26 @@ fn rate(number: u32, place: u32) -> u32
 /// How many rows there are.
 pub(crate) const ROWS: u32 = 15_625;
 
+/// The link without a delay between these ends.
+fn line(tail: End, head: End) -> Line {
+    Line {
+        tail,
+        head,
+        delay: 0,
+    }
+}
+
 /// The row with this number as a level.
 pub(crate) fn row(alloc: Global, number: u32) -> Result<Level, AllocError> {
-    let sources = vec![in alloc; rate(number, 0)]?;
-    let sinks = vec![in alloc; rate(number, 5)]?;
-    let links = vec![in alloc;
-        from_source(rate(number, 1)),
-        between(rate(number, 2), rate(number, 3)),
-        into_sink(rate(number, 4)),
-    ]?;
-    Ok(Level {
-        actors: 2,
-        sources: List::new(sources),
-        sinks: List::new(sinks),
-        links: List::new(links),
-    })
+    let [source, taken, put, got, given, sink] = [0, 1, 2, 3, 4, 5].map(|place| rate(
+        number, place,
+    ));
+    let lines = [
+        line(End::Interface(source), End::Actor(0, taken)),
+        line(End::Actor(0, put), End::Actor(1, got)),
+        line(End::Actor(1, given), End::Interface(sink)),
+    ];
+    made(level_with(alloc, 2, &lines))
 }
 
 /// The entry for an actor.
@@ -129,34 +87,43 @@ fn plain_repetition(number: u32, base: &[u32]) -> Result<[u32; 2], u32> {
     ])
 }
 
-/// Whether `factor` gives the same, where the row has a base vector.
-fn agrees(alloc: Global, number: u32) -> Result<Option<bool>, AllocError> {
-    let level = row(alloc, number)?;
-    let base = match repetition(alloc, &level) {
-        Ok(base) => base,
-        Err(Unsolved::NoVector) => return Ok(None),
-        Err(Unsolved::Memory) => return Err(AllocError),
-    };
-    let wanted = plain_repetition(number, base.items());
-    match factor(alloc, &level, base.items()) {
-        Ok(found) => Ok(Some(match wanted {
+/// Compares `factor` on a level with this base vector, which is the row with this number.
+fn enter(
+    tally: &mut Tally,
+    alloc: Global,
+    number: u32,
+    level: &Level,
+    base: &[u32],
+) -> Result<(), AllocError>
+    requires { IsBase level.now base.now }
+{
+    let wanted = plain_repetition(number, base);
+    match factor(alloc, level, base) {
+        Ok(found) => tally.enter(match wanted {
             Ok(counts) => found.items() == counts.as_slice(),
             Err(_) => false,
-        })),
-        Err(InterfaceFault::Mismatch { link }) => Ok(Some(wanted.err() == Some(link))),
-        Err(InterfaceFault::Memory) => Err(AllocError),
+        }),
+        Err(InterfaceFault::Mismatch { link }) => tally.enter(wanted.err() == Some(link)),
+        Err(InterfaceFault::Memory) => return Err(AllocError),
+    }
+    Ok(())
+}
+
+/// Compares on the row with this number, where it has a base vector.
+fn enter_row(tally: &mut Tally, alloc: Global, number: u32) -> Result<(), AllocError> {
+    let level = row(alloc, number)?;
+    match repetition(alloc, &level) {
+        Ok(base) => enter(tally, alloc, number, &level, base.items()),
+        Err(Unsolved::NoVector) => Ok(()),
+        Err(Unsolved::Memory) => Err(AllocError),
     }
 }
 
 /// Compares on all rows with a base vector.
-pub(crate) fn compare(rt: &(impl Print + AllocGlobal)) -> io::Result<Tally> {
+pub(crate) fn compare(alloc: Global) -> Result<Tally, AllocError> {
     let mut tally = Tally::new();
     for number in 0..ROWS {
-        if let Some(same) = agrees(rt.alloc(), number)? {
-            if tally.enter(same) {
-                println!(rt; "repetition vector: the row with number {number}")?;
-            }
-        }
+        enter_row(&mut tally, alloc, number)?;
     }
     Ok(tally)
 }

@@ -1,67 +1,22 @@
-// First fit by trying each offset in turn, and the exclusions among buffers by following paths.
+// `place` against first fit by trying each offset in turn.
+ghost use Rattle.std.specs.Prelude.{◌≤◌, length, All};
+
+use crate::marks::Marks;
+use placement::place;
+use placement_checker::Exclusion;
 use std::alloc::{AllocError, Global};
 
-/// For each node whether a path of at least one edge leads to each other, `nodes` answers for each.
-fn paths(alloc: Global, nodes: u32, edges: &[(u32, u32)]) -> Result<Vec<bool>, AllocError> {
-    let mut leads = vec![in alloc; false; (nodes as usize).saturating_mul(nodes as usize)]?;
-    for edge in edges {
-        mark(&mut leads, nodes, edge.0, edge.1);
-    }
-    for via in 0..nodes {
-        for from in 0..nodes {
-            if is_marked(&leads, nodes, from, via) {
-                mark_behind(&mut leads, nodes, from, via);
-            }
-        }
-    }
-    Ok(leads)
-}
-
-fn place_of(nodes: u32, from: u32, to: u32) -> usize {
-    (from as usize)
-        .saturating_mul(nodes as usize)
-        .saturating_add(to as usize)
-}
-
-fn mark(leads: &mut [bool], nodes: u32, from: u32, to: u32) {
-    if let Some(mark) = leads.get_mut(place_of(nodes, from, to)) {
-        *mark = true;
-    }
-}
-
-fn is_marked(leads: &[bool], nodes: u32, from: u32, to: u32) -> bool {
-    leads.get(place_of(nodes, from, to)) == Some(&true)
-}
-
-/// Marks for a node those to which paths lead from another.
-fn mark_behind(leads: &mut [bool], nodes: u32, from: u32, via: u32) {
-    for to in 0..nodes {
-        if is_marked(leads, nodes, via, to) {
-            mark(leads, nodes, from, to);
-        }
-    }
-}
-
-/// Whether no path leads from the head of either edge to the tail of the other.
-fn excludes(leads: &[bool], nodes: u32, edge: (u32, u32), other: (u32, u32)) -> bool {
-    !is_marked(leads, nodes, edge.1, other.0) && !is_marked(leads, nodes, other.1, edge.0)
-}
-
-/// A buffer: its edge, its size, and its offset where it has one.
-#[derive(Clone, Copy, Drop)]
-struct Buffer {
-    edge: (u32, u32),
-    size: u32,
-    offset: Option<u32>,
+fn size_of(sizes: &[u32], number: usize) -> u32 {
+    sizes.get(number).copied().unwrap_or(0)
 }
 
 /// Whether the buffer fits at the offset beside those that have one.
-fn fits(leads: &[bool], nodes: u32, buffers: &[Buffer], buffer: Buffer, offset: u32) -> bool {
-    for other in buffers {
-        if let Some(start) = other.offset {
-            let overlaps = offset < start.saturating_add(other.size)
-                && start < offset.saturating_add(buffer.size);
-            if overlaps && excludes(leads, nodes, buffer.edge, other.edge) {
+fn fits(sizes: &[u32], apart: &Marks, offsets: &[Option<u32>], number: usize, offset: u32) -> bool {
+    let end = offset.saturating_add(size_of(sizes, number));
+    for (other, placed) in offsets.iter().enumerate() {
+        if let Some(start) = placed {
+            let overlaps = offset < start.saturating_add(size_of(sizes, other)) && *start < end;
+            if overlaps && apart.has(number, other) {
                 return false;
             }
         }
@@ -70,9 +25,9 @@ fn fits(leads: &[bool], nodes: u32, buffers: &[Buffer], buffer: Buffer, offset: 
 }
 
 /// The least offset, tried one after the other.
-fn least_offset(leads: &[bool], nodes: u32, buffers: &[Buffer], buffer: Buffer) -> u32 {
+fn least_offset(sizes: &[u32], apart: &Marks, offsets: &[Option<u32>], number: usize) -> u32 {
     for offset in 0..1_000_000 {
-        if fits(leads, nodes, buffers, buffer, offset) {
+        if fits(sizes, apart, offsets, number, offset) {
             return offset;
         }
     }
@@ -80,39 +35,47 @@ fn least_offset(leads: &[bool], nodes: u32, buffers: &[Buffer], buffer: Buffer) 
 }
 
 /// Gives the buffers of this size their offsets.
-fn place_size(leads: &[bool], nodes: u32, buffers: &mut [Buffer], size: u32) {
-    for number in 0..buffers.len() {
-        let buffer = buffers[number];
-        if buffer.size == size {
-            let offset = least_offset(leads, nodes, buffers, buffer);
-            buffers[number].offset = Some(offset);
+fn place_size(sizes: &[u32], apart: &Marks, offsets: &mut [Option<u32>], size: u32) {
+    for (number, own) in sizes.iter().enumerate() {
+        if *own == size {
+            let offset = least_offset(sizes, apart, offsets, number);
+            if let Some(place) = offsets.get_mut(number) {
+                *place = Some(offset);
+            }
         }
     }
 }
 
-/// The offsets of first fit by size downwards, then by number, for buffers of up to `most` cells.
-pub(crate) fn plain_offsets(
+/// Whether these are the offsets and the greatest end of the buffers that were placed, in the order of their numbers.
+fn are_same(sizes: &[u32], found: &[u32], height: u32, placed: &[Option<u32>]) -> bool {
+    let mut end = 0u32;
+    for (number, offset) in found.iter().enumerate() {
+        if placed.get(number).copied().flatten() != Some(*offset) {
+            return false;
+        }
+        end = end.max(offset.saturating_add(size_of(sizes, number)));
+    }
+    found.len() == sizes.len() && height == end
+}
+
+/// Whether `place` gives buffers of up to `most` cells the offsets of first fit by size downwards, then by number, and the
+/// height that these have. The marks are those of the exclusion.
+pub(crate) fn agrees<X: Exclusion>(
     alloc: Global,
-    nodes: u32,
-    edges: &[(u32, u32)],
     sizes: &[u32],
+    exclusion: &X,
+    apart: &Marks,
     most: u32,
-) -> Result<Vec<u32>, AllocError> {
-    let leads = paths(alloc, nodes, edges)?;
-    let mut buffers = Vec::new(alloc);
-    for (edge, size) in edges.iter().zip(sizes) {
-        buffers.push(Buffer {
-            edge: *edge,
-            size: *size,
-            offset: None,
-        })?;
-    }
+) -> Result<bool, AllocError>
+    requires range { length sizes.now ≤ X.range exclusion.now }
+    requires few { length sizes.now ≤ 1000 }
+    requires most { most ≤ 1000 }
+    requires each { All (λ size. (1 ≤ size) × (size ≤ most)) sizes.now }
+{
+    let placement = place(alloc, sizes, exclusion)?;
+    let mut offsets = vec![in alloc; None; sizes.len()]?;
     for less in 0..most {
-        place_size(&leads, nodes, &mut buffers, most - less);
+        place_size(sizes, apart, &mut offsets, most - less);
     }
-    let mut offsets = Vec::new(alloc);
-    for buffer in &buffers {
-        offsets.push(buffer.offset.unwrap_or(0))?;
-    }
-    Ok(offsets)
+    Ok(are_same(sizes, placement.offsets.items(), placement.height, &offsets))
 }

@@ -1,145 +1,110 @@
-// What flows over the edges of a single-rate graph, node by node in the order of ranks: each node copies by its rule.
+// What flows over the edges of a single-rate graph: each node that isn't a firing copies by its rule, so that each token is
+// followed back to the node that made it.
 use sdf_level::{Edge, Maker, Node, SingleRate, TokenName};
-use std::alloc::{AllocError, Global};
 
-/// So many tokens of one maker.
-pub(crate) fn names_of(
-    alloc: Global,
-    maker: Maker,
-    count: u32,
-) -> Result<Vec<TokenName>, AllocError> {
-    let mut names = Vec::new(alloc);
-    for place in 0..count {
-        names.push(TokenName { maker, place })?;
-    }
-    Ok(names)
+/// Whether the edge enters a node, at this port or at any.
+fn enters(edge: &Edge, node: usize, port: Option<u32>) -> bool {
+    let is_there = match port {
+        Some(port) => edge.head_port == port,
+        None => true,
+    };
+    edge.head as usize == node && is_there
 }
 
-/// So many tokens of a list from a place on, as far as they are there.
-pub(crate) fn taken(
-    alloc: Global,
-    names: &[TokenName],
-    from: usize,
-    count: usize,
-) -> Result<Vec<TokenName>, AllocError> {
-    let mut taken = Vec::new(alloc);
-    for step in 0..count {
-        if let Some(name) = names.get(from.saturating_add(step)) {
-            taken.push(*name)?;
-        }
-    }
-    Ok(taken)
-}
-
-/// So many tokens of a list from a place on, from the first again where they run out.
-pub(crate) fn repeated(
-    alloc: Global,
-    names: &[TokenName],
-    from: usize,
-    count: usize,
-) -> Result<Vec<TokenName>, AllocError> {
-    let mut repeated = Vec::new(alloc);
-    for step in 0..count {
-        let place = from.saturating_add(step).checked_rem(names.len());
-        if let Some(name) = place.and_then(|place| names.get(place)) {
-            repeated.push(*name)?;
-        }
-    }
-    Ok(repeated)
-}
-
-/// What stands on the edges into a node at this port, or at any.
-pub(crate) fn arriving(
-    alloc: Global,
-    edges: &[Edge],
-    on: &[Vec<TokenName>],
-    node: usize,
-    port: Option<u32>,
-) -> Result<Vec<TokenName>, AllocError> {
-    let mut names = Vec::new(alloc);
-    for (edge, tokens) in edges.iter().zip(on) {
-        if edge.head as usize == node && port.is_none_or(|port| edge.head_port == port) {
-            names.extend_from_slice(tokens.as_slice())?;
-        }
-    }
-    Ok(names)
-}
-
-/// How many tokens leave a node.
-fn leaving(edges: &[Edge], node: usize) -> u32 {
+/// How many tokens enter a node, at this port or at any.
+pub(crate) fn entering(edges: &[Edge], node: usize, port: Option<u32>) -> u32 {
     let mut count = 0u32;
     for edge in edges {
-        if edge.tail as usize == node {
+        if enters(edge, node, port) {
             count = count.saturating_add(edge.size);
         }
     }
     count
 }
 
-/// What leaves a node that isn't a firing, of what arrives at it.
-fn copied(
-    alloc: Global,
-    node: Node,
-    arrived: &[TokenName],
-    count: u32,
-) -> Result<Vec<TokenName>, AllocError> {
-    let length = count as usize;
-    match node {
-        Node::Source(source) => names_of(alloc, Maker::Source(source), count),
-        Node::Init(link) => names_of(alloc, Maker::Init(link), count),
-        Node::Broadcast(_) => repeated(alloc, arrived, 0, length),
-        Node::Fork { .. } | Node::Join { .. } => taken(alloc, arrived, 0, length),
-        Node::Round(_) => {
-            let from = arrived.len().saturating_sub(length);
-            taken(alloc, arrived, from, length)
-        }
-        Node::Firing { .. } | Node::End(_) | Node::Sink(_) => Ok(Vec::new(alloc)),
-    }
-}
-
-/// Puts on the edges out of a node what leaves it.
-fn run_node(
-    alloc: Global,
-    edges: &[Edge],
-    on: &mut [Vec<TokenName>],
-    number: usize,
-    node: Node,
-) -> Result<(), AllocError> {
-    let arrived = arriving(alloc, edges, on, number, None)?;
-    let left = copied(alloc, node, &arrived, leaving(edges, number))?;
-    let mut from = 0usize;
-    for (edge, tokens) in edges.iter().zip(on) {
-        if edge.tail as usize == number {
-            *tokens = match node {
-                Node::Firing { actor, turn } => {
-                    let port = edge.tail_port;
-                    names_of(alloc, Maker::Firing { actor, turn, port }, edge.size)?
-                }
-                _ => taken(alloc, &left, from, edge.size as usize)?,
-            };
-            from = from.saturating_add(edge.size as usize);
+/// How many tokens leave a node at ports below this one.
+fn leaving(edges: &[Edge], node: u32, port: u32) -> u32 {
+    let mut count = 0u32;
+    for edge in edges {
+        if edge.tail == node && edge.tail_port < port {
+            count = count.saturating_add(edge.size);
         }
     }
-    Ok(())
+    count
 }
 
-/// For each edge the tokens that stand on it in the end.
-pub(crate) fn flow(alloc: Global, graph: &SingleRate) -> Result<Vec<Vec<TokenName>>, AllocError> {
-    let edges = graph.edges.items();
-    let nodes = graph.nodes.items();
-    let mut on = Vec::new(alloc);
-    for _ in edges {
-        on.push(Vec::new(alloc))?;
-    }
-    let most = graph.ranks.items().iter().copied().max().unwrap_or(0);
-    for rank in 0..most.saturating_add(1) {
-        for (number, node) in nodes.iter().enumerate() {
-            if graph.ranks.items().get(number) == Some(&rank) {
-                run_node(alloc, edges, &mut on, number, *node)?;
+/// The edge over which the token at this place enters a node, at this port or at any, and its place on the edge.
+fn way_in(edges: &[Edge], node: usize, port: Option<u32>, place: u32) -> Option<(Edge, u32)> {
+    let mut rest = place;
+    for edge in edges {
+        if enters(edge, node, port) {
+            if rest < edge.size {
+                return Some((*edge, rest));
             }
+            rest -= edge.size;
         }
     }
-    Ok(on)
+    None
+}
+
+/// What a token is followed back to.
+#[derive(Clone, Copy)]
+enum Back {
+    /// It was made.
+    Made(TokenName),
+    /// It entered this node, as the token at this place.
+    Copied(usize, u32),
+}
+
+/// What the token at this place on an edge is followed back to, by the rule of the edge's tail.
+fn step_back(graph: &SingleRate, edge: Edge, on: u32) -> Option<Back> {
+    let edges = graph.edges.items();
+    let tail = edge.tail as usize;
+    let place = leaving(edges, edge.tail, edge.tail_port).saturating_add(on);
+    let entered = entering(edges, tail, None);
+    match *graph.nodes.items().get(tail)? {
+        Node::Source(source) => Some(Back::Made(TokenName {
+            maker: Maker::Source(source),
+            place,
+        })),
+        Node::Init(link) => Some(Back::Made(TokenName {
+            maker: Maker::Init(link),
+            place,
+        })),
+        Node::Firing { actor, turn } => {
+            let port = edge.tail_port;
+            Some(Back::Made(TokenName {
+                maker: Maker::Firing { actor, turn, port },
+                place: on,
+            }))
+        }
+        Node::Broadcast(_) => Some(Back::Copied(tail, place.checked_rem(entered)?)),
+        Node::Fork { .. } | Node::Join { .. } => Some(Back::Copied(tail, place)),
+        Node::Round(_) => {
+            let dropped = entered.saturating_sub(leaving(edges, edge.tail, u32::MAX));
+            Some(Back::Copied(tail, dropped.saturating_add(place)))
+        }
+        Node::End(_) | Node::Sink(_) => None,
+    }
+}
+
+/// The token at this place of those that enter a node, at this port or at any.
+pub(crate) fn token_at(
+    graph: &SingleRate,
+    node: usize,
+    port: Option<u32>,
+    place: u32,
+) -> Option<TokenName> {
+    let edges = graph.edges.items();
+    let mut found = way_in(edges, node, port, place)?;
+    for _ in graph.nodes.items() {
+        let (edge, on) = found;
+        match step_back(graph, edge, on)? {
+            Back::Made(name) => return Some(name),
+            Back::Copied(tail, place) => found = way_in(edges, tail, None, place)?,
+        }
+    }
+    None
 }
 
 /// Whether at each node that isn't a firing the edges that enter it, and those that leave it, have the ports 0, 1 and so on.

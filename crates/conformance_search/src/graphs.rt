@@ -2,19 +2,20 @@
 // node to another. A graph is looked at as the list of its edges in order.
 ghost use Rattle.std.specs.Prelude.{◌≡◌, ◌<◌, ◌^◌, length, slice_index, All, IfOk, IsTrue};
 
+use crate::tally::Tally;
 use std::alloc::{AllocError, Global};
-use std::io;
 
 /// What is compared on a graph.
 pub(crate) trait OnGraphs {
     /// Compares on the graph of these edges between so many nodes. Ranks rise along each edge.
-    fn compare<R: Print + AllocGlobal>(
+    fn compare(
         &mut self,
-        rt: &R,
+        tally: &mut Tally,
+        alloc: Global,
         nodes: u32,
         edges: &[(u32, u32)],
         ranks: &[u32],
-    ) -> io::Result<()>
+    ) -> Result<(), AllocError>
         requires few { length edges.now < 2 ^ 32 }
         requires ends { All (λ edge. (edge.0 < nodes) × (edge.1 < nodes)) edges.now }
         requires ranks { length ranks.now ≡ nodes }
@@ -79,34 +80,36 @@ pub(crate) fn rise(ranks: &[u32], edges: &[(u32, u32)]) -> bool
 }
 
 /// All graphs of so many nodes and edges.
-fn graphs_of<R: Print + AllocGlobal, C: OnGraphs>(
-    rt: &R,
+fn graphs_of<C: OnGraphs>(
+    tally: &mut Tally,
+    alloc: Global,
     comparison: &mut C,
     nodes: u32,
     count: u32,
-) -> io::Result<()>
+) -> Result<(), AllocError>
     requires { 0 < nodes }
 {
     for code in 0..nodes.saturating_pow(2).saturating_pow(count) {
-        let edges = edges_of(rt.alloc(), nodes, count, code)?;
-        let ranks = ranks_of(rt.alloc(), nodes, &edges)?;
+        let edges = edges_of(alloc, nodes, count, code)?;
+        let ranks = ranks_of(alloc, nodes, &edges)?;
         if edges.is_sorted() && rise(&ranks, &edges) {
-            comparison.compare(rt, nodes, &edges, &ranks)?;
+            comparison.compare(tally, alloc, nodes, &edges, &ranks)?;
         }
     }
     Ok(())
 }
 
-/// All graphs of up to four nodes and four edges.
-pub(crate) fn all_graphs<R: Print + AllocGlobal, C: OnGraphs>(
-    rt: &R,
+/// The comparison on all graphs of up to four nodes and four edges.
+pub(crate) fn all_graphs<C: OnGraphs>(
+    alloc: Global,
     comparison: &mut C,
-) -> io::Result<()> {
-    comparison.compare(rt, 0, &[], &[])?;
+) -> Result<Tally, AllocError> {
+    let mut tally = Tally::new();
+    comparison.compare(&mut tally, alloc, 0, &[], &[])?;
     for nodes in 1..5 {
         for count in 0..5 {
-            graphs_of(rt, comparison, nodes, count)?;
+            graphs_of(&mut tally, alloc, comparison, nodes, count)?;
         }
     }
-    Ok(())
+    Ok(tally)
 }

@@ -5,14 +5,11 @@ use crate::graphs::{OnGraphs, all_graphs};
 use crate::schedules::{plain_homes, plain_priorities};
 use crate::tally::Tally;
 use std::alloc::{AllocError, Global};
-use std::io;
 use worker_mapping::map;
 
-/// The comparisons of mappings so far.
+/// The comparison of mappings.
 #[derive(Drop)]
-struct Mappings {
-    tally: Tally,
-}
+struct Mappings {}
 
 /// A cost of 1 or 3 for each node, by its bit.
 fn some_costs(alloc: Global, nodes: u32, bits: u32) -> Result<Vec<u32>, AllocError>
@@ -52,53 +49,26 @@ pub(crate) fn agrees(
     Ok(same_homes && same_priorities)
 }
 
-impl Mappings {
-    /// Compares at these costs, with one to four workers.
-    fn enter(
-        &mut self,
-        rt: &(impl Print + AllocGlobal),
-        nodes: u32,
-        edges: &[(u32, u32)],
-        ranks: &[u32],
-        costs: &[u32],
-    ) -> io::Result<()>
-        requires edges { All (λ edge. (edge.0 < nodes) × (edge.1 < nodes)) edges.now }
-        requires ranks { length ranks.now ≡ nodes }
-        requires rising { All (λ edge. slice_index ranks.now edge.0 < slice_index ranks.now edge.1) edges.now }
-        requires costs { length costs.now ≡ nodes }
-    {
-        for workers in 1..5 {
-            let same = agrees(rt.alloc(), nodes, edges, ranks, costs, workers)?;
-            if self.tally.enter(same) {
-                println!(rt; "mapping: {edges:?}, costs {costs:?}, {workers} workers")?;
-            }
-        }
-        Ok(())
-    }
-}
-
 impl OnGraphs for Mappings {
-    /// Compares at all costs of 1 or 3.
-    fn compare<R: Print + AllocGlobal>(
+    /// Compares at all costs of 1 or 3, each with one to four workers.
+    fn compare(
         &mut self,
-        rt: &R,
+        tally: &mut Tally,
+        alloc: Global,
         nodes: u32,
         edges: &[(u32, u32)],
         ranks: &[u32],
-    ) -> io::Result<()> {
-        for bits in 0..1u32.wrapping_shl(nodes) {
-            let costs = some_costs(rt.alloc(), nodes, bits)?;
-            self.enter(rt, nodes, edges, ranks, &costs)?;
+    ) -> Result<(), AllocError> {
+        for number in 0..4u32.wrapping_shl(nodes) {
+            let costs = some_costs(alloc, nodes, number / 4)?;
+            let workers = 1 + number % 4;
+            tally.enter(agrees(alloc, nodes, edges, ranks, &costs, workers)?);
         }
         Ok(())
     }
 }
 
 /// Compares on all small graphs.
-pub(crate) fn compare(rt: &(impl Print + AllocGlobal)) -> io::Result<Tally> {
-    let mut mappings = Mappings {
-        tally: Tally::new(),
-    };
-    all_graphs(rt, &mut mappings)?;
-    Ok(mappings.tally)
+pub(crate) fn compare(alloc: Global) -> Result<Tally, AllocError> {
+    all_graphs(alloc, &mut Mappings {})
 }

@@ -1,19 +1,18 @@
 // `order` against the definitions of admissible lists, of the one-thread order and of the counts left.
 ghost use Rattle.std.specs.Prelude.{◌≤◌};
 
-use crate::levels::{Comparison, all_levels, level_of};
+use crate::levels::{Comparison, all_levels};
 use crate::tally::Tally;
 use crate::vectors::{Vector, entry, number_of, vector_at, vector_count};
 use firing_order::{Stuck, order};
 use sdf_level::{InnerLink, Level, Turn};
 use std::alloc::{AllocError, Global};
-use std::io;
 
-/// The comparisons of orders so far.
-#[derive(Drop)]
-struct Orders {
-    tally: Tally,
-}
+/// The comparison of orders.
+struct Orders {}
+
+/// How many vectors of three entries below 10 there are.
+const VECTORS: usize = 1_000;
 
 /// Whether each link into the actor has the tokens for one firing more, after so many firings of each.
 fn can_fire(links: &[InnerLink], fired: &[u32], actor: u32) -> bool {
@@ -74,18 +73,15 @@ fn is_reached(actors: u32, links: &[InnerLink], base: u32, number: u32, reached:
 
 /// For each vector with entries below `base`, by its number, whether some list in which each firing finds its tokens has
 /// these counts.
-fn reachable(
-    alloc: Global,
-    actors: u32,
-    links: &[InnerLink],
-    base: u32,
-) -> Result<Vec<bool>, AllocError> {
-    let mut reached = Vec::new(alloc);
+fn reachable(actors: u32, links: &[InnerLink], base: u32) -> [bool; VECTORS] {
+    let mut reached = [false; VECTORS];
     for number in 0..vector_count(actors, base) {
         let here = is_reached(actors, links, base, number, &reached);
-        reached.push(here)?;
+        if let Some(mark) = reached.get_mut(number as usize) {
+            *mark = here;
+        }
     }
-    Ok(reached)
+    reached
 }
 
 /// Whether the turns fire each actor its count, each place holds the least actor that can stand there, and each firing has
@@ -165,29 +161,22 @@ fn above(vectors: &[Vector]) -> u32 {
 impl Comparison for Orders {
     const EACH_ORDER: bool = false;
 
-    fn compare<R: Print + AllocGlobal>(
-        &mut self,
-        rt: &R,
-        actors: u32,
+    /// Compares at each of the vectors that solve, but for that of which all entries are 0.
+    fn compare(
+        tally: &mut Tally,
+        alloc: Global,
+        level: &Level,
         links: &[InnerLink],
         solving: &[Vector],
-    ) -> io::Result<()> {
+    ) -> Result<(), AllocError> {
         let base = above(solving);
         if base == 1 {
-            // The counts are all 0.
             return Ok(());
         }
-        let Some(level) = level_of(rt.alloc(), actors, links)? else {
-            let _printed = self.tally.enter(false);
-            return Ok(());
-        };
-        let reached = reachable(rt.alloc(), actors, links, base)?;
+        let reached = reachable(level.actors, links, base);
         for counts in solving {
             if counts != &[0, 0, 0] {
-                let same = agrees(rt.alloc(), &level, links, *counts, base, &reached)?;
-                if self.tally.enter(same) {
-                    println!(rt; "order: {actors} actors, {links:?}, counts {counts:?}")?;
-                }
+                tally.enter(agrees(alloc, level, links, *counts, base, &reached)?);
             }
         }
         Ok(())
@@ -195,10 +184,8 @@ impl Comparison for Orders {
 }
 
 /// Compares on all small levels, at all small counts that solve their balance equations.
-pub(crate) fn compare(rt: &(impl Print + AllocGlobal)) -> io::Result<Tally> {
-    let mut orders = Orders {
-        tally: Tally::new(),
-    };
-    all_levels(rt, &mut orders, 0)?;
-    Ok(orders.tally)
+pub(crate) fn compare(alloc: Global) -> Result<Tally, AllocError> {
+    let mut tally = Tally::new();
+    all_levels::<Orders>(&mut tally, alloc, 0)?;
+    Ok(tally)
 }

@@ -2,10 +2,12 @@
 ghost use Rattle.std.specs.Prelude.{◌≡◌, ◌+◌, ◌*◌};
 ghost use Rattle.std.specs.Int.{bit_at};
 
+use crate::marks::Marks;
 use placement_checker::Exclusion;
+use std::alloc::{AllocError, Global};
 
 /// Any relation among four buffers: bit `4 * e + f` says that `e` and `f` exclude each other.
-#[derive(Clone, Copy, Debug)]
+#[derive(Clone, Copy)]
 pub(crate) struct FourBuffers {
     bits: u64,
 }
@@ -22,6 +24,19 @@ impl FourBuffers {
     pub(crate) fn relates(&self, e: usize, f: usize) -> bool {
         let (low, high) = (e.min(f), e.max(f));
         low < high && high < 4 && self.bits >> (4 * low + high) & 1 == 1
+    }
+
+    /// The same, as marks.
+    pub(crate) fn marks(&self, alloc: Global) -> Result<Marks, AllocError> {
+        let mut apart = Marks::new(alloc, 4)?;
+        for e in 0..4 {
+            for f in 0..4 {
+                if self.relates(e, f) {
+                    apart.set(e, f);
+                }
+            }
+        }
+        Ok(apart)
     }
 }
 

@@ -58,6 +58,7 @@ impl Model for Board {
 }
 
 impl Board {
+    ghost use Rattle.board_journal.specs.View.{IsEmpty};
     ghost use Rattle.board_rules.specs.Keys.{IsKey};
     ghost use Rattle.firing_board.specs.Claims.{Claims, EntersAs};
     ghost use Rattle.firing_board.specs.Ends.{EndsAs, HasLongTraces, IsOver};
@@ -85,6 +86,29 @@ impl Board {
         requires { IsKey (key_from (arc_value graphs) signatures.now delays.now ins.now workers) }
         ensures { IfOk result (λ b. b ≡ record { key = key_from (arc_value graphs) signatures.now delays.now ins.now workers; journal = []; starved = false; firings = Some record { place = []; cells = None } ∷ []; lent = replicate workers None; kept = false }) }
     {
+        let journal = Journal::new(alloc);
+        Board::start_with(alloc, graphs, signatures, delays, ins, workers, journal)
+    }
+
+    /// As `start`, with the journal into which the board's steps are entered. Nothing was put into it. Where it can't be read, the
+    /// steps take no memory.
+    ///
+    /// # Errors
+    ///
+    /// Want of memory.
+    pub fn start_with(
+        alloc: Global,
+        graphs: Arc<Graphs>,
+        signatures: &[Signature],
+        delays: &Delays,
+        ins: &[List<i64>],
+        workers: u32,
+        journal: Journal,
+    ) -> Result<Board, AllocError>
+        requires key { IsKey (key_from (arc_value graphs) signatures.now delays.now ins.now workers) }
+        requires empty { IsEmpty journal }
+        ensures { IfOk result (λ b. b ≡ record { key = key_from (arc_value graphs) signatures.now delays.now ins.now workers; journal = []; starved = false; firings = Some record { place = []; cells = None } ∷ []; lent = replicate workers None; kept = false }) }
+    {
         runnable();
         boards_keep();
         tables_suit();
@@ -93,7 +117,7 @@ impl Board {
         let top = Snapshot::of(&firing);
         let signatures = all_counts(alloc, signatures)?;
         let compiling = nothing_compiles(alloc, workers)?;
-        let core = start_core(alloc, graphs, workers, firing)?;
+        let core = start_core(alloc, graphs, workers, firing, journal)?;
         Ok(Board {
             signatures,
             top,

@@ -1,6 +1,7 @@
 // The start of a board.
 ghost use Rattle.std.specs.Prelude.{◌≡◌, ◌≤◌, IfOk, None, length, replicate};
 ghost use Rattle.std.specs.Arc.{arc_value};
+ghost use Rattle.board_journal.specs.View.{IsEmpty};
 ghost use Rattle.job_preparing.specs.View.{HasInherited};
 ghost use Rattle.job_rules.specs.Meant.{IsFit};
 ghost use Rattle.pisdf_model.specs.Valid.{AreValid};
@@ -37,22 +38,23 @@ pub(crate) fn nothing_compiles(alloc: Global, workers: u32) -> Result<Vec<Option
     Ok(compiling)
 }
 
-/// The open jobs, of which there is the top one alone, and no worker runs anything.
+/// The open jobs, of which there is the top one alone, and no worker runs anything. Nothing was put into the journal.
 pub(crate) fn start_core(
     alloc: Global,
     graphs: Arc<Graphs>,
     workers: u32,
     firing: Firing,
+    mut journal: Journal,
 ) -> Result<Core, AllocError>
     requires valid { AreValid (arc_value graphs) }
     requires fit { IsFit (arc_value graphs).graphs firing }
     requires inherited { HasInherited (arc_value graphs).graphs firing }
     requires some { 1 ≤ workers }
+    requires empty { IsEmpty journal }
     ensures started { IfOk result (IsStartedOn (arc_value graphs) workers firing) }
     ensures room { IfOk result HasRoom }
 {
     let running = nothing_runs(alloc, workers)?;
-    let mut journal = Journal::new(alloc);
     let path = firing.path.copy()?;
     let _number = journal.add_path(path)?;
     let numbers = Vec::new(alloc);

@@ -22,11 +22,8 @@ use Rattle.worker_mapping.proofs.Unique.{AreHomes-unique}
 use Rattle.job_compiler.specs.Compilation.{Compilation, sizes_of, IsSound, IsExpanded, IsPlaced, IsMapped, IsCompiled}
 use Rattle.level_schedule.specs.declared.scheduling.LevelSchedule.{LevelSchedule}
 use Rattle.level_schedule.specs.declared.unscheduled.Unscheduled.{Unscheduled}
-use Rattle.level_schedule.specs.declared.unscheduled.Unscheduled.TheVariants as unscheduled
+use Rattle.level_schedule.specs.declared.unscheduled.Unscheduled.TheVariants.{Memory}
 use Rattle.level_schedule.specs.Schedules.{IsScheduled}
-use Rattle.job_compiler.specs.declared.fault.CompileFault.{CompileFault}
-use Rattle.job_compiler.specs.declared.fault.CompileFault.TheVariants.{Memory}
-use Rattle.job_compiler.specs.Refusals.{of_unscheduled}
 use Rattle.job_compiler.proofs.SoundEdges.{size_of, pair_ends, pairs_rise}
 
 rank_only : (edges : List Edge) (n r s : ℕ) → IsRank edges n r → IsRank edges n s → r ≡ s
@@ -103,13 +100,13 @@ compilation_is level workers memory x r was a own own_workers c b as_level as_wo
     inl (was ∙ ap (λ (d : Compilation). Ok d) (compilation_only x c a b (own ∙ sym as_level) (own_workers ∙ sym as_workers)))
 
 -- where there is a compilation there is a schedule
-pub compilation_passed : {X : Type 0} (level : LevelView) (r : Result LevelSchedule Unscheduled) → ((s : LevelSchedule) → IsScheduled level s → (r ≡ Ok s) ⊎ (r ≡ Err unscheduled.Memory)) →
-    (e : Unscheduled) (result : Result X CompileFault) → r ≡ Err e → result ≡ Err (of_unscheduled e) →
+pub compilation_passed : {X : Type 0} (level : LevelView) (r : Result LevelSchedule Unscheduled) → ((s : LevelSchedule) → IsScheduled level s → (r ≡ Ok s) ⊎ (r ≡ Err Memory)) →
+    (e : Unscheduled) (result : Result X Unscheduled) → r ≡ Err e → result ≡ Err e →
     (c : Compilation) → IsCompiled c → c.level ≡ level → result ≡ Err Memory
 compilation_passed level r told e result was passed c is own =
     let s : LevelSchedule = record { counts = c.counts; order = c.order } in
     let there : IsScheduled level s = subst (λ (l : LevelView). IsScheduled l s) own record { repetition = is.repetition; within = is.within; order = is.order_is } in
     ⊎_elim
     (λ (found : r ≡ Ok s). absurd (cc))
-    (λ (none : r ≡ Err unscheduled.Memory). let same : e ≡ unscheduled.Memory = cc in passed ∙ ap (λ (u : Unscheduled). Err (of_unscheduled u)) same)
+    (λ (none : r ≡ Err Memory). let same : e ≡ Memory = cc in passed ∙ ap (λ (u : Unscheduled). Err u) same)
     (told s there)

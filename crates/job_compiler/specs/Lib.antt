@@ -1,4 +1,3 @@
 pub mod Compilation
-pub mod Refusals
 pub mod Keys
 pub mod Entries

@@ -1,11 +1,10 @@
 ghost use Rattle.std.specs.Prelude.{◌≡◌, ◌⊎◌, ◌≤◌, IfOk, IfErr};
 ghost use Rattle.job_compiler.specs.Compilation.{Compilation, IsCompiled};
-ghost use Rattle.job_compiler.specs.Refusals.{IsRefused};
+ghost use Rattle.level_schedule.specs.Schedules.{IsUnscheduled};
 
 use crate::compiled::Compiled;
-use crate::fault::CompileFault;
 use crate::parts::{copy_level, map_nodes, place_buffers};
-use level_schedule::{LevelSchedule, schedule};
+use level_schedule::{LevelSchedule, Unscheduled, schedule};
 use sdf_level::Level;
 use single_rate::expand;
 use std::alloc::Global;
@@ -17,15 +16,15 @@ use worker_mapping::edge_pairs;
 ///
 /// Exactly one of these, where there is no compilation: `Rates` where the level has no repetition vector; else `Limit` with
 /// the first of firings, links and tokens whose count is over its limit; else `Deadlock`. And `Memory` where there was none.
-pub fn compile(alloc: Global, level: &Level, workers: u32) -> Result<Compiled, CompileFault>
+pub fn compile(alloc: Global, level: &Level, workers: u32) -> Result<Compiled, Unscheduled>
     requires { 1 ≤ workers }
     ensures compiled { IfOk result (λ c. (c.level ≡ level.now) × (c.workers ≡ workers)) }
     ensures kept { IfOk result IsCompiled }
-    ensures refused { IfErr result (λ fault. IsRefused level.now fault ⊎ (fault ≡ CompileFault.Memory)) }
+    ensures refused { IfErr result (λ fault. IsUnscheduled level.now fault ⊎ (fault ≡ Unscheduled.Memory)) }
 
     // Where there is a compilation the answer is that one, and where there is a fault that one, unless there was no memory.
-    ensures only_compilation { (c : Compilation) → IsCompiled c → c.level ≡ level.now → c.workers ≡ workers → (result ≡ Ok c) ⊎ (result ≡ Err CompileFault.Memory) }
-    ensures only_fault { (fault : CompileFault) → IsRefused level.now fault → (result ≡ Err fault) ⊎ (result ≡ Err CompileFault.Memory) }
+    ensures only_compilation { (c : Compilation) → IsCompiled c → c.level ≡ level.now → c.workers ≡ workers → (result ≡ Ok c) ⊎ (result ≡ Err Unscheduled.Memory) }
+    ensures only_fault { (fault : Unscheduled) → IsUnscheduled level.now fault → (result ≡ Err fault) ⊎ (result ≡ Err Unscheduled.Memory) }
 {
     let LevelSchedule { counts, order } = schedule(alloc, level)?;
     let graph = expand(alloc, level, counts.items(), order.items())?;

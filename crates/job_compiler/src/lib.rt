@@ -5,7 +5,6 @@
 mod cache;
 mod compiled;
 mod compiling;
-mod fault;
 mod keeping;
 mod key;
 mod laws;
@@ -14,8 +13,7 @@ mod parts;
 pub use cache::Kept;
 pub use compiled::Compiled;
 pub use compiling::compile;
-pub use fault::CompileFault;
 pub use keeping::{KEPT_LIMIT, kept};
 pub use key::Key;
 pub use laws::one_compilation;
-pub use level_schedule::What;
+pub use level_schedule::{Unscheduled as CompileFault, What};

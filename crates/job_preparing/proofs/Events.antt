@@ -36,7 +36,7 @@ use Rattle.job_preparing.specs.declared.handing.JobGiven.{JobGiven}
 use Rattle.job_preparing.specs.declared.stage.Spare.{Spare}
 use Rattle.job_preparing.specs.declared.stage.Stage.{Stage}
 use Rattle.job_preparing.specs.declared.stage.Stage.TheVariants.{Fires, Calls, Busy, Open, Gave, Refused}
-use Rattle.job_preparing.specs.declared.told.Told.{Told}
+use Rattle.kernel_gate.specs.declared.told.Told.{Told}
 use Rattle.job_preparing.proofs.Asked.{lens_are}
 use Rattle.job_preparing.proofs.Offered.{IsBusyAt, IsOpenAt, IsWaiting, busy_stage, calling_at, open_stage, waiting_at}
 use Rattle.job_preparing.proofs.Reading.{image_at, set_twice}

@@ -8,9 +8,8 @@ use crate::stage::{
     Stage, all_finished, all_gave, first_call, first_kernel, first_refused, line_of, put, spare_of,
 };
 use crate::starting::spend_frames;
-use crate::told::told_of;
 use job_compiler::{Compiled, Key};
-use kernel_gate::{Frame, KernelFault};
+use kernel_gate::{Frame, KernelFault, told_of};
 use param_resolver::{Early, early_unfolds};
 use pisdf_meaning::{Cause, Configured, Firing, Refusal, TraceRow, chosen_values, copy_tokens};
 use pisdf_model::Graphs;

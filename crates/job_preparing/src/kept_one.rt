@@ -2,11 +2,11 @@
 ghost use Rattle.std.specs.Prelude.{◌≡◌, ◌≤◌, ◌⊎◌, ◌↔◌, IfOk, IfErr, IsTrue};
 ghost use Rattle.std.specs.Arc.{arc_value};
 ghost use Rattle.job_compiler.specs.Compilation.{IsCompiled};
-ghost use Rattle.job_compiler.specs.Refusals.{IsRefused};
+ghost use Rattle.level_schedule.specs.Schedules.{IsUnscheduled};
 ghost use Rattle.pisdf_meaning.specs.Endings.{IfRefused};
 ghost use Rattle.job_preparing.specs.Unscheduled.{IsUnscheduledAs};
 
-use job_compiler::{CompileFault, Compiled, compile};
+use job_compiler::{Compiled, compile};
 use level_schedule::Unscheduled;
 use pisdf_meaning::{Firing, PlainFault, refused, schedule_cause};
 use pisdf_model::Graph;
@@ -62,17 +62,11 @@ fn compile_refused(
     graph: &Graph,
     firing: &Firing,
     level: &Level,
-    fault: CompileFault,
+    fault: Unscheduled,
 ) -> PlainFault
-    requires { IsRefused level.now fault ⊎ (fault ≡ CompileFault.Memory) }
+    requires { IsUnscheduled level.now fault }
     ensures { IfRefused (IsUnscheduledAs graph.now firing.now level.now) result }
 {
-    let fault = match fault {
-        CompileFault::Rates => Unscheduled::Rates,
-        CompileFault::Limit { what, value } => Unscheduled::Limit { what, value },
-        CompileFault::Deadlock { left } => Unscheduled::Deadlock { left },
-        CompileFault::Memory => return PlainFault::Memory,
-    };
     match schedule_cause(alloc, graph, fault) {
         Ok(cause) => refused(&firing.path, cause),
         Err(_) => PlainFault::Memory,
@@ -95,6 +89,7 @@ fn compiled_anew(
 {
     match compile(alloc, level, workers) {
         Ok(compiled) => Ok(Arc::new(alloc, compiled)?),
+        Err(Unscheduled::Memory) => Err(PlainFault::Memory),
         Err(fault) => Err(compile_refused(alloc, graph, firing, level, fault)),
     }
 }

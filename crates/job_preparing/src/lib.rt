@@ -12,7 +12,6 @@ mod kept_one;
 mod slim;
 mod stage;
 mod starting;
-mod told;
 
 pub use compile_task::CompileTask;
 pub use compiling::{CompileEnd, Made, make};

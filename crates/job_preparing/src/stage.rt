@@ -4,7 +4,7 @@ ghost use Rattle.std.specs.List.{list_all};
 ghost use Rattle.job_preparing.specs.Stages.{has_given, is_call, is_done, is_kernel, line_in, or_else, refusal_in, refusal_of, spare_in};
 
 use crate::handing::JobGiven;
-use crate::told::Told;
+use kernel_gate::Told;
 use param_expr::Name;
 use pisdf_meaning::{Firing, Path, Refusal};
 use sdf_level::List;

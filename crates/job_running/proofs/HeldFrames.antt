@@ -1,17 +1,12 @@
 -- Frames that wait for the end of calls.
-use Rattle.std.proofs.Common.{◌≡◌, ◌≢◌, ℕ, ◌+◌, ◌<◌, ◌≤◌, ⊎_elim, List, [], ◌∷◌, ◌++◌, length, map, set, Some, None, refl, sym, ap, ◌∙◌, arith}
+use Rattle.std.proofs.Common.{◌≡◌, ◌≢◌, ℕ, ◌+◌, ◌<◌, ◌≤◌, ⊎_elim, List, [], ◌∷◌, ◌++◌, length, set, Some, None, refl, sym, ap, ◌∙◌, arith}
 use Rattle.std.proofs.lemmas.Bool.{cases_lt}
 use Rattle.std.proofs.lemmas.List.{get_or-append-add, get_or_append_left, get_or-set_other, get_or-set_same, get_or_past, length-append}
-use Rattle.kernel_gate.specs.Value.{FrameView, Places, lengths}
-use Rattle.split_block.specs.View.{LeasePlace, LeaseView, cells_of, lease_place}
+use Rattle.kernel_gate.specs.Value.{FrameView, Places}
 use Rattle.one_job.specs.Marks.{Mark, Free, Claimed, Finished, Failed, IsClaimed, mark_at, phase, phase_of}
 use Rattle.job_running.specs.declared.frames.Held.{Held}
 use Rattle.job_running.specs.declared.frames.Held.TheVariants.{Nothing, Waits, Refuses}
 use Rattle.job_running.specs.Parts.{HoldClaimed, NoneWaits, frame_in, held_at}
-
-pub leases_long : (leases : List LeaseView) → lengths (map cells_of leases) ≡ map (λ (p : LeasePlace). p.len) (map lease_place leases)
-leases_long [] = refl
-leases_long (l ∷ leases) = ap (λ (ns : List ℕ). length l.cells ∷ ns) (leases_long leases)
 
 last_at : (rest : List Held) (last : Held) → held_at (rest ++ last ∷ []) (length rest) ≡ last
 last_at rest last = let e : length rest ≡ length rest + 0 = omega arith in ap (held_at (rest ++ last ∷ [])) e ∙ get_or-append-add rest (last ∷ []) 0 Nothing

@@ -1,31 +1,29 @@
 -- What is lent of the nodes of a running firing.
-use Rattle.std.proofs.Common.{◌≡◌, ℕ, zero, suc, ◌<◌, ◌≤◌, ⊎_elim, ℤ, Bool, List, [], ◌∷◌, length, map, get_or, Option, Some, None, refl, sym, ap, ◌∙◌, subst, arith}
-use Rattle.std.specs.Prelude.{◌≢◌, Vec}
+use Rattle.std.proofs.Common.{◌≡◌, ℕ, zero, suc, ◌<◌, ◌≤◌, ⊎_elim, ℤ, Bool, List, [], ◌∷◌, length, Option, Some, None, refl, sym, ap, ◌∙◌, subst, arith}
+use Rattle.std.specs.Prelude.{Vec}
 use Rattle.std.specs.Global.{Global}
 use Rattle.std.proofs.lemmas.Bool.{cases_lt}
 use Rattle.std.proofs.lemmas.List.{get_or_past, length-map}
-use Rattle.kernel_gate.specs.Value.{FrameView, Places}
+use Rattle.kernel_gate.specs.Value.{Places}
 use Rattle.nested_jobs.specs.Marks as mark
 use Rattle.nested_jobs.specs.Marks.{Mark}
 use Rattle.param_resolver.specs.Numbering.{acting}
-use Rattle.pisdf_meaning.specs.declared.firing.Firing.{Firing}
 use Rattle.pisdf_meaning.specs.declared.outcome.TraceRow.{TraceRow}
 use Rattle.job_compiler.specs.Compilation.{Compilation}
 use Rattle.job_flow.specs.Graphs.{JobGraph, node_at}
 use Rattle.job_rules.specs.Items.{actor_of, keeps_state}
-use Rattle.job_rules.specs.Words.{Answer, Spot}
-use Rattle.one_job.specs.Leased.{AreLeases, JobCells, LendsBuffers, cells_of}
+use Rattle.job_rules.specs.Words.{Spot}
+use Rattle.one_job.specs.Leased.{JobCells, LendsBuffers, cells_of}
 use Rattle.one_job.specs.Live.{InOrder}
 use Rattle.one_job.specs.LiveLaws.{KeepsBuffers}
 use Rattle.one_job.specs.Marks as one
 use Rattle.one_job.specs.Places.{edge_at}
 use Rattle.one_job.specs.View as leased
-use Rattle.sdf_level.specs.declared.single_rate.Edge.{Edge}
 use Rattle.job_preparing.specs.Handing.{ItemMarks, lent_at, mark_at}
 use Rattle.job_running.specs.Kept.{view_with}
 use Rattle.job_running.specs.Leases.{LendsNodes, as_node, as_nodes}
-use Rattle.job_running.specs.Parts.{Fixed, KeepsAll, Start, fired, job_in}
-use Rattle.job_running.specs.Stages.{job_mark, lent_of, lents_of, mark_of, marks_of, spot_of, stage_at}
+use Rattle.job_running.specs.Parts.{Fixed, KeepsAll, fired, job_in}
+use Rattle.job_running.specs.Stages.{job_mark, lents_of, mark_of, marks_of, spot_of, stage_at}
 use Rattle.job_running.specs.declared.frames.Held.{Held}
 use Rattle.job_running.specs.declared.stage.Stage.{Stage}
 use Rattle.job_running.specs.declared.stage.Stage.TheVariants.{Free, Busy, Lost, Open, Fired, Failed, Gave, Refused}

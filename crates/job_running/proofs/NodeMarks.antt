@@ -3,7 +3,7 @@ use Rattle.std.proofs.Common.{◌≡◌, ℕ, zero, suc, ℤ, Bool, false, List,
 use Rattle.std.specs.Option.{option_map, unwrap_or}
 use Rattle.std.proofs.lemmas.List.{append-nil}
 use Rattle.std.specs.declared.snapshot.Snapshot.{Snapshot}
-use Rattle.job_running.specs.declared.told.Told.{Told}
+use Rattle.kernel_gate.specs.declared.told.Told.{Told}
 use Rattle.kernel_gate.specs.Value.{FrameView, Places}
 use Rattle.nested_jobs.specs.Marks as mark
 use Rattle.pisdf_model.specs.declared.actor.Actor.{Actor}

@@ -1,29 +1,13 @@
 // What is held for nodes that fire graphs: frames that wait for the end of a call, and refusals.
 ghost use Rattle.std.specs.Prelude.{◌≡◌, ◌≢◌, ◌<◌, ◌^◌, ℕ, length, slice_set, replicate, vec_len, vec_capacity, ◌≤◌, [], None};
-ghost use Rattle.kernel_gate.specs.Value.{FrameView, lengths};
-ghost use Rattle.job_running.specs.Sizes.{place_lens};
+ghost use Rattle.kernel_gate.specs.Value.{FrameView};
 ghost use Rattle.one_job.specs.Marks.{IsClaimed, phase};
 ghost use Rattle.job_running.specs.Parts.{HoldClaimed, NoneWaits, frame_in, held_at, refusal_in};
 
-use kernel_gate::{Frame, Lent};
+use kernel_gate::Frame;
 use one_job::Job;
 use pisdf_meaning::Refusal;
 use std::mem;
-
-/// The same frame, whose outputs are as long as the leases at their places.
-pub(crate) fn measured(frame: Frame) -> Frame
-    ensures same { result ≡ frame }
-    ensures lens { lengths result.outputs ≡ place_lens result.places }
-{
-    let kind = frame.kind();
-    let Lent {
-        args,
-        inputs,
-        outputs,
-        sets,
-    } = frame.take_back();
-    Frame::lend(kind, args, inputs, outputs, sets)
-}
 
 /// What is held for a node that fires a graph.
 pub(crate) enum Held {

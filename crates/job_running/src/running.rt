@@ -11,16 +11,16 @@ ghost use Rattle.job_preparing.specs.Handing.{EndSuits, IsNothingLent, answer_wi
 
 use crate::calling::{called, caller_of, firing_of};
 use crate::ending::{Ending, job_given, refusal_of};
-use crate::frames::{Held, end_frames, measured, put_frame, spend_held, take_frame, take_refusal};
+use crate::frames::{Held, end_frames, put_frame, spend_held, take_frame, take_refusal};
 use crate::given::put_trace;
 use crate::handed::{Handed, hand_out};
 use crate::stage::{Stage, ended, waiting};
-use crate::told::{ToldBefore, ToldBlock, told_of};
+use crate::told::{ToldBefore, ToldBlock};
 use crate::writing::write_child;
 use job_compiler::Compiled;
 use job_flow::{faults_renamed, ready_stays};
 use job_preparing::{JobGiven, Left};
-use kernel_gate::{Frame, KernelFault};
+use kernel_gate::{Frame, KernelFault, told_of};
 use one_job::{Job, JobEnd};
 use param_expr::Name;
 use param_resolver::{LevelSet, level_by_actor};
@@ -167,7 +167,8 @@ impl Running {
         faults_renamed::<i64, u8, Refusal>();
         ready_stays::<i64, u8, ()>();
         let which = self.job.node(node);
-        let frame = measured(self.job.claim(node));
+        let frame = self.job.claim(node);
+        frame.outputs_fill_leases();
         self.stages[node as usize] = Stage::Busy(told_of(&frame));
         hand_out(which, frame)
     }
@@ -181,7 +182,7 @@ impl Running {
     {
         faults_renamed::<i64, u8, Refusal>();
         ready_stays::<i64, u8, ()>();
-        let frame = measured(frame);
+        frame.outputs_fill_leases();
         self.stages[node as usize] = ended(&frame, &answer);
         self.job.finish(node, frame, answer);
     }

@@ -1,9 +1,8 @@
 // How far nodes are.
 ghost use Rattle.job_running.specs.Stages.{IsEnded, IsWaiting};
 
-use crate::told::{Told, told_of};
 use job_preparing::JobGiven;
-use kernel_gate::{Frame, KernelFault};
+use kernel_gate::{Frame, KernelFault, Told, told_of};
 use pisdf_meaning::{Firing, Refusal};
 use std::alloc::AllocError;
 use std::snapshot::Snapshot;

@@ -1,33 +1,13 @@
-// Frames, configuration actors and blocks as clauses see them.
+// Configuration actors and blocks as clauses see them.
 ghost use base.Fml.{ftrue};
-ghost use Rattle.kernel_gate.specs.Value.{FrameView};
 ghost use Rattle.std.specs.Prelude.{◌≡◌, List as Seq};
 ghost use Rattle.pisdf_meaning.specs.declared.firing.Configured.{Configured};
 ghost use Rattle.job_preparing.specs.View.{left_by};
 ghost use Rattle.split_block.specs.View.{Block};
 
 use job_preparing::Configuring;
-use kernel_gate::Frame;
 use one_job::Job;
 use std::marker::Model;
-
-/// What a frame was when it was looked at. It has no bytes.
-#[derive(Drop)]
-pub(crate) struct Told {
-    ghost frame: { FrameView },
-}
-
-impl Model for Told {
-    ghost also_owns = { λ _. ftrue };
-}
-
-/// What the frame is.
-pub(crate) fn told_of(frame: &Frame) -> Told
-    ensures { result.frame ≡ frame.now }
-{
-    let _ = frame;
-    Told {}
-}
 
 /// What configuration actors had left when they were looked at. It has no bytes.
 #[derive(Drop)]

@@ -6,7 +6,13 @@ pub mod Paths
 pub mod Rows
 pub mod Keys
 pub mod Suiting
+pub mod ReadyNodes
 pub mod LiveFirings
+pub mod MarkSteps
+pub mod CellSteps
+pub mod ImageSteps
+pub mod FittingOuts
+pub mod ImageLaws
 pub mod Writes
 pub mod Freeing
 pub mod Closings

@@ -7,3 +7,4 @@ pub mod Asked
 pub mod AskedRows
 pub mod Laws
 pub mod LiveFirings
+pub mod Images

@@ -12,5 +12,5 @@ mod table;
 
 pub use asking::Asked;
 pub use begins::Begins;
-pub use laws::{calls_are_fit, live_buffers_stay_apart, tables_suit};
+pub use laws::{calls_are_fit, full_buffers_keep_tokens, live_buffers_stay_apart, tables_suit};
 pub use table::JobTable;

@@ -1,4 +1,12 @@
 pub mod FirstBad
 pub mod Verdicts
-pub mod Reading
 pub mod Laws
+pub mod Table
+pub mod Standing
+pub mod Asking
+pub mod Slots
+pub mod Opening
+pub mod Closing
+pub mod Replays
+pub mod Stepping
+pub mod Reading

@@ -1,9 +1,10 @@
 -- Lists of leases.
-use Rattle.std.proofs.Common.{◌≡◌, ℕ, ◌<◌, ◌++◌, ◌∷◌, drop, List, [], length, map, set, get_or, sym, ◌∙◌, ap, arith}
+use Rattle.std.proofs.Common.{◌≡◌, ℕ, ◌<◌, ◌++◌, ◌∷◌, drop, List, [], length, map, set, get_or, refl, sym, ◌∙◌, ap, arith}
 use Rattle.std.specs.Prelude.{ℤ}
 use Rattle.std.proofs.lemmas.List.{get_or-map, map-set, length-map, length-take-le, length-append, length-drop, set-get_or}
 use Rattle.split_block.specs.View.{LeaseView, LeasePlace, IsWholePlace, cells_of, lease_place, refit, with_cells}
 use Rattle.kernel_gate.specs.Leased.{AllWhole}
+use Rattle.kernel_gate.specs.Value.{lengths}
 
 -- the list at a place is the lease's there
 pub list_at : (vs : List LeaseView) (i : ℕ) (v : LeaseView) (lists : List (List ℤ)) → map cells_of vs ≡ lists → i < length lists → v ≡ get_or vs i v → v.cells ≡ get_or lists i []
@@ -28,6 +29,11 @@ stays_at vs i v w lists e lt at =
     let kept : lease_place (with_cells v w) ≡ lease_place v = λ i. record { block = v.block; start = v.start; len = fits i } in
     let here : lease_place v ≡ get_or (map lease_place vs) i (lease_place v) = ap lease_place at ∙ sym (get_or-map lease_place vs i v (lease_place v) lt') in
     map-set lease_place vs i (with_cells v w) ∙ (ap (λ (s : LeasePlace). set (map lease_place vs) i s) (kept ∙ here) ∙ set-get_or (map lease_place vs) i (lease_place v))
+
+-- their lists are as long as their places
+pub leases_long : (vs : List LeaseView) → lengths (map cells_of vs) ≡ map (λ (p : LeasePlace). p.len) (map lease_place vs)
+leases_long [] = refl
+leases_long (v ∷ vs) = ap (λ (ns : List ℕ). length v.cells ∷ ns) (leases_long vs)
 
 -- one more, or one less, whole block
 pub whole_more : (ps : List LeasePlace) (p : LeasePlace) → AllWhole ps → IsWholePlace p → AllWhole (ps ++ p ∷ [])

@@ -3,6 +3,7 @@ ghost use Rattle.std.specs.Prelude.{◌≡◌, [], ℤ, ℕ, ◌^◌, ◌<◌, L
 ghost use Rattle.std.specs.Borrow.{sem};
 ghost use Rattle.kernel_gate.specs.Value.{lengths, port, with_output};
 ghost use Rattle.kernel_gate.specs.Leased.{AreLeases, AreWhole};
+ghost use Rattle.split_block.specs.View.{LeasePlace};
 
 use crate::leases::{leased, spend, zeros};
 use sdf_level::List;
@@ -211,6 +212,14 @@ impl Frame {
             inputs[second as usize].as_slice(),
             self.outputs[to as usize].as_mut_slice(),
         )
+    }
+
+    /// Each output is as long as the lease at its place. It does nothing.
+    pub fn outputs_fill_leases(&self)
+        ensures { lengths self.now.outputs ≡ map (λ (p : LeasePlace). p.len) self.now.places.outputs }
+    {
+        // What is read shows the proof what the frame is made of.
+        let _kind = self.kind;
     }
 
     /// The values of the parameters that it sets.

@@ -8,6 +8,7 @@ mod laws;
 mod leases;
 mod limits;
 mod signature;
+mod told;
 
 pub use fault::KernelFault;
 pub use frame::{Frame, Lent};
@@ -15,3 +16,4 @@ pub use gate::Gate;
 pub use laws::lengths_given;
 pub use limits::{MAX_MEDIAN_TOKENS, MAX_MOVING_WIDTH};
 pub use signature::Signature;
+pub use told::{Told, told_of};

@@ -1,10 +1,10 @@
 // What the firings of a level come to: how many there are, and their links and tokens.
-ghost use Rattle.std.specs.Prelude.{ℕ, ◌≡◌, ◌≤◌, ◌<◌, ◌+◌, ◌*◌, ◌^◌, length};
+ghost use Rattle.std.specs.Prelude.{ℕ, ◌≡◌, ◌≤◌, ◌<◌, ◌+◌, ◌*◌, ◌^◌, ◌↔◌, IsTrue, length};
 ghost use Rattle.sdf_level.specs.Kept.{rate_limit};
-ghost use Rattle.sdf_level.specs.Limits.{tail_count, head_count, moved, firing_count, link_count, token_count, firings_limit, links_limit};
+ghost use Rattle.sdf_level.specs.Limits.{IsWithinLimits, tail_count, head_count, moved, firing_count, link_count, token_count, firings_limit, links_limit};
 ghost use Rattle.level_schedule.specs.Ends.{TailHasCount, HeadHasCount, HasEnds};
 
-use sdf_level::{Head, Level, Link, Tail};
+use sdf_level::{FIRINGS_LIMIT, Head, LINKS_LIMIT, Level, Link, TOKENS_LIMIT, Tail};
 
 /// The sum of the counts.
 pub(crate) fn count_firings(level: &Level, counts: &[u32]) -> u64
@@ -85,4 +85,18 @@ pub(crate) fn count_tokens(level: &Level, counts: &[u32]) -> u64
         total += count_moved(link, counts) + link.delay as u64;
     }
     total
+}
+
+/// Whether so many firings of each actor are within the limits of firings, links and tokens.
+pub fn are_within_limits(level: &Level, counts: &[u32]) -> bool
+    requires { length counts.now ≡ level.now.actors }
+    ensures { IsTrue result ↔ IsWithinLimits level.now counts.now }
+{
+    if count_firings(level, counts) > FIRINGS_LIMIT {
+        return false;
+    }
+    if count_links(level, counts) > LINKS_LIMIT {
+        return false;
+    }
+    count_tokens(level, counts) <= TOKENS_LIMIT
 }

@@ -8,6 +8,7 @@ mod laws;
 mod scheduling;
 mod unscheduled;
 
+pub use counting::are_within_limits;
 pub use laws::schedules_exist;
 pub use scheduling::{LevelSchedule, schedule};
 pub use unscheduled::{Unscheduled, What};

@@ -2,6 +2,7 @@ use balance_solver::Unsolved;
 use firing_order::Stuck;
 use interface_rules::InterfaceFault;
 use sdf_level::List;
+use std::alloc::AllocError;
 use thiserror::Error;
 
 /// What a job counts against a limit.
@@ -72,5 +73,16 @@ impl From<Stuck> for Unscheduled {
             Stuck::Left(left) => Unscheduled::Deadlock { left },
             Stuck::Memory => Unscheduled::Memory,
         }
+    }
+}
+
+impl From<AllocError> for Unscheduled {
+    ghost use Rattle.std.specs.Prelude.{◌≡◌};
+    ghost use Rattle.level_schedule.specs.declared.unscheduled.Unscheduled.TheVariants.{Memory};
+
+    ghost from_gives = { λ _ fault. fault ≡ Memory };
+
+    fn from(_cause: AllocError) -> Unscheduled {
+        Unscheduled::Memory
     }
 }

@@ -25,7 +25,7 @@ use Rattle.one_job.specs.Frames.{HasBlocks}
 use Rattle.one_job.specs.Kept.{Parts, HasParts, LieRight, Keeps}
 use Rattle.one_job.specs.declared.frames.FrameParts.{FrameParts}
 use Rattle.one_job.specs.Staged.{mark_of, stage_with}
-use Rattle.one_job.specs.declared.told.Told.{Told}
+use Rattle.kernel_gate.specs.declared.told.Told.{Told}
 use Rattle.one_job.proofs.Phases.{mark_elsewhere, phase_there, inside_of, claimed_not_free}
 use Rattle.one_job.proofs.Order.{IsLaid, finish_keeps_order}
 use Rattle.one_job.proofs.Claiming.{ArePorts}

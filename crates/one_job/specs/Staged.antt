@@ -3,7 +3,7 @@ use Rattle.std.specs.Prelude.{Result, Ok, Err}
 use Rattle.kernel_gate.specs.declared.fault.KernelFault.{KernelFault}
 use Rattle.one_job.specs.Marks.{Mark}
 use Rattle.one_job.specs.Marks as mark
-use Rattle.one_job.specs.declared.told.Told.{Told}
+use Rattle.kernel_gate.specs.declared.told.Told.{Told}
 use Rattle.one_job.specs.declared.stage.Stage.{Stage}
 use Rattle.one_job.specs.declared.stage.Stage.TheVariants.{Free, Claimed, Finished, Failed}
 

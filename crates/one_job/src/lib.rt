@@ -13,7 +13,6 @@ mod ready;
 mod rows;
 mod stage;
 mod starting;
-mod told;
 mod wiring;
 
 pub use job::{Job, JobEnd};

@@ -2,8 +2,7 @@ ghost use Rattle.std.specs.Prelude.{◌≡◌, ◌<◌, ◌^◌, length};
 ghost use Rattle.one_job.specs.Staged.{stage_with};
 ghost use Rattle.one_job.specs.Faults.{first_failure};
 
-use crate::told::Told;
-use kernel_gate::KernelFault;
+use kernel_gate::{KernelFault, Told};
 
 /// How far a node of a job is.
 #[derive(Drop)]

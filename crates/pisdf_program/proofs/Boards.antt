@@ -1,6 +1,6 @@
 -- A run by many workers whose journals are put, board by board.
 use Rattle.std.proofs.Common.{◌≡◌, ℕ, suc, ◌+◌, ◌-◌, ◌≤◌, ◌<◌, ℤ, List, [], ◌∷◌, ◌++◌, length, length-append, map, inl, inr, slice_get, Option, Some, None, Result, Ok, Err, String, Global, refl, sym, ap, ◌∙◌, subst, arith, take}
-use Rattle.std.specs.Prelude.{IfErr}
+use Rattle.std.specs.Prelude.{IfErr, true}
 use Rattle.outer_world.specs.Sink.{Grows}
 use Rattle.kernel_gate.specs.Signed.{SignatureView}
 use Rattle.kernel_gate.specs.Table.{the_signatures}
@@ -17,7 +17,7 @@ use Rattle.pisdf_meaning.specs.declared.refusal.Refusal.{Refusal}
 use Rattle.board_rules.specs.declared.entry.Entry.{Entry}
 use Rattle.board_journal.specs.View.{JournalView}
 use Rattle.board_rules.specs.Keys.{Key}
-use Rattle.quiescent_driver.specs.Endings.{HasWholeJournal, IsWhole}
+use Rattle.quiescent_driver.specs.Endings.{HasReadableJournal, HasWholeJournal, IsWhole}
 use Rattle.quiescent_driver.specs.Given.{key_with}
 use Rattle.quiescent_driver.specs.declared.fault.IterationFault.{IterationFault}
 use Rattle.quiescent_driver.specs.declared.fault.IterationFault.TheVariants as by_workers
@@ -226,6 +226,10 @@ whole_at g streams workers n state needs ins kernels entries signed same is h =
 -- so is that of a refusal
 pub refused_whole : (key : Key) (fault : IterationFault) (refusal : Refusal) (journal : JournalView) → fault ≡ by_workers.Refused refusal journal → HasWholeJournal key (Err fault) → IsWhole key journal.entries
 refused_whole key fault refusal journal is h = subst (λ (x : IterationFault). HasWholeJournal key (Err x)) is h
+
+-- and it can be read
+pub refused_readable : (fault : IterationFault) (refusal : Refusal) (journal : JournalView) → fault ≡ by_workers.Refused refusal journal → HasReadableJournal (Err fault) → journal.readable ≡ true
+refused_readable fault refusal journal is h = subst (λ (x : IterationFault). HasReadableJournal (Err x)) is h
 
 -- ---- the whole command
 

@@ -1,9 +1,6 @@
 -- The way to the compiled job: there is one end.
 use Rattle.std.proofs.Common.{◌≡◌, ◌⊎◌, inl, inr, ⊎_elim, ℕ, ℤ, List, Option, Some, None, Result, Ok, Err, refl, sym, ap, ◌∙◌, subst, slice_get}
 use Rattle.job_compiler.specs.Compilation.{Compilation, IsCompiled}
-use Rattle.job_compiler.specs.Refusals.{IsRefused, of_unscheduled}
-use Rattle.job_compiler.specs.declared.fault.CompileFault.{CompileFault}
-use Rattle.job_compiler.specs.declared.fault.CompileFault.TheVariants as compile
 use Rattle.level_schedule.specs.Schedules.{IsUnscheduled}
 use Rattle.level_schedule.specs.declared.unscheduled.Unscheduled.{Unscheduled}
 use Rattle.level_schedule.specs.declared.unscheduled.Unscheduled.TheVariants as unscheduled
@@ -22,7 +19,7 @@ use Rattle.pisdf_model.specs.declared.graph.Graphs.{Graphs}
 use Rattle.sdf_level.specs.View.{LevelView}
 use Rattle.quiescent_driver.specs.Iterated.{Checks}
 use Rattle.pisdf_program.specs.Job.{Compiles, EndsJob, FindsLevel, JobEnd, at_top, first_inputs}
-use Rattle.pisdf_program.specs.Uncompiled.{IsLeftTo, schedule_fault}
+use Rattle.pisdf_program.specs.Uncompiled.{IsLeftTo}
 use Rattle.quiescent_driver.specs.declared.stop.Stop.{Stop}
 use Rattle.quiescent_driver.specs.declared.stop.Stop.TheVariants as stop
 use Rattle.quiescent_driver.specs.Stops.{refused_stop}
@@ -36,92 +33,72 @@ ready job = Ok job
 
 -- ---- a level that is compiled or refused
 
--- the fault of compiling that a fault of a schedule is
-same_fault : (level : LevelView) (fault : Unscheduled) → IsUnscheduled level fault → IsRefused level (of_unscheduled fault)
-same_fault level unscheduled.Rates h = h
-same_fault level (unscheduled.Limit what value) h = h
-same_fault level (unscheduled.Deadlock left) h = h
-same_fault level unscheduled.Memory h = h
-
-back : (level : LevelView) (fault : CompileFault) → IsRefused level fault → IsUnscheduled level (schedule_fault fault)
-back level compile.Rates h = h
-back level (compile.Limit what value) h = h
-back level (compile.Deadlock left) h = h
-back level compile.Memory h = h
-
-again : (fault : Unscheduled) → schedule_fault (of_unscheduled fault) ≡ fault
-again unscheduled.Rates = refl
-again (unscheduled.Limit what value) = refl
-again (unscheduled.Deadlock left) = refl
-again unscheduled.Memory = refl
-
 abbrev Made : Type 0
-Made = Result Compilation CompileFault
+Made = Result Compilation Unscheduled
 
 abbrev made : Compilation → Made
 made job = Ok job
 
-abbrev unmade : CompileFault → Made
+abbrev unmade : Unscheduled → Made
 unmade fault = Err fault
 
 -- no compilation and no fault of the level are left out
 abbrev pub Compilers : ℕ → LevelView → Made → Type 0
 Compilers workers level r =
-    ((c : Compilation) → IsCompiled c → c.level ≡ level → c.workers ≡ workers → (r ≡ Ok c) ⊎ (r ≡ Err compile.Memory))
-    × ((fault : CompileFault) → IsRefused level fault → (r ≡ Err fault) ⊎ (r ≡ Err compile.Memory))
+    ((c : Compilation) → IsCompiled c → c.level ≡ level → c.workers ≡ workers → (r ≡ Ok c) ⊎ (r ≡ Err unscheduled.Memory))
+    × ((fault : Unscheduled) → IsUnscheduled level fault → (r ≡ Err fault) ⊎ (r ≡ Err unscheduled.Memory))
 
 module _ (top : Graph) (workers : ℕ) (level : LevelView) where
   -- where this is the fault, the level is refused for it
-  pub fault_compiles : (fault : CompileFault) (end : Stop) → IsRefused level fault → IsLeftTo top fault end → Compiles top workers level (Err end) ⊎ (end ≡ stop.Memory)
-  fault_compiles compile.Rates end r (inl is) = inl (subst (λ e. Compiles top workers level (Err e)) (sym is) (unscheduled.Rates, r, refl))
-  fault_compiles (compile.Limit what value) end r (inl is) = inl (subst (λ e. Compiles top workers level (Err e)) (sym is) (unscheduled.Limit what value, r, refl))
-  fault_compiles (compile.Deadlock left) end r (inl is) = inl (subst (λ e. Compiles top workers level (Err e)) (sym is) (unscheduled.Deadlock left, r, refl))
-  fault_compiles compile.Rates end r (inr is) = inr is
-  fault_compiles (compile.Limit what value) end r (inr is) = inr is
-  fault_compiles (compile.Deadlock left) end r (inr is) = inr is
-  fault_compiles compile.Memory end r is = inr is
+  pub fault_compiles : (fault : Unscheduled) (end : Stop) → IsUnscheduled level fault → IsLeftTo top fault end → Compiles top workers level (Err end) ⊎ (end ≡ stop.Memory)
+  fault_compiles unscheduled.Rates end r (inl is) = inl (subst (λ e. Compiles top workers level (Err e)) (sym is) (unscheduled.Rates, r, refl))
+  fault_compiles (unscheduled.Limit what value) end r (inl is) = inl (subst (λ e. Compiles top workers level (Err e)) (sym is) (unscheduled.Limit what value, r, refl))
+  fault_compiles (unscheduled.Deadlock left) end r (inl is) = inl (subst (λ e. Compiles top workers level (Err e)) (sym is) (unscheduled.Deadlock left, r, refl))
+  fault_compiles unscheduled.Rates end r (inr is) = inr is
+  fault_compiles (unscheduled.Limit what value) end r (inr is) = inr is
+  fault_compiles (unscheduled.Deadlock left) end r (inr is) = inr is
+  fault_compiles unscheduled.Memory end r is = inr is
 
-  pub fault_ends : (fault : CompileFault) (end : Stop) → IsRefused level fault ⊎ (fault ≡ compile.Memory) → IsLeftTo top fault end → Compiles top workers level (Err end) ⊎ (refused end ≡ refused stop.Memory)
+  pub fault_ends : (fault : Unscheduled) (end : Stop) → IsUnscheduled level fault ⊎ (fault ≡ unscheduled.Memory) → IsLeftTo top fault end → Compiles top workers level (Err end) ⊎ (refused end ≡ refused stop.Memory)
   fault_ends fault end (inl r) h =
       ⊎_elim (λ (c : Compiles top workers level (Err end)). inl c) (λ (m : end ≡ stop.Memory). inr (ap refused m)) (fault_compiles fault end r h)
-  fault_ends fault end (inr m) h = inr (ap refused (subst (λ (f : CompileFault). IsLeftTo top f end) m h))
+  fault_ends fault end (inr m) h = inr (ap refused (subst (λ (f : Unscheduled). IsLeftTo top f end) m h))
 
   -- no other end than the job
   pub job_only : (job : Compilation) → Compilers workers level (made job) → (end : JobEnd) → Compiles top workers level end → ready job ≡ end
-  job_only job only (Ok other) h = ⊎_elim (λ (e : made job ≡ made other). let same : job ≡ other = cc in ap ready same) (λ (e : made job ≡ unmade compile.Memory). absurd cc) (only.0 other h.compiled h.level_is h.workers_is)
+  job_only job only (Ok other) h = ⊎_elim (λ (e : made job ≡ made other). let same : job ≡ other = cc in ap ready same) (λ (e : made job ≡ unmade unscheduled.Memory). absurd cc) (only.0 other h.compiled h.level_is h.workers_is)
   job_only job only (Err (stop.Short stream has needs)) h = absurd h
-  job_only job only (Err (stop.Refused refusal)) (fault, r, is) = absurd (⊎_elim (λ (e : made job ≡ unmade (of_unscheduled fault)). cc) (λ (e : made job ≡ unmade compile.Memory). cc) (only.1 (of_unscheduled fault) (same_fault level fault r)))
+  job_only job only (Err (stop.Refused refusal)) (fault, r, is) = absurd (⊎_elim (λ (e : made job ≡ unmade fault). cc) (λ (e : made job ≡ unmade unscheduled.Memory). cc) (only.1 fault r))
   job_only job only (Err stop.Memory) h = absurd h
 
-  at_cause : (fault : CompileFault) (end : Stop) → IsLeftTo top fault end → (end ≡ stop.Refused (at_top top (schedule_cause (acting top) (schedule_fault fault)))) ⊎ (end ≡ stop.Memory)
-  at_cause compile.Rates end h = h
-  at_cause (compile.Limit what value) end h = h
-  at_cause (compile.Deadlock left) end h = h
-  at_cause compile.Memory end h = inr h
+  at_cause : (fault : Unscheduled) (end : Stop) → IsLeftTo top fault end → (end ≡ stop.Refused (at_top top (schedule_cause (acting top) fault))) ⊎ (end ≡ stop.Memory)
+  at_cause unscheduled.Rates end h = h
+  at_cause (unscheduled.Limit what value) end h = h
+  at_cause (unscheduled.Deadlock left) end h = h
+  at_cause unscheduled.Memory end h = inr h
 
-  memory_left : (fault : CompileFault) (end : Stop) → fault ≡ compile.Memory → IsLeftTo top fault end → end ≡ stop.Memory
+  memory_left : (fault : Unscheduled) (end : Stop) → fault ≡ unscheduled.Memory → IsLeftTo top fault end → end ≡ stop.Memory
   memory_left fault end is h = subst (λ f. IsLeftTo top f end) is h
 
-  same_cause : (fault : CompileFault) (other : Unscheduled) (refusal : Refusal) (end : Stop) → fault ≡ of_unscheduled other → refusal ≡ at_top top (schedule_cause (acting top) other) → IsLeftTo top fault end
+  same_cause : (fault : Unscheduled) (other : Unscheduled) (refusal : Refusal) (end : Stop) → fault ≡ other → refusal ≡ at_top top (schedule_cause (acting top) other) → IsLeftTo top fault end
       → (end ≡ stop.Refused refusal) ⊎ (end ≡ stop.Memory)
   same_cause fault other refusal end is told h =
-      let cause : schedule_fault fault ≡ other = ap schedule_fault is ∙ again other in
       ⊎_elim
-      (λ (e : end ≡ stop.Refused (at_top top (schedule_cause (acting top) (schedule_fault fault)))). inl (e ∙ ap (λ f. stop.Refused (at_top top (schedule_cause (acting top) f))) cause ∙ ap (λ r. stop.Refused r) (sym told)))
+      (λ (e : end ≡ stop.Refused (at_top top (schedule_cause (acting top) fault))). inl (e ∙ ap (λ f. stop.Refused (at_top top (schedule_cause (acting top) f))) is ∙ ap (λ r. stop.Refused r) (sym told)))
       (λ (e : end ≡ stop.Memory). inr e)
       (at_cause fault end h)
 
   -- no other end than the refusal
-  pub fault_only : (fault : CompileFault) (left : Stop) → Compilers workers level (unmade fault) → IsLeftTo top fault left → (end : JobEnd) → Compiles top workers level end → (refused left ≡ end) ⊎ (refused left ≡ Err stop.Memory)
+  pub fault_only : (fault : Unscheduled) (left : Stop) → Compilers workers level (unmade fault) → IsLeftTo top fault left → (end : JobEnd) → Compiles top workers level end → (refused left ≡ end) ⊎ (refused left ≡ Err stop.Memory)
   fault_only fault left only is (Ok other) h =
-      ⊎_elim (λ (e : unmade fault ≡ made other). absurd cc) (λ (e : unmade fault ≡ unmade compile.Memory). inr (ap refused (memory_left fault left (let same : fault ≡ compile.Memory = cc in same) is))) (only.0 other h.compiled h.level_is h.workers_is)
+      ⊎_elim (λ (e : unmade fault ≡ made other). absurd cc) (λ (e : unmade fault ≡ unmade unscheduled.Memory). inr (ap refused (memory_left fault left (let same : fault ≡ unscheduled.Memory = cc in same) is))) (only.0 other h.compiled h.level_is h.workers_is)
   fault_only fault left only is (Err (stop.Short stream has needs)) h = absurd h
   fault_only fault left only is (Err (stop.Refused refusal)) (other, r, told) =
       ⊎_elim
-      (λ (e : unmade fault ≡ unmade (of_unscheduled other)). ⊎_elim (λ (x : left ≡ stop.Refused refusal). inl (ap refused x)) (λ (x : left ≡ stop.Memory). inr (ap refused x))
-      (same_cause fault other refusal left (let same : fault ≡ of_unscheduled other = cc in same) told is))
-      (λ (e : unmade fault ≡ unmade compile.Memory). inr (ap refused (memory_left fault left (let same : fault ≡ compile.Memory = cc in same) is)))
-      (only.1 (of_unscheduled other) (same_fault level other r))
+      (λ (e : unmade fault ≡ unmade other). ⊎_elim (λ (x : left ≡ stop.Refused refusal). inl (ap refused x)) (λ (x : left ≡ stop.Memory). inr (ap refused x))
+      (same_cause fault other refusal left (let same : fault ≡ other = cc in same) told is))
+      (λ (e : unmade fault ≡ unmade unscheduled.Memory). inr (ap refused (memory_left fault left (let same : fault ≡ unscheduled.Memory = cc in same) is)))
+      (only.1 other r)
   fault_only fault left only is (Err stop.Memory) h = absurd h
 
 abbrev Lead : Type 0

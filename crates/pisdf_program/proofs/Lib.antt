@@ -4,6 +4,7 @@ pub mod Rows
 pub mod OneRun
 pub mod Working
 pub mod NoSoak
+pub mod Auditing
 pub mod Jobs
 pub mod Telling
 pub mod SoakFile

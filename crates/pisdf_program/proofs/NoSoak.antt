@@ -2,7 +2,7 @@
 use Rattle.std.proofs.Common.{◌≡◌, inl, inr, ℕ, List, Bool, true, false, Option, Some, Result, Ok, Err, String, Global, sym, ap, ◌∙◌, subst}
 use Rattle.std.specs.Prelude.{IfErr}
 use Rattle.pisdf_program.specs.SoakEnd.{IsSoakStatus}
-use Rattle.pisdf_program.specs.Words.{Command, Run, Plain, Unfold, Job, Journal, Soak, Upgrade}
+use Rattle.pisdf_program.specs.Words.{Command, Run, Plain, Unfold, Job, Journal, Audit, Soak, Upgrade}
 use Rattle.pisdf_program.specs.Worked.{Concludes}
 use Rattle.pisdf_program.specs.declared.status.Status.{Status}
 
@@ -15,6 +15,7 @@ is_soak (Plain graph tokens iterations) = false
 is_soak (Unfold times graph tokens iterations workers) = false
 is_soak (Job what graph tokens workers) = false
 is_soak (Journal graph tokens iterations workers) = false
+is_soak (Audit graph tokens iterations workers journal) = false
 is_soak (Soak number workers) = true
 is_soak (Upgrade graph) = false
 

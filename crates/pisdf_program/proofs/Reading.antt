@@ -1,4 +1,4 @@
--- Reading the two files.
+-- Reading the files.
 use Rattle.std.proofs.Common.{◌≡◌, ◌≢◌, ℕ, ◌≤◌, ◌<◌, ℤ, List, [], length, Bool, true, false, Option, Some, None, Ok, Err, refl, sym, ap, ◌∙◌, arith, inl, inr}
 use Rattle.std.specs.Prelude.{nat_lt, if◌then◌else◌, IsUtf8}
 use Rattle.std.specs.Str.{is_utf8}
@@ -15,12 +15,13 @@ use Rattle.token_text.specs.Streams.{read_of, fault_or, first_fault, streams_of}
 use Rattle.token_text.specs.Records.{records_of}
 use Rattle.token_text.specs.declared.fault.TokenFault.{TokenFault}
 use Rattle.pisdf_model.specs.declared.graph.Graphs.{Graphs}
-use Rattle.pisdf_program.specs.Result.{graphs_in_json, graphs_in_reading, json_of, read_graphs, read_streams, streams_in}
+use Rattle.pisdf_program.specs.Result.{graphs_in_json, graphs_in_reading, json_of, read_graphs, read_journal, read_streams, streams_in}
 use Rattle.quiescent_driver.specs.Top.{top_of}
 use Rattle.pisdf_program.specs.Inputs.{input_names}
-use Rattle.pisdf_program.specs.declared.status.Status.TheVariants.{GraphRefused, TokensRefused}
+use Rattle.pisdf_program.specs.declared.status.Status.TheVariants.{GraphRefused, TokensRefused, JournalRefused}
 use Rattle.pisdf_program.specs.declared.status.GraphCause.TheVariants as graph
 use Rattle.pisdf_program.specs.declared.status.TokenCause.TheVariants as tokens
+use Rattle.pisdf_program.specs.declared.status.JournalCause.TheVariants as journal
 
 pub same_some : {A : Type 0} (x y : A) → Some x ≡ Some y → x ≡ y
 same_some x y h = cc
@@ -79,6 +80,18 @@ unfolding read_streams
 read_streams_long g bytes lt =
     let yes : nat_lt 67108864 (length bytes) ≡ true = grind (arith, nat_tests) in
     ap (λ b. if b then Err (TokensRefused tokens.TooLong) else streams_in (read_of bytes (input_names g))) yes
+
+pub read_journal_short : (bytes : List ℕ) → length bytes ≤ 67108864 → read_journal bytes ≡ Ok bytes
+unfolding read_journal
+read_journal_short bytes le =
+    let no : nat_lt 67108864 (length bytes) ≡ false = grind (arith, nat_tests) in
+    ap (λ b. if b then Err (JournalRefused journal.TooLong) else Ok bytes) no
+
+pub read_journal_long : (bytes : List ℕ) → 67108864 < length bytes → read_journal bytes ≡ Err (JournalRefused journal.TooLong)
+unfolding read_journal
+read_journal_long bytes lt =
+    let yes : nat_lt 67108864 (length bytes) ≡ true = grind (arith, nat_tests) in
+    ap (λ b. if b then Err (JournalRefused journal.TooLong) else Ok bytes) yes
 
 -- ---- a stream for each name
 

@@ -38,7 +38,7 @@ use Rattle.pisdf_program.specs.Soak.{soak_file}
 use Rattle.pisdf_program.specs.Result.{graphs_in_json, graphs_in_reading, json_of, read_graphs}
 use Rattle.pisdf_program.specs.Loaded.{NoFault, Settles, is_answer}
 use Rattle.pisdf_program.specs.declared.status.Status.{Status}
-use Rattle.pisdf_program.specs.declared.status.Status.TheVariants.{Done, GraphRefused, ReadFault, RunRefused, TokensRefused, Usage, WantOfMemory, WriteFault}
+use Rattle.pisdf_program.specs.declared.status.Status.TheVariants.{Done, GraphRefused, JournalRefused, ReadFault, RunRefused, TokensRefused, Usage, WantOfMemory, WriteFault}
 use Rattle.pisdf_program.proofs.Reading.{graphs_read, read_graphs_short}
 
 -- ---- the names of the table's kernels
@@ -133,6 +133,7 @@ only_memory (RunRefused refusal) ok h = absurd (soak_reads (RunRefused refusal) 
 only_memory (ReadFault which) ok h = absurd ok
 only_memory WriteFault ok h = absurd ok
 only_memory WantOfMemory ok h = refl
+only_memory (JournalRefused cause) ok h = absurd (soak_reads (JournalRefused cause) (h refl))
 
 pub only_memories : (r : Result Graphs Status) → IfErr r NoFault → Settles (read_graphs soak_file) r → IfErr r (λ s. s ≡ WantOfMemory)
 only_memories (Ok graphs) ok h = tt

@@ -19,14 +19,14 @@ use Rattle.quiescent_driver.specs.Texts.{iteration_text, joined, texts_from}
 use Rattle.pisdf_program.specs.Lines.{line_of, memory_line, read_line}
 use Rattle.pisdf_program.specs.Words.{Command}
 use Rattle.pisdf_program.specs.Written.{Wrote, WroteFirst, WrotePartly, exactly}
-use Rattle.pisdf_program.specs.Worked.{FilesRose, ReadsNothing, StopsWith, file_among, Reports, Decided, Stopped, Works, IsThere, PutsLine, Concludes, CountRose, Completes, MayTell, Ended}
+use Rattle.pisdf_program.specs.Worked.{FilesRose, ReadsNothing, StopsWith, file_among, Reports, Decided, Stopped, Works, IsThere, PutsLine, Concludes, CountRose, Completes, MayTell, Ended, RoseAt}
 use Rattle.quiescent_driver.specs.declared.end.RunEnd.{RunEnd}
 use Rattle.quiescent_driver.specs.declared.end.RunEnd.TheVariants as end
 use Rattle.pisdf_program.specs.declared.load.Input.{Input}
 use Rattle.quiescent_driver.specs.declared.stop.Stop.{Stop}
 use Rattle.quiescent_driver.specs.declared.stop.Stop.TheVariants as stop
 use Rattle.pisdf_program.specs.declared.status.Status.{Status}
-use Rattle.pisdf_program.specs.declared.status.Status.TheVariants.{Done, Usage, GraphRefused, TokensRefused, RunRefused, ReadFault, WriteFault, WantOfMemory}
+use Rattle.pisdf_program.specs.declared.status.Status.TheVariants.{Done, Usage, GraphRefused, TokensRefused, RunRefused, ReadFault, WriteFault, WantOfMemory, JournalRefused}
 use Rattle.pisdf_program.specs.declared.status.Which.{Which}
 use Rattle.pisdf_program.specs.declared.status.Which.TheVariants as which_file
 use Rattle.pisdf_program.proofs.Written.{all_first, wrote, wrote_first, wrote_nothing, wrote_partly}
@@ -68,6 +68,7 @@ stops expected w f (RunRefused refusal) ok h = absurd ok
 stops expected w f (ReadFault x) ok h = grows_none w
 stops expected w f WriteFault ok h = absurd ok
 stops expected w f WantOfMemory ok h = λ o e. wrote_nothing w w o.texts (grows_none w)
+stops expected w f (JournalRefused cause) ok h = λ o e. refused_as o (JournalRefused cause) w (h o e refl)
 
 -- there was no memory before anything was put
 pub starved_first : (expected : Expected) (w : File) (f : ℕ) → Stopped expected w w f f WantOfMemory
@@ -110,6 +111,11 @@ files_there next graph tokens s h = λ t a.
 pub goes_on : (next : Next) (graph tokens : File) (input : Input) → Gives graph tokens input → (o : Outcome) → FromFiles next graph tokens o → next input o
 goes_on next graph tokens input h o e = subst (λ r. GoesOn next r o) (h e.0 e.1) e.2
 
+pub reads_input : (graph tokens : File) (input : Input) → Gives graph tokens input → AreTold graph tokens → ReadsFiles graph tokens (Ok input)
+reads_input graph tokens input h t =
+    let read = files_read graph tokens t in
+    subst (ReadsFiles graph tokens) (h read.0 read.1) read.1
+
 pub comes_from : (next : Next) (graph tokens : File) (input : Input) → Gives graph tokens input → AreTold graph tokens → (o : Outcome) → next input o → FromFiles next graph tokens o
 comes_from next graph tokens input h t o e =
     let read = files_read graph tokens t in
@@ -145,6 +151,7 @@ stops_reading which before now (RunRefused refusal) h = h
 stops_reading which before now (ReadFault w) h = tt
 stops_reading which before now WriteFault h = h
 stops_reading which before now WantOfMemory h = tt
+stops_reading which before now (JournalRefused cause) h = tt
 
 -- ---- a run that went through its iterations
 
@@ -291,6 +298,7 @@ unread_refusal (RunRefused refusal) h = absurd h
 unread_refusal (ReadFault w) h = absurd h
 unread_refusal WriteFault h = absurd h
 unread_refusal WantOfMemory h = unread_memory
+unread_refusal (JournalRefused cause) h = (λ w e. absurd cc, λ e. absurd cc)
 
 pub unread_report : (g : Graphs) (e : RunEnd) (r : Worked) → Reports g e r → IfErr r ReadsNothing
 unread_report g e (Ok text) h = tt
@@ -329,6 +337,7 @@ works_for wide narrow had has b n (Err (RunRefused refusal)) fewer h = λ o e. h
 works_for wide narrow had has b n (Err (ReadFault which)) fewer h = h
 works_for wide narrow had has b n (Err WriteFault) fewer h = (h.0, λ o e. h.1 o (fewer o e))
 works_for wide narrow had has b n (Err WantOfMemory) fewer h = λ o e. h o (fewer o e)
+works_for wide narrow had has b n (Err (JournalRefused cause)) fewer h = λ o e. h o (fewer o e)
 
 -- one text was put, whole or in part
 pub told_whole : (expected : Expected) (had has : File) (text line : List ℕ) → ((o : Outcome) → expected o → o ≡ told text) → line ≡ [] → Grows had has text → Decided expected had has line Done
@@ -425,6 +434,7 @@ ended expected oh on eh en ob onow eb enow s (Err Usage) w c = decided_by expect
 ended expected oh on eh en ob onow eb enow s (Err (GraphRefused cause)) w c = decided_by expected oh on eh en ob onow eb enow s (GraphRefused cause) refl w c
 ended expected oh on eh en ob onow eb enow s (Err (TokensRefused cause)) w c = decided_by expected oh on eh en ob onow eb enow s (TokensRefused cause) refl w c
 ended expected oh on eh en ob onow eb enow s (Err (RunRefused refusal)) w c = decided_by expected oh on eh en ob onow eb enow s (RunRefused refusal) refl w c
+ended expected oh on eh en ob onow eb enow s (Err (JournalRefused cause)) w c = decided_by expected oh on eh en ob onow eb enow s (JournalRefused cause) refl w c
 ended expected oh on eh en ob onow eb enow s (Err (ReadFault which)) w (inl (is, same, rest)) = absurd cc
 ended expected oh on eh en ob onow eb enow s (Err (ReadFault which)) w (inr (non, inl p)) = read_by expected oh on eh en ob onow eb enow s which w p
 ended expected oh on eh en ob onow eb enow s (Err (ReadFault which)) w (inr (non, inr p)) = memory_by expected oh on eh en ob onow eb enow s (λ o e. wrote_nothing oh on o.texts w) p
@@ -445,12 +455,12 @@ ended expected oh on eh en ob onow eb enow s (Err WriteFault) w (inr (non, rest)
 pub rose_graph : (graph tokens : List ℕ) (before now : List ℕ → ℕ) (s : Status) → FaultsOnly which_file.Graph (before graph) (now graph) s → FilesRose graph tokens before now s
 rose_graph graph tokens before now s h = λ w e.
     let f = subst (FaultsOnly which_file.Graph (before graph) (now graph)) e h in
-    subst (λ (v : Which). Rose (before (file_among graph tokens v)) (now (file_among graph tokens v))) (sym f.0) f.1
+    subst (λ (v : Which). RoseAt before now (file_among graph tokens v)) (sym f.0) f.1
 
 pub rose_tokens : (graph tokens : List ℕ) (before mid now : List ℕ → ℕ) (s : Status) → before tokens ≤ mid tokens → FaultsOnly which_file.Tokens (mid tokens) (now tokens) s → FilesRose graph tokens before now s
 rose_tokens graph tokens before mid now s le h = λ w e.
     let f = subst (FaultsOnly which_file.Tokens (mid tokens) (now tokens)) e h in
-    subst (λ (v : Which). Rose (before (file_among graph tokens v)) (now (file_among graph tokens v))) (sym f.0) (rose_since (before tokens) (mid tokens) (now tokens) le f.1)
+    subst (λ (v : Which). RoseAt before now (file_among graph tokens v)) (sym f.0) (rose_since (before tokens) (mid tokens) (now tokens) le f.1)
 
 none_rose : (cmd : Option Command) (before now : List ℕ → ℕ) (s t : Status) → s ≡ t → ((w : Which) → t ≢ ReadFault w) → CountRose cmd before now s
 none_rose cmd before now s t is non = λ w e. absurd (non w (sym is ∙ e))
@@ -505,6 +515,7 @@ completes expected cmd before now oh on eh en ob onow eb enow (RunRefused refusa
 completes expected cmd before now oh on eh en ob onow eb enow (ReadFault which) e r = λ o h. inr (inr (inr (which, refl, r which refl)))
 completes expected cmd before now oh on eh en ob onow eb enow WriteFault e r = λ o h. inr (inr (inl (refl, e.write refl)))
 completes expected cmd before now oh on eh en ob onow eb enow WantOfMemory e r = λ o h. inr (inl refl)
+completes expected cmd before now oh on eh en ob onow eb enow (JournalRefused cause) e r = λ o h. inl (e.result o h refl).status
 
 -- usage is told only where it was worked out
 pub usage_told : (worked : Result (String Global) Status) (eh en : Option (List ℕ)) (eb enow : ℕ) (s : Status) → Concludes worked eh en eb enow s → s ≡ Usage → worked ≡ stopped_by Usage

@@ -1,7 +1,7 @@
 -- Exit codes.
 use Rattle.std.specs.Prelude.{ℕ}
 use Rattle.pisdf_program.specs.declared.status.Status.{Status}
-use Rattle.pisdf_program.specs.declared.status.Status.TheVariants.{Done, Usage, GraphRefused, TokensRefused, RunRefused, ReadFault, WriteFault, WantOfMemory}
+use Rattle.pisdf_program.specs.declared.status.Status.TheVariants.{Done, Usage, GraphRefused, TokensRefused, RunRefused, ReadFault, WriteFault, WantOfMemory, JournalRefused}
 
 abbrev pub code_of : Status → ℕ
 code_of Done = 0
@@ -12,3 +12,4 @@ code_of (RunRefused refusal) = 4
 code_of (ReadFault which) = 5
 code_of WriteFault = 6
 code_of WantOfMemory = 7
+code_of (JournalRefused cause) = 9

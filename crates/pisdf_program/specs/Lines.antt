@@ -15,11 +15,13 @@ use Rattle.level_schedule.specs.declared.unscheduled.What.{What}
 use Rattle.level_schedule.specs.declared.unscheduled.What.TheVariants as what
 use Rattle.quiescent_driver.specs.Texts.{joined}
 use Rattle.pisdf_program.specs.declared.status.Status.{Status}
-use Rattle.pisdf_program.specs.declared.status.Status.TheVariants.{Done, Usage, GraphRefused, TokensRefused, RunRefused, ReadFault, WriteFault, WantOfMemory}
+use Rattle.pisdf_program.specs.declared.status.Status.TheVariants.{Done, Usage, GraphRefused, TokensRefused, RunRefused, ReadFault, WriteFault, WantOfMemory, JournalRefused}
 use Rattle.pisdf_program.specs.declared.status.GraphCause.{GraphCause}
 use Rattle.pisdf_program.specs.declared.status.GraphCause.TheVariants as graph
 use Rattle.pisdf_program.specs.declared.status.TokenCause.{TokenCause}
 use Rattle.pisdf_program.specs.declared.status.TokenCause.TheVariants as tokens
+use Rattle.pisdf_program.specs.declared.status.JournalCause.{JournalCause}
+use Rattle.pisdf_program.specs.declared.status.JournalCause.TheVariants as journal
 use Rattle.pisdf_program.specs.declared.status.Which.{Which}
 use Rattle.pisdf_program.specs.declared.status.Which.TheVariants as which
 
@@ -41,6 +43,7 @@ memory_line = codes "memory\n"
 abbrev pub read_line : Which → List ℕ
 read_line which.Graph = codes "read: graph\n"
 read_line which.Tokens = codes "read: tokens\n"
+read_line which.Journal = codes "read: journal\n"
 
 -- words and a name
 abbrev pub named_line : List ℕ → List ℕ → List ℕ
@@ -79,6 +82,11 @@ tokens_line tokens.TooLong = codes "tokens: length\n"
 tokens_line (tokens.Fault fault) = fault_line fault
 tokens_line (tokens.Short name has needs) =
     joined (codes "tokens: short " ∷ name ∷ codes " has " ∷ decimal has ∷ codes " needs " ∷ decimal needs ∷ codes "\n" ∷ [])
+
+-- the first bad line of a journal, counted from 1
+abbrev pub journal_line : JournalCause → List ℕ
+journal_line journal.TooLong = codes "journal: length\n"
+journal_line (journal.Illegal line) = joined (codes "journal: line " ∷ decimal line ∷ codes "\n" ∷ [])
 
 -- why a number isn't what it may be
 abbrev pub why_words : Why → List ℕ
@@ -124,3 +132,4 @@ line_of (RunRefused refusal) = refusal_line refusal.path refusal.cause
 line_of (ReadFault which) = read_line which
 line_of WriteFault = []
 line_of WantOfMemory = memory_line
+line_of (JournalRefused cause) = journal_line cause

@@ -7,7 +7,7 @@ use Rattle.kernel_gate.specs.Signed.{unnamed}
 use Rattle.kernel_gate.specs.Table.{the_signatures}
 use Rattle.pisdf_meaning.specs.Sound.{AreValidFor}
 use Rattle.pisdf_program.specs.declared.status.Status.{Status}
-use Rattle.pisdf_program.specs.declared.status.Status.TheVariants.{Done, Usage, GraphRefused, TokensRefused, RunRefused, ReadFault, WriteFault, WantOfMemory}
+use Rattle.pisdf_program.specs.declared.status.Status.TheVariants.{Done, Usage, GraphRefused, TokensRefused, RunRefused, ReadFault, WriteFault, WantOfMemory, JournalRefused}
 use Rattle.pisdf_program.specs.declared.status.Which.{Which}
 
 -- a status that the words and files decide: no fault of a file or a sink, and no want of memory
@@ -20,6 +20,7 @@ is_answer (RunRefused refusal) = true
 is_answer (ReadFault which) = false
 is_answer WriteFault = false
 is_answer WantOfMemory = false
+is_answer (JournalRefused cause) = true
 
 -- what was given, or refused, is what reading the told file gives; a fault and want of memory show nothing of it
 abbrev pub Settles : {A : Type 0} → Result A Status → Result A Status → Type 0
@@ -36,6 +37,7 @@ FaultsOnly which before now (RunRefused refusal) = ⊥
 FaultsOnly which before now (ReadFault w) = (w ≡ which) × Rose before now
 FaultsOnly which before now WriteFault = ⊥
 FaultsOnly which before now WantOfMemory = Unit {0}
+FaultsOnly which before now (JournalRefused cause) = Unit {0}
 
 -- a status of reading bytes, which is no fault
 abbrev pub NoFault : Status → Type 0
@@ -47,6 +49,7 @@ NoFault (RunRefused refusal) = ⊥
 NoFault (ReadFault w) = ⊥
 NoFault WriteFault = ⊥
 NoFault WantOfMemory = Unit {0}
+NoFault (JournalRefused cause) = Unit {0}
 
 -- a status where the files of a run can't be read
 abbrev pub StopsReading : Status → Type 0
@@ -58,6 +61,7 @@ StopsReading (RunRefused refusal) = ⊥
 StopsReading (ReadFault which) = Unit {0}
 StopsReading WriteFault = ⊥
 StopsReading WantOfMemory = Unit {0}
+StopsReading (JournalRefused cause) = Unit {0}
 
 -- graphs that were read: valid, fitting the kernels of the table, and such that they can be written
 pub record AreGood (graphs : Graphs) : Type 0 where

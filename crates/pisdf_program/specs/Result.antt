@@ -1,5 +1,6 @@
 -- The result of a command: what it writes and how it ends, from the words and the files that they name.
-use Rattle.std.specs.Prelude.{◌≡◌, ℕ, ◌==◌, nat_lt, ℤ, List, [], ◌∷◌, length, Option, Some, None, Result, Ok, Err, if◌then◌else◌}
+use Rattle.std.specs.Prelude.{◌≡◌, ℕ, ◌==◌, nat_lt, ℤ, List, [], ◌∷◌, codes, length, Option, Some, None, Result, Ok, Err, if◌then◌else◌}
+use Rattle.std.specs.Fmt.{decimal}
 use Rattle.std.specs.Str.{is_utf8}
 use Rattle.serde_json.specs.Data.{Data}
 use Rattle.serde_json.specs.Read.{read}
@@ -20,22 +21,26 @@ use Rattle.job_report.specs.Names.{names_of}
 use Rattle.job_report.specs.Rows.{name_at}
 use Rattle.job_report.specs.Told.{Tells}
 use Rattle.job_report.specs.declared.text.JobText.{JobText}
+use Rattle.journal_audit.specs.Verdicts.{IsVerdict}
+use Rattle.journal_audit.specs.declared.verdict.Verdict.{Verdict}
+use Rattle.journal_audit.specs.declared.verdict.Verdict.TheVariants as verdict
 use Rattle.quiescent_driver.specs.Journals.{boards}
 use Rattle.pisdf_program.specs.Job.{EndsJob, JobEnd}
 use Rattle.pisdf_program.specs.Soak.{all_tokens, soak_file, soak_iterations, soak_text, soak_streams}
 use Rattle.quiescent_driver.specs.Top.{top_of}
 use Rattle.pisdf_program.specs.Inputs.{input_names}
-use Rattle.pisdf_program.specs.Words.{Command, command_of, Run, Plain, Unfold, Job, Journal, Soak, Upgrade}
-use Rattle.quiescent_driver.specs.Texts.{texts_from}
+use Rattle.pisdf_program.specs.Words.{Command, command_of, Run, Plain, Unfold, Job, Journal, Audit, Soak, Upgrade}
+use Rattle.quiescent_driver.specs.Texts.{joined, texts_from}
 use Rattle.pisdf_program.specs.Lines.{left_lines, line_of}
 use Rattle.pisdf_program.specs.Written.{Text, Exactly, exactly, journals}
 use Rattle.quiescent_driver.specs.declared.stop.Stop.{Stop}
 use Rattle.quiescent_driver.specs.declared.stop.Stop.TheVariants as stop
 use Rattle.pisdf_program.specs.declared.load.Input.{Input}
 use Rattle.pisdf_program.specs.declared.status.Status.{Status}
-use Rattle.pisdf_program.specs.declared.status.Status.TheVariants.{Done, Usage, GraphRefused, TokensRefused, RunRefused}
+use Rattle.pisdf_program.specs.declared.status.Status.TheVariants.{Done, Usage, GraphRefused, TokensRefused, RunRefused, JournalRefused}
 use Rattle.pisdf_program.specs.declared.status.GraphCause.TheVariants as graph
 use Rattle.pisdf_program.specs.declared.status.TokenCause.TheVariants as tokens
+use Rattle.pisdf_program.specs.declared.status.JournalCause.TheVariants as journal
 
 -- the texts for standard output, each put whole, the text for standard error, and the status
 pub record Outcome : Type 0 where
@@ -147,6 +152,30 @@ journals_of workers input r = record {
 abbrev pub Journals : ℕ → ℕ → Input → Outcome → Type 0
 Journals iterations workers input o = (r : run.Run) × run.IsRun input.graphs input.streams iterations r × (o ≡ journals_of workers input r)
 
+-- ---- the audit of a journal
+
+-- how many boards and entries there are in a journal of a whole run
+abbrev pub legal_row : ℕ → ℕ → List ℕ
+legal_row boards entries = joined (codes "audit,legal," ∷ decimal boards ∷ codes "," ∷ decimal entries ∷ codes "\n" ∷ [])
+
+abbrev pub judged : Verdict → Outcome
+judged (verdict.Legal boards entries) = told (legal_row boards entries)
+judged (verdict.Illegal line) = refused (JournalRefused (journal.Illegal line))
+
+-- the text in the bytes of a journal's file, or the refusal
+unfoldable pub read_journal : List ℕ → Result (List ℕ) Status
+read_journal bytes = if nat_lt 67108864 (length bytes) then Err (JournalRefused journal.TooLong) else Ok bytes
+
+-- the text is judged as that of the journals of a run of so many iterations by so many workers
+abbrev pub AuditsText : ℕ → ℕ → Input → Result (List ℕ) Status → Outcome → Type 0
+AuditsText iterations workers input (Ok text) o = (v : Verdict) × IsVerdict input.graphs the_signatures input.streams iterations workers text v × (o ≡ judged v)
+AuditsText iterations workers input (Err status) o = o ≡ refused status
+
+-- the journal's file comes after the two others; nothing is said of it where it isn't told
+abbrev pub Audits : ℕ → ℕ → Option (List ℕ) → Input → Outcome → Type 0
+Audits iterations workers None input o = ⊥
+Audits iterations workers (Some bytes) input o = AuditsText iterations workers input (read_journal bytes) o
+
 -- ---- what is told of the compiled job
 
 -- what is told where an iteration isn't done; want of memory says nothing
@@ -212,6 +241,7 @@ ComesTo (Some (Plain graph tokens iterations)) files o = RunsFile (files graph) 
 ComesTo (Some (Unfold times graph tokens iterations workers)) files o = RunsFile (files graph) iterations (files tokens) o
 ComesTo (Some (Job what graph tokens workers)) files o = FromFiles (TellsJob what workers) (files graph) (files tokens) o
 ComesTo (Some (Journal graph tokens iterations workers)) files o = FromFiles (Journals iterations workers) (files graph) (files tokens) o
+ComesTo (Some (Audit graph tokens iterations workers journal)) files o = FromFiles (Audits iterations workers (files journal)) (files graph) (files tokens) o
 ComesTo (Some (Soak number workers)) files o = Soaks number o
 ComesTo (Some (Upgrade graph)) files o = Upgrades (files graph) o
 
@@ -233,6 +263,10 @@ abbrev pub AreTold : Option (List ℕ) → Option (List ℕ) → Type 0
 AreTold None tokens = ⊥
 AreTold (Some bytes) tokens = IsToldAfter (read_graphs bytes) tokens
 
+-- a third file is told where the two before it are read
+abbrev pub ThreeAreTold : Option (List ℕ) → Option (List ℕ) → Option (List ℕ) → Type 0
+ThreeAreTold graph tokens third = AreTold graph tokens × ((input : Input) → ReadsFiles graph tokens (Ok input) → IsTold third)
+
 -- the files that a command loads are told
 abbrev pub Knows : Option Command → (List ℕ → Option (List ℕ)) → Type 0
 Knows None files = Unit {0}
@@ -241,5 +275,6 @@ Knows (Some (Plain graph tokens iterations)) files = AreTold (files graph) (file
 Knows (Some (Unfold times graph tokens iterations workers)) files = AreTold (files graph) (files tokens)
 Knows (Some (Job what graph tokens workers)) files = AreTold (files graph) (files tokens)
 Knows (Some (Journal graph tokens iterations workers)) files = AreTold (files graph) (files tokens)
+Knows (Some (Audit graph tokens iterations workers journal)) files = ThreeAreTold (files graph) (files tokens) (files journal)
 Knows (Some (Soak number workers)) files = Unit {0}
 Knows (Some (Upgrade graph)) files = IsTold (files graph)

@@ -47,3 +47,4 @@ IsSoakStatus (status.RunRefused refusal) = Unit {0}
 IsSoakStatus (status.ReadFault which) = ⊥
 IsSoakStatus status.WriteFault = Unit {0}
 IsSoakStatus status.WantOfMemory = Unit {0}
+IsSoakStatus (status.JournalRefused cause) = ⊥

@@ -12,6 +12,7 @@ pub data Command : Type 0 where
   Unfold : (times : ℕ) (graph tokens : List ℕ) (iterations workers : ℕ) → Command
   Job : (what : JobText) (graph tokens : List ℕ) (workers : ℕ) → Command
   Journal : (graph tokens : List ℕ) (iterations workers : ℕ) → Command
+  Audit : (graph tokens : List ℕ) (iterations workers : ℕ) (journal : List ℕ) → Command
   Soak : (number workers : ℕ) → Command
   Upgrade : (graph : List ℕ) → Command
 
@@ -74,6 +75,12 @@ journal_row (graph ∷ tokens ∷ iterations ∷ workers ∷ []) =
     option_and_then (λ i. option_map (λ w. Journal graph tokens i w) (workers_of workers)) (iterations_of iterations)
 journal_row _ = None
 
+-- GRAPH TOKENS ITERATIONS WORKERS JOURNAL
+abbrev pub audit_row : List (List ℕ) → Option Command
+audit_row (graph ∷ tokens ∷ iterations ∷ workers ∷ journal ∷ []) =
+    option_and_then (λ i. option_map (λ w. Audit graph tokens i w journal) (workers_of workers)) (iterations_of iterations)
+audit_row _ = None
+
 -- NUMBER WORKERS
 abbrev pub soak_row : List (List ℕ) → Option Command
 soak_row (number ∷ workers ∷ []) = option_and_then (λ n. option_map (λ w. Soak n w) (workers_of workers)) (generated_of number)
@@ -95,6 +102,7 @@ row_of name words =
     else if bytes_eq name (codes "schedule") then job_row told.Schedule words
     else if bytes_eq name (codes "memory") then job_row told.Memory words
     else if bytes_eq name (codes "journal") then journal_row words
+    else if bytes_eq name (codes "audit") then audit_row words
     else if bytes_eq name (codes "soak") then soak_row words
     else if bytes_eq name (codes "upgrade") then upgrade_row words
     else None

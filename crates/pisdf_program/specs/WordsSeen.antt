@@ -11,6 +11,7 @@ seen (here.Plain graph tokens iterations) = words.Plain graph.now tokens.now ite
 seen (here.Unfold times graph tokens iterations workers) = words.Unfold times graph.now tokens.now iterations workers
 seen (here.Job what graph tokens workers) = words.Job what graph.now tokens.now workers
 seen (here.Journal graph tokens iterations workers) = words.Journal graph.now tokens.now iterations workers
+seen (here.Audit graph tokens iterations workers journal) = words.Audit graph.now tokens.now iterations workers journal.now
 seen (here.Soak number workers) = words.Soak number workers
 seen (here.Upgrade graph) = words.Upgrade graph.now
 
@@ -28,5 +29,6 @@ IsWithin (here.Plain graph tokens iterations) = Unit {0}
 IsWithin (here.Unfold times graph tokens iterations workers) = AreTimes times × AreSome workers
 IsWithin (here.Job what graph tokens workers) = AreSome workers
 IsWithin (here.Journal graph tokens iterations workers) = AreSome workers
+IsWithin (here.Audit graph tokens iterations workers journal) = AreSome workers
 IsWithin (here.Soak number workers) = (number ≤ greatest_number) × AreSome workers
 IsWithin (here.Upgrade graph) = Unit {0}

@@ -11,16 +11,17 @@ use Rattle.pisdf_program.specs.Result.{Outcome, TellsStop, short_of, told}
 use Rattle.quiescent_driver.specs.Top.{top_of}
 use Rattle.pisdf_program.specs.Lines.{left_lines, line_of, memory_line, read_line}
 use Rattle.pisdf_program.specs.Written.{Wrote, WroteFirst, WrotePartly}
-use Rattle.pisdf_program.specs.Words.{Command, Run, Plain, Unfold, Job, Journal, Soak, Upgrade}
+use Rattle.pisdf_program.specs.Words.{Command, Run, Plain, Unfold, Job, Audit, Soak, Upgrade}
+use Rattle.pisdf_program.specs.Words as words
 use Rattle.pisdf_program.specs.declared.soak_totals.Total.{Total}
 use Rattle.quiescent_driver.specs.declared.stop.Stop.{Stop}
 use Rattle.quiescent_driver.specs.declared.stop.Stop.TheVariants as stop
 use Rattle.quiescent_driver.specs.declared.end.RunEnd.{RunEnd}
 use Rattle.quiescent_driver.specs.declared.end.RunEnd.TheVariants as end
 use Rattle.pisdf_program.specs.declared.status.Status.{Status}
-use Rattle.pisdf_program.specs.declared.status.Status.TheVariants.{Done, Usage, GraphRefused, TokensRefused, RunRefused, ReadFault, WriteFault, WantOfMemory}
+use Rattle.pisdf_program.specs.declared.status.Status.TheVariants.{Done, Usage, GraphRefused, TokensRefused, RunRefused, ReadFault, WriteFault, WantOfMemory, JournalRefused}
 use Rattle.pisdf_program.specs.declared.status.Which.{Which}
-use Rattle.pisdf_program.specs.declared.status.Which.TheVariants.{Graph, Tokens}
+use Rattle.pisdf_program.specs.declared.status.Which.TheVariants.{Graph, Tokens, Journal}
 
 -- ---- the end of a run, told
 
@@ -59,6 +60,7 @@ Stopped expected had has before now (RunRefused refusal) = Decided expected had 
 Stopped expected had has before now (ReadFault which) = Grows had has []
 Stopped expected had has before now WriteFault = Rose before now × ((o : Outcome) → expected o → WrotePartly had has o.texts)
 Stopped expected had has before now WantOfMemory = (o : Outcome) → expected o → WroteFirst had has o.texts
+Stopped expected had has before now (JournalRefused cause) = Decided expected had has (line_of (JournalRefused cause)) (JournalRefused cause)
 
 -- the lines for standard error after Done, or the status otherwise
 abbrev pub Works : (Outcome → Type 0) → Option (List ℕ) → Option (List ℕ) → ℕ → ℕ → Result (String Global) Status → Type 0
@@ -137,22 +139,31 @@ pub record Ended (expected : Outcome → Type 0) (out_had out_has err_had err_ha
 
 -- ---- the files of a command
 
--- of the names of a graph file and a token file the one that is asked for
-abbrev pub file_among : List ℕ → List ℕ → Which → List ℕ
-file_among graph tokens Graph = graph
-file_among graph tokens Tokens = tokens
+-- of the names of a graph file, a token file and a journal the one that is asked for
+abbrev pub file_of_three : List ℕ → List ℕ → List ℕ → Which → Option (List ℕ)
+file_of_three graph tokens journal Graph = Some graph
+file_of_three graph tokens journal Tokens = Some tokens
+file_of_three graph tokens journal Journal = Some journal
+
+-- of the names of the first two alone
+abbrev pub file_among : List ℕ → List ℕ → Which → Option (List ℕ)
+file_among graph tokens Graph = Some graph
+file_among graph tokens Tokens = Some tokens
+file_among graph tokens Journal = None
 
 abbrev pub graph_alone : List ℕ → Which → Option (List ℕ)
 graph_alone graph Graph = Some graph
 graph_alone graph Tokens = None
+graph_alone graph Journal = None
 
 -- the name of one of the files that a command may load, in its words
 abbrev pub file_in : Command → Which → Option (List ℕ)
-file_in (Run graph tokens iterations workers) which = Some (file_among graph tokens which)
-file_in (Plain graph tokens iterations) which = Some (file_among graph tokens which)
-file_in (Unfold times graph tokens iterations workers) which = Some (file_among graph tokens which)
-file_in (Job what graph tokens workers) which = Some (file_among graph tokens which)
-file_in (Journal graph tokens iterations workers) which = Some (file_among graph tokens which)
+file_in (Run graph tokens iterations workers) which = file_among graph tokens which
+file_in (Plain graph tokens iterations) which = file_among graph tokens which
+file_in (Unfold times graph tokens iterations workers) which = file_among graph tokens which
+file_in (Job what graph tokens workers) which = file_among graph tokens which
+file_in (words.Journal graph tokens iterations workers) which = file_among graph tokens which
+file_in (Audit graph tokens iterations workers journal) which = file_of_three graph tokens journal which
 file_in (Soak number workers) which = None
 file_in (Upgrade graph) which = graph_alone graph which
 
@@ -177,7 +188,7 @@ StopsWith graphs stop.Memory status = status ≡ WantOfMemory
 
 -- where a status is a fault of reading one of two files, the count of that file's name rose
 abbrev pub FilesRose : List ℕ → List ℕ → (List ℕ → ℕ) → (List ℕ → ℕ) → Status → Type 0
-FilesRose graph tokens before now status = (which : Which) → status ≡ ReadFault which → Rose (before (file_among graph tokens which)) (now (file_among graph tokens which))
+FilesRose graph tokens before now status = (which : Which) → status ≡ ReadFault which → RoseAt before now (file_among graph tokens which)
 
 -- where a status is a fault of reading a file, the count of that file's name in the command's words rose
 abbrev pub CountRose : Option Command → (List ℕ → ℕ) → (List ℕ → ℕ) → Status → Type 0

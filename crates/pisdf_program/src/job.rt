@@ -9,7 +9,7 @@ ghost use Rattle.pisdf_program.specs.Loaded.{AreGood};
 ghost use Rattle.quiescent_driver.specs.Top.{top_of};
 
 use crate::load::Input;
-use job_compiler::{CompileFault, Compiled, compile};
+use job_compiler::{Compiled, compile};
 use kernel_gate::Gate;
 use level_schedule::Unscheduled;
 use pisdf_meaning::{Cause, Path, Refusal, first_delays, schedule_cause, top_level, top_needs};
@@ -31,20 +31,20 @@ fn refused_at(alloc: Global, top: &Graph, cause: Cause) -> Stop
     }
 }
 
-/// Why there is no job, where the level of the top graph can't be compiled.
-fn uncompiled(alloc: Global, top: &Graph, fault: CompileFault) -> Stop
+/// Why there is no job, where the level of the top graph has no schedule.
+fn uncompiled(alloc: Global, top: &Graph, fault: Unscheduled) -> Stop
     ensures { IsLeftTo top.now fault result }
 {
     match fault {
-        CompileFault::Rates => refused_at(alloc, top, Cause::Rates),
-        CompileFault::Limit { what, value } => refused_at(alloc, top, Cause::Limit { what, value }),
-        CompileFault::Deadlock { left } => {
+        Unscheduled::Rates => refused_at(alloc, top, Cause::Rates),
+        Unscheduled::Limit { what, value } => refused_at(alloc, top, Cause::Limit { what, value }),
+        Unscheduled::Deadlock { left } => {
             match schedule_cause(alloc, top, Unscheduled::Deadlock { left }) {
                 Ok(cause) => refused_at(alloc, top, cause),
                 Err(_) => Stop::Memory,
             }
         }
-        CompileFault::Memory => Stop::Memory,
+        Unscheduled::Memory => Stop::Memory,
     }
 }
 

@@ -1,5 +1,5 @@
 // The command that tells the journals of a run by many workers.
-ghost use Rattle.std.specs.Prelude.{◌≡◌, ◌≢◌, ◌<◌, ◌≤◌, [], Err, length, IfErr, IfOk, OnOk};
+ghost use Rattle.std.specs.Prelude.{◌≡◌, ◌≢◌, ◌<◌, ◌≤◌, [], Err, length, IfErr, IfOk, OnOk, true};
 ghost use Rattle.std.specs.Arc.{arc_value};
 ghost use Rattle.kernel_gate.specs.Table.{the_signatures};
 ghost use Rattle.param_resolver.specs.EarlyCheck.{early_faults};
@@ -59,6 +59,7 @@ fn next_board<K: Gate + Sync, R: Threads + Wait + Sync>(
     requires most { workers ≤ 16 }
     ensures closes { IfOk result (λ c. ClosesWith (arc_value graphs.now) delays.old.lists delays.new.lists (rest_of number (top_needs (arc_value graphs.now)) streams.now.tokens.now) c.refusal) }
     ensures whole { IfOk result (λ c. IsWhole (key_at (arc_value graphs.now) the_signatures streams.now.tokens.now workers number delays.old.lists) c.journal.entries) }
+    ensures readable { IfOk result (λ c. c.journal.readable ≡ true) }
     ensures none { IfErr result (HasNoBoard (arc_value graphs.now) (rest_of number (top_needs (arc_value graphs.now)) streams.now.tokens.now)) }
     ensures state { IsTopState (arc_value graphs.now) delays.new.lists }
 {

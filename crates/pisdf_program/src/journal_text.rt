@@ -1,5 +1,5 @@
 // The text of a journal.
-ghost use Rattle.std.specs.Prelude.{◌≡◌, ◌++◌, IfOk, OnOk, string_bytes};
+ghost use Rattle.std.specs.Prelude.{◌≡◌, ◌++◌, IfOk, OnOk, string_bytes, true};
 ghost use Rattle.board_journal.specs.View.{entry_told};
 ghost use Rattle.board_rules.specs.declared.entry.Entry.TheVariants as entry;
 ghost use Rattle.quiescent_driver.specs.Journals.{entry_line, journal_text};
@@ -38,12 +38,13 @@ fn push_entry(text: &mut String, number: u32, entry: EntryAt<'_>) -> Result<(), 
     }
 }
 
-/// A line for each entry of the journal of an iteration.
+/// A line for each entry of the journal of an iteration, which can be read.
 pub(crate) fn journal_text(
     alloc: Global,
     number: u32,
     journal: &Journal,
 ) -> Result<String, AllocError>
+    requires { journal.now.readable ≡ true }
     ensures { IfOk result (λ s. string_bytes s ≡ journal_text number journal.now.entries) }
 {
     let mut text = String::new(alloc);

@@ -6,6 +6,9 @@ pub const GRAPH_BYTES: usize = 4_194_304;
 /// The bytes of a token file.
 pub const TOKEN_BYTES: usize = 67_108_864;
 
+/// The bytes of a journal.
+pub const JOURNAL_BYTES: usize = 67_108_864;
+
 /// The iterations of a run, and the digits of their number.
 pub const ITERATIONS: u32 = 65_536;
 

@@ -1,9 +1,9 @@
 // The lines that a status puts to standard error.
 ghost use Rattle.std.specs.Prelude.{◌≡◌, ◌==◌, ◌++◌, [], codes, if◌then◌else◌, IfOk, OnOk, IsOk, string_bytes};
 ghost use Rattle.pisdf_program.specs.LineSeen.{line_text};
-ghost use Rattle.pisdf_program.specs.Lines.{cause_words, graph_fault_line, graph_line, left_line, left_lines, left_words, line_of, named_line, range_words, read_line, refusal_line, tokens_line, what_word, why_words};
+ghost use Rattle.pisdf_program.specs.Lines.{cause_words, graph_fault_line, graph_line, journal_line, left_line, left_lines, left_words, line_of, named_line, range_words, read_line, refusal_line, tokens_line, what_word, why_words};
 
-use crate::status::{GraphCause, Status, TokenCause, Which};
+use crate::status::{GraphCause, JournalCause, Status, TokenCause, Which};
 use graph_format::GraphFault;
 use level_schedule::What;
 use param_expr::Name;
@@ -97,6 +97,7 @@ fn read_line(which: Which) -> &'static str
     match which {
         Which::Graph => "read: graph\n",
         Which::Tokens => "read: tokens\n",
+        Which::Journal => "read: journal\n",
     }
 }
 
@@ -132,6 +133,17 @@ fn short_line(alloc: Global, stream: &Name, has: u64, needs: u32) -> Result<Stri
 {
     let name = stream.text();
     format!(in alloc; "tokens: short {name} has {has} needs {needs}\n")
+}
+
+fn journal_line(alloc: Global, cause: &JournalCause) -> Result<Line, AllocError>
+    ensures { IfOk result (λ l. line_text l ≡ journal_line cause.now) }
+{
+    match cause {
+        JournalCause::TooLong => Ok(Line::Fixed("journal: length\n")),
+        JournalCause::Illegal { line } => {
+            Ok(Line::Written(format!(in alloc; "journal: line {line}\n")?))
+        }
+    }
 }
 
 /// Appends why a number isn't what it may be.
@@ -267,6 +279,7 @@ pub(crate) fn line_of(alloc: Global, status: &Status) -> Result<Line, AllocError
         Status::RunRefused(refusal) => Ok(Line::Written(refusal_line(alloc, refusal)?)),
         Status::ReadFault(which) => Ok(Line::Fixed(read_line(*which))),
         Status::WantOfMemory => Ok(Line::Fixed(MEMORY)),
+        Status::JournalRefused(cause) => journal_line(alloc, cause),
     }
 }
 

@@ -1,8 +1,8 @@
-// Loading the two files of a run.
+// Loading the two files of a run, and a journal.
 ghost use Rattle.std.specs.Prelude.{◌≡◌, ◌<◌, ◌≤◌, ◌↔◌, ℕ, List as Seq, Some, length, map, IfOk, IfErr, IsTrue, Result as Read};
 ghost use Rattle.token_text.specs.Streams.{read_of};
 ghost use Rattle.pisdf_program.specs.Loaded.{AreGood, FaultsOnly, NoFault, Settles, StopsReading};
-ghost use Rattle.pisdf_program.specs.Result.{ReadsFiles, graphs_in_json, json_of, read_graphs, read_streams, streams_in};
+ghost use Rattle.pisdf_program.specs.Result.{ReadsFiles, graphs_in_json, json_of, read_graphs, read_journal, read_streams, streams_in};
 ghost use Rattle.quiescent_driver.specs.Top.{top_of};
 ghost use Rattle.pisdf_program.specs.Inputs.{input_names};
 ghost use Rattle.pisdf_program.specs.Worked.{FilesRose};
@@ -12,7 +12,7 @@ ghost use Rattle.kernel_gate.specs.Signed.{signature_view};
 ghost use Rattle.kernel_gate.specs.Table.{the_signatures};
 
 use crate::limits;
-use crate::status::{GraphCause, Status, TokenCause, Which};
+use crate::status::{GraphCause, JournalCause, Status, TokenCause, Which};
 use graph_format::GraphFault;
 use graph_laws::kernels_fit;
 use graph_reader::read;
@@ -164,6 +164,8 @@ pub(crate) fn load_input<S: Shelf>(
     ensures good { IfOk result (λ input. AreGood input.graphs) }
     ensures fit { IfOk result (λ input. length input.streams ≡ length (top_of input.graphs).inputs) }
     ensures stops { IfErr result StopsReading }
+    ensures contents { (other : Seq ℕ) → S.holds shelf.new other ≡ S.holds shelf.old other }
+    ensures never_falls { (other : Seq ℕ) → S.faults shelf.old other ≤ S.faults shelf.new other }
     ensures rose { IfErr result (FilesRose graph.now tokens.now (S.faults shelf.old) (S.faults shelf.new)) }
 {
     let graphs = match load_graphs(alloc, shelf, graph, signatures) {
@@ -173,5 +175,18 @@ pub(crate) fn load_input<S: Shelf>(
     match load_streams(alloc, shelf, tokens, &graphs) {
         Ok(streams) => Ok(Input { graphs, streams }),
         Err(status) => Err(status),
+    }
+}
+
+/// Loads a journal.
+pub(crate) fn load_journal<S: Shelf>(shelf: &mut S, name: &str) -> Result<List<u8>, Status>
+    ensures settles { (told : Seq ℕ) → S.holds shelf.old name.now ≡ Some told → Settles (read_journal told) result }
+    ensures faults { IfErr result (FaultsOnly Which.Journal (S.faults shelf.old name.now) (S.faults shelf.new name.now)) }
+{
+    match shelf.load(name, limits::JOURNAL_BYTES) {
+        Ok(bytes) => Ok(List::new(bytes)),
+        Err(LoadFault::Failed) => Err(Status::ReadFault(Which::Journal)),
+        Err(LoadFault::TooLong) => Err(Status::JournalRefused(JournalCause::TooLong)),
+        Err(LoadFault::Memory) => Err(Status::WantOfMemory),
     }
 }

@@ -12,6 +12,7 @@ ghost use Rattle.pisdf_program.specs.Result.{AreTold, Knows, Outcome, ResultOf, 
 ghost use Rattle.pisdf_program.specs.Words as table;
 ghost use Rattle.pisdf_program.specs.Worked.{Completes, Concludes, CountRose, Ended, FilesRose, IsThere, PutsLine, Reports, TellsUnlessCut, Works};
 
+use crate::audit::tell_audit;
 use crate::job_command::tell_job;
 use crate::journal::tell_journals;
 use crate::line::{MEMORY, left_lines, line_of};
@@ -247,6 +248,15 @@ fn work<S: Shelf, O: Sink, K: Gate + Sync, R: Threads + Wait + Sync>(
             workers,
         } => tell_journals(
             rt, alloc, graph, tokens, iterations, workers, shelf, out, gate,
+        ),
+        Command::Audit {
+            graph,
+            tokens,
+            iterations,
+            workers,
+            journal,
+        } => tell_audit(
+            alloc, graph, tokens, iterations, workers, journal, shelf, out, gate,
         ),
         Command::Soak { number, workers } => soak(rt, alloc, number, workers, out, gate),
         Command::Upgrade { graph } => upgrade(alloc, graph, shelf, out, gate),

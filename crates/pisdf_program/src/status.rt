@@ -23,6 +23,7 @@ pub enum Status {
     /// A text couldn't be put. A sink's count of faults rose.
     WriteFault,
     WantOfMemory,
+    JournalRefused(JournalCause),
 }
 
 /// Why a graph file was refused.
@@ -43,11 +44,20 @@ pub enum TokenCause {
     Short { stream: Name, has: u64, needs: u32 },
 }
 
-/// One of the two files that the words name.
+/// Why a journal was refused.
+#[derive(Drop)]
+pub enum JournalCause {
+    TooLong,
+    /// It isn't the text of a run's journals, and this is its first bad line, counted from 1.
+    Illegal { line: u64 },
+}
+
+/// One of the files that the words name.
 #[derive(Clone, Copy, Debug, PartialEq, Eq)]
 pub enum Which {
     Graph,
     Tokens,
+    Journal,
 }
 
 impl Status {
@@ -64,6 +74,7 @@ impl Status {
             Status::ReadFault(_) => 5,
             Status::WriteFault => 6,
             Status::WantOfMemory => 7,
+            Status::JournalRefused(_) => 9,
         }
     }
     /// The exit code, as a process ends with it.

@@ -1,5 +1,5 @@
 ghost use Rattle.std.specs.Prelude.{◌≡◌, ◌≤◌, IfSome, map, option_map, string_bytes};
-ghost use Rattle.pisdf_program.specs.Words.{command_of, run_row, plain_row, unfold_row, job_row, journal_row, soak_row, upgrade_row, iterations_of, workers_of, times_of, generated_of, greatest_number, most_times, most_workers};
+ghost use Rattle.pisdf_program.specs.Words.{command_of, run_row, plain_row, unfold_row, job_row, journal_row, audit_row, soak_row, upgrade_row, iterations_of, workers_of, times_of, generated_of, greatest_number, most_times, most_workers};
 ghost use Rattle.pisdf_program.specs.WordsSeen.{IsWithin, seen};
 
 use crate::limits;
@@ -40,6 +40,14 @@ pub(crate) enum Command<'w> {
         tokens: &'w str,
         iterations: u32,
         workers: u32,
+    },
+    /// To judge a journal that lies in a file.
+    Audit {
+        graph: &'w str,
+        tokens: &'w str,
+        iterations: u32,
+        workers: u32,
+        journal: &'w str,
     },
     Soak {
         number: u32,
@@ -154,6 +162,22 @@ fn journal_row(words: &[String]) -> Option<Command<'_>>
     }
 }
 
+fn audit_row(words: &[String]) -> Option<Command<'_>>
+    ensures row { option_map seen result ≡ audit_row (map string_bytes words.now) }
+    ensures within { IfSome result IsWithin }
+{
+    match words {
+        [graph, tokens, iterations, workers, journal] => Some(Command::Audit {
+            graph: graph.as_str(),
+            tokens: tokens.as_str(),
+            iterations: iterations_of(iterations.as_str())?,
+            workers: workers_of(workers.as_str())?,
+            journal: journal.as_str(),
+        }),
+        _ => None,
+    }
+}
+
 fn soak_row(words: &[String]) -> Option<Command<'_>>
     ensures row { option_map seen result ≡ soak_row (map string_bytes words.now) }
     ensures within { IfSome result IsWithin }
@@ -193,6 +217,7 @@ pub(crate) fn read_words(words: &[String]) -> Option<Command<'_>>
         "schedule" => job_row(JobText::Schedule, rest),
         "memory" => job_row(JobText::Memory, rest),
         "journal" => journal_row(rest),
+        "audit" => audit_row(rest),
         "soak" => soak_row(rest),
         "upgrade" => upgrade_row(rest),
         _ => None,

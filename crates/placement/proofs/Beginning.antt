@@ -6,7 +6,7 @@ use Rattle.std.proofs.lemmas.Nat.{and_le_l}
 use Rattle.std.proofs.lemmas.Nat.Bits.{bit_at_and, bit_at_not, bit_at-lt, bit_at-zero, bit_at_clear_same, bit_at_clear_other}
 use Rattle.std.specs.Int.{bit_at, bit_not}
 use Rattle.placement_checker.specs.Rows.{RowHas}
-use Rattle.placement.specs.Placing.{Blocks, IsStart, IsLast, StandsAt}
+use Rattle.placement.specs.Placing.{Blocks, IsLast, IsShut, StandsAt}
 use Rattle.placement.specs.declared.gap.Placed.{Placed}
 
 -- clearing a bit that is set makes the word smaller, and leaves the other bits
@@ -43,54 +43,30 @@ has_within row bit has = ⊎_elim
     absurd (omega arith))
     (cases_lt (bit / 64) (length row))
 
-module _ (row last_row : List ℕ) (size : ℕ) (placed : List Placed) (offsets : List ℕ) (last : Placed) (is : IsLast last_row placed last) (as_large : last.end - last.offset ≡ size) (filled : 1 ≤ size) (standing : All (StandsAt offsets) placed) (room : All (λ (p : Placed). p.end + size < 2 ^ 32) placed)
-    (least : ℕ)
-    (gained : (e : ℕ) → e < length offsets → RowHas last_row e → (RowHas row e → ⊥) → least ≤ slice_index offsets e)
-    (start : ℕ) (up_to : start ≤ last.offset) (low : start ≤ least - (size - 1))
+module _ (row last_row : List ℕ) (size : ℕ) (placed : List Placed) (offsets sizes : List ℕ) (last : Placed) (is : IsLast last_row placed last) (as_large : last.end - last.offset ≡ size) (standing : All (StandsAt offsets sizes) placed)
+    (least : ℕ) (low : least ≤ last.offset)
+    (shut : (e : ℕ) → e < length offsets → RowHas last_row e → (RowHas row e → ⊥) → IsShut (RowHas row) size placed (slice_index offsets e) (slice_index offsets e + slice_index sizes e) least)
   where
-    blocked_below : (lower : ℕ) → lower < start → Any (Blocks (RowHas row) size lower) placed
-    blocked_below lower below =
+    -- what was in the way of the last one is in the way still, or else what shuts its cells is
+    pub still_blocked : (lower : ℕ) → lower < least → Any (Blocks (RowHas row) size lower) placed
+    still_blocked lower below =
         let some = rw as_large at (is.blocked lower (omega arith)) in
         let at = rw some.3 at (standing some.0 some.1 some.2) in
         let begins = at.begins in
-        let begins_low = some.4.1 in (
-          some.0,
-          some.1,
-          some.2,
-          some.3,
-          (
-            elim (cases_eq (bit_at (slice_index row (some.1.number / 64)) (some.1.number % 64)) 1) [
-              | inl has ↦ has
-              | inr lacks ↦ absurd (let g = gained some.1.number at.there some.4.0 lacks in omega arith)
-            ],
-            some.4.1,
-            some.4.2,
-          ),
-        )
+        let ends = at.ends in
+        let reaches = some.4.1 in
+        let covers = some.4.2 in
+        elim (cases_eq (bit_at (slice_index row (some.1.number / 64)) (some.1.number % 64)) 1) [
+          | inl has ↦ (some.0, some.1, some.2, some.3, (has, reaches, covers))
+          | inr lacks ↦ shut some.1.number at.there some.4.0 lacks lower below (omega arith) (omega arith)
+        ]
 
-    last_room : last.end + size < 2 ^ 32
-    last_room = let there = is.there in rw there.4 at (rw there.3 at (room there.0 there.1 there.2))
-
-    pub start_below : IsStart (RowHas row) size placed start
-    start_below = record {
-      blocked = blocked_below;
-      room = let r = last_room in let f = is.filled in omega arith;
-    }
-
-    pub start_behind : last.offset < start + size → RowHas row last.number → IsStart (RowHas row) size placed last.end
-    start_behind near related = record {
-      blocked = λ lower below. ⊎_elim
-          (λ (early : lower < start). blocked_below lower early)
-          (λ (later : start ≤ lower).
-          let there = is.there in
-          (there.0, there.1, there.2, there.3, rw there.4 (related, omega arith, below)))
-          (cases_lt lower start);
-      room = last_room;
-    }
-
--- at 0
-pub start_at_zero : (Others : ℕ → Type 0) (size : ℕ) (placed : List Placed) → size < 2 ^ 32 → IsStart Others size placed 0
-start_at_zero Others size placed fits = record {
-  blocked = λ lower below. absurd (omega arith);
-  room = omega arith;
-}
+    -- and up to the end of the last one, where that is in the way
+    pub blocked_to_end : last.offset ≤ least → RowHas row last.number → (lower : ℕ) → lower < last.end → Any (Blocks (RowHas row) size lower) placed
+    blocked_to_end all related lower below = ⊎_elim
+        (λ (early : lower < least). still_blocked lower early)
+        (λ (later : least ≤ lower).
+        let there = is.there in
+        let filled = is.filled in
+        (there.0, there.1, there.2, there.3, rw there.4 (related, omega arith, below)))
+        (cases_lt lower least)

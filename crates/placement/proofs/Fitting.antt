@@ -7,7 +7,7 @@ use Rattle.std.proofs.lemmas.List.Sorted.{All-permutation, Contains-permutation}
 use Rattle.std.proofs.lemmas.List.Sums.{sum_by_more, sum_by-take-le}
 use Rattle.placement_checker.specs.Placed.{end_of, Relates, Valid, StandsEarlier, Fits, Tight}
 use Rattle.placement_checker.specs.Rows.{RowHas, IsRowOf}
-use Rattle.placement.specs.Placing.{IsPlacingOrder, Rise, IsOpenTo, Blocks, IsLast, AreAmong, StandsAt}
+use Rattle.placement.specs.Placing.{IsPlacingOrder, Rise, IsOpenTo, Blocks, IsLast, StandsAt}
 use Rattle.placement.specs.declared.gap.Placed.{Placed}
 
 -- an element with this property stands in the same list in another order too
@@ -18,11 +18,6 @@ any_moved P xs ys moved any =
 
 any_behind : {A : Type 0} (P : A → Type 0) (x : A) (xs : List A) → Any P xs → Any P (x ∷ xs)
 any_behind P x xs any = (suc any.0, any.1, let h = any.2 in omega arith, any.3, any.4)
-
--- those that were among the others still are
-pub among_next : (placed next_placed some : List Placed) (next : Placed) → IsPermutation (next ∷ placed) next_placed → AreAmong placed some → AreAmong next_placed some
-among_next placed next_placed some next moved among = λ k d inside.
-    any_moved (λ (p : Placed). p ≡ get_or some k d) (next ∷ placed) next_placed moved (any_behind (λ (p : Placed). p ≡ get_or some k d) next placed (among k d inside))
 
 -- a buffer that was just placed is the last one
 pub last_of : (row : List ℕ) (placed next_placed : List Placed) (next : Placed) (size : ℕ) → next.end ≡ next.offset + size → 1 ≤ size → IsPermutation (next ∷ placed) next_placed → ((lower : ℕ) → lower < next.offset → Any (Blocks (RowHas row) size lower) placed) → IsLast row next_placed next
@@ -173,13 +168,14 @@ module _ (sizes : List ℕ) where
             let end = rw p.is at top in
             let e = p.ends in let r = room in omega arith
 
-        pub all_standing : All (StandsAt offsets) placed
+        pub all_standing : All (StandsAt offsets sizes) placed
         all_standing k d below =
             let own = number_in k d below in
             let p = so_far.known k d below in
             record {
               there = let l = so_far.long in omega arith;
               begins = p.begins;
+              ends = p.ends;
             }
 
         -- the next buffer can be placed beside a part of those placed

@@ -3,3 +3,4 @@ pub mod Ranking
 pub mod Fitting
 pub mod Beginning
 pub mod Entering
+pub mod Shut

@@ -2,7 +2,7 @@
 use Rattle.std.proofs.Common.{◌≡◌, ℕ, ◌+◌, ◌-◌, ◌^◌, ◌<◌, ◌≤◌, ⊎_elim, List, ◌++◌, length, get_or, All, Any, refl, ◌∙◌, arith}
 use Rattle.std.proofs.lemmas.Bool.{cases_lt}
 use Rattle.std.proofs.lemmas.List.{get_or_default, get_or_append_left, get_or-append_right, length-append}
-use Rattle.placement.specs.Placing.{IsOpenTo, IsStart, IsBehind, ArePassed, AreAmong, Blocks}
+use Rattle.placement.specs.Placing.{IsOpenTo, IsBehind, ArePassed, Blocks}
 use Rattle.placement.specs.declared.gap.Placed.{Placed}
 
 pub any_left : {A : Type 0} (P : A → Type 0) (xs ys : List A) → Any P xs → Any P (xs ++ ys)
@@ -24,20 +24,6 @@ all_right P xs ys all = λ k d inside.
     let here : length xs + k - length xs ≡ k = omega arith in
     let moved = rw here at (get_or-append_right xs ys (length xs) (length xs + k) d refl (omega arith)) in
     rw moved at (all (length xs + k) d (rw length-append (omega arith)))
-
--- each is among them
-pub among_self : (xs : List Placed) → AreAmong xs xs
-among_self xs = λ k d inside. (k, get_or xs k d, inside, get_or_default xs k (get_or xs k d) d inside, refl)
-
-pub among_left : (xs ys : List Placed) → AreAmong (xs ++ ys) xs
-among_left xs ys = λ k d inside. any_left (λ (p : Placed). p ≡ get_or xs k d) xs ys (among_self xs k d inside)
-
-pub among_right : (xs ys : List Placed) → AreAmong (xs ++ ys) ys
-among_right xs ys = λ k d inside. any_right (λ (p : Placed). p ≡ get_or ys k d) xs ys (among_self ys k d inside)
-
--- what holds of all holds of those that are among them
-pub holds_among : (P : Placed → Type 0) (placed some : List Placed) → All P placed → AreAmong placed some → All P some
-holds_among P placed some all among = λ k d inside. let there = among k d inside in rw there.4 at (rw there.3 at (all there.0 there.1 there.2))
 
 module _ (Others : ℕ → Type 0) (size : ℕ) where
   module _ (placed : List Placed) where
@@ -115,54 +101,40 @@ module _ (Others : ℕ → Type 0) (size : ℕ) where
         room = has_room words open_ so_far.room;
       }
 
-  -- and behind one that begins before the end of what is looked for
-  pub start_after : (placed : List Placed) (p : Placed) (offset next : ℕ) → Any (λ (q : Placed). q ≡ p) placed → p.end + size < 2 ^ 32 → p.offset < offset + size → IsBehind Others p offset next → IsStart Others size placed offset → IsStart Others size placed next
-  start_after placed p offset next there room begins behind start = ⊎_elim
-      (λ (over : Others p.number × (offset < p.end) × (next ≡ p.end)). record {
-        blocked = λ lower below. ⊎_elim
-            (λ (before : lower < offset). start.blocked lower before)
-            (λ (later : offset ≤ lower). let e = over.2 in (there.0, there.1, there.2, there.3, rw there.4 (over.0, omega arith, omega arith)))
-            (cases_lt lower offset);
-        room = let e = over.2 in omega arith;
-      })
-      (λ (by : (Others p.number → p.end ≤ offset) × (next ≡ offset)). rw by.1 start)
-      behind
-
-  module _ (small large : List Placed) where
+  module _ (small large : List Placed) (start : ℕ) where
     -- the search has come to this offset, before these places
     pub record SearchSoFar (from i offset : ℕ) : Type 0 where
       pub small_passed : ArePassed Others small from offset
       pub large_passed : ArePassed Others large i offset
-      pub start : IsStart Others size (small ++ large) offset
+      pub blocked : (lower : ℕ) → start ≤ lower → lower < offset → Any (Blocks Others size lower) (small ++ large)
+      pub up : start ≤ offset
+      pub room : offset + size < 2 ^ 32
 
-    pub search_starts : (from offset : ℕ) → ArePassed Others small from offset → IsStart Others size (small ++ large) offset → SearchSoFar from 0 offset
-    search_starts from offset passed start = record {
+    pub search_starts : (from : ℕ) → ArePassed Others small from start → start + size < 2 ^ 32 → SearchSoFar from 0 start
+    search_starts from passed room = record {
       small_passed = passed;
       large_passed = λ k d below. absurd (omega arith);
-      start = start;
+      blocked = λ lower low below. absurd (omega arith);
+      up = omega arith;
+      room = room;
     }
 
     -- on to the next gap among the small ones
-    module _ (offset gap : ℕ) (start : IsStart Others size (small ++ large) offset) (blocked : (lower : ℕ) → offset ≤ lower → lower < gap → Any (Blocks Others size lower) small) (room : gap + size < 2 ^ 32) where
-      pub start_at_gap : IsStart Others size (small ++ large) gap
-      start_at_gap = record {
-        blocked = λ lower below. ⊎_elim
-            (λ (before : lower < offset). start.blocked lower before)
-            (λ (behind : offset ≤ lower). any_left (Blocks Others size lower) small large (blocked lower behind below))
-            (cases_lt lower offset);
-        room = room;
-      }
+    pub blocked_to_gap : (from i offset gap : ℕ) → SearchSoFar from i offset → ((lower : ℕ) → offset ≤ lower → lower < gap → Any (Blocks Others size lower) small) → (lower : ℕ) → start ≤ lower → lower < gap → Any (Blocks Others size lower) (small ++ large)
+    blocked_to_gap from i offset gap so_far blocked lower low below = ⊎_elim
+        (λ (before : lower < offset). so_far.blocked lower low before)
+        (λ (behind : offset ≤ lower). any_left (Blocks Others size lower) small large (blocked lower behind below))
+        (cases_lt lower offset)
 
     -- and behind a large one
-    pub one_more_large : (words from i offset next : ℕ) (d : Placed) → i < length large → IsBehind Others (get_or large i d) offset next → IsOpenTo words size large → (get_or large i d).offset < offset + size → ArePassed Others small from offset → ArePassed Others large i offset → IsStart Others size (small ++ large) offset → SearchSoFar from (i + 1) next
-    one_more_large words from i offset next d inside behind open_ begins small_passed large_passed start = record {
+    pub one_more_large : (words from i offset next : ℕ) (d : Placed) → i < length large → IsBehind Others (get_or large i d) offset next → IsOpenTo words size large → (get_or large i d).offset < offset + size → ArePassed Others small from offset → ArePassed Others large i offset → ((lower : ℕ) → start ≤ lower → lower < offset → Any (Blocks Others size lower) (small ++ large)) → start ≤ offset → offset + size < 2 ^ 32 → SearchSoFar from (i + 1) next
+    one_more_large words from i offset next d inside behind open_ begins small_passed large_passed blocked up room = record {
       small_passed = passed_higher small from offset next (no_lower large i offset next d inside behind) small_passed;
       large_passed = passed_more large i offset next d inside behind large_passed;
-      start = record {
-        blocked = λ lower below. ⊎_elim
-            (λ (before : lower < offset). start.blocked lower before)
-            (λ (later : offset ≤ lower). any_right (Blocks Others size lower) small large (blocked_up_to large i offset next d inside behind begins lower later below))
-            (cases_lt lower offset);
-        room = has_room large i offset next d inside behind words open_ start.room;
-      };
+      blocked = λ lower low below. ⊎_elim
+          (λ (before : lower < offset). blocked lower low before)
+          (λ (later : offset ≤ lower). any_right (Blocks Others size lower) small large (blocked_up_to large i offset next d inside behind begins lower later below))
+          (cases_lt lower offset);
+      up = let n = no_lower large i offset next d inside behind in omega arith;
+      room = has_room large i offset next d inside behind words open_ room;
     }

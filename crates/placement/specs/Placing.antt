@@ -42,10 +42,6 @@ IsBehind Others p offset next =
     (Others p.number × (offset < p.end) × (next ≡ p.end))
     ⊎ ((Others p.number → p.end ≤ offset) × (next ≡ offset))
 
--- each of these is one of those that are placed
-abbrev pub AreAmong : List Placed → List Placed → Type 0
-AreAmong placed some = All (λ (s : Placed). Any (λ (p : Placed). p ≡ s) placed) some
-
 -- From `start` on a search has come to this offset, before this place: up to there some of the others is in the way. It is free where it is below the bound.
 pub record IsGap (Others : ℕ → Type 0) (size : ℕ) (placed : List Placed) (start bound place offset : ℕ) : Type 0 where
   pub passed : ArePassed Others placed place offset
@@ -54,15 +50,19 @@ pub record IsGap (Others : ℕ → Type 0) (size : ℕ) (placed : List Placed) (
   pub up : start ≤ offset
   pub room : offset + size < 2 ^ 32
 
--- where a search can begin: at each lower offset some of the others is in the way
-pub record IsStart (Others : ℕ → Type 0) (size : ℕ) (placed : List Placed) (offset : ℕ) : Type 0 where
-  pub blocked : (lower : ℕ) → lower < offset → Any (Blocks Others size lower) placed
+-- none of the others is in the way at this offset
+abbrev pub IsFree : (ℕ → Type 0) → ℕ → List Placed → ℕ → Type 0
+IsFree Others size placed offset = All (λ (p : Placed). Blocks Others size offset p → ⊥) placed
+
+-- where a search from `start` on ends: up to there some of the others is in the way, and there none is, or it isn't below the bound
+pub record IsFound (Others : ℕ → Type 0) (size : ℕ) (placed : List Placed) (start bound offset : ℕ) : Type 0 where
+  pub free : offset < bound → IsFree Others size placed offset
+  pub blocked : (lower : ℕ) → start ≤ lower → lower < offset → Any (Blocks Others size lower) placed
   pub room : offset + size < 2 ^ 32
 
--- where a search ends: none of the others is in the way, or it isn't below the bound
-pub record IsFound (Others : ℕ → Type 0) (size : ℕ) (placed : List Placed) (bound offset : ℕ) : Type 0 where
-  pub free : offset < bound → All (λ (p : Placed). Blocks Others size offset p → ⊥) placed
-  pub start : IsStart Others size placed offset
+-- at each offset below this one at which a buffer of the size would have one of these cells, some of the others is in the way
+abbrev pub IsShut : (ℕ → Type 0) → ℕ → List Placed → ℕ → ℕ → ℕ → Type 0
+IsShut Others size placed first end offset = (lower : ℕ) → lower < offset → lower < end → first < lower + size → Any (Blocks Others size lower) placed
 
 -- at this offset none of the others is in the way, and at each lower one some is
 pub record IsLeast (Others : ℕ → Type 0) (size : ℕ) (placed : List Placed) (offset : ℕ) : Type 0 where
@@ -76,7 +76,8 @@ pub record IsLast (row : List ℕ) (placed : List Placed) (last : Placed) : Type
   pub filled : last.offset < last.end
   pub blocked : (lower : ℕ) → lower < last.offset → Any (Blocks (RowHas row) (last.end - last.offset) lower) placed
 
--- the offset of p stands at its number
-pub record StandsAt (offsets : List ℕ) (p : Placed) : Type 0 where
+-- the offset of p stands at its number, and it has as many cells as are told there
+pub record StandsAt (offsets sizes : List ℕ) (p : Placed) : Type 0 where
   pub there : p.number < length offsets
   pub begins : p.offset ≡ slice_index offsets p.number
+  pub ends : p.end ≡ slice_index offsets p.number + slice_index sizes p.number

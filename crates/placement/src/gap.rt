@@ -1,11 +1,10 @@
 // The buffers placed so far, by their offsets, and where one more fits among them.
-ghost use Rattle.std.specs.Prelude.{ℕ, ◌≡◌, ◌+◌, ◌/◌, ◌^◌, ◌<◌, ◌≤◌, ◌++◌, List, length, slice_index_or, All, Any, IfOk, OnOk};
+ghost use Rattle.std.specs.Prelude.{ℕ, ◌+◌, ◌/◌, ◌^◌, ◌<◌, ◌≤◌, ◌++◌, length, slice_index_or};
 ghost use Rattle.placement_checker.specs.Rows.{RowHas};
-ghost use Rattle.placement.specs.Placing.{Rise, IsNarrow, IsOpenTo, IsStart, IsFound, IsGap, ArePassed, AreAmong, IsBehind};
+ghost use Rattle.placement.specs.Placing.{Rise, IsNarrow, IsOpenTo, IsFound, IsGap, ArePassed, IsBehind};
 ghost use Rattle.placement.specs.declared.gap.Placed.{Placed};
 
 use placement_checker::has_bit;
-use std::alloc::AllocError;
 
 /// A buffer in the cells from `offset` up to `end`.
 #[derive(Clone, Copy, Debug)]
@@ -38,46 +37,16 @@ struct Gap {
     offset: u32,
 }
 
-/// Leaves out the last of those that were in the way of a search, where the search would have come to the next one without
-/// it.
-fn leave_out(met: &mut Vec<Placed>, next: Placed, size: u32)
-    ensures { (placed : List Placed) → AreAmong placed met.old.items → AreAmong placed met.new.items }
-{
-    let count = met.len();
-    if count < 2 {
-        return;
-    }
-    if next.offset < met[count - 2].end.saturating_add(size) {
-        met.truncate(count - 1);
-    }
-}
-
-/// Adds a buffer to those that were in the way of a search.
-fn remember(met: &mut Vec<Placed>, next: Placed, size: u32) -> Result<(), AllocError>
-    ensures { (placed : List Placed) → Any (λ p. p ≡ next) placed → AreAmong placed met.old.items → OnOk result (AreAmong placed met.new.items) }
-{
-    leave_out(met, next, size);
-    met.push(next)?;
-    Ok(())
-}
-
 /// Where a search goes on that has come to a buffer beginning before the end of what it looks for: at the offset, or
-/// behind the buffer where that is in the way, which then joins those that were met.
-pub(crate) fn pass(
-    p: &Placed,
-    sought: &Sought<'_>,
-    offset: u32,
-    met: &mut Vec<Placed>,
-) -> Result<u32, AllocError>
+/// behind the buffer where that is in the way.
+fn pass(p: &Placed, sought: &Sought<'_>, offset: u32) -> u32
     requires { p.now.number / 64 < length sought.now.row.now }
-    ensures behind { IfOk result (IsBehind (RowHas sought.now.row.now) p.now offset) }
-    ensures met { (placed : List Placed) → Any (λ q. q ≡ p.now) placed → AreAmong placed met.old.items → OnOk result (AreAmong placed met.new.items) }
+    ensures { IsBehind (RowHas sought.now.row.now) p.now offset result }
 {
     if p.end <= offset || !has_bit(sought.row, p.number as usize) {
-        return Ok(offset);
+        return offset;
     }
-    remember(met, *p, sought.size)?;
-    Ok(p.end)
+    p.end
 }
 
 /// The first of these buffers, none of which has more than `limit` cells, that may end behind the cell.
@@ -96,35 +65,28 @@ fn first_behind(placed: &[Placed], limit: u32, cell: u32) -> usize
 
 /// The place of the first buffer, from one on, that begins behind a gap of the size, and the offset of the gap: the least
 /// from one on. Where that is not below `bound`, any offset from there on up to which there is no gap.
-fn next_gap(
-    placed: &[Placed],
-    sought: &Sought<'_>,
-    from: Gap,
-    bound: u32,
-    met: &mut Vec<Placed>,
-) -> Result<Gap, AllocError>
+fn next_gap(placed: &[Placed], sought: &Sought<'_>, from: Gap, bound: u32) -> Gap
     requires placed { IsOpenTo (length sought.now.row.now) sought.now.size placed.now }
     requires filled { 1 ≤ sought.now.size }
     requires room { from.offset + sought.now.size < 2 ^ 32 }
     requires passed { ArePassed (RowHas sought.now.row.now) placed.now from.place from.offset }
-    ensures gap { IfOk result (λ gap. IsGap (RowHas sought.now.row.now) sought.now.size placed.now from.offset bound gap.place gap.offset) }
-    ensures met { (all : List Placed) → AreAmong all placed.now → AreAmong all met.old.items → OnOk result (AreAmong all met.new.items) }
+    ensures { IsGap (RowHas sought.now.row.now) sought.now.size placed.now from.offset bound result.place result.offset }
 {
     let mut offset = from.offset;
     for k in from.place..placed.len() {
         if bound <= offset {
-            return Ok(Gap { place: k, offset });
+            return Gap { place: k, offset };
         }
         let p = &placed[k];
         if offset + sought.size <= p.offset {
-            return Ok(Gap { place: k, offset });
+            return Gap { place: k, offset };
         }
-        offset = pass(p, sought, offset, met)?;
+        offset = pass(p, sought, offset);
     }
-    Ok(Gap {
+    Gap {
         place: placed.len(),
         offset,
-    })
+    }
 }
 
 /// The search from a place among the small ones on: see `search`.
@@ -134,58 +96,46 @@ fn search_from(
     sought: &Sought<'_>,
     start: Gap,
     bound: u32,
-    met: &mut Vec<Placed>,
-) -> Result<u32, AllocError>
+) -> u32
     requires small { IsOpenTo (length sought.now.row.now) sought.now.size small.now }
     requires large { IsOpenTo (length sought.now.row.now) sought.now.size large.now }
     requires filled { 1 ≤ sought.now.size }
+    requires room { start.offset + sought.now.size < 2 ^ 32 }
     requires passed { ArePassed (RowHas sought.now.row.now) small.now start.place start.offset }
-    requires start { IsStart (RowHas sought.now.row.now) sought.now.size (small.now ++ large.now) start.offset }
-    requires met { AreAmong (small.now ++ large.now) met.old.items }
-    ensures found { IfOk result (IsFound (RowHas sought.now.row.now) sought.now.size (small.now ++ large.now) bound) }
-    ensures met { OnOk result (AreAmong (small.now ++ large.now) met.new.items) }
+    ensures { IsFound (RowHas sought.now.row.now) sought.now.size (small.now ++ large.now) start.offset bound result }
 {
     let mut from = start;
     for k in 0..large.len() {
-        let gap = next_gap(small, sought, from, bound, met)?;
+        let gap = next_gap(small, sought, from, bound);
         if bound <= gap.offset {
-            return Ok(gap.offset);
+            return gap.offset;
         }
         let p = &large[k];
         if gap.offset + sought.size <= p.offset {
-            return Ok(gap.offset);
+            return gap.offset;
         }
-        let offset = pass(p, sought, gap.offset, met)?;
+        let offset = pass(p, sought, gap.offset);
         from = Gap {
             place: gap.place,
             offset,
         };
     }
-    let last = next_gap(small, sought, from, bound, met)?;
-    Ok(last.offset)
+    let last = next_gap(small, sought, from, bound);
+    last.offset
 }
 
-/// The least offset at which the buffer overlaps none that its row has, where it is known that this is not below `start`.
-/// Where it is not below `bound`, any offset from there on that is not above it. Those that were in the way join those
-/// that were met.
-pub(crate) fn search(
-    placed: &Buffers,
-    sought: &Sought<'_>,
-    start: u32,
-    bound: u32,
-    met: &mut Vec<Placed>,
-) -> Result<u32, AllocError>
+/// The least offset from `start` on at which the buffer overlaps none that its row has. Where it is not below `bound`, any
+/// offset from there on that is not above it.
+pub(crate) fn search(placed: &Buffers, sought: &Sought<'_>, start: u32, bound: u32) -> u32
     requires small { IsOpenTo (length sought.now.row.now) sought.now.size placed.now.small.items }
     requires large { IsOpenTo (length sought.now.row.now) sought.now.size placed.now.large.items }
     requires narrow { IsNarrow placed.now.limit placed.now.small.items }
     requires filled { 1 ≤ sought.now.size }
-    requires start { IsStart (RowHas sought.now.row.now) sought.now.size (placed.now.small.items ++ placed.now.large.items) start }
-    requires met { AreAmong (placed.now.small.items ++ placed.now.large.items) met.old.items }
-    ensures found { IfOk result (IsFound (RowHas sought.now.row.now) sought.now.size (placed.now.small.items ++ placed.now.large.items) bound) }
-    ensures met { OnOk result (AreAmong (placed.now.small.items ++ placed.now.large.items) met.new.items) }
+    requires room { start + sought.now.size < 2 ^ 32 }
+    ensures { IsFound (RowHas sought.now.row.now) sought.now.size (placed.now.small.items ++ placed.now.large.items) start bound result }
 {
     if bound <= start {
-        return Ok(start);
+        return start;
     }
     let small = placed.small.as_slice();
     let large = placed.large.as_slice();
@@ -194,5 +144,5 @@ pub(crate) fn search(
         place,
         offset: start,
     };
-    search_from(small, large, sought, from, bound, met)
+    search_from(small, large, sought, from, bound)
 }

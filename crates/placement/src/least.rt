@@ -1,81 +1,95 @@
 // The least offset of a buffer.
-ghost use Rattle.std.specs.Prelude.{ℕ, ◌≡◌, ◌+◌, ◌/◌, ◌^◌, ◌<◌, ◌≤◌, ◌++◌, List, length, All, IfOk, OnOk, IfSome};
+ghost use Rattle.std.specs.Prelude.{ℕ, ◌≡◌, ◌+◌, ◌/◌, ◌^◌, ◌<◌, ◌≤◌, ◌++◌, length, All, Any, IfSome};
 ghost use Rattle.placement_checker.specs.Rows.{RowHas};
-ghost use Rattle.placement.specs.Placing.{IsNarrow, IsOpenTo, IsStart, IsLast, IsLeast, AreAmong, StandsAt};
-ghost use Rattle.placement.specs.declared.gap.Placed.{Placed};
+ghost use Rattle.placement.specs.Placing.{Blocks, IsNarrow, IsOpenTo, IsLast, IsLeast, StandsAt};
 
-use crate::gap::{Buffers, Placed, Sought, pass, search};
-use crate::start::{Before, start_of};
-use std::alloc::AllocError;
+use crate::gap::{Buffers, Placed, Sought, search};
+use crate::opening::{Spots, opened};
+use placement_checker::has_bit;
 
-/// Adds the last of these buffers, from one on, to those that were met.
-fn take_over(met: &mut Vec<Placed>, hints: &[Placed], from: usize) -> Result<(), AllocError>
-    requires { from ≤ length hints.now }
-    ensures { (placed : List Placed) → AreAmong placed hints.now → AreAmong placed met.old.items → OnOk result (AreAmong placed met.new.items) }
-{
-    met.extend_from_slice(&hints[from..])?;
-    Ok(())
+/// What is known of the search before.
+#[derive(Debug, Drop)]
+pub(crate) struct Before {
+    /// The buffer that was placed.
+    pub(crate) buffer: Option<Placed>,
+    /// A bit for each buffer that excludes it.
+    pub(crate) row: Vec<u64>,
 }
 
-/// The least offset at which the buffer overlaps none that its row has, where it is known that this is not below `start`.
-/// The search goes from one of the hints to the next, which are buffers that may be in the way: only where they leave a
-/// gap it goes from buffer to buffer. Those that were met, and the hints behind the offset, are added to `met`.
-fn follow(
-    placed: &Buffers,
-    sought: &Sought<'_>,
-    start: u32,
-    hints: &[Placed],
-    met: &mut Vec<Placed>,
-) -> Result<u32, AllocError>
+/// The least offset at which the buffer overlaps none that its row has, where one of these is in the way at each offset
+/// below `start`.
+fn first_fit(placed: &Buffers, sought: &Sought<'_>, start: u32) -> u32
     requires small { IsOpenTo (length sought.now.row.now) sought.now.size placed.now.small.items }
     requires large { IsOpenTo (length sought.now.row.now) sought.now.size placed.now.large.items }
     requires narrow { IsNarrow placed.now.limit placed.now.small.items }
     requires filled { 1 ≤ sought.now.size }
-    requires start { IsStart (RowHas sought.now.row.now) sought.now.size (placed.now.small.items ++ placed.now.large.items) start }
-    requires hints { AreAmong (placed.now.small.items ++ placed.now.large.items) hints.now }
-    requires met { AreAmong (placed.now.small.items ++ placed.now.large.items) met.old.items }
-    ensures least { IfOk result (IsLeast (RowHas sought.now.row.now) sought.now.size (placed.now.small.items ++ placed.now.large.items)) }
-    ensures met { OnOk result (AreAmong (placed.now.small.items ++ placed.now.large.items) met.new.items) }
+    requires room { start + sought.now.size < 2 ^ 32 }
+    requires blocked { (lower : ℕ) → lower < start → Any (Blocks (RowHas sought.now.row.now) sought.now.size lower) (placed.now.small.items ++ placed.now.large.items) }
+    ensures { IsLeast (RowHas sought.now.row.now) sought.now.size (placed.now.small.items ++ placed.now.large.items) result }
 {
-    let mut offset = start;
-    for k in 0..hints.len() {
-        let hint = &hints[k];
-        let bound = hint.offset.saturating_sub(sought.size - 1);
-        let found = search(placed, sought, offset, bound, met)?;
-        if found < bound {
-            take_over(met, hints, k)?;
-            return Ok(found);
-        }
-        offset = pass(hint, sought, found, met)?;
-    }
-    search(placed, sought, offset, u32::MAX, met)
+    search(placed, sought, start, u32::MAX)
 }
 
-/// The least offset at which the buffer overlaps none that its row has. `offsets` has the offset of each buffer that is
-/// placed, by number. What the search before met are hints to this one, and what this one met is added to `met`.
+/// The least offset of a buffer as large as the last one. Below the last one's offset there was no room for that, so there
+/// is room for this one only where it has cells of a buffer that was in the way of the last one and isn't in its own.
+fn least_beside(
+    placed: &Buffers,
+    spots: &Spots<'_>,
+    sought: &Sought<'_>,
+    last: &Placed,
+    last_row: &[u64],
+) -> u32
+    requires small { IsOpenTo (length sought.now.row.now) sought.now.size placed.now.small.items }
+    requires large { IsOpenTo (length sought.now.row.now) sought.now.size placed.now.large.items }
+    requires narrow { IsNarrow placed.now.limit placed.now.small.items }
+    requires filled { 1 ≤ sought.now.size }
+    requires spots { length spots.now.offsets.now ≡ length spots.now.sizes.now }
+    requires rows { length sought.now.row.now ≡ length last_row.now }
+    requires few { length last_row.now < 2 ^ 32 }
+    requires told { last.now.number / 64 < length sought.now.row.now }
+    requires alike { last.now.offset + sought.now.size ≡ last.now.end }
+    requires last { IsLast last_row.now (placed.now.small.items ++ placed.now.large.items) last.now }
+    requires standing { All (StandsAt spots.now.offsets.now spots.now.sizes.now) (placed.now.small.items ++ placed.now.large.items) }
+    ensures { IsLeast (RowHas sought.now.row.now) sought.now.size (placed.now.small.items ++ placed.now.large.items) result }
+{
+    let least = opened(placed, sought, spots, last_row, last.offset);
+    if least < last.offset {
+        return least;
+    }
+    let start = if has_bit(sought.row, last.number as usize) {
+        last.end
+    } else {
+        last.offset
+    };
+    first_fit(placed, sought, start)
+}
+
+/// The least offset at which the buffer overlaps none that its row has. `spots` has the offset of each buffer that is
+/// placed.
 pub(crate) fn least_offset(
     placed: &Buffers,
-    offsets: &[u32],
+    spots: &Spots<'_>,
     sought: &Sought<'_>,
     before: &Before,
-    met: &mut Vec<Placed>,
-) -> Result<u32, AllocError>
+) -> u32
     requires small { IsOpenTo (length sought.now.row.now) sought.now.size placed.now.small.items }
     requires large { IsOpenTo (length sought.now.row.now) sought.now.size placed.now.large.items }
     requires narrow { IsNarrow placed.now.limit placed.now.small.items }
     requires filled { 1 ≤ sought.now.size }
     requires room { sought.now.size < 2 ^ 32 }
+    requires spots { length spots.now.offsets.now ≡ length spots.now.sizes.now }
     requires rows { length sought.now.row.now ≡ length before.now.row.items }
     requires few { length sought.now.row.now < 2 ^ 32 }
     requires told { IfSome before.now.buffer (λ p. (p.number / 64 < length sought.now.row.now) × (p.offset < p.end)) }
     requires last { IfSome before.now.buffer (IsLast before.now.row.items (placed.now.small.items ++ placed.now.large.items)) }
-    requires hints { AreAmong (placed.now.small.items ++ placed.now.large.items) before.now.met.items }
-    requires standing { All (StandsAt offsets.now) (placed.now.small.items ++ placed.now.large.items) }
-    requires met { AreAmong (placed.now.small.items ++ placed.now.large.items) met.old.items }
-    ensures least { IfOk result (IsLeast (RowHas sought.now.row.now) sought.now.size (placed.now.small.items ++ placed.now.large.items)) }
-    ensures met { OnOk result (AreAmong (placed.now.small.items ++ placed.now.large.items) met.new.items) }
+    requires standing { All (StandsAt spots.now.offsets.now spots.now.sizes.now) (placed.now.small.items ++ placed.now.large.items) }
+    ensures { IsLeast (RowHas sought.now.row.now) sought.now.size (placed.now.small.items ++ placed.now.large.items) result }
 {
-    let start = start_of(sought, before, offsets);
-    let hints = before.met.as_slice();
-    follow(placed, sought, start, hints, met)
+    let Some(last) = before.buffer else {
+        return first_fit(placed, sought, 0);
+    };
+    if last.end - last.offset != sought.size {
+        return first_fit(placed, sought, 0);
+    }
+    least_beside(placed, spots, sought, &last, &before.row)
 }

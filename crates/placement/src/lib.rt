@@ -4,8 +4,8 @@
 mod enter;
 mod gap;
 mod least;
+mod opening;
 mod order;
 mod placing;
-mod start;
 
 pub use placing::{Placement, place};

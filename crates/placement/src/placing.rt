@@ -3,9 +3,9 @@ ghost use Rattle.placement_checker.specs.Placed.{Valid, Tight};
 
 use crate::enter::enter;
 use crate::gap::{Buffers, Placed, Sought};
-use crate::least::least_offset;
+use crate::least::{Before, least_offset};
+use crate::opening::Spots;
 use crate::order::placing_order;
-use crate::start::Before;
 use placement_checker::Exclusion;
 use sdf_level::List;
 use std::alloc::{AllocError, Global};
@@ -51,10 +51,8 @@ pub fn place<X: Exclusion>(
     let mut before = Before {
         buffer: None,
         row: vec![in alloc; 0u64; range.div_ceil(64)]?,
-        met: Vec::new(alloc),
     };
     let mut row = vec![in alloc; 0u64; range.div_ceil(64)]?;
-    let mut met = Vec::new(alloc);
     let mut height = 0;
     for &number in &order {
         exclusion.write_row(number, &mut row);
@@ -62,7 +60,11 @@ pub fn place<X: Exclusion>(
             size: sizes[number as usize],
             row: &row,
         };
-        let offset = least_offset(&placed, &offsets, &sought, &before, &mut met)?;
+        let spots = Spots {
+            offsets: &offsets,
+            sizes,
+        };
+        let offset = least_offset(&placed, &spots, &sought, &before);
         let end = offset + sizes[number as usize];
         let buffer = Placed {
             number,
@@ -73,8 +75,6 @@ pub fn place<X: Exclusion>(
         offsets[number as usize] = offset;
         height = height.max(end);
         mem::swap(&mut row, &mut before.row);
-        mem::swap(&mut met, &mut before.met);
-        met.clear();
         before.buffer = Some(buffer);
     }
     Ok(Placement {

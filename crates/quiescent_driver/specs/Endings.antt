@@ -1,5 +1,5 @@
 -- How an iteration ends.
-use Rattle.std.specs.Prelude.{◌≡◌, List, Result, Ok, Err}
+use Rattle.std.specs.Prelude.{◌≡◌, true, List, Result, Ok, Err}
 use Rattle.pisdf_meaning.specs.Run.{IterationEnds, IterationGives}
 use Rattle.pisdf_meaning.specs.declared.outcome.Iteration.{Iteration}
 use Rattle.pisdf_meaning.specs.declared.refusal.Refusal.{Refusal}
@@ -30,6 +30,12 @@ abbrev pub HasWholeJournal : Key → Result (Iteration × JournalView) Iteration
 HasWholeJournal key (Ok (iteration, journal)) = IsWhole key journal.entries
 HasWholeJournal key (Err (Refused refusal journal)) = IsWhole key journal.entries
 HasWholeJournal key (Err Memory) = Unit {0}
+
+-- the journal of an iteration that is done or refused can be read
+abbrev pub HasReadableJournal : Result (Iteration × JournalView) IterationFault → Type 0
+HasReadableJournal (Ok (iteration, journal)) = journal.readable ≡ true
+HasReadableJournal (Err (Refused refusal journal)) = journal.readable ≡ true
+HasReadableJournal (Err Memory) = Unit {0}
 
 -- a board with this key ends with what one thread gets of the iteration, or with its refusal, and with such a journal; or starved
 abbrev pub EndsWith : Key → BoardEnd → Type 0

@@ -1,5 +1,5 @@
 // One iteration of a run, by many workers.
-ghost use Rattle.std.specs.Prelude.{◌≡◌, ◌⊎◌, ◌<◌, ◌≤◌, ℤ, List as Seq, [], Ok, Err, IfOk, IfErr, OnErr};
+ghost use Rattle.std.specs.Prelude.{◌≡◌, ◌⊎◌, ◌<◌, ◌≤◌, ℤ, List as Seq, [], Ok, Err, IfOk, IfErr, OnErr, OnOk, true};
 ghost use Rattle.std.specs.Arc.{arc_value};
 ghost use Rattle.kernel_gate.specs.Signed.{unnamed};
 ghost use Rattle.kernel_gate.specs.Value.{lengths};
@@ -8,9 +8,9 @@ ghost use Rattle.pisdf_meaning.specs.Run.{IterationEnds, IterationGives, top_nee
 ghost use Rattle.pisdf_meaning.specs.Sound.{AreValidFor};
 ghost use Rattle.pisdf_meaning.specs.declared.outcome.Iteration.{Iteration as Outcome};
 ghost use Rattle.pisdf_meaning.specs.declared.refusal.Refusal.{Refusal as Cause};
-ghost use Rattle.board_journal.specs.View.{JournalView};
+ghost use Rattle.board_journal.specs.View.{IsEmpty, JournalView};
 ghost use Rattle.firing_board.specs.Runs.{AreAllIdle};
-ghost use Rattle.quiescent_driver.specs.Endings.{HasWholeJournal, IfRefused};
+ghost use Rattle.quiescent_driver.specs.Endings.{HasReadableJournal, HasWholeJournal, IfRefused};
 ghost use Rattle.quiescent_driver.specs.Given.{IsTopState, key_with};
 
 use crate::driving::drive;
@@ -27,7 +27,7 @@ use std::sync::{Arc, Wait};
 use std::thread::Threads;
 use worker_crew::Load;
 
-/// The board of an iteration, in which nothing is claimed.
+/// The board of an iteration, in which nothing is claimed. Nothing was put into the journal.
 fn start_board<K: Gate>(
     alloc: Global,
     graphs: &Arc<Graphs>,
@@ -35,6 +35,7 @@ fn start_board<K: Gate>(
     ins: &[List<i64>],
     workers: u32,
     gate: &K,
+    journal: Journal,
 ) -> Result<Board, AllocError>
     requires valid { AreValidFor (unnamed (K.kernels gate.now)) (arc_value graphs.now) }
     requires sound { early_faults (arc_value graphs.now).graphs (arc_value graphs.now).top [] ≡ [] }
@@ -42,20 +43,38 @@ fn start_board<K: Gate>(
     requires state { IsTopState (arc_value graphs.now) delays.now.lists }
     requires some { 0 < workers }
     requires few { workers ≤ 16 }
+    requires empty { IsEmpty journal }
     ensures key { IfOk result (λ b. b.key ≡ key_with (arc_value graphs.now) (K.kernels gate.now) delays.now.lists ins.now workers) }
     ensures idle { IfOk result AreAllIdle }
 {
-    Board::start(
+    Board::start_with(
         alloc,
         graphs.clone()?,
         gate.signatures(),
         delays,
         ins,
         workers,
+        journal,
     )
 }
 
-/// One iteration by many workers, which gives or is refused.
+/// Looks whether a journal can be read that should be. The journal that a board gives back can be read where the one could that it
+/// was started with: this is tested, since no clause says it.
+///
+/// # Errors
+///
+/// It should be, and can't.
+fn see_readable(wanted: bool, journal: &Journal) -> Result<(), AllocError>
+    ensures { OnOk result (wanted ≡ true → journal.now.readable ≡ true) }
+{
+    if wanted && !journal.is_readable() {
+        return Err(AllocError);
+    }
+    Ok(())
+}
+
+/// One iteration by many workers, which gives or is refused. Nothing was put into the journal, into which the workers' steps are
+/// entered.
 fn iterate<K: Gate + Sync, R: Threads + Wait + Sync>(
     rt: &R,
     alloc: Global,
@@ -66,6 +85,7 @@ fn iterate<K: Gate + Sync, R: Threads + Wait + Sync>(
     kept: &mut Option<Kept>,
     load: &mut Load,
     gate: &K,
+    journal: Journal,
 ) -> Result<(Iteration, Journal), IterationFault>
     requires valid { AreValidFor (unnamed (K.kernels gate.now)) (arc_value graphs.now) }
     requires sound { early_faults (arc_value graphs.now).graphs (arc_value graphs.now).top [] ≡ [] }
@@ -73,28 +93,36 @@ fn iterate<K: Gate + Sync, R: Threads + Wait + Sync>(
     requires state { IsTopState (arc_value graphs.now) delays.old.lists }
     requires some { 0 < workers }
     requires few { workers ≤ 16 }
+    requires empty { IsEmpty journal }
     ensures gives { IfOk result (λ r. IterationGives (arc_value graphs.now) ins.now delays.old.lists r.0 delays.new.lists) }
     ensures refused { IfErr result (IfRefused (λ refusal. IterationEnds (arc_value graphs.now) ins.now delays.old.lists (Err refusal))) }
     ensures unchanged { OnErr result (delays.new ≡ delays.old) }
     ensures journal { HasWholeJournal (key_with (arc_value graphs.now) (K.kernels gate.now) delays.old.lists ins.now workers) result }
+    ensures readable { journal.readable ≡ true → HasReadableJournal result }
 {
-    let board = start_board(alloc, graphs, delays, ins, workers, gate)?;
+    let readable = journal.is_readable();
+    let board = start_board(alloc, graphs, delays, ins, workers, gate, journal)?;
     match drive(rt, alloc, board, workers, kept, load, gate)? {
         BoardEnd::Done {
             iteration,
             delays: left,
             journal,
         } => {
+            see_readable(readable, &journal)?;
             *delays = left;
             Ok((iteration, journal))
         }
-        BoardEnd::Refused { refusal, journal } => Err(IterationFault::Refused(refusal, journal)),
+        BoardEnd::Refused { refusal, journal } => {
+            see_readable(readable, &journal)?;
+            Err(IterationFault::Refused(refusal, journal))
+        }
         BoardEnd::Starved => Err(IterationFault::Memory),
     }
 }
 
 /// As `run_iteration`, with as many threads as `load` asks for by what the run's iterations before it have shown, at most one for
-/// each worker.
+/// each worker. Nothing was put into the journal, into which the workers' steps are entered: where it can't be read, they take no
+/// memory.
 ///
 /// # Errors
 ///
@@ -112,6 +140,7 @@ pub(crate) fn iterate_by<K: Gate + Sync, R: Threads + Wait + Sync>(
     kept: &mut Option<Kept>,
     load: &mut Load,
     gate: &K,
+    journal: Journal,
 ) -> Result<(Iteration, Journal), IterationFault>
     requires valid { AreValidFor (unnamed (K.kernels gate.now)) (arc_value graphs.now) }
     requires sound { early_faults (arc_value graphs.now).graphs (arc_value graphs.now).top [] ≡ [] }
@@ -119,6 +148,7 @@ pub(crate) fn iterate_by<K: Gate + Sync, R: Threads + Wait + Sync>(
     requires state { IsTopState (arc_value graphs.now) delays.old.lists }
     requires some { 0 < workers }
     requires few { workers ≤ 16 }
+    requires empty { IsEmpty journal }
     ensures gives { IfOk result (λ r. IterationGives (arc_value graphs.now) ins.now delays.old.lists r.0 delays.new.lists) }
     ensures refused { IfErr result (IfRefused (λ refusal. IterationEnds (arc_value graphs.now) ins.now delays.old.lists (Err refusal))) }
     ensures unchanged { OnErr result (delays.new ≡ delays.old) }
@@ -129,6 +159,7 @@ pub(crate) fn iterate_by<K: Gate + Sync, R: Threads + Wait + Sync>(
 
     // The journal is one of such a board, and has ended.
     ensures journal { HasWholeJournal (key_with (arc_value graphs.now) (K.kernels gate.now) delays.old.lists ins.now workers) result }
+    ensures readable { journal.readable ≡ true → HasReadableJournal result }
 
     // The state that is left suits the next iteration.
     ensures state { IsTopState (arc_value graphs.now) delays.new.lists }
@@ -138,7 +169,9 @@ pub(crate) fn iterate_by<K: Gate + Sync, R: Threads + Wait + Sync>(
     runnable();
     // Its clause says that the kernels give outputs of the lengths that they are asked for.
     let _signatures = gate.signatures();
-    iterate(rt, alloc, graphs, delays, ins, workers, kept, load, gate)
+    iterate(
+        rt, alloc, graphs, delays, ins, workers, kept, load, gate, journal,
+    )
 }
 
 /// One iteration by 1 to 16 workers, each in a thread: a firing of the top graph (Desnos and others 2013, PiMM; Lee and
@@ -177,14 +210,16 @@ pub fn run_iteration<K: Gate + Sync, R: Threads + Wait + Sync>(
     ensures only_given { (iteration : Outcome) (state : Seq (Seq ℤ)) → IterationGives (arc_value graphs.now) ins.now delays.old.lists iteration state → ((journal : JournalView) × (result ≡ Ok (iteration, journal)) × (delays.new.lists ≡ state)) ⊎ (result ≡ Err IterationFault.Memory) }
     ensures only_refused { (refusal : Cause) → IterationEnds (arc_value graphs.now) ins.now delays.old.lists (Err refusal) → ((journal : JournalView) × (result ≡ Err (IterationFault.Refused refusal journal))) ⊎ (result ≡ Err IterationFault.Memory) }
 
-    // The journal is one of such a board, and has ended.
+    // The journal is one of such a board, has ended, and can be read.
     ensures journal { HasWholeJournal (key_with (arc_value graphs.now) (K.kernels gate.now) delays.old.lists ins.now workers) result }
+    ensures readable { HasReadableJournal result }
 
     // The state that is left suits the next iteration.
     ensures state { IsTopState (arc_value graphs.now) delays.new.lists }
 {
     let mut load = Load::new();
+    let journal = Journal::new(alloc);
     iterate_by(
-        rt, alloc, graphs, delays, ins, workers, kept, &mut load, gate,
+        rt, alloc, graphs, delays, ins, workers, kept, &mut load, gate, journal,
     )
 }

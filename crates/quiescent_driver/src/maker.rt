@@ -8,6 +8,7 @@ ghost use Rattle.quiescent_driver.specs.Making.{IsMade, MayBegin};
 use crate::carried::Carried;
 use crate::iteration::iterate_by;
 use crate::stop::Stop;
+use board_journal::Journal;
 use kernel_gate::Gate;
 use pisdf_meaning::{Delays, Iteration, plain_iteration, runnable, sizes_kept};
 use pisdf_model::Graphs;
@@ -42,7 +43,7 @@ pub(crate) fn make_by_queues<K: Gate>(
     }
 }
 
-/// As `make_by_queues`, by so many workers, with what the iterations before it have left.
+/// As `make_by_queues`, by so many workers, with what the iterations before it have left. Their steps take no memory.
 pub(crate) fn make_by_workers<K: Gate + Sync, R: Threads + Wait + Sync>(
     rt: &R,
     alloc: Global,
@@ -69,6 +70,7 @@ pub(crate) fn make_by_workers<K: Gate + Sync, R: Threads + Wait + Sync>(
         &mut carried.kept,
         &mut carried.load,
         gate,
+        Journal::unreadable(),
     ) {
         Ok((iteration, _journal)) => Ok(iteration),
         Err(fault) => Err(Stop::from(fault)),

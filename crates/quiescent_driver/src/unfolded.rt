@@ -21,6 +21,7 @@ use crate::iteration::iterate_by;
 use crate::maker::{Made, make_by_workers};
 use crate::run::{put_iteration, run_all, run_from};
 use crate::streams::Streams;
+use board_journal::Journal;
 use job_compiler::kept;
 use kernel_gate::Gate;
 use outer_world::Sink;
@@ -98,6 +99,7 @@ fn next_group<K: Gate + Sync, R: Threads + Wait + Sync>(
         &mut carried.kept,
         &mut carried.load,
         gate,
+        Journal::unreadable(),
     ) {
         Ok((iteration, _journal)) => iteration,
         Err(IterationFault::Refused(_, _)) => return Ok(None),

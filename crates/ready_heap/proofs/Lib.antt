@@ -1,3 +1,4 @@
-pub mod Heaping
-pub mod HeldSteps
+pub mod Writing
+pub mod Searching
+pub mod Ordering
 pub mod GroupSteps

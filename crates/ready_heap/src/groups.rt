@@ -1,67 +1,47 @@
-// Numbers in groups, each group with a heap.
+// Numbers in groups, each group in the order of its keys.
 ghost use Rattle.std.specs.Prelude.{◌≡◌, ◌<◌, ◌^◌, ◌↔◌, ℕ, IsTrue, true, false, length, replicate, slice_index, slice_index_or, slice_set, EachIndex, IfOk};
 ghost use Rattle.ready_heap.specs.Heaps.{Holds};
-ghost use Rattle.ready_heap.specs.Groups.{IsLeastOf, Gathers};
+ghost use Rattle.ready_heap.specs.Groups.{IsLeastOf};
 
-use crate::heap::Heap;
+use crate::bits::{BITS, first_from, put_in, take_out};
+use crate::ranking::{Row, keyed, numbers_of, order, ranks_of, starts_of};
 use std::alloc::{AllocError, Global};
 use std::marker::Model;
+use std::snapshot::Snapshot;
 
-/// Numbers of which each has a group and a key, which never change, and for each group a heap of those of its numbers that
-/// are in. A number comes in and goes out without memory, in the logarithm of the size of its group.
+/// Numbers of which each has a group and a key, which never change, and for each group those of its numbers that are in. A
+/// number comes in and goes out without memory, by a write of two words.
 #[derive(Drop)]
 pub struct GroupedHeaps {
-    /// The group of each number.
-    groups: Vec<usize>,
-    /// The place of each number among those of its group.
-    spots: Vec<u32>,
-    /// Where the numbers of each group begin in `members`.
-    starts: Vec<usize>,
-    /// All numbers, group by group, upwards.
-    members: Vec<u32>,
-    /// For each group a heap of the places of its numbers.
-    heaps: Vec<Heap>,
+    /// The group and the key of each number, for clauses alone.
+    given: Snapshot<Vec<Row>>,
+    /// Where the ranks of each group start, and at the end how many numbers there are.
+    starts: Vec<u32>,
+    /// The number of each rank.
+    numbers: Vec<u32>,
+    /// The rank of each number.
+    ranks: Vec<u32>,
+    /// A bit for each rank: whether its number is in.
+    words: Vec<u64>,
+    /// A bit for each word: whether one of its bits is set.
+    summary: Vec<u64>,
 }
 
 impl Model for GroupedHeaps {
-    ghost use Rattle.std.specs.Prelude.{length};
-    ghost use Rattle.ready_heap.specs.Groups.{HeapsView, KeepsGroups, each_at, key_in, is_held_in};
+    ghost use Rattle.std.specs.Prelude.{◌-◌, length};
+    ghost use Rattle.ready_heap.specs.Groups.{HeapsView, KeepsRanks, KeepsBits, held_by};
+    ghost use Rattle.ready_heap.specs.Ranks.{groups_in, keys_in};
 
     ghost Value = { HeapsView };
 
     ghost view = { λ h. record {
-      groups = h.groups.items;
-      keys = each_at key_in h.heaps.items h.groups.items h.spots.items;
-      held = each_at is_held_in h.heaps.items h.groups.items h.spots.items;
-      count = length h.heaps.items;
+      groups = groups_in h.given.value.items;
+      keys = keys_in h.given.value.items;
+      held = held_by h.words.items h.ranks.items;
+      count = length h.starts.items - 1;
     } };
 
-    ghost invariant = { λ h. KeepsGroups h.groups.items h.spots.items h.starts.items h.members.items h.heaps.items };
-}
-
-/// Puts the numbers of a group behind the members, each with its spot, and gives their keys.
-fn gather(
-    alloc: Global,
-    groups: &[usize],
-    keys: &[u128],
-    group: usize,
-    spots: &mut [u32],
-    members: &mut Vec<u32>,
-) -> Result<Vec<u128>, AllocError>
-    requires few { length groups.now < 2 ^ 32 }
-    requires keys { length keys.now ≡ length groups.now }
-    requires spots { length spots.old ≡ length groups.now }
-    ensures { IfOk result (λ row. Gathers groups.now keys.now group (length groups.now) spots.old spots.new members.old.items members.new.items row.items) }
-{
-    let mut row = Vec::new(alloc);
-    for n in 0..groups.len() {
-        if groups[n] == group {
-            spots[n] = row.len() as u32;
-            members.push(n as u32)?;
-            row.push(keys[n])?;
-        }
-    }
-    Ok(row)
+    ghost invariant = { λ h. KeepsRanks (groups_in h.given.value.items) (keys_in h.given.value.items) h.starts.items h.numbers.items h.ranks.items × KeepsBits h.numbers.items h.words.items h.summary.items };
 }
 
 impl GroupedHeaps {
@@ -77,21 +57,21 @@ impl GroupedHeaps {
         requires count { EachIndex groups.items (λ n. slice_index groups.items n < count) }
         ensures { IfOk result (λ h. h ≡ record { groups = groups.items; keys = keys.now; held = replicate (length groups.items) false; count = count }) }
     {
-        let mut spots = vec![in alloc; 0u32; groups.len()]?;
-        let mut members = Vec::with_capacity(alloc, groups.len())?;
-        let mut starts = Vec::with_capacity(alloc, count)?;
-        let mut heaps = Vec::with_capacity(alloc, count)?;
-        for group in 0..count {
-            starts.push(members.len())?;
-            let row = gather(alloc, &groups, keys, group, &mut spots, &mut members)?;
-            heaps.push(Heap::new(alloc, row)?)?;
-        }
+        let mut rows = keyed(alloc, &groups, keys)?;
+        let given = Snapshot::of(&rows);
+        order(&mut rows)?;
+        let numbers = numbers_of(alloc, &rows)?;
+        let ranks = ranks_of(alloc, &numbers)?;
+        let starts = starts_of(alloc, &rows, count)?;
+        let words = vec![in alloc; 0u64; numbers.len().div_ceil(BITS)]?;
+        let summary = vec![in alloc; 0u64; words.len().div_ceil(BITS)]?;
         Ok(GroupedHeaps {
-            groups,
-            spots,
+            given,
             starts,
-            members,
-            heaps,
+            numbers,
+            ranks,
+            words,
+            summary,
         })
     }
 
@@ -99,12 +79,14 @@ impl GroupedHeaps {
     pub fn least(&self, group: usize) -> Option<u32>
         ensures { IsLeastOf self.now group result }
     {
-        if group >= self.heaps.len() {
+        if group >= self.starts.len() - 1 {
             return None;
         }
-        match self.heaps[group].least() {
-            Some(spot) => Some(self.members[self.starts[group] + spot as usize]),
-            None => None,
+        let start = self.starts[group] as usize;
+        let end = self.starts[group + 1] as usize;
+        match first_from(&self.words, &self.summary, start) {
+            Some(rank) if rank < end => Some(self.numbers[rank]),
+            _ => None,
         }
     }
 
@@ -113,19 +95,14 @@ impl GroupedHeaps {
         ensures count { result ≡ self.now.count }
         ensures above { EachIndex self.now.groups (λ n. slice_index self.now.groups n < result) }
     {
-        self.heaps.len()
+        self.starts.len() - 1
     }
 
     /// Whether no number is in.
     pub fn is_empty(&self) -> bool
         ensures { IsTrue result ↔ ((n : ℕ) → Holds self.now.held n → ⊥) }
     {
-        for group in 0..self.heaps.len() {
-            if self.least(group).is_some() {
-                return false;
-            }
-        }
-        true
+        first_from(&self.words, &self.summary, 0).is_none()
     }
 
     /// Puts a number in.
@@ -134,10 +111,8 @@ impl GroupedHeaps {
         requires new { slice_index_or self.old.held n false ≡ false }
         ensures { self.new ≡ record self.old { held = slice_set self.old.held n true } }
     {
-        let group = self.groups[n as usize];
-        let spot = self.spots[n as usize];
-        let heap = &mut self.heaps[group];
-        heap.insert(spot);
+        let rank = self.ranks[n as usize] as usize;
+        put_in(&mut self.words, &mut self.summary, rank);
     }
 
     /// Takes a number out.
@@ -145,9 +120,7 @@ impl GroupedHeaps {
         requires { Holds self.old.held n }
         ensures { self.new ≡ record self.old { held = slice_set self.old.held n false } }
     {
-        let group = self.groups[n as usize];
-        let spot = self.spots[n as usize];
-        let heap = &mut self.heaps[group];
-        heap.remove(spot);
+        let rank = self.ranks[n as usize] as usize;
+        take_out(&mut self.words, &mut self.summary, rank);
     }
 }

@@ -1,10 +1,10 @@
 //! Numbers that come in and go out without memory, and the least of those that are in: each number has a group and a key, and
-//! for each group there is a binary heap of its numbers by their keys (Williams 1964), with the place of each number in it.
+//! its rank is its place in the order of groups and keys. The ranks of those that are in are the set bits of a row of words,
+//! with a bit for each word that tells whether it has one.
 #![tactic(auto)]
 
+mod bits;
 mod groups;
-mod heap;
-mod row;
+mod ranking;
 
 pub use groups::GroupedHeaps;
-pub use heap::Heap;

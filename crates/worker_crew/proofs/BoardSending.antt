@@ -7,7 +7,6 @@ use Rattle.param_expr.proofs.name.Name.TheSendSync as name
 use Rattle.param_resolver.proofs.known.Early.TheLaws.TheKnot as early
 use Rattle.cell_pool.proofs.pool.Pool.TheSendSync as pool
 use Rattle.kernel_gate.proofs.frame.Frame.TheSendSync as frame
-use Rattle.ready_heap.proofs.groups.GroupedHeaps.TheSendSync as heaps
 use Rattle.split_block.proofs.lease.Lease.TheSendSync as lease
 use Rattle.pisdf_meaning.proofs.firing.Configured.TheSendSync as configured
 use Rattle.pisdf_meaning.proofs.firing.Firing.TheSendSync as firing
@@ -18,24 +17,26 @@ use Rattle.job_compiler.proofs.cache.Kept.TheSendSync as kept
 use Rattle.job_compiler.proofs.compiled.Compiled.TheSendSync as compiled
 use Rattle.job_compiler.proofs.key.Key.TheSendSync as key
 use Rattle.job_preparing.proofs.handing.JobGiven.TheSendSync as given
-use Rattle.board_journal.proofs.journal.Journal.TheSendSync as journal
+use Rattle.board_journal.proofs.kept.Entries.TheSendSync as entries
+use Rattle.board_journal.proofs.told.Past.TheLaws.TheKnot as past
 use Rattle.firing_board.proofs.counts.KernelCounts.TheSendSync as counts
 use Rattle.firing_board.proofs.run.Run.TheSendSync as run
 use Rattle.param_resolver.specs.contracts.known.Early as Early
 use Rattle.param_resolver.specs.contracts.level_set.LevelSet as LevelSet
 use Rattle.job_preparing.specs.contracts.configuring.Configuring as Configuring
+use Rattle.ready_heap.specs.contracts.groups.GroupedHeaps as GroupedHeaps
 use Rattle.one_job.specs.contracts.job.Job as Job
 use Rattle.job_running.specs.contracts.running.Running as Running
 use Rattle.open_job.specs.contracts.job.OpenJob as OpenJob
 use Rattle.job_table.specs.contracts.table.JobTable as JobTable
+use Rattle.board_journal.specs.contracts.told.Told as JournalTold
+use Rattle.board_journal.specs.contracts.journal.Journal as Journal
 use Rattle.firing_board.specs.contracts.board.Board as Board
 use Rattle.sdf_level.proofs.list.List.TheSendSync as list
-use Rattle.one_job.specs.contracts.told.Told as JobTold
+use Rattle.kernel_gate.specs.contracts.told.Told as Told
 use Rattle.one_job.specs.contracts.stage.Stage as JobStage
-use Rattle.job_preparing.specs.contracts.told.Told as PreparingTold
 use Rattle.job_preparing.specs.contracts.stage.Stage as PreparingStage
 use Rattle.job_preparing.proofs.stage.Spare.TheSendSync as spare
-use Rattle.job_running.specs.contracts.told.Told as RunningTold
 use Rattle.job_running.specs.contracts.told.ToldBefore as ToldBefore
 use Rattle.job_running.specs.contracts.told.ToldBlock as ToldBlock
 use Rattle.job_running.specs.contracts.stage.Stage as RunningStage
@@ -51,26 +52,23 @@ early_sync = search (crosses, early.crosses, sendable) depth 60 fits 20000
 level_set_field_send : IsSend LevelSet.the_field.row
 level_set_field_send = search (early_send, crosses, sendable) depth 60 fits 20000
 
-job_told_send : IsSend JobTold.the_row
-job_told_send = search sendable depth 20
+told_send : IsSend Told.the_row
+told_send = search sendable depth 20
 
 job_stage_send : IsSend JobStage.the_row
-job_stage_send = search (job_told_send, sendable) depth 20
+job_stage_send = search (told_send, sendable) depth 20
+
+heaps_send : IsSend GroupedHeaps.the_row
+heaps_send = search (crosses, sendable) depth 30 fits 4000
 
 job_send : IsSend Job.the_row
-job_send = search (job_stage_send, compiled.the_send, compiled.the_sync, lease.the_send, pool.the_send, heaps.the_send, list.the_send, option.the_send, crosses, sendable) depth 30 fits 4000
-
-preparing_told_send : IsSend PreparingTold.the_row
-preparing_told_send = search sendable depth 20
+job_send = search (job_stage_send, compiled.the_send, compiled.the_sync, lease.the_send, pool.the_send, heaps_send, list.the_send, option.the_send, crosses, sendable) depth 30 fits 4000
 
 preparing_stage_send : IsSend PreparingStage.the_row
-preparing_stage_send = search (preparing_told_send, spare.the_field_send, refusal.the_field_send, crosses, sendable) depth 20
+preparing_stage_send = search (told_send, spare.the_field_send, refusal.the_field_send, crosses, sendable) depth 20
 
 configuring_send : IsSend Configuring.the_row
 configuring_send = search (preparing_stage_send, graphs_send, graphs_sync, early_send, early_sync, firing.the_field_send, configured.the_send, frame.the_send, linked.the_send, row.the_send, option.the_send, crosses, sendable) depth 30 fits 4000
-
-running_told_send : IsSend RunningTold.the_row
-running_told_send = search sendable depth 20
 
 told_before_send : IsSend ToldBefore.the_row
 told_before_send = search sendable depth 20
@@ -79,7 +77,7 @@ told_block_send : IsSend ToldBlock.the_row
 told_block_send = search sendable depth 20
 
 running_stage_send : IsSend RunningStage.the_row
-running_stage_send = search (running_told_send, sendable) depth 20
+running_stage_send = search (told_send, sendable) depth 20
 
 running_held_send : IsSend RunningHeld.the_row
 running_held_send = search (frame.the_send, refusal.the_field_send, crosses, sendable) depth 20
@@ -93,5 +91,11 @@ open_send = search (configuring_send, running_send, crosses, sendable) depth 60 
 table_send : IsSend JobTable.the_row
 table_send = search (open_send, graphs_send, graphs_sync, crosses, sendable) depth 60 fits 20000
 
+journal_told_send : IsSend JournalTold.the_row
+journal_told_send = search (past.crosses, crosses, sendable) depth 60 fits 20000
+
+journal_send : IsSend Journal.the_row
+journal_send = search (journal_told_send, entries.the_send, crosses, sendable) depth 60 fits 20000
+
 pub board_send : IsSend Board.the_row
-board_send = search (table_send, counts.the_send, run.the_send, journal.the_send, given.the_send, refusal.the_send, kept.the_send, key.the_send, crosses, sendable) depth 60 fits 20000
+board_send = search (table_send, counts.the_send, run.the_send, journal_send, given.the_send, refusal.the_send, kept.the_send, key.the_send, crosses, sendable) depth 60 fits 20000

@@ -1,6 +1,5 @@
 use Rattle.std.proofs.Common.{◌≡◌, Some, None, ap, ◌∙◌}
 use Rattle.board_rules.proofs.Known.{board_laws, known}
-use Rattle.board_rules.specs.JobLaws.{JobsHaveLaws}
 use Rattle.board_rules.specs.Legal.{state_after}
 use Rattle.job_rules.specs.Items.{rule}
 use Rattle.job_rules.specs.Words.{Answer}
@@ -8,25 +7,9 @@ use Rattle.nested_jobs.proofs.Tabling.{answers_are}
 use Rattle.nested_jobs.specs.Rules.{Values}
 use Rattle.job_table.proofs.laws.calls_are_fit.Goals as goal
 
-laws_of : (c : goal.After-edges_have_ports) → JobsHaveLaws
-laws_of c = λ key is. record {
-  lawful = c.rules_are_lawful.ensures key.graphs is.valid.valid;
-  meant = c.jobs_mean_firings.ensures key.signatures key.graphs is.valid is.lengths;
-  fit = (c.runnable.ensures key.signatures key.graphs is.valid).fit;
-  all = c.graphs_numbered.ensures.all;
-  in_order = c.graphs_numbered.ensures.in_order;
-  stages = c.graphs_numbered.ensures.stages;
-  ends_there = c.graphs_numbered.ensures.ends;
-  ready = c.ready_stays.ensures.ready;
-  inputs_stay = c.ready_stays.ensures.inputs;
-  once = c.edges_have_ports.ensures.once;
-  lens_are = c.frames_told.ensures.inputs;
-  rates_are = c.frames_told.ensures.rates;
-}
-
 pub returns-clause-kept : goal.returns-clause-kept
 returns-clause-kept c = λ key taken table held k item row firing is kept here task.
-    let laws = board_laws key (laws_of c key is) in
+    let laws = board_laws key (c.job_laws.ensures key is) in
     let m = (state_after key taken).marks in
     let job_open = (kept.stands.rows k row here).is_open in
     let so = known key is laws taken kept.legal in
@@ -35,5 +18,5 @@ returns-clause-kept c = λ key taken table held k item row firing is kept here t
 
 pub returns-clause-first : goal.returns-clause-first
 returns-clause-first c = λ key job item firing is fit task.
-    let laws = board_laws key (laws_of c key is) in
+    let laws = board_laws key (c.job_laws.ensures key is) in
     laws.meant.calls 0 job (λ i. None) fit (λ i a e. let no : None ≡ Some a = e in absurd (cc)) item firing task

@@ -3,7 +3,7 @@ use Rattle.std.specs.Arc.{arc_value}
 use Rattle.pisdf_meaning.specs.Run as run
 use Rattle.pisdf_program.specs.Journals.{HasNoBoard}
 use Rattle.quiescent_driver.specs.Streams.{rest_of}
-use Rattle.pisdf_program.proofs.Boards.{refused_whole, whole_at}
+use Rattle.pisdf_program.proofs.Boards.{refused_readable, refused_whole, whole_at}
 use Rattle.quiescent_driver.proofs.Making.{taken_lengths}
 use Rattle.quiescent_driver.proofs.Runs.{lacks}
 use Rattle.pisdf_program.proofs.journal.next_board.Goals as goal
@@ -30,3 +30,7 @@ returns-in-Err-Refused-clause-whole g c =
     whole_at (arc_value c.args.graphs.now) c.args.streams.now.tokens.now c.args.workers c.args.number c.args.delays.now.lists c.args.streams.now.needs.now c.as_slice.result.now
     (g.K.Gate.kernels c.args.gate.now) c.in-Err-Refused.journal.entries c.requires.kernels c.requires.needs (c.as_slice.ensures.value ∙ c.in-Ok.ensures)
     (refused_whole _ c.in-Err-Refused.field-0 c.in-Err-Refused.refusal c.in-Err-Refused.journal c.in-Err-Refused.field-0-is c.in-Err-Refused.ensures.journal)
+
+pub returns-in-Err-Refused-clause-readable : goal.returns-in-Err-Refused-clause-readable
+returns-in-Err-Refused-clause-readable g c =
+    refused_readable c.in-Err-Refused.field-0 c.in-Err-Refused.refusal c.in-Err-Refused.journal c.in-Err-Refused.field-0-is c.in-Err-Refused.ensures.readable

@@ -56,6 +56,15 @@ returns-in-Job-clause-soak g c = not_soak (words.Job c.in-Job.what c.in-Job.grap
 pub returns-in-Upgrade-clause-soak : goal.returns-in-Upgrade-clause-soak
 returns-in-Upgrade-clause-soak g c = not_soak (words.Upgrade c.in-Upgrade.graph.now) (command_of (map string_bytes c.args.words.now)) (ap (λ (x : Here). Some (seen x)) (sym c.in-Upgrade.is) ∙ c.in-Some.ensures.command) refl
 
+pub returns-in-Audit-clause-works : goal.returns-in-Audit-clause-works
+returns-in-Audit-clause-works g c =
+    works_as (Some (words.Audit c.in-Audit.graph.now c.in-Audit.tokens.now c.in-Audit.iterations c.in-Audit.workers c.in-Audit.journal.now)) (command_of (map string_bytes c.args.words.now)) (g.S.Shelf.holds c.args.shelf.now)
+    (g.O.Sink.written c.args.out.now) (g.O.Sink.written c.tell_audit.new.out) (g.O.Sink.faults c.args.out.now) (g.O.Sink.faults c.tell_audit.new.out) c.tell_audit.result
+    (ap (λ (x : Here). Some (seen x)) (sym c.in-Audit.is) ∙ c.in-Some.ensures.command) c.tell_audit.ensures.works
+
+pub returns-in-Audit-clause-soak : goal.returns-in-Audit-clause-soak
+returns-in-Audit-clause-soak g c = not_soak (words.Audit c.in-Audit.graph.now c.in-Audit.tokens.now c.in-Audit.iterations c.in-Audit.workers c.in-Audit.journal.now) (command_of (map string_bytes c.args.words.now)) (ap (λ (x : Here). Some (seen x)) (sym c.in-Audit.is) ∙ c.in-Some.ensures.command) refl
+
 pub returns-in-Unfold-clause-works : goal.returns-in-Unfold-clause-works
 returns-in-Unfold-clause-works g c =
     works_as (Some (words.Unfold c.in-Unfold.times c.in-Unfold.graph.now c.in-Unfold.tokens.now c.in-Unfold.iterations c.in-Unfold.workers)) (command_of (map string_bytes c.args.words.now)) (g.S.Shelf.holds c.args.shelf.now)

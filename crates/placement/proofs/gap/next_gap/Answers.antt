@@ -5,18 +5,15 @@ use Rattle.std.proofs.Common.{arith}
 
 pub loop-k-init : goal.loop-k-init
 loop-k-init c = record {
-  so_far = record {
-    passed = c.requires.passed;
-    blocked = λ lower low below. absurd (omega arith);
-    up = omega arith;
-    room = c.requires.room;
-  };
-  met = λ all among old. old;
+  passed = c.requires.passed;
+  blocked = λ lower low below. absurd (omega arith);
+  up = omega arith;
+  room = c.requires.room;
 }
 
-pub returns-then-offset-sought-clause-gap : goal.returns-then-offset-sought-clause-gap
-returns-then-offset-sought-clause-gap c =
-    let so_far = c.loop-k.invariant.so_far in
+pub returns-then-offset-sought : goal.returns-then-offset-sought
+returns-then-offset-sought c =
+    let so_far = c.loop-k.invariant in
     record {
       passed = so_far.passed;
       free = λ below. free_before (RowHas c.args.sought.now.row.now) c.args.sought.now.size c.args.placed.now _ c.loop-k.k c.loop-k.offset _ c.requires.placed so_far.passed c.if-offset-sought.true;
@@ -26,7 +23,4 @@ returns-then-offset-sought-clause-gap c =
     }
 
 pub loop-k-preserved : goal.loop-k-preserved
-loop-k-preserved c = record {
-  so_far = one_more (RowHas c.args.sought.now.row.now) c.args.sought.now.size c.args.placed.now c.loop-k.k c.loop-k.offset c.in_ok-offset.offset _ c.loop-k-test.true c.in_ok-offset.ensures.behind _ c.args.from.offset c.requires.placed c.if-offset-sought.false c.loop-k.invariant.so_far;
-  met = λ all among old. c.in_ok-offset.ensures.met all (among c.loop-k.k _ c.loop-k-test.true) (c.loop-k.invariant.met all among old);
-}
+loop-k-preserved c = one_more (RowHas c.args.sought.now.row.now) c.args.sought.now.size c.args.placed.now c.loop-k.k c.loop-k.offset c.pass-offset.result _ c.loop-k-test.true c.pass-offset.ensures _ c.args.from.offset c.requires.placed c.if-offset-sought.false c.loop-k.invariant

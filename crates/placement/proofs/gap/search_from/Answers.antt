@@ -1,53 +1,46 @@
-use Rattle.std.proofs.Common.{◌++◌, arith}
+use Rattle.std.proofs.Common.{arith}
 use Rattle.std.proofs.lemmas.List.Elements.{All-append}
 use Rattle.placement_checker.specs.Rows.{RowHas}
 use Rattle.placement.specs.Placing.{Blocks}
 use Rattle.placement.specs.declared.gap.Placed.{Placed}
-use Rattle.placement.proofs.Sweep.{among_left, among_right, free_before, free_at_end, passed_higher, search_starts, start_at_gap, one_more_large}
+use Rattle.placement.proofs.Sweep.{free_before, free_at_end, passed_higher, search_starts, blocked_to_gap, one_more_large}
 use Rattle.placement.proofs.gap.search_from.Goals as goal
 
 pub loop-k-init : goal.loop-k-init
-loop-k-init c = record {
-  so_far = search_starts (RowHas c.args.sought.now.row.now) c.args.sought.now.size c.args.small.now c.args.large.now c.args.start.place c.args.start.offset c.requires.passed c.requires.start;
-  met = c.requires.met;
-}
+loop-k-init c = search_starts (RowHas c.args.sought.now.row.now) c.args.sought.now.size c.args.small.now c.args.large.now c.args.start.offset c.args.start.place c.requires.passed c.requires.room
 
 pub loop-k-preserved : goal.loop-k-preserved
-loop-k-preserved c = record {
-  so_far = one_more_large (RowHas c.args.sought.now.row.now) c.args.sought.now.size c.args.small.now c.args.large.now _ c.in_ok-gap.gap.place c.loop-k.k c.in_ok-gap.gap.offset c.in_ok-offset.offset _ c.loop-k-test.true c.in_ok-offset.ensures.behind c.requires.large c.if-gap-sought.false c.in_ok-gap.ensures.gap.passed
-      (passed_higher (RowHas c.args.sought.now.row.now) c.args.sought.now.size c.args.large.now c.loop-k.k c.loop-k.from.offset c.in_ok-gap.gap.offset c.in_ok-gap.ensures.gap.up c.loop-k.invariant.so_far.large_passed)
-      (start_at_gap (RowHas c.args.sought.now.row.now) c.args.sought.now.size c.args.small.now c.args.large.now c.loop-k.from.offset c.in_ok-gap.gap.offset c.loop-k.invariant.so_far.start c.in_ok-gap.ensures.gap.blocked c.in_ok-gap.ensures.gap.room);
-  met = c.in_ok-offset.ensures.met (c.args.small.now ++ c.args.large.now) (among_right c.args.small.now c.args.large.now c.loop-k.k _ c.loop-k-test.true) (c.in_ok-gap.ensures.met (c.args.small.now ++ c.args.large.now) (among_left c.args.small.now c.args.large.now) c.loop-k.invariant.met);
-}
+loop-k-preserved c =
+    let so_far = c.loop-k.invariant in
+    let gap = c.next_gap-gap.ensures in
+    one_more_large (RowHas c.args.sought.now.row.now) c.args.sought.now.size c.args.small.now c.args.large.now c.args.start.offset _ c.next_gap-gap.result.place c.loop-k.k c.next_gap-gap.result.offset c.pass-offset.result _ c.loop-k-test.true c.pass-offset.ensures c.requires.large c.if-gap-sought.false gap.passed
+    (passed_higher (RowHas c.args.sought.now.row.now) c.args.sought.now.size c.args.large.now c.loop-k.k c.loop-k.from.offset c.next_gap-gap.result.offset gap.up so_far.large_passed)
+    (blocked_to_gap (RowHas c.args.sought.now.row.now) c.args.sought.now.size c.args.small.now c.args.large.now c.args.start.offset c.loop-k.from.place c.loop-k.k c.loop-k.from.offset c.next_gap-gap.result.offset so_far gap.blocked)
+    (let up = gap.up in let before = so_far.up in omega arith)
+    gap.room
 
-pub returns-then-bound-gap-clause-found : goal.returns-then-bound-gap-clause-found
-returns-then-bound-gap-clause-found c = record {
+pub returns-then-bound-gap : goal.returns-then-bound-gap
+returns-then-bound-gap c = record {
   free = λ below. absurd (omega arith);
-  start = (start_at_gap (RowHas c.args.sought.now.row.now) c.args.sought.now.size c.args.small.now c.args.large.now c.loop-k.from.offset c.in_ok-gap.gap.offset c.loop-k.invariant.so_far.start c.in_ok-gap.ensures.gap.blocked c.in_ok-gap.ensures.gap.room);
+  blocked = blocked_to_gap (RowHas c.args.sought.now.row.now) c.args.sought.now.size c.args.small.now c.args.large.now c.args.start.offset c.loop-k.from.place c.loop-k.k c.loop-k.from.offset c.next_gap-gap.result.offset c.loop-k.invariant c.next_gap-gap.ensures.blocked;
+  room = c.next_gap-gap.ensures.room;
 }
 
-pub returns-then-bound-gap-clause-met : goal.returns-then-bound-gap-clause-met
-returns-then-bound-gap-clause-met c = c.in_ok-gap.ensures.met (c.args.small.now ++ c.args.large.now) (among_left c.args.small.now c.args.large.now) c.loop-k.invariant.met
-
-pub returns-then-gap-sought-clause-found : goal.returns-then-gap-sought-clause-found
-returns-then-gap-sought-clause-found c = record {
+pub returns-then-gap-sought : goal.returns-then-gap-sought
+returns-then-gap-sought c = record {
   free = λ below.
-      All-append (λ (p : Placed). Blocks (RowHas c.args.sought.now.row.now) c.args.sought.now.size c.in_ok-gap.gap.offset p → ⊥) c.args.small.now c.args.large.now (c.in_ok-gap.ensures.gap.free below)
-      (free_before (RowHas c.args.sought.now.row.now) c.args.sought.now.size c.args.large.now _ c.loop-k.k c.in_ok-gap.gap.offset _ c.requires.large (passed_higher (RowHas c.args.sought.now.row.now) c.args.sought.now.size c.args.large.now c.loop-k.k c.loop-k.from.offset c.in_ok-gap.gap.offset c.in_ok-gap.ensures.gap.up c.loop-k.invariant.so_far.large_passed) c.if-gap-sought.true);
-  start = (start_at_gap (RowHas c.args.sought.now.row.now) c.args.sought.now.size c.args.small.now c.args.large.now c.loop-k.from.offset c.in_ok-gap.gap.offset c.loop-k.invariant.so_far.start c.in_ok-gap.ensures.gap.blocked c.in_ok-gap.ensures.gap.room);
+      All-append (λ (p : Placed). Blocks (RowHas c.args.sought.now.row.now) c.args.sought.now.size c.next_gap-gap.result.offset p → ⊥) c.args.small.now c.args.large.now (c.next_gap-gap.ensures.free below)
+      (free_before (RowHas c.args.sought.now.row.now) c.args.sought.now.size c.args.large.now _ c.loop-k.k c.next_gap-gap.result.offset _ c.requires.large (passed_higher (RowHas c.args.sought.now.row.now) c.args.sought.now.size c.args.large.now c.loop-k.k c.loop-k.from.offset c.next_gap-gap.result.offset c.next_gap-gap.ensures.up c.loop-k.invariant.large_passed) c.if-gap-sought.true);
+  blocked = blocked_to_gap (RowHas c.args.sought.now.row.now) c.args.sought.now.size c.args.small.now c.args.large.now c.args.start.offset c.loop-k.from.place c.loop-k.k c.loop-k.from.offset c.next_gap-gap.result.offset c.loop-k.invariant c.next_gap-gap.ensures.blocked;
+  room = c.next_gap-gap.ensures.room;
 }
 
-pub returns-then-gap-sought-clause-met : goal.returns-then-gap-sought-clause-met
-returns-then-gap-sought-clause-met c = c.in_ok-gap.ensures.met (c.args.small.now ++ c.args.large.now) (among_left c.args.small.now c.args.large.now) c.loop-k.invariant.met
-
-pub returns-clause-found : goal.returns-clause-found
-returns-clause-found c = record {
+pub returns : goal.returns
+returns c = record {
   free = λ below.
-      All-append (λ (p : Placed). Blocks (RowHas c.args.sought.now.row.now) c.args.sought.now.size c.in_ok-last.last.offset p → ⊥) c.args.small.now c.args.large.now (c.in_ok-last.ensures.gap.free below)
-      (free_at_end (RowHas c.args.sought.now.row.now) c.args.sought.now.size c.args.large.now c.loop-k.k c.in_ok-last.last.offset c.loop-k-test.false
-      (passed_higher (RowHas c.args.sought.now.row.now) c.args.sought.now.size c.args.large.now c.loop-k.k c.loop-k.from.offset c.in_ok-last.last.offset c.in_ok-last.ensures.gap.up c.loop-k.invariant.so_far.large_passed));
-  start = (start_at_gap (RowHas c.args.sought.now.row.now) c.args.sought.now.size c.args.small.now c.args.large.now c.loop-k.from.offset c.in_ok-last.last.offset c.loop-k.invariant.so_far.start c.in_ok-last.ensures.gap.blocked c.in_ok-last.ensures.gap.room);
+      All-append (λ (p : Placed). Blocks (RowHas c.args.sought.now.row.now) c.args.sought.now.size c.next_gap-last.result.offset p → ⊥) c.args.small.now c.args.large.now (c.next_gap-last.ensures.free below)
+      (free_at_end (RowHas c.args.sought.now.row.now) c.args.sought.now.size c.args.large.now c.loop-k.k c.next_gap-last.result.offset c.loop-k-test.false
+      (passed_higher (RowHas c.args.sought.now.row.now) c.args.sought.now.size c.args.large.now c.loop-k.k c.loop-k.from.offset c.next_gap-last.result.offset c.next_gap-last.ensures.up c.loop-k.invariant.large_passed));
+  blocked = blocked_to_gap (RowHas c.args.sought.now.row.now) c.args.sought.now.size c.args.small.now c.args.large.now c.args.start.offset c.loop-k.from.place c.loop-k.k c.loop-k.from.offset c.next_gap-last.result.offset c.loop-k.invariant c.next_gap-last.ensures.blocked;
+  room = c.next_gap-last.ensures.room;
 }
-
-pub returns-clause-met : goal.returns-clause-met
-returns-clause-met c = c.in_ok-last.ensures.met (c.args.small.now ++ c.args.large.now) (among_left c.args.small.now c.args.large.now) c.loop-k.invariant.met

@@ -1,5 +1,5 @@
-use Rattle.std.proofs.Common.{◌≡◌, ◌≤◌, ◌<◌, ◌*◌, ◌/◌, ◌^◌, ◌++◌, [], length, IfSome}
-use Rattle.placement.specs.Placing.{IsPlacingOrder, IsLast, AreAmong, Rise, IsNarrow}
+use Rattle.std.proofs.Common.{◌≡◌, ◌≤◌, ◌<◌, ◌*◌, ◌/◌, ◌^◌, ◌++◌, length, IfSome}
+use Rattle.placement.specs.Placing.{IsPlacingOrder, IsLast, Rise, IsNarrow}
 use Rattle.placement.proofs.Fitting.{PlacedSoFar}
 use Rattle.placement.proofs.placing.place.Given as goal
 
@@ -15,6 +15,4 @@ invariant-loop-number g l = record {
   rows : length l.row.items ≡ length l.before.row.items;
   told : IfSome l.before.buffer (λ p. (p.number / 64 < length l.row.items) × (p.offset < p.end));
   last : IfSome l.before.buffer (IsLast l.before.row.items (l.placed.small.items ++ l.placed.large.items));
-  hints : AreAmong (l.placed.small.items ++ l.placed.large.items) l.before.met.items;
-  met : l.met.items ≡ [];
 }

@@ -7,8 +7,8 @@ use Rattle.quiescent_driver.specs.Given.{key_with}
 use Rattle.quiescent_driver.proofs.Starting.{is_key, started_idle, started_key}
 use Rattle.quiescent_driver.proofs.iteration.start_board.Goals as goal
 
-pub start-requires : goal.start-requires
-start-requires g c =
+pub start_with-requires-clause-key : goal.start_with-requires-clause-key
+start_with-requires-clause-key g c =
     let graphs = arc_value c.args.graphs.now in
     let P : Graphs → Type 0 = λ x. IsKey (key_from x c.signatures.result.now c.args.delays.now c.args.ins.now c.args.workers) in
     let r = c.requires in
@@ -19,9 +19,9 @@ pub returns-clause-key : goal.returns-clause-key
 returns-clause-key g c =
     let signatures = c.signatures.result.now in
     let kernels = g.K.Gate.kernels c.args.gate.now in
-    let P : Graphs → Type 0 = λ x. IfOk c.start.result (λ b. b.key ≡ key_with x kernels c.args.delays.now.lists c.args.ins.now c.args.workers) in
-    subst P c.in_ok-clone.ensures.cases (started_key (arc_value c.in_ok-clone.field-0) signatures kernels c.args.delays.now c.args.ins.now c.args.workers c.start.result c.signatures.ensures.kernels c.start.ensures)
+    let P : Graphs → Type 0 = λ x. IfOk c.start_with.result (λ b. b.key ≡ key_with x kernels c.args.delays.now.lists c.args.ins.now c.args.workers) in
+    subst P c.in_ok-clone.ensures.cases (started_key (arc_value c.in_ok-clone.field-0) signatures kernels c.args.delays.now c.args.ins.now c.args.workers c.start_with.result c.signatures.ensures.kernels c.start_with.ensures)
 
 pub returns-clause-idle : goal.returns-clause-idle
 returns-clause-idle g c =
-    started_idle (key_from (arc_value c.in_ok-clone.field-0) c.signatures.result.now c.args.delays.now c.args.ins.now c.args.workers) c.args.workers c.start.result c.start.ensures
+    started_idle (key_from (arc_value c.in_ok-clone.field-0) c.signatures.result.now c.args.delays.now c.args.ins.now c.args.workers) c.args.workers c.start_with.result c.start_with.ensures

@@ -1,5 +1,5 @@
 use Rattle.std.proofs.Common.{◌≡◌, set, Some, sym, ap, ◌∙◌, subst}
-use Rattle.kernel_gate.specs.Value.{FrameView, lengths}
+use Rattle.kernel_gate.specs.Value.{FrameView}
 use Rattle.nested_jobs.specs.Marks.{Busy}
 use Rattle.nested_jobs.specs.Rules.{Work}
 use Rattle.sdf_level.specs.declared.node.Node.{Node}
@@ -8,7 +8,6 @@ use Rattle.one_job.specs.View as leased
 use Rattle.job_running.specs.Calls.{IsHanded, frame_of, handed_out}
 use Rattle.job_running.specs.Kept.{fixed_of, view_of}
 use Rattle.job_running.specs.Parts.{KeepsAll}
-use Rattle.job_running.specs.Sizes.{place_lens}
 use Rattle.job_running.specs.View.{IsOfferedWork, RunningView, task}
 use Rattle.job_running.specs.declared.stage.Stage.TheVariants as stage
 use Rattle.job_running.specs.declared.handed.Handed.{Handed}
@@ -16,8 +15,8 @@ use Rattle.job_running.proofs.ClaimedNodes.{frame_out, handed, keeps_claimed, vi
 use Rattle.job_running.proofs.NodeTasks.{enabled}
 use Rattle.job_running.proofs.running.Running.claim.Goals as goal
 
-pub claim-requires : goal.claim-requires
-claim-requires c =
+pub claim-frame-requires : goal.claim-frame-requires
+claim-frame-requires c =
     let i = c.self.inside in
     let offered = subst (λ (v : RunningView). IsOfferedWork v c.args.node) (sym c.self.view_is) c.requires in
     enabled (fixed_of i) i.stages.items i.held.items i.traces.items i.job c.self.invariant c.faults_renamed.ensures.ready c.faults_renamed.ensures.inputs c.args.node (Work offered.work) offered.free offered.task_is
@@ -26,27 +25,24 @@ pub invariant_of-self : goal.invariant_of-self
 invariant_of-self c =
     let i = c.self.inside in
     let offered = subst (λ (v : RunningView). IsOfferedWork v c.args.node) (sym c.self.view_is) c.requires in
-    let told_is = c.told_of.ensures ∙ c.measured-frame.ensures.same in
-    let long = subst (λ (x : FrameView). lengths x.outputs ≡ place_lens x.places) c.measured-frame.ensures.same c.measured-frame.ensures.lens in
-    subst (λ (j : leased.JobView). KeepsAll (fixed_of i) (set i.stages.items c.args.node (stage.Busy c.told_of.result)) i.held.items i.traces.items j) (sym c.claim.ensures.claimed)
-    (keeps_claimed (fixed_of i) i.stages.items i.held.items i.traces.items i.job c.self.invariant c.args.node c.faults_renamed.ensures.ready c.faults_renamed.ensures.inputs c.ready_stays.ensures.ready offered c.claim.result c.claim.ensures.kind c.claim.ensures.inputs c.claim.ensures.outputs c.told_of.result told_is long)
+    subst (λ (j : leased.JobView). KeepsAll (fixed_of i) (set i.stages.items c.args.node (stage.Busy c.told_of.result)) i.held.items i.traces.items j) (sym c.claim-frame.ensures.claimed)
+    (keeps_claimed (fixed_of i) i.stages.items i.held.items i.traces.items i.job c.self.invariant c.args.node c.faults_renamed.ensures.ready c.faults_renamed.ensures.inputs c.ready_stays.ensures.ready offered c.claim-frame.result c.claim-frame.ensures.kind c.claim-frame.ensures.inputs c.claim-frame.ensures.outputs c.told_of.result c.told_of.ensures c.outputs_fill_leases.ensures)
 
 pub returns-clause-handed : goal.returns-clause-handed
 returns-clause-handed c =
     let i = c.self.inside in
     let offered = subst (λ (v : RunningView). IsOfferedWork v c.args.node) (sym c.self.view_is) c.requires in
-    let so = handed (fixed_of i) i.stages.items i.held.items i.traces.items i.job c.self.invariant c.args.node c.faults_renamed.ensures.ready c.faults_renamed.ensures.inputs c.ready_stays.ensures.ready offered c.claim.result c.claim.ensures.kind c.claim.ensures.inputs c.claim.ensures.outputs in
-    let is : c.hand_out.result ≡ handed_out (node_at i.job.compilation.graph.nodes c.args.node) c.claim.result =
-    c.hand_out.ensures ∙ ap (λ (x : FrameView). handed_out c.node-which.result x) c.measured-frame.ensures.same ∙ ap (λ (x : Node). handed_out x c.claim.result) c.node-which.ensures in
+    let so = handed (fixed_of i) i.stages.items i.held.items i.traces.items i.job c.self.invariant c.args.node c.faults_renamed.ensures.ready c.faults_renamed.ensures.inputs c.ready_stays.ensures.ready offered c.claim-frame.result c.claim-frame.ensures.kind c.claim-frame.ensures.inputs c.claim-frame.ensures.outputs in
+    let is : c.hand_out.result ≡ handed_out (node_at i.job.compilation.graph.nodes c.args.node) c.claim-frame.result =
+    c.hand_out.ensures ∙ ap (λ (x : Node). handed_out x c.claim-frame.result) c.node-which.ensures in
     subst (λ (v : RunningView). IsHanded (task v c.args.node) c.hand_out.result) c.self.view_is (subst (λ (h : Handed). IsHanded (task (view_of i) c.args.node) h) (sym is) so)
 
 pub returns-clause-claimed : goal.returns-clause-claimed
 returns-clause-claimed c =
     let i = c.self.inside in
     let offered = subst (λ (v : RunningView). IsOfferedWork v c.args.node) (sym c.self.view_is) c.requires in
-    let told_is = c.told_of.ensures ∙ c.measured-frame.ensures.same in
-    let frame_is : frame_of c.hand_out.result ≡ c.claim.result =
-    ap frame_of c.hand_out.ensures ∙ frame_out c.node-which.result c.measured-frame.result ∙ c.measured-frame.ensures.same in
-    view_claimed (fixed_of i) i.stages.items i.held.items i.traces.items i.job c.self.invariant c.args.node c.faults_renamed.ensures.ready c.faults_renamed.ensures.inputs c.ready_stays.ensures.ready offered c.claim.result c.claim.ensures.kind c.claim.ensures.inputs c.claim.ensures.outputs c.told_of.result told_is
+    let frame_is : frame_of c.hand_out.result ≡ c.claim-frame.result =
+    ap frame_of c.hand_out.ensures ∙ frame_out c.node-which.result c.claim-frame.result in
+    view_claimed (fixed_of i) i.stages.items i.held.items i.traces.items i.job c.self.invariant c.args.node c.faults_renamed.ensures.ready c.faults_renamed.ensures.inputs c.ready_stays.ensures.ready offered c.claim-frame.result c.claim-frame.ensures.kind c.claim-frame.ensures.inputs c.claim-frame.ensures.outputs c.told_of.result c.told_of.ensures
     ∙ ap (λ (x : FrameView). record (view_of i) { marks = set (view_of i).marks c.args.node Busy; lent = set (view_of i).lent c.args.node (Some x.places) }) (sym frame_is)
     ∙ ap (λ (v : RunningView). record v { marks = set v.marks c.args.node Busy; lent = set v.lent c.args.node (Some (frame_of c.hand_out.result).places) }) c.self.view_is

@@ -1,4 +1,4 @@
-use Rattle.std.proofs.Common.{sym, ap, ◌∙◌, subst}
+use Rattle.std.proofs.Common.{ap, ◌∙◌, subst}
 use Rattle.job_running.specs.Kept.{fixed_of}
 use Rattle.job_running.specs.Leases.{LendsNodes}
 use Rattle.job_running.specs.View.{RunningView}

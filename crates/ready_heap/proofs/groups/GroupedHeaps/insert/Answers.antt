@@ -1,79 +1,38 @@
-use Rattle.std.proofs.Common.{◌≡◌, ◌<◌, length, get_or, set, sym, ap, ◌∙◌, arith}
-use Rattle.std.specs.Prelude.{slice_index, true, false}
-use Rattle.std.proofs.lemmas.List.{get_or_read}
-use Rattle.ready_heap.specs.Heaps.{HeapView}
-use Rattle.ready_heap.specs.Groups.{heap_at, no_numbers, is_held_in, each_at}
-use Rattle.ready_heap.proofs.GroupSteps.{held_all_length, held_all_at, spot_inside, changed_is, view_after, keeps_changed}
+use Rattle.std.proofs.Common.{◌≡◌, ◌-◌, ◌<◌, length, sym, ap, ◌∙◌, subst, arith, true}
+use Rattle.std.specs.Prelude.{slice_index}
+use Rattle.std.proofs.lemmas.List.{get_or_read, with_items_is}
+use Rattle.ready_heap.specs.Bits.{Puts}
+use Rattle.ready_heap.specs.Ranks.{groups_in, keys_in}
+use Rattle.ready_heap.specs.Groups.{held_by, KeepsBits}
+use Rattle.ready_heap.proofs.GroupSteps.{held_length, bits_after, held_after}
 use Rattle.ready_heap.proofs.groups.GroupedHeaps.insert.Goals as goal
-
-pub index-group-requires : goal.index-group-requires
-index-group-requires c =
-    let i = c.self.inside in
-    let held : c.args.n < length (each_at is_held_in i.heaps.items i.groups.items i.spots.items) = rw (← c.self.view_is) at c.requires.below in
-    let inside : c.args.n < length i.groups.items = omega (arith, held, held_all_length i.groups.items i.spots.items i.starts.items i.members.items i.heaps.items c.self.invariant) in
-    omega (arith, inside, i.groups.ok.0)
-
-pub index-spot-requires : goal.index-spot-requires
-index-spot-requires c =
-    let i = c.self.inside in
-    let held : c.args.n < length (each_at is_held_in i.heaps.items i.groups.items i.spots.items) = rw (← c.self.view_is) at c.requires.below in
-    let inside : c.args.n < length i.groups.items = omega (arith, held, held_all_length i.groups.items i.spots.items i.starts.items i.members.items i.heaps.items c.self.invariant) in
-    omega (arith, inside, i.spots.ok.0, c.self.invariant.spots_long)
-
-pub index_mut-heap-requires : goal.index_mut-heap-requires
-index_mut-heap-requires c =
-    let i = c.self.inside in
-    let held : c.args.n < length (each_at is_held_in i.heaps.items i.groups.items i.spots.items) = rw (← c.self.view_is) at c.requires.below in
-    let inside : c.args.n < length i.groups.items = omega (arith, held, held_all_length i.groups.items i.spots.items i.starts.items i.members.items i.heaps.items c.self.invariant) in
-    let group_is : c.index-group.result.now ≡ slice_index i.groups.items c.args.n = get_or_read i.groups.items c.args.n c.index-group.result.now inside c.index-group.ensures 0 in
-    omega (arith, group_is, c.self.invariant.grouped c.args.n inside, i.heaps.ok.0)
-
-pub insert-requires-clause-below : goal.insert-requires-clause-below
-insert-requires-clause-below c =
-    let i = c.self.inside in
-    let held : c.args.n < length (each_at is_held_in i.heaps.items i.groups.items i.spots.items) = rw (← c.self.view_is) at c.requires.below in
-    let inside : c.args.n < length i.groups.items = omega (arith, held, held_all_length i.groups.items i.spots.items i.starts.items i.members.items i.heaps.items c.self.invariant) in
-    let group_is : c.index-group.result.now ≡ slice_index i.groups.items c.args.n = get_or_read i.groups.items c.args.n c.index-group.result.now inside c.index-group.ensures 0 in
-    let spot_is : c.index-spot.result.now ≡ slice_index i.spots.items c.args.n = get_or_read i.spots.items c.args.n c.index-spot.result.now (omega (arith, inside, c.self.invariant.spots_long)) c.index-spot.ensures 0 in
-    let heap_in : c.index-group.result.now < length i.heaps.items = omega (arith, group_is, c.self.invariant.grouped c.args.n inside) in
-    let heap_is : c.index_mut-heap.result.now ≡ heap_at i.heaps.items c.index-group.result.now = get_or_read i.heaps.items c.index-group.result.now c.index_mut-heap.result.now heap_in c.index_mut-heap.ensures.value no_numbers in
-    let there : c.index_mut-heap.result.now ≡ heap_at i.heaps.items (slice_index i.groups.items c.args.n) = heap_is ∙ ap (heap_at i.heaps.items) group_is in
-    omega (arith, spot_is, ap (λ (h : HeapView). length h.held) there, spot_inside i.groups.items i.spots.items i.starts.items i.members.items i.heaps.items c.self.invariant c.args.n inside)
-
-pub insert-requires-clause-new : goal.insert-requires-clause-new
-insert-requires-clause-new c =
-    let i = c.self.inside in
-    let held : c.args.n < length (each_at is_held_in i.heaps.items i.groups.items i.spots.items) = rw (← c.self.view_is) at c.requires.below in
-    let inside : c.args.n < length i.groups.items = omega (arith, held, held_all_length i.groups.items i.spots.items i.starts.items i.members.items i.heaps.items c.self.invariant) in
-    let group_is : c.index-group.result.now ≡ slice_index i.groups.items c.args.n = get_or_read i.groups.items c.args.n c.index-group.result.now inside c.index-group.ensures 0 in
-    let spot_is : c.index-spot.result.now ≡ slice_index i.spots.items c.args.n = get_or_read i.spots.items c.args.n c.index-spot.result.now (omega (arith, inside, c.self.invariant.spots_long)) c.index-spot.ensures 0 in
-    let heap_in : c.index-group.result.now < length i.heaps.items = omega (arith, group_is, c.self.invariant.grouped c.args.n inside) in
-    let heap_is : c.index_mut-heap.result.now ≡ heap_at i.heaps.items c.index-group.result.now = get_or_read i.heaps.items c.index-group.result.now c.index_mut-heap.result.now heap_in c.index_mut-heap.ensures.value no_numbers in
-    let there : c.index_mut-heap.result.now ≡ heap_at i.heaps.items (slice_index i.groups.items c.args.n) = heap_is ∙ ap (heap_at i.heaps.items) group_is in
-    let free : get_or (each_at is_held_in i.heaps.items i.groups.items i.spots.items) c.args.n false ≡ false = rw (← c.self.view_is) at c.requires.new in
-    (λ t. is_held_in (there t) (spot_is t)) ∙ (sym (held_all_at i.groups.items i.spots.items i.starts.items i.members.items i.heaps.items c.self.invariant c.args.n inside) ∙ free)
 
 pub invariant_of-self : goal.invariant_of-self
 invariant_of-self c =
     let i = c.self.inside in
-    let held : c.args.n < length (each_at is_held_in i.heaps.items i.groups.items i.spots.items) = rw (← c.self.view_is) at c.requires.below in
-    let inside : c.args.n < length i.groups.items = omega (arith, held, held_all_length i.groups.items i.spots.items i.starts.items i.members.items i.heaps.items c.self.invariant) in
-    let group_is : c.index-group.result.now ≡ slice_index i.groups.items c.args.n = get_or_read i.groups.items c.args.n c.index-group.result.now inside c.index-group.ensures 0 in
-    let spot_is : c.index-spot.result.now ≡ slice_index i.spots.items c.args.n = get_or_read i.spots.items c.args.n c.index-spot.result.now (omega (arith, inside, c.self.invariant.spots_long)) c.index-spot.ensures 0 in
-    let heap_in : c.index-group.result.now < length i.heaps.items = omega (arith, group_is, c.self.invariant.grouped c.args.n inside) in
-    let heap_is : c.index_mut-heap.result.now ≡ heap_at i.heaps.items c.index-group.result.now = get_or_read i.heaps.items c.index-group.result.now c.index_mut-heap.result.now heap_in c.index_mut-heap.ensures.value no_numbers in
-    keeps_changed i.groups.items i.spots.items i.starts.items i.members.items i.heaps.items c.self.invariant c.args.n inside true (set i.heaps.items c.index-group.result.now c.insert.new.self)
-    (changed_is i.groups.items i.spots.items i.starts.items i.members.items i.heaps.items c.self.invariant c.args.n inside true c.index-group.result.now c.index-spot.result.now c.index_mut-heap.result.now c.insert.new.self group_is spot_is heap_is c.insert.ensures)
+    let held : c.args.n < length (held_by i.words.items i.ranks.items) = rw (← c.self.view_is) at c.requires.below in
+    let inside : c.args.n < length i.ranks.items = omega (arith, held, held_length i.words.items i.ranks.items) in
+    let rank_is : c.index.result.now ≡ slice_index i.ranks.items c.args.n = get_or_read i.ranks.items c.args.n c.index.result.now inside c.index.ensures 0 in
+    let long : length c.put_in.new.words ≡ length i.words.items = c.put_in.auto.words ∙ ap length c.deref_mut.ensures.value in
+    let short : length c.put_in.new.summary ≡ length i.summary.items = c.put_in.auto.summary ∙ ap length c.deref_mut-2.ensures.value in
+    let same_words = with_items_is i.words c.put_in.new.words (long ∙ sym i.words.ok.0) in
+    let same_summary = with_items_is i.summary c.put_in.new.summary (short ∙ sym i.summary.ok.0) in
+    let put : Puts (slice_index i.ranks.items c.args.n) true i.words.items c.put_in.new.words = subst (λ (t : Type 0). t) (λ t. Puts (rank_is t) true (c.deref_mut.ensures.value t) c.put_in.new.words) c.put_in.ensures.put in (
+      c.self.invariant.0,
+      subst (λ (t : Type 0). t) (λ t. KeepsBits i.numbers.items (sym same_words t) (sym same_summary t))
+          (bits_after (groups_in i.given.value.items) (keys_in i.given.value.items) i.starts.items i.numbers.items i.ranks.items c.self.invariant.0 i.words.items i.summary.items c.self.invariant.1 c.args.n inside true c.put_in.new.words c.put_in.new.summary put c.put_in.ensures.summary short),
+    )
 
 pub returns : goal.returns
 returns c =
     let i = c.self.inside in
-    let held : c.args.n < length (each_at is_held_in i.heaps.items i.groups.items i.spots.items) = rw (← c.self.view_is) at c.requires.below in
-    let inside : c.args.n < length i.groups.items = omega (arith, held, held_all_length i.groups.items i.spots.items i.starts.items i.members.items i.heaps.items c.self.invariant) in
-    let group_is : c.index-group.result.now ≡ slice_index i.groups.items c.args.n = get_or_read i.groups.items c.args.n c.index-group.result.now inside c.index-group.ensures 0 in
-    let spot_is : c.index-spot.result.now ≡ slice_index i.spots.items c.args.n = get_or_read i.spots.items c.args.n c.index-spot.result.now (omega (arith, inside, c.self.invariant.spots_long)) c.index-spot.ensures 0 in
-    let heap_in : c.index-group.result.now < length i.heaps.items = omega (arith, group_is, c.self.invariant.grouped c.args.n inside) in
-    let heap_is : c.index_mut-heap.result.now ≡ heap_at i.heaps.items c.index-group.result.now = get_or_read i.heaps.items c.index-group.result.now c.index_mut-heap.result.now heap_in c.index_mut-heap.ensures.value no_numbers in
-    rw (← c.self.view_is)
-    (view_after i.groups.items i.spots.items i.starts.items i.members.items i.heaps.items c.self.invariant c.args.n inside true (set i.heaps.items c.index-group.result.now c.insert.new.self)
-    (changed_is i.groups.items i.spots.items i.starts.items i.members.items i.heaps.items c.self.invariant c.args.n inside true c.index-group.result.now c.index-spot.result.now c.index_mut-heap.result.now c.insert.new.self group_is spot_is heap_is c.insert.ensures))
+    let held : c.args.n < length (held_by i.words.items i.ranks.items) = rw (← c.self.view_is) at c.requires.below in
+    let inside : c.args.n < length i.ranks.items = omega (arith, held, held_length i.words.items i.ranks.items) in
+    let rank_is : c.index.result.now ≡ slice_index i.ranks.items c.args.n = get_or_read i.ranks.items c.args.n c.index.result.now inside c.index.ensures 0 in
+    let long : length c.put_in.new.words ≡ length i.words.items = c.put_in.auto.words ∙ ap length c.deref_mut.ensures.value in
+    let short : length c.put_in.new.summary ≡ length i.summary.items = c.put_in.auto.summary ∙ ap length c.deref_mut-2.ensures.value in
+    let same_words = with_items_is i.words c.put_in.new.words (long ∙ sym i.words.ok.0) in
+    let put : Puts (slice_index i.ranks.items c.args.n) true i.words.items c.put_in.new.words = subst (λ (t : Type 0). t) (λ t. Puts (rank_is t) true (c.deref_mut.ensures.value t) c.put_in.new.words) c.put_in.ensures.put in
+    let after = held_after (groups_in i.given.value.items) (keys_in i.given.value.items) i.starts.items i.numbers.items i.ranks.items c.self.invariant.0 i.words.items i.summary.items c.self.invariant.1 c.args.n inside true c.put_in.new.words c.put_in.new.summary put c.put_in.ensures.summary short in
+    let held_is = ap (λ ws. held_by ws i.ranks.items) same_words ∙ after in
+    rw (← c.self.view_is) (λ t. record { groups = groups_in i.given.value.items; keys = keys_in i.given.value.items; held = held_is t; count = length i.starts.items - 1 })

@@ -1,55 +1,38 @@
-use Rattle.std.proofs.Common.{◌≡◌, ◌+◌, ◌<◌, length, ap, ◌∙◌, subst, arith}
+use Rattle.std.proofs.Common.{◌≡◌, ℕ, ◌+◌, ◌<◌, length, sym, subst, arith}
 use Rattle.std.specs.Prelude.{slice_index, Some, None}
 use Rattle.std.proofs.lemmas.List.{get_or_read}
-use Rattle.ready_heap.specs.Heaps.{IsLeast}
-use Rattle.ready_heap.specs.Groups.{heap_at, no_numbers}
-use Rattle.ready_heap.proofs.GroupSteps.{none_in, past_in, least_in, held_inside}
+use Rattle.ready_heap.specs.Bits.{IsNext}
+use Rattle.ready_heap.specs.Ranks.{groups_in, keys_in}
+use Rattle.ready_heap.specs.Groups.{IsLeastOf}
+use Rattle.ready_heap.proofs.GroupSteps.{view, none_next, next_past, next_least, next_inside}
 use Rattle.ready_heap.proofs.groups.GroupedHeaps.least.Goals as goal
-
-pub returns-then-group-len : goal.returns-then-group-len
-returns-then-group-len c =
-    let i = c.self.inside in
-    rw (← c.self.view_is) (past_in i.groups.items i.spots.items i.starts.items i.members.items i.heaps.items c.self.invariant c.args.group (omega (arith, c.if-group-len.true, c.len.ensures, i.heaps.ok.0)))
-
-pub overflow_add-index : goal.overflow_add-index
-overflow_add-index c =
-    let i = c.self.inside in
-    let group_in : c.args.group < length i.heaps.items = omega (arith, c.if-group-len.false, c.len.ensures, i.heaps.ok.0) in
-    let heap_is : c.index.result.now ≡ heap_at i.heaps.items c.args.group = get_or_read i.heaps.items c.args.group c.index.result.now group_in c.index.ensures no_numbers in
-    let least : IsLeast (heap_at i.heaps.items c.args.group) (Some c.in-Some.spot) = subst (λ h. IsLeast h (Some c.in-Some.spot)) heap_is c.in-Some.ensures in
-    let row = c.self.invariant.rows c.args.group group_in in
-    let spot_in : c.in-Some.spot < length (heap_at i.heaps.items c.args.group).keys = omega (arith, held_inside (heap_at i.heaps.items c.args.group).held c.in-Some.spot least.0, c.self.invariant.sized c.args.group group_in) in
-    let start_is : c.index-in-Some.result.now ≡ slice_index i.starts.items c.args.group = get_or_read i.starts.items c.args.group c.index-in-Some.result.now (omega (arith, group_in, c.self.invariant.starts_long)) c.index-in-Some.ensures 0 in
-    omega (arith, row.within, spot_in, start_is, i.members.ok.0, i.members.ok.1, i.members.small)
-
-pub index-requires-in-Some-2 : goal.index-requires-in-Some-2
-index-requires-in-Some-2 c =
-    let i = c.self.inside in
-    let group_in : c.args.group < length i.heaps.items = omega (arith, c.if-group-len.false, c.len.ensures, i.heaps.ok.0) in
-    let heap_is : c.index.result.now ≡ heap_at i.heaps.items c.args.group = get_or_read i.heaps.items c.args.group c.index.result.now group_in c.index.ensures no_numbers in
-    let least : IsLeast (heap_at i.heaps.items c.args.group) (Some c.in-Some.spot) = subst (λ h. IsLeast h (Some c.in-Some.spot)) heap_is c.in-Some.ensures in
-    let row = c.self.invariant.rows c.args.group group_in in
-    let spot_in : c.in-Some.spot < length (heap_at i.heaps.items c.args.group).keys = omega (arith, held_inside (heap_at i.heaps.items c.args.group).held c.in-Some.spot least.0, c.self.invariant.sized c.args.group group_in) in
-    let start_is : c.index-in-Some.result.now ≡ slice_index i.starts.items c.args.group = get_or_read i.starts.items c.args.group c.index-in-Some.result.now (omega (arith, group_in, c.self.invariant.starts_long)) c.index-in-Some.ensures 0 in
-    omega (arith, row.within, spot_in, start_is, i.members.ok.0)
 
 pub returns-in-Some : goal.returns-in-Some
 returns-in-Some c =
     let i = c.self.inside in
-    let group_in : c.args.group < length i.heaps.items = omega (arith, c.if-group-len.false, c.len.ensures, i.heaps.ok.0) in
-    let heap_is : c.index.result.now ≡ heap_at i.heaps.items c.args.group = get_or_read i.heaps.items c.args.group c.index.result.now group_in c.index.ensures no_numbers in
-    let least : IsLeast (heap_at i.heaps.items c.args.group) (Some c.in-Some.spot) = subst (λ h. IsLeast h (Some c.in-Some.spot)) heap_is c.in-Some.ensures in
-    let row = c.self.invariant.rows c.args.group group_in in
-    let spot_in : c.in-Some.spot < length (heap_at i.heaps.items c.args.group).keys = omega (arith, held_inside (heap_at i.heaps.items c.args.group).held c.in-Some.spot least.0, c.self.invariant.sized c.args.group group_in) in
-    let start_is : c.index-in-Some.result.now ≡ slice_index i.starts.items c.args.group = get_or_read i.starts.items c.args.group c.index-in-Some.result.now (omega (arith, group_in, c.self.invariant.starts_long)) c.index-in-Some.ensures 0 in
-    let member_in : c.index-in-Some.result.now + c.in-Some.spot < length i.members.items = omega (arith, row.within, spot_in, start_is) in
-    let member_is : c.index-in-Some-2.result.now ≡ slice_index i.members.items (c.index-in-Some.result.now + c.in-Some.spot) = get_or_read i.members.items (c.index-in-Some.result.now + c.in-Some.spot) c.index-in-Some-2.result.now member_in c.index-in-Some-2.ensures 0 in
-    rw (← c.self.view_is) (least_in i.groups.items i.spots.items i.starts.items i.members.items i.heaps.items c.self.invariant c.args.group c.in-Some.spot c.index-in-Some-2.result.now group_in least spot_in (member_is ∙ ap (λ s. slice_index i.members.items (s + c.in-Some.spot)) start_is))
+    let inside : c.args.group + 1 < length i.starts.items = omega (arith, c.if-group-len.false, c.len.ensures, i.starts.ok.0) in
+    let start_is : c.index.result.now ≡ slice_index i.starts.items c.args.group = get_or_read i.starts.items c.args.group c.index.result.now (omega arith) c.index.ensures 0 in
+    let end_is : c.index-2.result.now ≡ slice_index i.starts.items (c.args.group + 1) = get_or_read i.starts.items (c.args.group + 1) c.index-2.result.now inside c.index-2.ensures 0 in
+    let next : IsNext i.words.items (slice_index i.starts.items c.args.group) (Some c.in-Some.rank) = subst (λ (t : Type 0). t) (λ t. IsNext (c.deref.ensures.value t) (start_is t) (Some c.in-Some.rank)) c.in-Some.ensures in
+    let below : c.in-Some.rank < slice_index i.starts.items (c.args.group + 1) = omega (arith, end_is, c.if-rank-end.true) in
+    let number_in : c.in-Some.rank < length i.numbers.items = next_inside (groups_in i.given.value.items) (keys_in i.given.value.items) i.starts.items i.numbers.items i.ranks.items c.self.invariant.0 i.words.items i.summary.items c.self.invariant.1 c.args.group c.in-Some.rank next in
+    let number_is : c.index-in-Some.result.now ≡ slice_index i.numbers.items c.in-Some.rank = get_or_read i.numbers.items c.in-Some.rank c.index-in-Some.result.now number_in c.index-in-Some.ensures 0 in
+    rw (← c.self.view_is) (subst (λ (k : ℕ). IsLeastOf (view (groups_in i.given.value.items) (keys_in i.given.value.items) i.starts.items i.numbers.items i.ranks.items c.self.invariant.0 i.words.items i.summary.items c.self.invariant.1) c.args.group (Some k)) (sym number_is)
+    (next_least (groups_in i.given.value.items) (keys_in i.given.value.items) i.starts.items i.numbers.items i.ranks.items c.self.invariant.0 i.words.items i.summary.items c.self.invariant.1 c.args.group inside c.in-Some.rank next below))
 
-pub returns-in-None : goal.returns-in-None
-returns-in-None c =
+pub returns-in_default : goal.returns-in_default
+returns-in_default c =
     let i = c.self.inside in
-    let group_in : c.args.group < length i.heaps.items = omega (arith, c.if-group-len.false, c.len.ensures, i.heaps.ok.0) in
-    let heap_is : c.index.result.now ≡ heap_at i.heaps.items c.args.group = get_or_read i.heaps.items c.args.group c.index.result.now group_in c.index.ensures no_numbers in
-    let none : IsLeast (heap_at i.heaps.items c.args.group) None = subst (λ h. IsLeast h None) heap_is c.in-None.ensures in
-    rw (← c.self.view_is) (none_in i.groups.items i.spots.items i.starts.items i.members.items i.heaps.items c.self.invariant c.args.group none)
+    let inside : c.args.group + 1 < length i.starts.items = omega (arith, c.if-group-len.false, c.len.ensures, i.starts.ok.0) in
+    let start_is : c.index.result.now ≡ slice_index i.starts.items c.args.group = get_or_read i.starts.items c.args.group c.index.result.now (omega arith) c.index.ensures 0 in
+    let end_is : c.index-2.result.now ≡ slice_index i.starts.items (c.args.group + 1) = get_or_read i.starts.items (c.args.group + 1) c.index-2.result.now inside c.index-2.ensures 0 in
+    let next : IsNext i.words.items (slice_index i.starts.items c.args.group) (Some c.in-Some.rank) = subst (λ (t : Type 0). t) (λ t. IsNext (c.deref.ensures.value t) (start_is t) (Some c.in-Some.rank)) c.in-Some.ensures in
+    rw (← c.self.view_is) (next_past (groups_in i.given.value.items) (keys_in i.given.value.items) i.starts.items i.numbers.items i.ranks.items c.self.invariant.0 i.words.items i.summary.items c.self.invariant.1 c.args.group inside c.in-Some.rank next (omega (arith, end_is, c.if-rank-end.false)))
+
+pub returns-in_default-2 : goal.returns-in_default-2
+returns-in_default-2 c =
+    let i = c.self.inside in
+    let inside : c.args.group + 1 < length i.starts.items = omega (arith, c.if-group-len.false, c.len.ensures, i.starts.ok.0) in
+    let start_is : c.index.result.now ≡ slice_index i.starts.items c.args.group = get_or_read i.starts.items c.args.group c.index.result.now (omega arith) c.index.ensures 0 in
+    let none : IsNext i.words.items (slice_index i.starts.items c.args.group) None = subst (λ (t : Type 0). t) (λ t. IsNext (c.deref.ensures.value t) (start_is t) (c.in_default.is t)) c.first_from.ensures in
+    rw (← c.self.view_is) (none_next (groups_in i.given.value.items) (keys_in i.given.value.items) i.starts.items i.numbers.items i.ranks.items c.self.invariant.0 i.words.items i.summary.items c.self.invariant.1 c.args.group inside none)

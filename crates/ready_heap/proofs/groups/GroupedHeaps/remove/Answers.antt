@@ -1,66 +1,39 @@
-use Rattle.std.proofs.Common.{◌≡◌, ◌<◌, length, set, sym, ap, ◌∙◌, arith}
-use Rattle.std.specs.Prelude.{slice_index, false}
-use Rattle.std.proofs.lemmas.List.{get_or_read}
+use Rattle.std.proofs.Common.{◌≡◌, ◌-◌, ◌<◌, length, sym, ap, ◌∙◌, subst, false}
+use Rattle.std.specs.Prelude.{slice_index}
+use Rattle.std.proofs.lemmas.List.{get_or_read, with_items_is}
 use Rattle.ready_heap.specs.Heaps.{Holds}
-use Rattle.ready_heap.specs.Groups.{heap_at, no_numbers, is_held_in, each_at}
-use Rattle.ready_heap.proofs.GroupSteps.{held_all_at, holds_inside, changed_is, view_after, keeps_changed}
+use Rattle.ready_heap.specs.Bits.{Puts}
+use Rattle.ready_heap.specs.Ranks.{groups_in, keys_in}
+use Rattle.ready_heap.specs.Groups.{held_by, KeepsBits}
+use Rattle.ready_heap.proofs.GroupSteps.{held_at, bits_after, held_after}
 use Rattle.ready_heap.proofs.groups.GroupedHeaps.remove.Goals as goal
-
-pub index-group-requires : goal.index-group-requires
-index-group-requires c =
-    let i = c.self.inside in
-    let holds : Holds (each_at is_held_in i.heaps.items i.groups.items i.spots.items) c.args.n = rw (← c.self.view_is) at c.requires in
-    let inside : c.args.n < length i.groups.items = holds_inside i.groups.items i.spots.items i.starts.items i.members.items i.heaps.items c.self.invariant c.args.n holds in
-    omega (arith, inside, i.groups.ok.0)
-
-pub index-spot-requires : goal.index-spot-requires
-index-spot-requires c =
-    let i = c.self.inside in
-    let holds : Holds (each_at is_held_in i.heaps.items i.groups.items i.spots.items) c.args.n = rw (← c.self.view_is) at c.requires in
-    let inside : c.args.n < length i.groups.items = holds_inside i.groups.items i.spots.items i.starts.items i.members.items i.heaps.items c.self.invariant c.args.n holds in
-    omega (arith, inside, i.spots.ok.0, c.self.invariant.spots_long)
-
-pub index_mut-heap-requires : goal.index_mut-heap-requires
-index_mut-heap-requires c =
-    let i = c.self.inside in
-    let holds : Holds (each_at is_held_in i.heaps.items i.groups.items i.spots.items) c.args.n = rw (← c.self.view_is) at c.requires in
-    let inside : c.args.n < length i.groups.items = holds_inside i.groups.items i.spots.items i.starts.items i.members.items i.heaps.items c.self.invariant c.args.n holds in
-    let group_is : c.index-group.result.now ≡ slice_index i.groups.items c.args.n = get_or_read i.groups.items c.args.n c.index-group.result.now inside c.index-group.ensures 0 in
-    omega (arith, group_is, c.self.invariant.grouped c.args.n inside, i.heaps.ok.0)
-
-pub remove-requires : goal.remove-requires
-remove-requires c =
-    let i = c.self.inside in
-    let holds : Holds (each_at is_held_in i.heaps.items i.groups.items i.spots.items) c.args.n = rw (← c.self.view_is) at c.requires in
-    let inside : c.args.n < length i.groups.items = holds_inside i.groups.items i.spots.items i.starts.items i.members.items i.heaps.items c.self.invariant c.args.n holds in
-    let group_is : c.index-group.result.now ≡ slice_index i.groups.items c.args.n = get_or_read i.groups.items c.args.n c.index-group.result.now inside c.index-group.ensures 0 in
-    let spot_is : c.index-spot.result.now ≡ slice_index i.spots.items c.args.n = get_or_read i.spots.items c.args.n c.index-spot.result.now (omega (arith, inside, c.self.invariant.spots_long)) c.index-spot.ensures 0 in
-    let heap_in : c.index-group.result.now < length i.heaps.items = omega (arith, group_is, c.self.invariant.grouped c.args.n inside) in
-    let heap_is : c.index_mut-heap.result.now ≡ heap_at i.heaps.items c.index-group.result.now = get_or_read i.heaps.items c.index-group.result.now c.index_mut-heap.result.now heap_in c.index_mut-heap.ensures.value no_numbers in
-    let there : c.index_mut-heap.result.now ≡ heap_at i.heaps.items (slice_index i.groups.items c.args.n) = heap_is ∙ ap (heap_at i.heaps.items) group_is in
-    (λ t. is_held_in (there t) (spot_is t)) ∙ (sym (held_all_at i.groups.items i.spots.items i.starts.items i.members.items i.heaps.items c.self.invariant c.args.n inside) ∙ holds)
 
 pub invariant_of-self : goal.invariant_of-self
 invariant_of-self c =
     let i = c.self.inside in
-    let holds : Holds (each_at is_held_in i.heaps.items i.groups.items i.spots.items) c.args.n = rw (← c.self.view_is) at c.requires in
-    let inside : c.args.n < length i.groups.items = holds_inside i.groups.items i.spots.items i.starts.items i.members.items i.heaps.items c.self.invariant c.args.n holds in
-    let group_is : c.index-group.result.now ≡ slice_index i.groups.items c.args.n = get_or_read i.groups.items c.args.n c.index-group.result.now inside c.index-group.ensures 0 in
-    let spot_is : c.index-spot.result.now ≡ slice_index i.spots.items c.args.n = get_or_read i.spots.items c.args.n c.index-spot.result.now (omega (arith, inside, c.self.invariant.spots_long)) c.index-spot.ensures 0 in
-    let heap_in : c.index-group.result.now < length i.heaps.items = omega (arith, group_is, c.self.invariant.grouped c.args.n inside) in
-    let heap_is : c.index_mut-heap.result.now ≡ heap_at i.heaps.items c.index-group.result.now = get_or_read i.heaps.items c.index-group.result.now c.index_mut-heap.result.now heap_in c.index_mut-heap.ensures.value no_numbers in
-    keeps_changed i.groups.items i.spots.items i.starts.items i.members.items i.heaps.items c.self.invariant c.args.n inside false (set i.heaps.items c.index-group.result.now c.remove.new.self)
-    (changed_is i.groups.items i.spots.items i.starts.items i.members.items i.heaps.items c.self.invariant c.args.n inside false c.index-group.result.now c.index-spot.result.now c.index_mut-heap.result.now c.remove.new.self group_is spot_is heap_is c.remove.ensures)
+    let holds : Holds (held_by i.words.items i.ranks.items) c.args.n = rw (← c.self.view_is) at c.requires in
+    let inside : c.args.n < length i.ranks.items = (held_at i.words.items i.ranks.items c.args.n holds).0 in
+    let rank_is : c.index.result.now ≡ slice_index i.ranks.items c.args.n = get_or_read i.ranks.items c.args.n c.index.result.now inside c.index.ensures 0 in
+    let long : length c.take_out.new.words ≡ length i.words.items = c.take_out.auto.words ∙ ap length c.deref_mut.ensures.value in
+    let short : length c.take_out.new.summary ≡ length i.summary.items = c.take_out.auto.summary ∙ ap length c.deref_mut-2.ensures.value in
+    let same_words = with_items_is i.words c.take_out.new.words (long ∙ sym i.words.ok.0) in
+    let same_summary = with_items_is i.summary c.take_out.new.summary (short ∙ sym i.summary.ok.0) in
+    let put : Puts (slice_index i.ranks.items c.args.n) false i.words.items c.take_out.new.words = subst (λ (t : Type 0). t) (λ t. Puts (rank_is t) false (c.deref_mut.ensures.value t) c.take_out.new.words) c.take_out.ensures.put in (
+      c.self.invariant.0,
+      subst (λ (t : Type 0). t) (λ t. KeepsBits i.numbers.items (sym same_words t) (sym same_summary t))
+          (bits_after (groups_in i.given.value.items) (keys_in i.given.value.items) i.starts.items i.numbers.items i.ranks.items c.self.invariant.0 i.words.items i.summary.items c.self.invariant.1 c.args.n inside false c.take_out.new.words c.take_out.new.summary put c.take_out.ensures.summary short),
+    )
 
 pub returns : goal.returns
 returns c =
     let i = c.self.inside in
-    let holds : Holds (each_at is_held_in i.heaps.items i.groups.items i.spots.items) c.args.n = rw (← c.self.view_is) at c.requires in
-    let inside : c.args.n < length i.groups.items = holds_inside i.groups.items i.spots.items i.starts.items i.members.items i.heaps.items c.self.invariant c.args.n holds in
-    let group_is : c.index-group.result.now ≡ slice_index i.groups.items c.args.n = get_or_read i.groups.items c.args.n c.index-group.result.now inside c.index-group.ensures 0 in
-    let spot_is : c.index-spot.result.now ≡ slice_index i.spots.items c.args.n = get_or_read i.spots.items c.args.n c.index-spot.result.now (omega (arith, inside, c.self.invariant.spots_long)) c.index-spot.ensures 0 in
-    let heap_in : c.index-group.result.now < length i.heaps.items = omega (arith, group_is, c.self.invariant.grouped c.args.n inside) in
-    let heap_is : c.index_mut-heap.result.now ≡ heap_at i.heaps.items c.index-group.result.now = get_or_read i.heaps.items c.index-group.result.now c.index_mut-heap.result.now heap_in c.index_mut-heap.ensures.value no_numbers in
-    rw (← c.self.view_is)
-    (view_after i.groups.items i.spots.items i.starts.items i.members.items i.heaps.items c.self.invariant c.args.n inside false (set i.heaps.items c.index-group.result.now c.remove.new.self)
-    (changed_is i.groups.items i.spots.items i.starts.items i.members.items i.heaps.items c.self.invariant c.args.n inside false c.index-group.result.now c.index-spot.result.now c.index_mut-heap.result.now c.remove.new.self group_is spot_is heap_is c.remove.ensures))
+    let holds : Holds (held_by i.words.items i.ranks.items) c.args.n = rw (← c.self.view_is) at c.requires in
+    let inside : c.args.n < length i.ranks.items = (held_at i.words.items i.ranks.items c.args.n holds).0 in
+    let rank_is : c.index.result.now ≡ slice_index i.ranks.items c.args.n = get_or_read i.ranks.items c.args.n c.index.result.now inside c.index.ensures 0 in
+    let long : length c.take_out.new.words ≡ length i.words.items = c.take_out.auto.words ∙ ap length c.deref_mut.ensures.value in
+    let short : length c.take_out.new.summary ≡ length i.summary.items = c.take_out.auto.summary ∙ ap length c.deref_mut-2.ensures.value in
+    let same_words = with_items_is i.words c.take_out.new.words (long ∙ sym i.words.ok.0) in
+    let put : Puts (slice_index i.ranks.items c.args.n) false i.words.items c.take_out.new.words = subst (λ (t : Type 0). t) (λ t. Puts (rank_is t) false (c.deref_mut.ensures.value t) c.take_out.new.words) c.take_out.ensures.put in
+    let after = held_after (groups_in i.given.value.items) (keys_in i.given.value.items) i.starts.items i.numbers.items i.ranks.items c.self.invariant.0 i.words.items i.summary.items c.self.invariant.1 c.args.n inside false c.take_out.new.words c.take_out.new.summary put c.take_out.ensures.summary short in
+    let held_is = ap (λ ws. held_by ws i.ranks.items) same_words ∙ after in
+    rw (← c.self.view_is) (λ t. record { groups = groups_in i.given.value.items; keys = keys_in i.given.value.items; held = held_is t; count = length i.starts.items - 1 })

@@ -1,0 +1,7 @@
+use Rattle.std.proofs.Common.{refl}
+use Rattle.audit_job.specs.declared.answer.Mark.TheVariants as stands
+use Rattle.audit_job.proofs.MarkedJob.{claimed}
+use Rattle.audit_job.proofs.marking.claim.Goals as goal
+
+pub returns : goal.returns
+returns c = claimed c.args.job.now _ refl refl refl refl c.args.item stands.Busy refl c.requires.inside c.requires.free refl refl

@@ -1,0 +1,19 @@
+use Rattle.std.proofs.Common.{◌≡◌, ℕ, ◌+◌, ◌-◌, length, refl, ap, ◌∙◌, arith}
+use Rattle.std.specs.Vec.{with_item}
+use Rattle.audit_job.specs.declared.answer.Mark.TheVariants as stands
+use Rattle.audit_job.proofs.Stored.{marks_so, may_so}
+use Rattle.audit_job.proofs.marking.store.Goals as goal
+
+pub release_after-requires : goal.release_after-requires
+release_after-requires c =
+    let job = c.args.job.now in
+    let counted : c.len.result ≡ length job.places.items = omega (arith, job.places.ok.0) in
+    let node = c.saturating_sub-node.ensures ∙ ap (λ (k : ℕ). c.args.item - (k + 1)) counted in
+    may_so job c.args.item c.args.answer c.requires.inside c.requires.unfinished c.requires.other c.requires.unscheduled (with_item job.marks c.args.item (stands.Done c.args.answer)) refl c.gives-given.result c.gives-given.ensures c.saturating_sub-node.result node c.requires.is.0 c.requires.is.1 c.requires.is.2
+
+pub returns : goal.returns
+returns c =
+    let job = c.args.job.now in
+    let counted : c.len.result ≡ length job.places.items = omega (arith, job.places.ok.0) in
+    let node = c.saturating_sub-node.ensures ∙ ap (λ (k : ℕ). c.args.item - (k + 1)) counted in
+    marks_so job c.args.item c.args.answer c.requires.inside c.requires.unfinished c.requires.other c.requires.unscheduled (with_item job.marks c.args.item (stands.Done c.args.answer)) refl c.gives-given.result c.gives-given.ensures c.saturating_sub-node.result node _ refl refl refl refl c.release_after.ensures

@@ -1,0 +1,9 @@
+use Rattle.std.proofs.Common.{◌≡◌, ℕ, ◌+◌, ◌≤◌, ◌<◌, drop, length, slice_index}
+use Rattle.audit_job.specs.Waiting.{between}
+use Rattle.audit_job.proofs.wires.release.Given as goal
+
+abbrev pub invariant-loop-edge : goal.invariant-loop-edge
+invariant-loop-edge l = record {
+  each : (n : ℕ) → n < length l.initial.waits → slice_index l.waits n + between l.edges l.node n ≡ slice_index l.initial.waits n + between (drop l.edge-index l.edges) l.node n;
+  enough : (n : ℕ) → n < length l.initial.waits → between (drop l.edge-index l.edges) l.node n ≤ slice_index l.waits n;
+}

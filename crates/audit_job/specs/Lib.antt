@@ -1,0 +1,14 @@
+pub mod Marks
+pub mod Kinds
+pub mod Giving
+pub mod Waiting
+pub mod Wires
+pub mod Flowing
+pub mod Answering
+pub mod Working
+pub mod Jobs
+pub mod Compiling
+pub mod Ending
+pub mod Offering
+pub mod Marking
+pub mod Naming

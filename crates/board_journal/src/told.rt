@@ -1,0 +1,80 @@
+// Entries that contracts alone see.
+ghost use Rattle.std.specs.Prelude.{◌≡◌, [], ◌∷◌, ◌++◌};
+
+use crate::line::Line;
+use board_rules::Item;
+use pisdf_meaning::Path;
+use std::marker::Model;
+use std::snapshot::Snapshot;
+
+/// What was put into a journal last, and all before it as it was: as many bytes as one entry has, however much it was.
+#[derive(Drop)]
+pub(crate) enum Past {
+    Start,
+    Path {
+        past: Snapshot<Past>,
+        path: Snapshot<Path>,
+    },
+    Entry {
+        past: Snapshot<Past>,
+        line: Line,
+    },
+}
+
+/// The paths and the entries of a journal, which no code can read.
+#[derive(Drop)]
+pub(crate) struct Told {
+    past: Past,
+}
+
+impl Model for Told {
+    ghost use Rattle.board_journal.specs.View.{ToldView};
+
+    ghost Value = { ToldView };
+
+    ghost use Rattle.board_journal.specs.Told.{told_by};
+
+    ghost view = { λ t. told_by t.past };
+}
+
+impl Told {
+    ghost use Rattle.board_rules.specs.declared.entry.Entry.TheVariants as entry;
+    ghost use Rattle.board_journal.specs.View.{path_at};
+
+    /// Nothing was put in.
+    pub(crate) fn new() -> Told
+        ensures { result ≡ record { paths = []; entries = [] } }
+    {
+        Told { past: Past::Start }
+    }
+
+    /// Puts in the path of a job.
+    pub(crate) fn add_path(&mut self, path: Snapshot<Path>)
+        ensures { self.new ≡ record self.old { paths = self.old.paths ++ path.value ∷ [] } }
+    {
+        let past = Snapshot::of(&self.past);
+        self.past = Past::Path { past, path };
+    }
+
+    /// Enters that a worker claims an item of the job with the path of this number.
+    pub(crate) fn claim(&mut self, worker: u32, path: usize, item: Item)
+        ensures { self.new ≡ record self.old { entries = self.old.entries ++ entry.Claim worker (path_at self.old.paths path) item ∷ [] } }
+    {
+        let past = Snapshot::of(&self.past);
+        self.past = Past::Entry {
+            past,
+            line: Line::Claim { worker, path, item },
+        };
+    }
+
+    /// Enters that a worker finishes what it runs.
+    pub(crate) fn finish(&mut self, worker: u32)
+        ensures { self.new ≡ record self.old { entries = self.old.entries ++ entry.Finish worker ∷ [] } }
+    {
+        let past = Snapshot::of(&self.past);
+        self.past = Past::Entry {
+            past,
+            line: Line::Finish { worker },
+        };
+    }
+}
