@@ -1,23 +1,12 @@
 // The links at each actor.
-ghost use Rattle.std.specs.Prelude.{◌≡◌, ◌<◌, [], length, IfOk, OnOk};
+ghost use Rattle.std.specs.Prelude.{◌≡◌, ◌<◌, length, IfOk, OnOk};
 ghost use Rattle.std.specs.List.{All};
 ghost use Rattle.sdf_level.specs.Lists.{lists_of};
 ghost use Rattle.sdf_level.specs.Numbered.{IsBetween};
 ghost use Rattle.firing_order.specs.Adjacent.{Adds, AreAt, IsPushed};
 
-use sdf_level::InnerLink;
+use sdf_level::{InnerLink, empty_lists};
 use std::alloc::{AllocError, Global};
-
-/// An empty list for each actor.
-fn empty_lists(alloc: Global, actors: u32) -> Result<Vec<Vec<InnerLink>>, AllocError>
-    ensures { IfOk result (λ lists. AreAt actors [] (lists_of lists.items)) }
-{
-    let mut lists = Vec::with_capacity(alloc, actors as usize)?;
-    for actor in 0..actors {
-        lists.push(Vec::new(alloc))?;
-    }
-    Ok(lists)
-}
 
 /// Puts a link at the end of this actor's list.
 fn push(lists: &mut [Vec<InnerLink>], actor: u32, link: InnerLink) -> Result<(), AllocError>

@@ -46,10 +46,6 @@ pub record AreListed (n : ℕ) (end : Side) (links : List Link) (lists : List (L
   pub one_each : length lists ≡ n
   pub each : (b : ℕ) → b < n → slice_index_or lists b [] ≡ places (stands_at end b) 0 links
 
-pub record AreEmpty (n : ℕ) (lists : List (List ℕ)) : Type 0 where
-  pub one_each : length lists ≡ n
-  pub each : (b : ℕ) → b < n → slice_index_or lists b [] ≡ []
-
 -- the number stands at the end of the list of this actor, if there is one
 pub record IsListed (lists lists' : List (List ℕ)) (actor : Option ℕ) (number : ℕ) : Type 0 where
   pub one_each : length lists' ≡ length lists

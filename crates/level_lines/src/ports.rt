@@ -1,9 +1,9 @@
 // Which links lead into each actor, and which from it.
 ghost use Rattle.std.specs.Prelude.{ℕ, ◌≡◌, ◌<◌, ◌+◌, ◌^◌, [], length, slice_index_or, IfOk, IfSome, OnOk};
 ghost use Rattle.sdf_level.specs.Lists.{lists_of};
-ghost use Rattle.level_lines.specs.AtActors.{ArePorts, AreListed, AreEmpty, IsListed, is_of, stands_at};
+ghost use Rattle.level_lines.specs.AtActors.{ArePorts, AreListed, IsListed, is_of, stands_at};
 
-use sdf_level::{Head, Level, Link, Tail};
+use sdf_level::{Head, Level, Link, Tail, empty_lists};
 use std::alloc::{AllocError, Global};
 use std::marker::Model;
 
@@ -62,17 +62,6 @@ fn actor_at(link: &Link, side: Side) -> Option<u32>
             Head::Port { actor, .. } => Some(actor),
         },
     }
-}
-
-/// An empty list for each actor.
-fn empty_lists(alloc: Global, actors: u32) -> Result<Vec<Vec<u32>>, AllocError>
-    ensures { IfOk result (λ lists. AreEmpty actors (lists_of lists.items)) }
-{
-    let mut lists = Vec::with_capacity(alloc, actors as usize)?;
-    for actor in 0..actors {
-        lists.push(Vec::new(alloc))?;
-    }
-    Ok(lists)
 }
 
 /// Puts a number at the end of this actor's list, if there is one for it.

@@ -14,6 +14,14 @@ whole_more lists key number inside =
     let longer = length_push (slice_index_or lists key []) number in
     omega arith
 
+-- no number in empty lists
+pub whole_none : (lists : List (List ℕ)) → ((k : ℕ) → k < length lists → slice_index_or lists k [] ≡ []) → sum_by length lists ≡ 0
+whole_none [] empty = refl
+whole_none (xs ∷ lists) empty =
+    let none : length xs ≡ 0 = ap length (empty 0 (omega arith)) in
+    let rest = whole_none lists (λ k there. empty (suc k) (omega arith)) in
+    omega arith
+
 -- the numbers with a key, where each number stands beside a key of its own
 with_key : (key_of : ℕ → ℕ) (key : ℕ) (numbers : List ℕ) → nodes_after (map (λ (n : ℕ). (key_of n, n)) numbers) key ≡ filter (λ n. eqb (key_of n) key) numbers
 with_key key_of key [] = refl

@@ -1,22 +1,11 @@
 // Numbers by their keys.
-ghost use Rattle.std.specs.Prelude.{◌≡◌, ◌<◌, [], length, All, IfOk};
+ghost use Rattle.std.specs.Prelude.{◌≡◌, ◌<◌, length, All, IfOk};
 ghost use Rattle.std.specs.List.{sum_by};
 ghost use Rattle.sdf_level.specs.Lists.{lists_of};
 ghost use Rattle.worker_mapping.specs.Neighbours.{AreAfter};
 
+use sdf_level::empty_lists;
 use std::alloc::{AllocError, Global};
-
-/// An empty list for each key.
-fn empty_lists(alloc: Global, keys: u32) -> Result<Vec<Vec<u32>>, AllocError>
-    ensures lists { IfOk result (λ lists. AreAfter keys [] (lists_of lists.items)) }
-    ensures whole { IfOk result (λ lists. sum_by length (lists_of lists.items) ≡ 0) }
-{
-    let mut lists = Vec::with_capacity(alloc, keys as usize)?;
-    for key in 0..keys {
-        lists.push(Vec::new(alloc))?;
-    }
-    Ok(lists)
-}
 
 /// For each key below `keys` the numbers that stand beside it, in their order. A pair is a key and a number.
 pub(crate) fn grouped(

@@ -2,25 +2,13 @@
 ghost use Rattle.std.specs.Prelude.{◌≡◌, ℕ, ◌+◌, ◌<◌, ◌≤◌, ◌⊎◌, ◌↔◌, ◌^◌, List, length, slice_index, All, Contains, IfOk, OnOk};
 ghost use Rattle.sdf_level.specs.Lists.{occurrences};
 ghost use Rattle.worker_mapping.specs.Graph.{AreThere, Rise};
-ghost use Rattle.worker_mapping.specs.Neighbours.{AreCounted};
 ghost use Rattle.worker_mapping.specs.Release.{ArePlacesOfZero};
 ghost use Rattle.order_memory.specs.Line.{IsLine};
 
 use crate::grouping::grouped;
 use std::alloc::{AllocError, Global};
 use std::collections::BTreeSet;
-
-/// For each node how many edges lead to it.
-fn edges_before(alloc: Global, nodes: u32, edges: &[(u32, u32)]) -> Result<Vec<usize>, AllocError>
-    requires { AreThere nodes edges.now }
-    ensures { IfOk result (λ counts. AreCounted nodes edges.now counts.items) }
-{
-    let mut before = vec![in alloc; 0usize; nodes as usize]?;
-    for edge in edges {
-        before[edge.1 as usize] += 1;
-    }
-    Ok(before)
-}
+use worker_mapping::edges_before;
 
 /// The nodes to which no edge leads.
 fn first_open(alloc: Global, waiting: &[usize]) -> Result<BTreeSet<u32>, AllocError>

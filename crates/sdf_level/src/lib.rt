@@ -8,6 +8,7 @@ mod laws;
 mod level;
 mod link;
 mod list;
+mod lists;
 mod node;
 mod single_rate;
 mod token_name;
@@ -21,6 +22,7 @@ pub use laws::{
 pub use level::Level;
 pub use link::{Head, Link, Tail};
 pub use list::List;
+pub use lists::empty_lists;
 pub use node::Node;
 pub use single_rate::{Edge, SingleRate};
 pub use token_name::{Maker, TokenName};

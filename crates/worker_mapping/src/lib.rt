@@ -14,4 +14,5 @@ mod scheduled;
 pub use costs::{edge_pairs, node_costs};
 pub use entry::Entry;
 pub use mapping::{Mapping, map};
+pub use neighbours::edges_before;
 pub use scheduled::{ListSchedule, schedule_nodes};

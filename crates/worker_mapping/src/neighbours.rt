@@ -1,21 +1,11 @@
 // The nodes at the edges of each node.
-ghost use Rattle.std.specs.Prelude.{[], IfOk};
+ghost use Rattle.std.specs.Prelude.{IfOk};
 ghost use Rattle.worker_mapping.specs.Graph.{AreThere};
 ghost use Rattle.sdf_level.specs.Lists.{lists_of};
 ghost use Rattle.worker_mapping.specs.Neighbours.{AreAfter, AreCounted};
 
+use sdf_level::empty_lists;
 use std::alloc::{AllocError, Global};
-
-/// An empty list for each node.
-fn empty_lists(alloc: Global, nodes: u32) -> Result<Vec<Vec<u32>>, AllocError>
-    ensures { IfOk result (λ lists. AreAfter nodes [] (lists_of lists.items)) }
-{
-    let mut lists = Vec::with_capacity(alloc, nodes as usize)?;
-    for node in 0..nodes {
-        lists.push(Vec::new(alloc))?;
-    }
-    Ok(lists)
-}
 
 /// For each node the nodes at its outgoing edges, one for each edge.
 pub(crate) fn nodes_after(
@@ -35,7 +25,7 @@ pub(crate) fn nodes_after(
 }
 
 /// For each node how many edges lead to it.
-pub(crate) fn edges_before(
+pub fn edges_before(
     alloc: Global,
     nodes: u32,
     edges: &[(u32, u32)],

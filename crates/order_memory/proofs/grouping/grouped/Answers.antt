@@ -1,8 +1,18 @@
 use Rattle.std.proofs.Common.{◌≡◌, ℕ, ◌<◌, List, [], ◌∷◌, ◌++◌, map, get_or, take, length, arith, sym, ◌∙◌, ap, Vec, Global}
 use Rattle.std.proofs.lemmas.List.{take_more, map-set, get_or-map, length-map}
 use Rattle.worker_mapping.proofs.Adjacent.{AreAfter-more}
-use Rattle.order_memory.proofs.Grouped.{whole_more}
+use Rattle.sdf_level.specs.Lists.{lists_of}
+use Rattle.order_memory.proofs.Grouped.{whole_more, whole_none}
 use Rattle.order_memory.proofs.grouping.grouped.Goals as goal
+
+pub loop-pair-init : goal.loop-pair-init
+loop-pair-init c =
+    let empty = c.in_ok-lists.ensures in
+    let one_each = empty.one_each in
+    record {
+      lists = record { one_each = one_each; each = empty.each };
+      whole = whole_none (lists_of c.in_ok-lists.lists.items) (λ k there. empty.each k (omega arith));
+    }
 
 pub loop-pair-preserved : goal.loop-pair-preserved
 loop-pair-preserved c =
