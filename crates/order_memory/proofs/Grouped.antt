@@ -2,7 +2,7 @@
 use Rattle.std.proofs.Common.{◌≡◌, ℕ, ◌+◌, ◌<◌, true, false, cond, eqb, List, [], ◌∷◌, ◌++◌, map, length, set, slice_index, slice_index_or, suc, arith, refl, ap, ◌∙◌}
 use Rattle.std.specs.List.{filter, sum_by}
 use Rattle.std.proofs.lemmas.List.{length_push}
-use Rattle.std.proofs.lemmas.List.Sums.{sum_by-set}
+use Rattle.std.proofs.lemmas.List.Sums.{sum_by-cons, sum_by-set}
 use Rattle.worker_mapping.specs.Graph.{nodes_after}
 use Rattle.worker_mapping.specs.Neighbours.{AreAfter}
 use Rattle.order_memory.specs.Orders.{AreOrdersOf}
@@ -20,6 +20,7 @@ whole_none [] empty = refl
 whole_none (xs ∷ lists) empty =
     let none : length xs ≡ 0 = ap length (empty 0 (omega arith)) in
     let rest = whole_none lists (λ k there. empty (suc k) (omega arith)) in
+    let parts = sum_by-cons {X = List ℕ} length xs lists in
     omega arith
 
 -- the numbers with a key, where each number stands beside a key of its own
