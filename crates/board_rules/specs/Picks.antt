@@ -47,8 +47,9 @@ is_lesser_way [] (y ∷ ys) = true
 is_lesser_way (x ∷ xs) [] = false
 is_lesser_way (x ∷ xs) (y ∷ ys) = decide (nat_lt x y) (nat_lt y x) (is_lesser_way xs ys)
 
--- items of open jobs first; then those of greater depth; then those at home; then the more urgent; then those of the lesser
--- path; then the lesser number; and of a job that is opened its first item, and so on in the job that this one opens
+-- In this order, the first that tells them apart: (1) items of open jobs go before items that open a job; (2) those of greater
+-- depth; (3) those at home; (4) the more urgent; (5) those of the lesser path; (6) the lesser number, and of a job that is opened
+-- its first item, and so on in the job that this one opens.
 abbrev pub goes_before : Standing → Standing → Bool
 goes_before a b =
     decide (not a.opens && b.opens) (a.opens && not b.opens)
