@@ -10,9 +10,8 @@ const BOARDS_WITH_OTHERS: u32 = 15;
 /// a thread takes to start,
 const MANY_TOKENS: u64 = 4096;
 
-/// and so many for each of its firings: its kernels should take longer than its steps on the board, which no two workers take at
-/// once.
-const TOKENS_A_FIRING: u64 = 64;
+/// and so many for each of its firings: a kernel should take longer than it takes to hand the board on to another worker.
+const TOKENS_A_FIRING: u64 = 1024;
 
 /// A compilation that isn't kept counts as a firing with so many tokens.
 pub(crate) const COMPILATION: u64 = 1024;
