@@ -9,16 +9,16 @@ use Rattle.job_rules.specs.Words as words
 use Rattle.job_rules.specs.Words.{Answer}
 use Rattle.nested_jobs.specs.Marks.{Busy, Done}
 use Rattle.nested_jobs.specs.Rules.{Work}
-use Rattle.open_job.specs.View.{compilation_of, left_by, task}
+use Rattle.graph_firing.specs.View.{compilation_of, left_by, task}
 use Rattle.pisdf_meaning.specs.declared.firing.Configured.{Configured}
 use Rattle.pisdf_meaning.specs.declared.firing.Firing.{Firing}
 use Rattle.pisdf_model.specs.declared.graph.Graphs.{Graphs}
 use Rattle.board_rules.specs.Entries.{BoardState}
 use Rattle.board_rules.specs.Keys.{Key}
 use Rattle.board_rules.specs.Legal.{state_after}
-use Rattle.job_table.specs.Calls.{MarksItem}
-use Rattle.job_table.specs.View.{TableView, lent_in, row_at}
-use Rattle.job_table.specs.declared.row.Row.{Row}
+use Rattle.firing_board.specs.Table.Calls.{MarksItem}
+use Rattle.firing_board.specs.Table.View.{TableView, lent_in, row_at}
+use Rattle.firing_board.specs.declared.table.row.Row.{Row}
 use Rattle.firing_board.specs.Core.{lent_of, lent_with}
 use Rattle.firing_board.specs.Finishes.{MayEnd}
 use Rattle.firing_board.specs.Kept.{Keeps}

@@ -16,7 +16,7 @@ use Rattle.nested_jobs.specs.Steps.{claimed, task_in}
 use Rattle.nested_jobs.specs.Tables.{answers_in, put_row, with_mark}
 use Rattle.nested_jobs.proofs.Appending.{state-snoc}
 use Rattle.nested_jobs.proofs.Tabling.{put_row_at}
-use Rattle.open_job.specs.View.{IsOfferedWork, graph_in}
+use Rattle.graph_firing.specs.View.{IsOfferedWork, graph_in}
 use Rattle.pisdf_meaning.specs.declared.firing.Firing.{Firing}
 use Rattle.pisdf_model.specs.declared.graph.Graphs.{Graphs}
 use Rattle.board_rules.specs.Asking.{JobRow}
@@ -29,11 +29,11 @@ use Rattle.board_rules.specs.Legal.{HasEnded, journal_of, state_after}
 use Rattle.board_rules.specs.declared.entry.Entry.TheVariants as entry
 use Rattle.board_rules.specs.declared.entry.Entry.{Entry}
 use Rattle.board_rules.specs.declared.entry.Item.{Item}
-use Rattle.job_table.specs.Calls.{LendsItem, MarksItem}
-use Rattle.job_table.specs.Laws.{ClaimsSuit, TablesMark}
-use Rattle.job_table.specs.Suits.{Suits}
-use Rattle.job_table.specs.View.{job_row, lent_in, row_at, table_of}
-use Rattle.job_table.specs.declared.row.Row.{Row}
+use Rattle.firing_board.specs.Table.Calls.{LendsItem, MarksItem}
+use Rattle.firing_board.specs.Table.Laws.{ClaimsSuit, TablesMark}
+use Rattle.firing_board.specs.Table.Suits.{Suits}
+use Rattle.firing_board.specs.Table.View.{job_row, lent_in, row_at, table_of}
+use Rattle.firing_board.specs.declared.table.row.Row.{Row}
 use Rattle.firing_board.specs.Core.{AreNumbered, HasEnd, IsLentToRunners, IsNumbered, RowsHaveOwners, StandsAt, held_of, lent_of}
 use Rattle.firing_board.specs.Finding.{IsFound}
 use Rattle.firing_board.specs.Handing.{path_in}

@@ -17,7 +17,7 @@ use Rattle.job_rules.specs.Items.{Prepared, actor_task, compile_rule, config_tas
 use Rattle.job_rules.specs.Words as words
 use Rattle.job_rules.specs.Words.{Answer}
 use Rattle.nested_jobs.specs.Rules.{Call, Task, Values, Work}
-use Rattle.open_job.specs.View.{OpenView, answered, compilation_of, graph_in, left_by, task}
+use Rattle.graph_firing.specs.View.{OpenView, answered, compilation_of, graph_in, left_by, task}
 
 -- the task isn't a compilation
 abbrev NoCompile : Option (Task Firing words.Work) → Type 0

@@ -7,7 +7,7 @@ use Rattle.board_rules.specs.Entries.{Step}
 use Rattle.board_rules.specs.Keys.{Key}
 use Rattle.board_rules.specs.Laws.{JournalsTellSteps}
 use Rattle.board_rules.specs.Legal.{AreLegal, journal_of, state_after}
-use Rattle.job_table.specs.View.{NothingIsLent, lent_in, table_of}
+use Rattle.firing_board.specs.Table.View.{NothingIsLent, lent_in, table_of}
 use Rattle.firing_board.specs.Counted.{counts_kept}
 use Rattle.firing_board.specs.Kept.{Keeps, StandsOrStarves, key_with, view_with}
 use Rattle.firing_board.specs.OnCore.{KeepsKey, MayClaim}

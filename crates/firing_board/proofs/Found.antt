@@ -6,7 +6,7 @@ use Rattle.job_rules.specs.Meant.{rank}
 use Rattle.job_rules.specs.Words as words
 use Rattle.nested_jobs.specs.Meanings.{Lawful}
 use Rattle.nested_jobs.specs.Rules.{Call, Place, Task, Work}
-use Rattle.open_job.specs.View.{IsOfferedCall, IsOfferedWork, answered, task}
+use Rattle.graph_firing.specs.View.{IsOfferedCall, IsOfferedWork, answered, task}
 use Rattle.pisdf_meaning.specs.declared.firing.Firing.{Firing}
 use Rattle.pisdf_model.specs.declared.graph.Graphs.{Graphs}
 use Rattle.board_rules.specs.Asking.{IsOffered, JobRow, NoRowOffers}
@@ -18,11 +18,11 @@ use Rattle.board_rules.specs.Laws.{PicksExist}
 use Rattle.board_rules.specs.Legal.{state_after}
 use Rattle.board_rules.specs.Offers.{calls}
 use Rattle.board_rules.specs.Picks.{IsPick, is_open}
-use Rattle.job_table.specs.Asked.{IsAsked, PathsDiffer, offer_of}
-use Rattle.job_table.specs.Laws.{CallsAreFit}
-use Rattle.job_table.specs.View.{TableView, job_row, row_at, table_of}
-use Rattle.job_table.specs.declared.asking.Asked.{Asked}
-use Rattle.job_table.specs.declared.row.Row.{Row}
+use Rattle.firing_board.specs.Table.Asked.{IsAsked, PathsDiffer, offer_of}
+use Rattle.firing_board.specs.Table.Laws.{CallsAreFit}
+use Rattle.firing_board.specs.Table.View.{TableView, job_row, row_at, table_of}
+use Rattle.firing_board.specs.declared.table.asking.Asked.{Asked}
+use Rattle.firing_board.specs.declared.table.row.Row.{Row}
 use Rattle.firing_board.specs.Core.{StandsAt, held_of}
 use Rattle.firing_board.specs.Finding.{HasNoWork, IsFound}
 use Rattle.firing_board.specs.Opening.{Calls, OpensWay}

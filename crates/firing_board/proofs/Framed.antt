@@ -3,7 +3,7 @@ use Rattle.std.proofs.Common.{◌≡◌, ◌≢◌, ⊎_elim, ℕ, ◌<◌, Bool
 use Rattle.std.proofs.lemmas.Bool.{cases_eq}
 use Rattle.std.specs.Prelude.{IfOk, is_err}
 use Rattle.kernel_gate.specs.declared.fault.KernelFault.{KernelFault}
-use Rattle.open_job.specs.Calls.{HasLongTrace, IsSoundFor}
+use Rattle.graph_firing.specs.Calls.{HasLongTrace, IsSoundFor}
 use Rattle.kernel_gate.specs.Value.{FrameView, Places}
 use Rattle.job_preparing.specs.Handing.{answer_with, answers, end_of, lent_at, mark_at}
 use Rattle.job_preparing.specs.declared.handing.JobGiven.{JobGiven}
@@ -17,7 +17,7 @@ use Rattle.nested_jobs.specs.Marks.{Busy, Done, Mark, Open, put}
 use Rattle.nested_jobs.specs.Meanings.{Lawful, Within}
 use Rattle.nested_jobs.specs.Rules.{Place, Work}
 use Rattle.nested_jobs.specs.Tables.{put_row, with_mark}
-use Rattle.open_job.specs.View.{task}
+use Rattle.graph_firing.specs.View.{task}
 use Rattle.pisdf_meaning.specs.declared.firing.Firing.{Firing}
 use Rattle.pisdf_meaning.specs.declared.refusal.Refusal.{Refusal}
 use Rattle.board_rules.specs.Board.{Held, IsClosing, KeptAs, OpenJobs, hold}
@@ -26,11 +26,11 @@ use Rattle.board_rules.specs.Entries.{BoardState, Step}
 use Rattle.board_rules.specs.Keys.{Key, rules}
 use Rattle.board_rules.specs.Laws.{JournalsTellSteps, WorkHasOneAnswer}
 use Rattle.board_rules.specs.Legal.{state_after}
-use Rattle.job_table.specs.Calls.{LendsItem, MarksItem, StaysAs}
-use Rattle.job_table.specs.Closing.{Closes, ClosesLong, ClosesTo, IsClosingFrom}
-use Rattle.job_table.specs.Laws.{FinishesSuit, TablesMark}
-use Rattle.job_table.specs.View.{TableView, job_row, lent_by, lent_in, row_at, table_of}
-use Rattle.job_table.specs.declared.row.Row.{Row}
+use Rattle.firing_board.specs.Table.Calls.{LendsItem, MarksItem, StaysAs}
+use Rattle.firing_board.specs.Table.Closing.{Closes, ClosesLong, ClosesTo, IsClosingFrom}
+use Rattle.firing_board.specs.Table.Laws.{FinishesSuit, TablesMark}
+use Rattle.firing_board.specs.Table.View.{TableView, job_row, lent_by, lent_in, row_at, table_of}
+use Rattle.firing_board.specs.declared.table.row.Row.{Row}
 use Rattle.firing_board.specs.Closing.{ClosesOn, KeepsJournal, latest}
 use Rattle.firing_board.specs.Core.{AreNumbered, HasEnd, IsEndFor, IsNumbered, RowsGoOn, RowsLast, held_of, lent_of, lent_with}
 use Rattle.firing_board.specs.Finishes.{Finishes}
@@ -295,7 +295,7 @@ module _ (key : Key) (laws : FinishLaws key) (old : Core) (keeps : Keeps key old
           row = marks.after;
           here = marks.now;
           closing = subst (λ (p : Place). IsClosing key keeps.taken (held_of old.running.items) w answer (table_of mid.table) (put m (b.run.item ∷ b.row.place) (Done answer)) p) place moved;
-          suits = subst (λ (p : Place). Rattle.job_table.specs.Suits.Suits key (put m (b.run.item ∷ p) (Done answer)) mid.table) (ap (λ (r : Row). r.place) before_is) suit;
+          suits = subst (λ (p : Place). Rattle.firing_board.specs.Table.Suits.Suits key (put m (b.run.item ∷ p) (Done answer)) mid.table) (ap (λ (r : Row). r.place) before_is) suit;
         }
 
     -- a job was closed that gives a trace as no list holds

@@ -11,11 +11,11 @@ use Rattle.job_rules.specs.Items.{compile_number, graph_of, node_base}
 use Rattle.job_rules.specs.Words as words
 use Rattle.nested_jobs.specs.Marks.{Busy}
 use Rattle.nested_jobs.specs.Rules.{Task, Work}
-use Rattle.open_job.proofs.OfferedCompilation.{compiles, may_compile}
-use Rattle.open_job.specs.Calls.{IsHanded, IsHandedFor, frame_of}
-use Rattle.open_job.specs.View.{IsOfferedWork, compilation_of, graph_in, left_by, task}
-use Rattle.open_job.specs.declared.handed.Handed.{Handed}
-use Rattle.open_job.specs.declared.handed.Handed.TheVariants as handed
+use Rattle.graph_firing.proofs.OfferedCompilation.{compiles, may_compile}
+use Rattle.graph_firing.specs.Calls.{IsHanded, IsHandedFor, frame_of}
+use Rattle.graph_firing.specs.View.{IsOfferedWork, compilation_of, graph_in, left_by, task}
+use Rattle.graph_firing.specs.declared.handed.Handed.{Handed}
+use Rattle.graph_firing.specs.declared.handed.Handed.TheVariants as handed
 use Rattle.pisdf_meaning.specs.Configuring.{Configuration, configurations}
 use Rattle.pisdf_meaning.specs.declared.firing.Firing.{Firing}
 use Rattle.pisdf_model.specs.declared.graph.Graph.{Graph}
@@ -26,9 +26,9 @@ use Rattle.board_rules.specs.declared.entry.Entry.{Entry}
 use Rattle.board_rules.specs.declared.entry.Entry.TheVariants as entry
 use Rattle.board_rules.specs.declared.entry.Item.{Item}
 use Rattle.board_rules.specs.declared.entry.Item.TheVariants as items
-use Rattle.job_table.specs.Calls.{LendsItem, MarksItem, StaysAs}
-use Rattle.job_table.specs.View.{TableView, firings_of, lent_by, lent_in, job_row, row_at, table_of}
-use Rattle.job_table.specs.declared.row.Row.{Row}
+use Rattle.firing_board.specs.Table.Calls.{LendsItem, MarksItem, StaysAs}
+use Rattle.firing_board.specs.Table.View.{TableView, firings_of, lent_by, lent_in, job_row, row_at, table_of}
+use Rattle.firing_board.specs.declared.table.row.Row.{Row}
 use Rattle.firing_board.specs.Claims.{Claims, EntersAs, EntersItem, IsTicket, Picks}
 use Rattle.firing_board.specs.Core.{HasRoom, held_of}
 use Rattle.firing_board.specs.Firings.{FiringsGoOn, LeasesFrame, LeasesNode}

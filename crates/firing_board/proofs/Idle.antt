@@ -10,7 +10,7 @@ use Rattle.board_rules.specs.Board.{RunsAs}
 use Rattle.board_rules.specs.Entries.{Step}
 use Rattle.board_rules.specs.Keys.{Key, rules}
 use Rattle.board_rules.specs.Legal.{state_after}
-use Rattle.job_table.specs.View.{table_of}
+use Rattle.firing_board.specs.Table.View.{table_of}
 use Rattle.firing_board.specs.Core.{StandsAt}
 use Rattle.firing_board.specs.OnCore.{ClaimsOn, MayClaim}
 use Rattle.firing_board.specs.declared.claim.Claim.TheVariants as claim

@@ -8,18 +8,18 @@ use Rattle.job_rules.specs.Words.{Answer}
 use Rattle.nested_jobs.specs.Marks.{Marks, answer_of, values}
 use Rattle.nested_jobs.specs.Rules.{Values}
 use Rattle.one_job.specs.Leased.{JobCells}
-use Rattle.open_job.proofs.Offered.{IsAfter, where_is}
-use Rattle.open_job.specs.Leases.{LendsAs, LendsItems, node_lent}
-use Rattle.open_job.specs.View.{answered, compilation_of}
+use Rattle.graph_firing.proofs.Offered.{IsAfter, where_is}
+use Rattle.graph_firing.specs.Leases.{LendsAs, LendsItems, node_lent}
+use Rattle.graph_firing.specs.View.{answered, compilation_of}
 use Rattle.pisdf_meaning.specs.declared.firing.Firing.{Firing}
 use Rattle.pisdf_model.specs.declared.graph.Graphs.{Graphs}
 use Rattle.board_rules.specs.Board.{Held, KeptAs}
 use Rattle.board_rules.specs.Entries.{Step}
 use Rattle.board_rules.specs.Keys.{Key}
 use Rattle.board_rules.specs.Legal.{journal_of, state_after}
-use Rattle.job_table.specs.Suits.{Suits}
-use Rattle.job_table.specs.View.{firing_of, job_row, row_at, table_of}
-use Rattle.job_table.specs.declared.row.Row.{Row}
+use Rattle.firing_board.specs.Table.Suits.{Suits}
+use Rattle.firing_board.specs.Table.View.{firing_of, job_row, row_at, table_of}
+use Rattle.firing_board.specs.declared.table.row.Row.{Row}
 use Rattle.firing_board.specs.Firings.{AreCellsOf, LeasesNode}
 use Rattle.firing_board.specs.Kept.{view_with}
 use Rattle.firing_board.specs.declared.state.Core.{Core}

@@ -18,7 +18,7 @@ use Rattle.nested_jobs.specs.Rules.{Place, Task, Work}
 use Rattle.nested_jobs.proofs.Appending.{legal-snoc, state-snoc}
 use Rattle.nested_jobs.proofs.OneStep.{task_stays}
 use Rattle.nested_jobs.proofs.Running.{assign_at, journal_keeps}
-use Rattle.open_job.specs.View.{answered, task}
+use Rattle.graph_firing.specs.View.{answered, task}
 use Rattle.pisdf_model.specs.declared.graph.Graphs.{Graphs}
 use Rattle.board_rules.specs.BoardLaws.{FinishesAreEntered, HeldAreBusy}
 use Rattle.board_rules.specs.Entries.{BoardState, Step}
@@ -27,9 +27,9 @@ use Rattle.board_rules.specs.Laws.{JournalsTellSteps, WorkHasOneAnswer}
 use Rattle.board_rules.specs.Legal.{AreLegal, ArePickedFrom, IsPicked, journal_of, state_after}
 use Rattle.board_rules.specs.declared.entry.Entry.TheVariants as entry
 use Rattle.board_rules.specs.declared.entry.Entry.{Entry}
-use Rattle.job_table.specs.Calls.{StaysAs}
-use Rattle.job_table.specs.View.{TableView, firings_of, lent_in, row_at}
-use Rattle.job_table.specs.declared.row.Row.{Row}
+use Rattle.firing_board.specs.Table.Calls.{StaysAs}
+use Rattle.firing_board.specs.Table.View.{TableView, firings_of, lent_in, row_at}
+use Rattle.firing_board.specs.declared.table.row.Row.{Row}
 use Rattle.firing_board.specs.Core.{IsLentToRunners, RowsGoOn, held_of, lent_of, lent_with, runners}
 use Rattle.firing_board.specs.Finishes.{Finishes}
 use Rattle.firing_board.specs.Kept.{Keeps, StandsOrStarves, view_with}

@@ -1,3 +1,4 @@
+pub mod OfTable
 pub mod Rows
 pub mod Openings
 pub mod Below

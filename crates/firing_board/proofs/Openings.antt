@@ -11,7 +11,7 @@ use Rattle.job_rules.specs.Words.{Answer}
 use Rattle.nested_jobs.specs.Marks.{Free, Marks, Open, answer_of, put}
 use Rattle.nested_jobs.specs.Meanings.{Lawful}
 use Rattle.nested_jobs.specs.Rules.{Call, Place, Task, Values, Work}
-use Rattle.open_job.specs.View.{answered, task}
+use Rattle.graph_firing.specs.View.{answered, task}
 use Rattle.pisdf_meaning.specs.declared.firing.Firing.{Firing}
 use Rattle.pisdf_model.specs.declared.graph.Graphs.{Graphs}
 use Rattle.board_rules.specs.Board.{HasOpened, OpenJobs}
@@ -19,11 +19,11 @@ use Rattle.board_rules.specs.BoardLaws.{OneMoreOpened}
 use Rattle.board_rules.specs.Keys.{Key, rules}
 use Rattle.board_rules.specs.Offers.{AreFirst}
 use Rattle.board_journal.specs.View.{path_at}
-use Rattle.job_table.specs.Calls.{OpensChild}
-use Rattle.job_table.specs.Laws.{FirstCallsAreFit, OpeningsSuit, TablesOpen}
-use Rattle.job_table.specs.Suits.{Suits}
-use Rattle.job_table.specs.View.{TableView, job_row, row_at, table_of}
-use Rattle.job_table.specs.declared.row.Row.{Row}
+use Rattle.firing_board.specs.Table.Calls.{OpensChild}
+use Rattle.firing_board.specs.Table.Laws.{FirstCallsAreFit, OpeningsSuit, TablesOpen}
+use Rattle.firing_board.specs.Table.Suits.{Suits}
+use Rattle.firing_board.specs.Table.View.{TableView, job_row, row_at, table_of}
+use Rattle.firing_board.specs.declared.table.row.Row.{Row}
 use Rattle.firing_board.specs.Core.{AreNumbered}
 use Rattle.firing_board.specs.Opening.{Calls, IsOpenTo, KeepsRuns, Reaches}
 use Rattle.firing_board.specs.declared.run.Run.{Run}

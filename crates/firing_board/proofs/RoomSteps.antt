@@ -2,7 +2,7 @@
 use Rattle.std.proofs.Common.{◌≡◌, ℕ, ◌+◌, ◌-◌, ◌≤◌, Bool, true, false, set, Some, refl, ap, ◌∙◌, arith}
 use Rattle.board_journal.specs.View.{JournalView}
 use Rattle.board_rules.specs.declared.entry.Item.{Item}
-use Rattle.job_table.specs.View.{free_items}
+use Rattle.firing_board.specs.Table.View.{free_items}
 use Rattle.firing_board.specs.Closing.{KeepsJournal}
 use Rattle.firing_board.specs.Core.{HasRoom, runners}
 use Rattle.firing_board.specs.Handing.{Enters}

@@ -8,10 +8,10 @@ use Rattle.nested_jobs.specs.Marks.{Busy, Free, Mark, answer_of}
 use Rattle.job_rules.specs.Words.{Answer}
 use Rattle.kernel_gate.specs.Value.{Places}
 use Rattle.pisdf_meaning.specs.declared.firing.Firing.{Firing}
-use Rattle.job_table.specs.Calls.{MarksItem, OpensChild, SpoilsItem, StaysAs}
-use Rattle.job_table.specs.Closing.{RowsStay}
-use Rattle.job_table.specs.View.{FiringView, TableView, firing_of, firings_of, job_row, keys_from, keys_of, lent_by, lent_in, row_at, table_of}
-use Rattle.job_table.specs.declared.row.Row.{Row}
+use Rattle.firing_board.specs.Table.Calls.{MarksItem, OpensChild, SpoilsItem, StaysAs}
+use Rattle.firing_board.specs.Table.Closing.{RowsStay}
+use Rattle.firing_board.specs.Table.View.{FiringView, TableView, firing_of, firings_of, job_row, keys_from, keys_of, lent_by, lent_in, row_at, table_of}
+use Rattle.firing_board.specs.declared.table.row.Row.{Row}
 use Rattle.firing_board.specs.Core.{RowsGoOn, RowsHaveOwners, RowsLast}
 use Rattle.firing_board.specs.Firings.{FiringsGoOn, GoesOn, firing_at, open_count}
 use Rattle.firing_board.specs.Starved.{Lasts, LastsIn}

@@ -5,7 +5,7 @@ use Rattle.std.proofs.lemmas.Bool.{eq-eqb, eqb-true}
 use Rattle.std.proofs.lemmas.List.{get_or-set_same, get_or-set_other}
 use Rattle.kernel_gate.specs.Value.{Places}
 use Rattle.board_rules.specs.Board.{hold}
-use Rattle.job_table.specs.View.{TableView, lent_in}
+use Rattle.firing_board.specs.Table.View.{TableView, lent_in}
 use Rattle.firing_board.specs.Core.{held_of, lent_of, lent_with, runners}
 use Rattle.firing_board.specs.declared.run.Run.{Run}
 

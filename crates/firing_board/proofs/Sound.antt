@@ -20,9 +20,9 @@ use Rattle.board_rules.specs.Entries.{BoardState, Step}
 use Rattle.board_rules.specs.Keys.{IsKey, Key, rules, top_job}
 use Rattle.board_rules.specs.Laws.{JournalsTellSteps}
 use Rattle.board_rules.specs.Legal.{state_after}
-use Rattle.job_table.specs.Laws.{KeysAreRows}
-use Rattle.job_table.specs.View.{FiringView, TableView, firing_of, firings_of, job_row, keys_of, lent_in, row_at, table_of}
-use Rattle.job_table.specs.declared.row.Row.{Row}
+use Rattle.firing_board.specs.Table.Laws.{KeysAreRows}
+use Rattle.firing_board.specs.Table.View.{FiringView, TableView, firing_of, firings_of, job_row, keys_of, lent_in, row_at, table_of}
+use Rattle.firing_board.specs.declared.table.row.Row.{Row}
 use Rattle.firing_board.specs.Core.{RowsHaveOwners, held_of, lent_of, lent_with}
 use Rattle.firing_board.specs.Firings.{AreOpen, OneOwnerOfAll}
 use Rattle.firing_board.specs.Kept.{Keeps, StandsOrStarves, view_with}

@@ -13,10 +13,10 @@ use Rattle.board_rules.specs.Board.{Held, KeptAs, OpenJobs}
 use Rattle.board_rules.specs.BoardLaws.{BoardsStart}
 use Rattle.board_rules.specs.Keys.{IsKey, Key, top_job}
 use Rattle.board_journal.specs.View.{path_at}
-use Rattle.job_table.specs.Calls.{IsStarted}
-use Rattle.job_table.specs.Laws.{StartsSuit, TablesStart}
-use Rattle.job_table.specs.View.{NothingIsLent, TableView, firing_of, firings_of, lent_by, lent_in, row_at, table_of}
-use Rattle.job_table.specs.declared.row.Row.{Row}
+use Rattle.firing_board.specs.Table.Calls.{IsStarted}
+use Rattle.firing_board.specs.Table.Laws.{StartsSuit, TablesStart}
+use Rattle.firing_board.specs.Table.View.{NothingIsLent, TableView, firing_of, firings_of, lent_by, lent_in, row_at, table_of}
+use Rattle.firing_board.specs.declared.table.row.Row.{Row}
 use Rattle.firing_board.specs.Beginning.{IsStartedOn}
 use Rattle.firing_board.specs.Core.{AreNumbered, IsLentToRunners, StandsAt, held_of, lent_of, runners}
 use Rattle.firing_board.specs.Kept.{Keeps}

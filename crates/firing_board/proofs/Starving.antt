@@ -8,7 +8,7 @@ use Rattle.nested_jobs.specs.Journals.{task_of}
 use Rattle.nested_jobs.specs.Marks.{Busy}
 use Rattle.nested_jobs.specs.Meanings.{Lawful}
 use Rattle.nested_jobs.specs.Rules.{Place, Work}
-use Rattle.open_job.specs.View.{answered}
+use Rattle.graph_firing.specs.View.{answered}
 use Rattle.board_rules.specs.Asking.{JobRow}
 use Rattle.board_rules.specs.Board.{RunsAs}
 use Rattle.board_rules.specs.BoardLaws.{HeldAreBusy}
@@ -16,8 +16,8 @@ use Rattle.board_rules.specs.Entries.{Step}
 use Rattle.board_rules.specs.Keys.{Key, rules}
 use Rattle.board_rules.specs.Legal.{state_after}
 use Rattle.board_rules.specs.declared.entry.Entry.{Entry}
-use Rattle.job_table.specs.Calls.{LendsAsBefore}
-use Rattle.job_table.specs.View.{TableView, firings_of, row_at, table_of}
+use Rattle.firing_board.specs.Table.Calls.{LendsAsBefore}
+use Rattle.firing_board.specs.Table.View.{TableView, firings_of, row_at, table_of}
 use Rattle.firing_board.specs.Core.{RowsLast, StandsAt, held_of, lent_of, runners}
 use Rattle.firing_board.specs.Kept.{Keeps}
 use Rattle.firing_board.specs.OnCore.{StarvesOn}

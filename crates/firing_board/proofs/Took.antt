@@ -6,8 +6,8 @@ use Rattle.nested_jobs.specs.Marks.{Busy}
 use Rattle.board_rules.specs.declared.entry.Entry.TheVariants as entry
 use Rattle.board_rules.specs.declared.entry.Item.{Item}
 use Rattle.board_journal.specs.View.{JournalView}
-use Rattle.job_table.specs.Calls.{LendsAsBefore, LendsItem, MarksItem}
-use Rattle.job_table.specs.View.{TableView}
+use Rattle.firing_board.specs.Table.Calls.{LendsAsBefore, LendsItem, MarksItem}
+use Rattle.firing_board.specs.Table.View.{TableView}
 use Rattle.firing_board.specs.Core.{HasRoom}
 use Rattle.firing_board.specs.Handing.{Enters, path_in}
 use Rattle.firing_board.specs.declared.claim.Ticket.{Ticket}

@@ -3,7 +3,7 @@ use Rattle.std.specs.Prelude.{◌≡◌, ℕ, Bool, true, false, [], ◌∷◌, 
 use Rattle.job_preparing.specs.declared.handing.JobGiven.{JobGiven}
 use Rattle.pisdf_model.specs.declared.graph.Graphs.{Graphs}
 use Rattle.pisdf_meaning.specs.declared.firing.Firing.{Firing}
-use Rattle.job_table.specs.Calls.{IsStarted}
+use Rattle.firing_board.specs.Table.Calls.{IsStarted}
 use Rattle.firing_board.specs.declared.state.Core.{Core}
 use Rattle.firing_board.specs.declared.ending.BoardEnd.{BoardEnd}
 use Rattle.firing_board.specs.declared.ending.BoardEnd.TheVariants as ends

@@ -2,7 +2,7 @@
 use Rattle.std.specs.Prelude.{◌≡◌, ℕ, Option, Some, None, Result}
 use Rattle.job_preparing.specs.declared.handing.JobGiven.{JobGiven}
 use Rattle.pisdf_meaning.specs.declared.refusal.Refusal.{Refusal}
-use Rattle.job_table.specs.Closing.{Closes, RowsStay}
+use Rattle.firing_board.specs.Table.Closing.{Closes, RowsStay}
 use Rattle.firing_board.specs.declared.state.Core.{Core}
 
 -- the end of the top job, where it is closed, or what was there before

@@ -14,10 +14,10 @@ use Rattle.board_rules.specs.Entries.{Step}
 use Rattle.board_rules.specs.Keys.{Key}
 use Rattle.board_rules.specs.Legal.{journal_of, state_after}
 use Rattle.board_journal.specs.View.{path_at}
-use Rattle.job_table.specs.Calls.{StaysAs}
-use Rattle.job_table.specs.Suits.{Suits}
-use Rattle.job_table.specs.View.{TableView, free_items, lent_in, row_at, table_of}
-use Rattle.job_table.specs.declared.row.Row.{Row}
+use Rattle.firing_board.specs.Table.Calls.{StaysAs}
+use Rattle.firing_board.specs.Table.Suits.{Suits}
+use Rattle.firing_board.specs.Table.View.{TableView, free_items, lent_in, row_at, table_of}
+use Rattle.firing_board.specs.declared.table.row.Row.{Row}
 use Rattle.firing_board.specs.declared.state.Core.{Core}
 use Rattle.firing_board.specs.declared.run.Run.{Run}
 

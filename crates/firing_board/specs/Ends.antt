@@ -6,7 +6,7 @@ use Rattle.board_rules.specs.Legal.{HasEnded, state_after}
 use Rattle.job_rules.specs.Words.{Answer}
 use Rattle.nested_jobs.specs.Marks.{Done}
 use Rattle.nested_jobs.specs.Rules.{Place}
-use Rattle.open_job.specs.Calls.{HasLongTrace}
+use Rattle.graph_firing.specs.Calls.{HasLongTrace}
 use Rattle.firing_board.specs.Runs.{AreAllIdle}
 use Rattle.firing_board.specs.View.{BoardView, IsAt}
 use Rattle.firing_board.specs.declared.ending.BoardEnd.{BoardEnd}

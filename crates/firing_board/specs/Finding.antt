@@ -4,7 +4,7 @@ use Rattle.nested_jobs.specs.Marks.{Marks}
 use Rattle.nested_jobs.specs.Rules.{Place}
 use Rattle.nested_jobs.specs.Steps.{IsEnabled}
 use Rattle.job_rules.specs.Words.{Answer}
-use Rattle.open_job.specs.View.{IsOfferedWork}
+use Rattle.graph_firing.specs.View.{IsOfferedWork}
 use Rattle.pisdf_meaning.specs.declared.firing.Firing.{Firing}
 use Rattle.board_rules.specs.Asking.{NoRowOffers}
 use Rattle.board_rules.specs.Board.{HasOpened}
@@ -12,9 +12,9 @@ use Rattle.board_rules.specs.Entries.{Step}
 use Rattle.board_rules.specs.Keys.{Key, rules}
 use Rattle.board_rules.specs.Legal.{state_after}
 use Rattle.board_rules.specs.Picks.{IsPick, is_open}
-use Rattle.job_table.specs.Suits.{Suits}
-use Rattle.job_table.specs.View.{row_at, table_of}
-use Rattle.job_table.specs.declared.row.Row.{Row}
+use Rattle.firing_board.specs.Table.Suits.{Suits}
+use Rattle.firing_board.specs.Table.View.{row_at, table_of}
+use Rattle.firing_board.specs.declared.table.row.Row.{Row}
 use Rattle.firing_board.specs.Core.{AreNumbered, StandsAt}
 use Rattle.firing_board.specs.declared.state.Core.{Core}
 use Rattle.firing_board.specs.declared.run.Run.{Run}

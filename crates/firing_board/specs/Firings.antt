@@ -8,12 +8,12 @@ use Rattle.kernel_gate.specs.Value.{Places}
 use Rattle.nested_jobs.specs.Marks.{Marks, Open, values}
 use Rattle.nested_jobs.specs.Rules.{Place, Values}
 use Rattle.one_job.specs.Leased.{AreLeases, HasCell, JobCells, Port}
-use Rattle.open_job.specs.Leases.{CellsStay}
+use Rattle.graph_firing.specs.Leases.{CellsStay}
 use Rattle.pisdf_meaning.specs.declared.firing.Firing.{Firing}
 use Rattle.board_rules.specs.Entries.{BoardState, Step}
 use Rattle.board_rules.specs.Keys.{Key}
 use Rattle.board_rules.specs.Legal.{state_after}
-use Rattle.job_table.specs.View.{FiringView}
+use Rattle.firing_board.specs.Table.View.{FiringView}
 use Rattle.firing_board.specs.View.{BoardView, IsAt}
 use Rattle.firing_board.specs.declared.claim.Claim.{Claim}
 use Rattle.firing_board.specs.declared.claim.Claim.TheVariants as claim

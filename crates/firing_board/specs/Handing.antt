@@ -4,19 +4,19 @@ use Rattle.nested_jobs.specs.Marks.{Busy}
 use Rattle.job_compiler.specs.Compilation.{Compilation}
 use Rattle.job_preparing.specs.Handing.{lent_at}
 use Rattle.one_job.specs.Leased.{OneOwnerEach}
-use Rattle.open_job.specs.Calls.{IsHanded, frame_of}
-use Rattle.open_job.specs.Leases.{LendsItems}
-use Rattle.open_job.specs.View.{compilation_of, graph_in, left_by}
-use Rattle.open_job.specs.declared.handed.Handed.{Handed}
-use Rattle.open_job.specs.declared.handed.Handed.TheVariants as handed
+use Rattle.graph_firing.specs.Calls.{IsHanded, frame_of}
+use Rattle.graph_firing.specs.Leases.{LendsItems}
+use Rattle.graph_firing.specs.View.{compilation_of, graph_in, left_by}
+use Rattle.graph_firing.specs.declared.handed.Handed.{Handed}
+use Rattle.graph_firing.specs.declared.handed.Handed.TheVariants as handed
 use Rattle.board_rules.specs.Entries.{item_of}
 use Rattle.board_rules.specs.declared.entry.Entry.TheVariants as entry
 use Rattle.board_rules.specs.declared.entry.Item.{Item}
 use Rattle.board_rules.specs.declared.entry.Item.TheVariants as items
 use Rattle.board_journal.specs.View.{JournalView, path_at}
-use Rattle.job_table.specs.Calls.{LendsAsBefore, LendsItem, MarksItem}
-use Rattle.job_table.specs.View.{row_at}
-use Rattle.job_table.specs.declared.row.Row.{Row}
+use Rattle.firing_board.specs.Table.Calls.{LendsAsBefore, LendsItem, MarksItem}
+use Rattle.firing_board.specs.Table.View.{row_at}
+use Rattle.firing_board.specs.declared.table.row.Row.{Row}
 use Rattle.firing_board.specs.declared.claim.Claim.{Claim}
 use Rattle.firing_board.specs.declared.claim.Claim.TheVariants as claim
 use Rattle.firing_board.specs.declared.claim.Ticket.{Ticket}

@@ -3,7 +3,7 @@ use Rattle.std.specs.Prelude.{◌≡◌, ◌≤◌, Bool, true, false, List, is_
 use Rattle.pisdf_meaning.specs.declared.firing.Firing.{Firing}
 use Rattle.board_rules.specs.Entries.{Step}
 use Rattle.board_rules.specs.Keys.{IsKey, Key}
-use Rattle.job_table.specs.View.{firings_of}
+use Rattle.firing_board.specs.Table.View.{firings_of}
 use Rattle.firing_board.specs.Core.{HasRoom, IsLentToRunners, RowsHaveOwners, StandsAt, lent_of, runners}
 use Rattle.firing_board.specs.Starved.{StarvesAt}
 use Rattle.firing_board.specs.Counted.{counts_kept}

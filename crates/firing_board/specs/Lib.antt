@@ -1,3 +1,4 @@
+pub mod Table
 pub mod View
 pub mod Firings
 pub mod Starts

@@ -4,7 +4,7 @@ use Rattle.kernel_gate.specs.Value.{Places}
 use Rattle.job_rules.specs.Words.{Work}
 use Rattle.board_rules.specs.Keys.{Key}
 use Rattle.firing_board.specs.Claims.{Claims, EntersAs}
-use Rattle.job_table.specs.View.{firings_of}
+use Rattle.firing_board.specs.Table.View.{firings_of}
 use Rattle.firing_board.specs.Finishes.{Finishes}
 use Rattle.firing_board.specs.Firings.{FiringsGoOn, LeasesFrame}
 use Rattle.firing_board.specs.Kept.{Keeps, view_with}

@@ -6,15 +6,15 @@ use Rattle.job_preparing.specs.Handing.{mark_at}
 use Rattle.job_rules.specs.Meant.{IsFit}
 use Rattle.job_rules.specs.Words as words
 use Rattle.job_rules.specs.Words.{Answer}
-use Rattle.open_job.specs.View.{IsOfferedCall, task}
+use Rattle.graph_firing.specs.View.{IsOfferedCall, task}
 use Rattle.pisdf_meaning.specs.declared.firing.Firing.{Firing}
 use Rattle.board_rules.specs.Board.{HasOpened, OpenJobs}
 use Rattle.board_rules.specs.Keys.{Key}
 use Rattle.board_rules.specs.Offers.{AreFirst}
-use Rattle.job_table.specs.Calls.{LendsAsBefore, OpensChild}
-use Rattle.job_table.specs.Suits.{Suits}
-use Rattle.job_table.specs.View.{TableView, row_at, table_of}
-use Rattle.job_table.specs.declared.row.Row.{Row}
+use Rattle.firing_board.specs.Table.Calls.{LendsAsBefore, OpensChild}
+use Rattle.firing_board.specs.Table.Suits.{Suits}
+use Rattle.firing_board.specs.Table.View.{TableView, row_at, table_of}
+use Rattle.firing_board.specs.declared.table.row.Row.{Row}
 use Rattle.firing_board.specs.Core.{AreNumbered, RowsLast}
 use Rattle.firing_board.specs.Starved.{Lasts}
 use Rattle.firing_board.specs.declared.state.Core.{Core}

@@ -6,13 +6,13 @@ use Rattle.nested_jobs.specs.Marks.{Busy, Done}
 use Rattle.job_preparing.specs.CompileTasks.{IsEndOf}
 use Rattle.job_preparing.specs.Handing.{answer_with, mark_at}
 use Rattle.job_preparing.specs.declared.compiling.CompileEnd.{CompileEnd}
-use Rattle.open_job.specs.Calls.{IsSoundFor}
-use Rattle.open_job.specs.View.{OpenView, compilation_of, left_by, task}
+use Rattle.graph_firing.specs.Calls.{IsSoundFor}
+use Rattle.graph_firing.specs.View.{OpenView, compilation_of, left_by, task}
 use Rattle.board_rules.specs.declared.entry.Entry.TheVariants as entry
 use Rattle.board_journal.specs.View.{JournalView}
-use Rattle.job_table.specs.Calls.{FinishesIn, LendsAsBefore, LendsItem, MarksItem}
-use Rattle.job_table.specs.View.{lent_in, row_at}
-use Rattle.job_table.specs.declared.row.Row.{Row}
+use Rattle.firing_board.specs.Table.Calls.{FinishesIn, LendsAsBefore, LendsItem, MarksItem}
+use Rattle.firing_board.specs.Table.View.{lent_in, row_at}
+use Rattle.firing_board.specs.declared.table.row.Row.{Row}
 use Rattle.firing_board.specs.declared.state.Core.{Core}
 use Rattle.firing_board.specs.declared.run.Run.{Run}
 

@@ -6,13 +6,13 @@ use Rattle.nested_jobs.specs.Meanings.{Within}
 use Rattle.nested_jobs.specs.Rules.{Place, Work}
 use Rattle.job_preparing.specs.Handing.{answers, mark_at}
 use Rattle.job_rules.specs.Words as words
-use Rattle.open_job.specs.View.{task}
+use Rattle.graph_firing.specs.View.{task}
 use Rattle.board_rules.specs.Entries.{BoardState, Step}
 use Rattle.board_rules.specs.Keys.{Key, rules}
 use Rattle.board_rules.specs.Legal.{AreLegal, journal_of, state_after}
-use Rattle.job_table.specs.Calls.{StaysAs}
-use Rattle.job_table.specs.View.{TableView, row_at}
-use Rattle.job_table.specs.declared.row.Row.{Row}
+use Rattle.firing_board.specs.Table.Calls.{StaysAs}
+use Rattle.firing_board.specs.Table.View.{TableView, row_at}
+use Rattle.firing_board.specs.declared.table.row.Row.{Row}
 use Rattle.firing_board.specs.Core.{held_of}
 use Rattle.firing_board.specs.declared.state.Core.{Core}
 

@@ -5,7 +5,7 @@ use Rattle.board_rules.specs.Entries.{Step}
 use Rattle.board_rules.specs.Keys.{Key}
 use Rattle.board_rules.specs.Legal.{AreLegal, journal_of}
 use Rattle.board_rules.specs.declared.entry.Entry.{Entry}
-use Rattle.job_table.specs.View.{FiringView}
+use Rattle.firing_board.specs.Table.View.{FiringView}
 
 -- what a board was started with, its journal, whether memory was wanted, the open firings by their keys, for each worker where
 -- the leases of the frame lie that it has, and whether compilations are in it that are kept from one board to the next

@@ -8,6 +8,7 @@ use crate::counts::{KernelCounts, all_counts};
 use crate::ending::{BoardEnd, end_core, outcome_of};
 use crate::finishing::{finish_compilation, finish_frame, unless_wanted};
 use crate::keeping::{keep_ready, take_key};
+use crate::laws::tables_suit;
 use crate::starting::{nothing_compiles, start_core};
 use crate::state::Core;
 use board_journal::Journal;
@@ -15,7 +16,6 @@ use board_rules::{boards_end, boards_keep, entries_tell_steps, few_jobs_are_open
 use job_compiler::{Kept, Key};
 use job_preparing::CompileEnd;
 use job_rules::rules_are_lawful;
-use job_table::tables_suit;
 use kernel_gate::{Frame, KernelFault, Signature};
 use pisdf_meaning::{Delays, Firing, runnable, top_firing};
 use pisdf_model::Graphs;

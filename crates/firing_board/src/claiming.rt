@@ -2,8 +2,8 @@
 ghost use Rattle.std.specs.Prelude.{ℕ, List as Seq, ◌≡◌, ◌≢◌, ◌+◌, ◌<◌, ◌≤◌, ◌⊎◌, ◌↔◌, All, IfOk, IsTrue, None, OnErr, OnOk, false, is_some, length};
 ghost use Rattle.board_rules.specs.Entries.{item_of};
 ghost use Rattle.board_rules.specs.Keys.{Key as BoardKey};
-ghost use Rattle.job_table.specs.View.{HasJob};
-ghost use Rattle.open_job.specs.View.{IsOfferedCompilation, IsOfferedWork, compilation_of, graph_in};
+ghost use Rattle.firing_board.specs.Table.View.{HasJob};
+ghost use Rattle.graph_firing.specs.View.{IsOfferedCompilation, IsOfferedWork, compilation_of, graph_in};
 ghost use Rattle.firing_board.specs.Core.{HasRoom, IsNumbered};
 ghost use Rattle.firing_board.specs.Handing.{Enters, HandsCompilation, HandsFrame, HandsOut, MayEnter};
 ghost use Rattle.firing_board.specs.Kept.{view_with};
@@ -13,14 +13,14 @@ ghost use Rattle.firing_board.specs.Wanting.{MayStarve};
 use crate::claim::{Claim, Ticket};
 use crate::finding::find;
 use crate::keeping::kept_for;
+use crate::laws::tables_suit;
 use crate::numbering::number_of;
 use crate::run::Run;
 use crate::state::Core;
 use board_rules::{Item, boards_end, boards_keep, journals_grow};
+use graph_firing::{Handed, OpenJob};
 use job_compiler::{Compiled, Kept, Key};
 use job_rules::rules_are_lawful;
-use job_table::tables_suit;
-use open_job::{Handed, OpenJob};
 use std::alloc::{AllocError, Global};
 use std::sync::Arc;
 

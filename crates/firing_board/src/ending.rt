@@ -2,7 +2,7 @@
 ghost use Rattle.std.specs.Prelude.{◌≡◌, IfOk, Result as Outcome, Some, false};
 ghost use Rattle.job_preparing.specs.declared.handing.JobGiven.{JobGiven};
 ghost use Rattle.pisdf_meaning.specs.declared.refusal.Refusal.{Refusal};
-ghost use Rattle.job_table.specs.View.{NothingIsLent};
+ghost use Rattle.firing_board.specs.Table.View.{NothingIsLent};
 ghost use Rattle.firing_board.specs.Beginning.{EndsWith};
 
 use crate::state::Core;

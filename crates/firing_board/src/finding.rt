@@ -8,13 +8,14 @@ ghost use Rattle.firing_board.specs.Opening.{KeepsRuns, MayOpen, OpensAt, OpensW
 ghost use Rattle.firing_board.specs.Core.{HasRoom, StandsAt};
 ghost use Rattle.firing_board.specs.Wanting.{PicksInNew};
 
+use crate::laws::{calls_are_fit, tables_suit};
 use crate::numbering::number_row;
 use crate::rooms::room_for;
 use crate::run::Run;
 use crate::state::Core;
+use crate::table::Begins;
 use board_rules::{boards_keep, paths_stay, rows_are_asked, workers_are_answered};
 use job_rules::rules_are_lawful;
-use job_table::{Begins, calls_are_fit, tables_suit};
 use std::alloc::{AllocError, Global};
 
 /// Opens the job that an item calls: the key of its row.

@@ -1,8 +1,8 @@
 // Takes back what a worker ran.
 ghost use Rattle.std.specs.Prelude.{◌≡◌, ◌<◌, ◌≤◌, IfOk, IsErr, IsOk, None, OnErr, OnOk, Some, false, true, length, slice_index_or, slice_set};
 ghost use Rattle.board_rules.specs.Keys.{Key};
-ghost use Rattle.job_table.specs.Closing.{ClosesLong, IsClosingFrom};
-ghost use Rattle.job_table.specs.View.{free_items};
+ghost use Rattle.firing_board.specs.Table.Closing.{ClosesLong, IsClosingFrom};
+ghost use Rattle.firing_board.specs.Table.View.{free_items};
 ghost use Rattle.firing_board.specs.Closing.{ClosesOn, KeepsJournal};
 ghost use Rattle.firing_board.specs.Core.{HasRoom};
 ghost use Rattle.firing_board.specs.Ends.{HasLongTraces};
@@ -11,13 +11,13 @@ ghost use Rattle.firing_board.specs.Kept.{view_with};
 ghost use Rattle.firing_board.specs.OnCore.{FinishesOn, KeepsKey, MayLeave};
 ghost use Rattle.firing_board.specs.Returning.{Compiles, GivesUp, Leaves, MayCompile, MayReturn, Returns, RunsItem};
 
+use crate::laws::tables_suit;
 use crate::rooms::room_for_nodes;
 use crate::run::Run;
 use crate::state::Core;
 use board_rules::{boards_keep, entries_tell_steps, journals_grow};
 use job_preparing::CompileEnd;
 use job_rules::rules_are_lawful;
-use job_table::tables_suit;
 use kernel_gate::{Frame, KernelFault};
 use std::alloc::{AllocError, Global};
 use std::mem;

@@ -10,14 +10,17 @@ mod ending;
 mod finding;
 mod finishing;
 mod keeping;
+mod laws;
 mod locked;
 mod numbering;
 mod rooms;
 mod run;
 mod starting;
 mod state;
+mod table;
 
 pub use board::Board;
 pub use claim::{Claim, Ticket};
 pub use ending::BoardEnd;
+pub use laws::{calls_are_fit, full_buffers_keep_tokens, live_buffers_stay_apart};
 pub use locked::{BoardKey, FramePlaces};

@@ -1,11 +1,11 @@
 // Room in the journal for the entries that may come.
 ghost use Rattle.std.specs.Prelude.{◌≡◌, ◌+◌, ◌*◌, ◌≤◌, OnOk};
-ghost use Rattle.open_job.specs.Calls.{nodes_by};
-ghost use Rattle.open_job.specs.View.{compilation_of};
+ghost use Rattle.graph_firing.specs.Calls.{nodes_by};
+ghost use Rattle.graph_firing.specs.View.{compilation_of};
 
 use board_journal::Journal;
+use graph_firing::OpenJob;
 use job_preparing::CompileEnd;
-use open_job::OpenJob;
 use std::alloc::AllocError;
 
 /// Takes room for the claims and the finishes of the items of a job that is opened: its configuration actors and its

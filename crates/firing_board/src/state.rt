@@ -1,7 +1,7 @@
 use crate::run::Run;
+use crate::table::JobTable;
 use board_journal::Journal;
 use job_preparing::JobGiven;
-use job_table::JobTable;
 use pisdf_meaning::Refusal;
 
 /// The open jobs, what workers run of them, and the journal.

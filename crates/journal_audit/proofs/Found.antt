@@ -20,7 +20,7 @@ use Rattle.board_rules.specs.Legal.{state_after}
 use Rattle.board_rules.specs.Offers.{calls}
 use Rattle.board_rules.specs.Picks.{IsPick}
 use Rattle.audit_job.specs.Marks.{answers}
-use Rattle.job_table.specs.Laws.{CallsAreFit}
+use Rattle.firing_board.specs.Table.Laws.{CallsAreFit}
 use Rattle.journal_audit.specs.Asking.{HasFirst, PathsDiffer}
 use Rattle.journal_audit.specs.Opening.{CallsHere, IsFound, Reaches}
 use Rattle.journal_audit.specs.Standing.{KeepsBoard, StandsSo}

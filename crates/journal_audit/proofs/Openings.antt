@@ -23,7 +23,7 @@ use Rattle.board_rules.specs.Keys.{Key, rules}
 use Rattle.board_rules.specs.Offers.{AreFirst}
 use Rattle.audit_job.specs.Jobs.{IsJob}
 use Rattle.audit_job.specs.Marks.{answers, mark_at}
-use Rattle.job_table.specs.Laws.{FirstCallsAreFit}
+use Rattle.firing_board.specs.Table.Laws.{FirstCallsAreFit}
 use Rattle.journal_audit.specs.Opening.{CallsHere, IsChild, IsOpenTo, OpensChild, Reaches}
 use Rattle.journal_audit.specs.Standing.{AllJobs, StandsSo}
 use Rattle.journal_audit.specs.Table.{job_row, row_at, table_of}

@@ -26,9 +26,9 @@ use Rattle.param_resolver.specs.contracts.level_set.LevelSet as LevelSet
 use Rattle.job_preparing.specs.contracts.configuring.Configuring as Configuring
 use Rattle.ready_heap.specs.contracts.groups.GroupedHeaps as GroupedHeaps
 use Rattle.one_job.specs.contracts.job.Job as Job
-use Rattle.job_running.specs.contracts.running.Running as Running
-use Rattle.open_job.specs.contracts.job.OpenJob as OpenJob
-use Rattle.job_table.specs.contracts.table.JobTable as JobTable
+use Rattle.graph_firing.specs.contracts.nodes.running.Running as Running
+use Rattle.graph_firing.specs.contracts.job.OpenJob as OpenJob
+use Rattle.firing_board.specs.contracts.table.JobTable as JobTable
 use Rattle.board_journal.specs.contracts.told.Told as JournalTold
 use Rattle.board_journal.specs.contracts.journal.Journal as Journal
 use Rattle.firing_board.specs.contracts.board.Board as Board
@@ -37,10 +37,10 @@ use Rattle.kernel_gate.specs.contracts.told.Told as Told
 use Rattle.one_job.specs.contracts.stage.Stage as JobStage
 use Rattle.job_preparing.specs.contracts.stage.Stage as PreparingStage
 use Rattle.job_preparing.proofs.stage.Spare.TheSendSync as spare
-use Rattle.job_running.specs.contracts.told.ToldBefore as ToldBefore
-use Rattle.job_running.specs.contracts.told.ToldBlock as ToldBlock
-use Rattle.job_running.specs.contracts.stage.Stage as RunningStage
-use Rattle.job_running.specs.contracts.frames.Held as RunningHeld
+use Rattle.graph_firing.specs.contracts.nodes.told.ToldBefore as ToldBefore
+use Rattle.graph_firing.specs.contracts.nodes.told.ToldBlock as ToldBlock
+use Rattle.graph_firing.specs.contracts.nodes.stage.Stage as RunningStage
+use Rattle.graph_firing.specs.contracts.nodes.frames.Held as RunningHeld
 use Rattle.worker_crew.proofs.GraphsSending.{graphs_send, graphs_sync}
 
 early_send : IsSend Early.the_row

@@ -1,7 +1,7 @@
 use Rattle.std.proofs.Common.{◌≡◌, ◌∙◌, inl, false, Option, None, sym, ap, subst, arith}
 use Rattle.std.specs.List.{All}
 use Rattle.board_rules.specs.Keys.{Key}
-use Rattle.open_job.specs.View.{OpenView, compilation_of}
+use Rattle.graph_firing.specs.View.{OpenView, compilation_of}
 use Rattle.firing_board.specs.Core.{HasRoom, RowsLast}
 use Rattle.firing_board.specs.Finding.{Finds}
 use Rattle.firing_board.specs.Handing.{HandsOut}
@@ -13,9 +13,9 @@ use Rattle.firing_board.specs.declared.claim.Claim.{Claim}
 use Rattle.firing_board.specs.declared.claim.Claim.TheVariants as claim
 use Rattle.firing_board.specs.declared.state.Core.{Core}
 use Rattle.firing_board.specs.declared.run.Run.{Run}
-use Rattle.job_table.specs.Calls.{LendsAsBefore}
-use Rattle.job_table.specs.View.{HasJob, row_at}
-use Rattle.job_table.specs.declared.row.Row.{Row}
+use Rattle.firing_board.specs.Table.Calls.{LendsAsBefore}
+use Rattle.firing_board.specs.Table.View.{HasJob, row_at}
+use Rattle.firing_board.specs.declared.table.row.Row.{Row}
 use Rattle.firing_board.proofs.Claimed.{ClaimLaws}
 use Rattle.firing_board.proofs.Handed.{compile_wants, hands_claims}
 use Rattle.firing_board.proofs.Idle.{finished, waits}

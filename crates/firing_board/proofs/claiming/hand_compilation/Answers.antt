@@ -3,10 +3,10 @@ use Rattle.std.specs.Arc.{arc_value}
 use Rattle.std.specs.Option.{option_map}
 use Rattle.nested_jobs.specs.Marks.{Busy}
 use Rattle.job_preparing.specs.CompileTasks.{CompileView}
-use Rattle.open_job.specs.View.{compilation_of}
-use Rattle.job_table.specs.Calls.{MarksItem}
-use Rattle.job_table.specs.View.{row_at}
-use Rattle.job_table.specs.declared.row.Row.{Row}
+use Rattle.graph_firing.specs.View.{compilation_of}
+use Rattle.firing_board.specs.Table.Calls.{MarksItem}
+use Rattle.firing_board.specs.Table.View.{row_at}
+use Rattle.firing_board.specs.declared.table.row.Row.{Row}
 use Rattle.board_rules.specs.declared.entry.Item.TheVariants as items
 use Rattle.firing_board.specs.declared.claim.Claim.TheVariants as claim
 use Rattle.firing_board.specs.declared.state.Core.{Core}

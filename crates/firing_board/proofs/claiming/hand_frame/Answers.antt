@@ -1,11 +1,11 @@
 use Rattle.std.proofs.Common.{◌≡◌, refl, sym, ap, subst, arith}
 use Rattle.job_preparing.specs.Handing.{lent_at}
 use Rattle.one_job.specs.Leased.{OneOwnerEach}
-use Rattle.open_job.specs.Calls.{IsHanded}
-use Rattle.open_job.specs.Leases.{LendsItems}
-use Rattle.open_job.specs.View.{OpenView}
-use Rattle.job_table.specs.View.{row_at}
-use Rattle.job_table.specs.declared.row.Row.{Row}
+use Rattle.graph_firing.specs.Calls.{IsHanded}
+use Rattle.graph_firing.specs.Leases.{LendsItems}
+use Rattle.graph_firing.specs.View.{OpenView}
+use Rattle.firing_board.specs.Table.View.{row_at}
+use Rattle.firing_board.specs.declared.table.row.Row.{Row}
 use Rattle.firing_board.specs.Handing.{claim_of}
 use Rattle.firing_board.specs.declared.state.Core.{Core}
 use Rattle.firing_board.proofs.RoomSteps.{entered_room}

@@ -1,10 +1,10 @@
 use Rattle.std.proofs.Common.{◌≡◌, ◌∙◌, inl, inr, ap, subst}
 use Rattle.board_rules.specs.Entries.{item_of}
 use Rattle.board_rules.specs.declared.entry.Item.{Item}
-use Rattle.open_job.proofs.OfferedCompilation.{may_compile}
-use Rattle.open_job.specs.View.{IsOfferedWork, OpenView, compilation_of, graph_in}
-use Rattle.job_table.specs.View.{HasJob, row_at}
-use Rattle.job_table.specs.declared.row.Row.{Row}
+use Rattle.graph_firing.proofs.OfferedCompilation.{may_compile}
+use Rattle.graph_firing.specs.View.{IsOfferedWork, OpenView, compilation_of, graph_in}
+use Rattle.firing_board.specs.Table.View.{HasJob, row_at}
+use Rattle.firing_board.specs.declared.table.row.Row.{Row}
 use Rattle.firing_board.specs.Handing.{HandsCompilation, HandsFrame, HandsOut}
 use Rattle.firing_board.specs.declared.claim.Claim.{Claim}
 use Rattle.firing_board.proofs.Openings.{if_ok, on_err_by}

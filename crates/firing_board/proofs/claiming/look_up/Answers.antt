@@ -1,8 +1,8 @@
 use Rattle.std.proofs.Common.{◌≡◌, ◌∙◌, sym, ap, subst}
-use Rattle.open_job.proofs.OfferedCompilation.{may_compile}
-use Rattle.open_job.specs.View.{IsOfferedCompilation, IsOfferedWork, compilation_of}
-use Rattle.job_table.specs.View.{row_at}
-use Rattle.job_table.specs.declared.row.Row.{Row}
+use Rattle.graph_firing.proofs.OfferedCompilation.{may_compile}
+use Rattle.graph_firing.specs.View.{IsOfferedCompilation, IsOfferedWork, compilation_of}
+use Rattle.firing_board.specs.Table.View.{row_at}
+use Rattle.firing_board.specs.declared.table.row.Row.{Row}
 use Rattle.firing_board.proofs.Rows.{the_same}
 use Rattle.firing_board.proofs.claiming.look_up.Goals as goal
 

@@ -2,10 +2,10 @@ use Rattle.std.proofs.Common.{◌≡◌, ◌∷◌, Some, ap, subst, arith}
 use Rattle.std.proofs.lemmas.Result.{on_ok_weaker}
 use Rattle.nested_jobs.specs.Marks.{Open, put}
 use Rattle.nested_jobs.specs.Rules.{Call, Place, Work}
-use Rattle.open_job.specs.View.{task}
+use Rattle.graph_firing.specs.View.{task}
 use Rattle.job_rules.specs.Meant.{rank}
-use Rattle.job_table.specs.View.{row_at}
-use Rattle.job_table.specs.declared.row.Row.{Row}
+use Rattle.firing_board.specs.Table.View.{row_at}
+use Rattle.firing_board.specs.declared.table.row.Row.{Row}
 use Rattle.firing_board.specs.Opening.{OpensWay, Reaches}
 use Rattle.firing_board.specs.declared.run.Run.{Run}
 use Rattle.firing_board.proofs.Rows.{the_same}

@@ -1,7 +1,7 @@
 use Rattle.std.proofs.Common.{ℕ, Option, Some, None}
 use Rattle.job_rules.specs.Meant.{rank}
-use Rattle.job_table.specs.View.{TableView, row_at}
-use Rattle.job_table.specs.declared.row.Row.{Row}
+use Rattle.firing_board.specs.Table.View.{TableView, row_at}
+use Rattle.firing_board.specs.declared.table.row.Row.{Row}
 use Rattle.firing_board.proofs.finding.+open_way.Given as goal
 
 -- how many graphs are nested in each other below that of a row

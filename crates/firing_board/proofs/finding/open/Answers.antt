@@ -1,13 +1,13 @@
 use Rattle.std.proofs.Common.{◌≡◌, ◌∙◌, ℕ, List, [], ◌∷◌, ◌++◌, length, refl, sym, ap, subst, arith}
 use Rattle.job_preparing.specs.Handing.{mark_at}
 use Rattle.job_rules.specs.Meant.{IsFit}
-use Rattle.open_job.specs.View.{OpenView, compilation_of}
+use Rattle.graph_firing.specs.View.{OpenView, compilation_of}
 use Rattle.pisdf_meaning.specs.declared.firing.Firing.{Firing}
 use Rattle.pisdf_model.specs.Valid.{AreValid}
 use Rattle.pisdf_model.specs.declared.graph.Graphs.{Graphs}
 use Rattle.board_journal.specs.View.{JournalView}
-use Rattle.job_table.specs.View.{row_at}
-use Rattle.job_table.specs.declared.row.Row.{Row}
+use Rattle.firing_board.specs.Table.View.{row_at}
+use Rattle.firing_board.specs.declared.table.row.Row.{Row}
 use Rattle.firing_board.proofs.Rows.{opens_lasts, opens_rows, spoils_lasts, spoils_rows, the_same}
 use Rattle.firing_board.proofs.Openings.{numbered_so}
 use Rattle.firing_board.proofs.finding.open.Goals as goal

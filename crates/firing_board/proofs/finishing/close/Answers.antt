@@ -1,6 +1,6 @@
 use Rattle.std.proofs.Common.{None, refl, sym, subst}
-use Rattle.open_job.specs.View.{IsQuiet}
-use Rattle.job_table.proofs.CloseSteps.{stops}
+use Rattle.graph_firing.specs.View.{IsQuiet}
+use Rattle.firing_board.proofs.OfTable.CloseSteps.{stops}
 use Rattle.firing_board.proofs.finishing.close.Goals as goal
 
 -- a job that isn't quiet stays open, and so do all round it

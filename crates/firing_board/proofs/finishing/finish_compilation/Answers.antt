@@ -1,7 +1,7 @@
 use Rattle.std.proofs.Common.{Bool, true, false, None, refl, sym, ap, subst}
 use Rattle.board_rules.specs.Legal.{state_after}
-use Rattle.open_job.specs.Calls.{compile_answer}
-use Rattle.job_table.specs.Closing.{IsClosingFrom}
+use Rattle.graph_firing.specs.Calls.{compile_answer}
+use Rattle.firing_board.specs.Table.Closing.{IsClosingFrom}
 use Rattle.firing_board.specs.Closing.{ClosesOn}
 use Rattle.firing_board.specs.Finishes.{MayEnd}
 use Rattle.firing_board.specs.OnCore.{FinishesOn, MayLeave}

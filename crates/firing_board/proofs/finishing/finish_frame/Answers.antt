@@ -4,7 +4,7 @@ use Rattle.nested_jobs.specs.Rules.{Work}
 use Rattle.job_preparing.specs.Handing.{answer_with}
 use Rattle.board_rules.specs.Legal.{state_after}
 use Rattle.nested_jobs.specs.Journals as steps
-use Rattle.job_table.specs.Closing.{ClosesLong, IsClosingFrom}
+use Rattle.firing_board.specs.Table.Closing.{ClosesLong, IsClosingFrom}
 use Rattle.firing_board.specs.Closing.{ClosesOn}
 use Rattle.firing_board.specs.Finishes.{MayComeBack}
 use Rattle.firing_board.specs.OnCore.{FinishesOn, MayLeave}

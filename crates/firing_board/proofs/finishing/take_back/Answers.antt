@@ -1,5 +1,5 @@
 use Rattle.std.proofs.Common.{ap, arith}
-use Rattle.job_table.specs.View.{free_items}
+use Rattle.firing_board.specs.Table.View.{free_items}
 use Rattle.firing_board.proofs.RoomSteps.{left_runners}
 use Rattle.firing_board.proofs.finishing.take_back.Goals as goal
 

@@ -1,6 +1,6 @@
 use Rattle.std.proofs.Common.{◌∙◌, refl, sym, ap, subst, arith}
-use Rattle.job_table.specs.Calls.{FinishesIn, LendsAsBefore}
-use Rattle.job_table.specs.View.{TableView, free_items, row_at}
+use Rattle.firing_board.specs.Table.Calls.{FinishesIn, LendsAsBefore}
+use Rattle.firing_board.specs.Table.View.{TableView, free_items, row_at}
 use Rattle.firing_board.specs.Returning.{GivesUp}
 use Rattle.firing_board.specs.declared.state.Core.{Core}
 use Rattle.firing_board.proofs.Openings.{on_err_by}

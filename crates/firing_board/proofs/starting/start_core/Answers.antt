@@ -1,8 +1,8 @@
 use Rattle.std.proofs.Common.{◌≡◌, ℕ, Some, ap, ◌∙◌, subst, arith}
 use Rattle.std.specs.Arc.{arc_value}
-use Rattle.open_job.specs.View.{compilation_of}
-use Rattle.job_table.specs.View.{row_at}
-use Rattle.job_table.specs.declared.row.Row.{Row}
+use Rattle.graph_firing.specs.View.{compilation_of}
+use Rattle.firing_board.specs.Table.View.{row_at}
+use Rattle.firing_board.specs.declared.table.row.Row.{Row}
 use Rattle.firing_board.specs.Core.{runners}
 use Rattle.firing_board.proofs.Rows.{the_same}
 use Rattle.firing_board.proofs.Started.{none_run, started_unlent}

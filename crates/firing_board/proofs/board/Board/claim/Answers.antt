@@ -1,6 +1,6 @@
 use Rattle.std.proofs.Common.{◌≡◌, ◌∙◌, Bool, true, false, is_some, sym, ap, ap₂, subst}
 use Rattle.board_rules.specs.Keys.{Key}
-use Rattle.job_table.specs.View.{firings_of}
+use Rattle.firing_board.specs.Table.View.{firings_of}
 use Rattle.firing_board.specs.Claims.{Claims, EntersAs}
 use Rattle.firing_board.specs.Firings.{FiringsGoOn, LeasesFrame}
 use Rattle.firing_board.specs.Kept.{HasRoomUnless, Keeps, key_of, key_with, view_with}

@@ -1,6 +1,6 @@
 use Rattle.std.proofs.Common.{◌≡◌, ◌∙◌, Bool, false, is_some, sym, ap, subst}
 use Rattle.board_rules.specs.Keys.{Key}
-use Rattle.job_table.specs.View.{firings_of}
+use Rattle.firing_board.specs.Table.View.{firings_of}
 use Rattle.firing_board.specs.Firings.{FiringsGoOn}
 use Rattle.firing_board.specs.Finishes.{Finishes, MayEnd}
 use Rattle.firing_board.specs.Kept.{Keeps, key_of, key_with, view_of, view_with}

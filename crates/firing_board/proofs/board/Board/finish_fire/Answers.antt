@@ -2,7 +2,7 @@ use Rattle.std.proofs.Common.{◌≡◌, ◌∙◌, Bool, true, false, Some, sym
 use Rattle.std.specs.Prelude.{IsOk, is_some}
 use Rattle.board_rules.specs.Keys.{Key}
 use Rattle.firing_board.specs.Ends.{HasLongTraces}
-use Rattle.job_table.specs.View.{firings_of}
+use Rattle.firing_board.specs.Table.View.{firings_of}
 use Rattle.firing_board.specs.Firings.{FiringsGoOn}
 use Rattle.firing_board.specs.Finishes.{Finishes, MayComeBack}
 use Rattle.firing_board.specs.OnCore.{MayLeave}

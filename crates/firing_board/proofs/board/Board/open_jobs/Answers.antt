@@ -1,5 +1,5 @@
 use Rattle.std.proofs.Common.{◌≤◌, ◌*◌, ℕ, length, sym, ◌∙◌, ap, subst}
-use Rattle.job_table.specs.View.{keys_of}
+use Rattle.firing_board.specs.Table.View.{keys_of}
 use Rattle.firing_board.specs.Firings.{open_count}
 use Rattle.firing_board.specs.Kept.{key_of}
 use Rattle.firing_board.specs.View.{BoardView}

@@ -1,0 +1,24 @@
+-- Lemmas of the table of open jobs.
+pub mod AskedOrder
+pub mod AskedBest
+pub mod AskedOffers
+pub mod AskedFirst
+pub mod Paths
+pub mod Rows
+pub mod Keys
+pub mod Suiting
+pub mod ReadyNodes
+pub mod LiveFirings
+pub mod MarkSteps
+pub mod CellSteps
+pub mod ImageSteps
+pub mod FittingOuts
+pub mod ImageLaws
+pub mod Writes
+pub mod Freeing
+pub mod Closings
+pub mod Beginnings
+pub mod Methods
+pub mod Openings
+pub mod CloseSteps
+pub mod LongTraces

@@ -1,0 +1,213 @@
+use Rattle.std.proofs.Common.{◌≡◌, ◌∷◌, [], ◌++◌, ◌+◌, Some, Result, refl, sym, ap, ◌∙◌, subst}
+use Rattle.std.specs.Arc.{arc_value}
+use Rattle.std.specs.declared.alloc.AllocError.{AllocError}
+use Rattle.job_preparing.specs.View.{HasInherited}
+use Rattle.job_rules.specs.Items.{compile_number, graph_of}
+use Rattle.job_rules.specs.Meant.{IsFit}
+use Rattle.nested_jobs.specs.Marks.{Open}
+use Rattle.nested_jobs.specs.Rules.{Call}
+use Rattle.graph_firing.specs.Calls.{with_mark}
+use Rattle.graph_firing.specs.Paths.{step_of}
+use Rattle.graph_firing.specs.View.{IsOfferedCall, OpenView, task}
+use Rattle.pisdf_meaning.specs.declared.firing.Firing.{Firing}
+use Rattle.pisdf_model.specs.declared.graph.Graphs.{Graphs}
+use Rattle.firing_board.specs.Table.Slots.{CallsIn, InSlot}
+use Rattle.firing_board.specs.Table.View.{TableView, row_at, with_job}
+use Rattle.firing_board.specs.declared.table.row.Row.{Row}
+use Rattle.firing_board.proofs.OfTable.Openings.{call_of, call_spoils, err_with, is_fresh, item_there, opened_free, opened_mark, opened_others, opened_stays, opens, opens_lent, read_row, row_slot, vacant_slot}
+use Rattle.firing_board.proofs.OfTable.Freeing.{fresh_many}
+use Rattle.firing_board.proofs.OfTable.Rows.{the_same}
+use Rattle.firing_board.proofs.table.JobTable.open_child.Goals as goal
+
+pub call_in-requires : goal.call_in-requires
+call_in-requires c =
+    let s = c.self.inside in
+    let v : TableView = record { graphs = arc_value s.graphs; workers = s.workers; rows = s.rows.items } in
+    let now = c.args.self.now in
+    let e = c.self.view_is in
+    let rows = c.vacant_key.new.rows.items in
+    let same = c.vacant_key.ensures.same in
+    let k = c.args.row in
+    let item = c.args.item in
+    let slot = c.index_mut.result.now in
+    let read = c.index_mut.ensures.value in
+    let row = c.requires.offered.0 in
+    let here = c.requires.offered.1 in
+    subst (InSlot (λ (job : OpenView). IsOfferedCall job item)) (sym (row_slot v now e rows same k item slot read row here)) c.requires.offered.2.1
+
+pub returns-in_err-firing-clause-refused : goal.returns-in_err-firing-clause-refused
+returns-in_err-firing-clause-refused c =
+    let s = c.self.inside in
+    let v : TableView = record { graphs = arc_value s.graphs; workers = s.workers; rows = s.rows.items } in
+    let now = c.args.self.now in
+    let e = c.self.view_is in
+    let rows = c.vacant_key.new.rows.items in
+    let same = c.vacant_key.ensures.same in
+    let k = c.args.row in
+    let item = c.args.item in
+    let slot = c.index_mut.result.now in
+    let read = c.index_mut.ensures.value in
+    let row = c.requires.offered.0 in
+    let here = c.requires.offered.1 in
+    err_with c.from_residual-in_err-firing.result (call_spoils v now e rows same k item slot read row here c.call_in.result c.call_in.new.slot c.call_in.ensures.called (item_there v now e rows same k item slot read row here c.call_in.ensures.there) c.requires.offered.2.1.free).0
+
+pub returns-in_err-firing-clause-lent : goal.returns-in_err-firing-clause-lent
+returns-in_err-firing-clause-lent c =
+    let s = c.self.inside in
+    let v : TableView = record { graphs = arc_value s.graphs; workers = s.workers; rows = s.rows.items } in
+    let now = c.args.self.now in
+    let e = c.self.view_is in
+    let rows = c.vacant_key.new.rows.items in
+    let same = c.vacant_key.ensures.same in
+    let k = c.args.row in
+    let item = c.args.item in
+    let slot = c.index_mut.result.now in
+    let read = c.index_mut.ensures.value in
+    let row = c.requires.offered.0 in
+    let here = c.requires.offered.1 in
+    (call_spoils v now e rows same k item slot read row here c.call_in.result c.call_in.new.slot c.call_in.ensures.called (item_there v now e rows same k item slot read row here c.call_in.ensures.there) c.requires.offered.2.1.free).1
+
+pub returns-in_err-job-clause-refused : goal.returns-in_err-job-clause-refused
+returns-in_err-job-clause-refused c =
+    let s = c.self.inside in
+    let v : TableView = record { graphs = arc_value s.graphs; workers = s.workers; rows = s.rows.items } in
+    let now = c.args.self.now in
+    let e = c.self.view_is in
+    let rows = c.vacant_key.new.rows.items in
+    let same = c.vacant_key.ensures.same in
+    let k = c.args.row in
+    let item = c.args.item in
+    let slot = c.index_mut.result.now in
+    let read = c.index_mut.ensures.value in
+    let row = c.requires.offered.0 in
+    let here = c.requires.offered.1 in
+    err_with c.from_residual-in_err-job.result (call_spoils v now e rows same k item slot read row here c.call_in.result c.call_in.new.slot c.call_in.ensures.called (item_there v now e rows same k item slot read row here c.call_in.ensures.there) c.requires.offered.2.1.free).0
+
+pub returns-in_err-job-clause-lent : goal.returns-in_err-job-clause-lent
+returns-in_err-job-clause-lent c =
+    let s = c.self.inside in
+    let v : TableView = record { graphs = arc_value s.graphs; workers = s.workers; rows = s.rows.items } in
+    let now = c.args.self.now in
+    let e = c.self.view_is in
+    let rows = c.vacant_key.new.rows.items in
+    let same = c.vacant_key.ensures.same in
+    let k = c.args.row in
+    let item = c.args.item in
+    let slot = c.index_mut.result.now in
+    let read = c.index_mut.ensures.value in
+    let row = c.requires.offered.0 in
+    let here = c.requires.offered.1 in
+    (call_spoils v now e rows same k item slot read row here c.call_in.result c.call_in.new.slot c.call_in.ensures.called (item_there v now e rows same k item slot read row here c.call_in.ensures.there) c.requires.offered.2.1.free).1
+
+pub open-requires-clause-fit : goal.open-requires-clause-fit
+open-requires-clause-fit c =
+    let s = c.self.inside in
+    let v : TableView = record { graphs = arc_value s.graphs; workers = s.workers; rows = s.rows.items } in
+    let now = c.args.self.now in
+    let e = c.self.view_is in
+    let rows = c.vacant_key.new.rows.items in
+    let same = c.vacant_key.ensures.same in
+    let k = c.args.row in
+    let item = c.args.item in
+    let slot = c.index_mut.result.now in
+    let read = c.index_mut.ensures.value in
+    let row = c.requires.offered.0 in
+    let here = c.requires.offered.1 in
+    let firing = c.in_ok-firing.firing in
+    let called = call_of v now e rows same k item slot read row here firing c.call_in.new.slot (subst (λ (r : Result Firing AllocError). CallsIn item r slot c.call_in.new.slot) c.in_ok-firing.was c.call_in.ensures.called) in
+    let own : arc_value c.in_ok-graphs.graphs ≡ arc_value s.graphs = c.in_ok-graphs.ensures in
+    let graphs : row.job.graphs ≡ arc_value c.in_ok-graphs.graphs = c.requires.offered.2.0 ∙ (ap (λ (x : TableView). x.graphs) (sym e) ∙ sym own) in
+    let P : Row → Type 0 = λ r. (d : Firing) → task r.job item ≡ Some (Call d) → IsFit r.job.graphs.graphs d in
+    let fit = subst P (the_same (row_at now k) c.requires.fit.0 row c.requires.fit.1 here) c.requires.fit.2 in
+    let Q : Graphs → Type 0 = λ g. IsFit g.graphs firing in
+    subst Q graphs (fit firing called.task_is)
+
+pub open-requires-clause-inherited : goal.open-requires-clause-inherited
+open-requires-clause-inherited c =
+    let s = c.self.inside in
+    let v : TableView = record { graphs = arc_value s.graphs; workers = s.workers; rows = s.rows.items } in
+    let now = c.args.self.now in
+    let e = c.self.view_is in
+    let rows = c.vacant_key.new.rows.items in
+    let same = c.vacant_key.ensures.same in
+    let k = c.args.row in
+    let item = c.args.item in
+    let slot = c.index_mut.result.now in
+    let read = c.index_mut.ensures.value in
+    let row = c.requires.offered.0 in
+    let here = c.requires.offered.1 in
+    let firing = c.in_ok-firing.firing in
+    let called = call_of v now e rows same k item slot read row here firing c.call_in.new.slot (subst (λ (r : Result Firing AllocError). CallsIn item r slot c.call_in.new.slot) c.in_ok-firing.was c.call_in.ensures.called) in
+    let own : arc_value c.in_ok-graphs.graphs ≡ arc_value s.graphs = c.in_ok-graphs.ensures in
+    let graphs : row.job.graphs ≡ arc_value c.in_ok-graphs.graphs = c.requires.offered.2.0 ∙ (ap (λ (x : TableView). x.graphs) (sym e) ∙ sym own) in
+    let Q : Graphs → Type 0 = λ g. HasInherited g.graphs firing in
+    subst Q graphs called.inherited
+
+pub put_row-requires : goal.put_row-requires
+put_row-requires c =
+    let s = c.self.inside in
+    let v : TableView = record { graphs = arc_value s.graphs; workers = s.workers; rows = s.rows.items } in
+    let now = c.args.self.now in
+    let e = c.self.view_is in
+    let rows = c.vacant_key.new.rows.items in
+    let same = c.vacant_key.ensures.same in
+    let k = c.args.row in
+    let item = c.args.item in
+    let slot = c.index_mut.result.now in
+    let read = c.index_mut.ensures.value in
+    let row = c.requires.offered.0 in
+    let here = c.requires.offered.1 in
+    let firing = c.in_ok-firing.firing in
+    let called = call_of v now e rows same k item slot read row here firing c.call_in.new.slot (subst (λ (r : Result Firing AllocError). CallsIn item r slot c.call_in.new.slot) c.in_ok-firing.was c.call_in.ensures.called) in
+    vacant_slot v now e rows same k item slot read row here c.call_in.new.slot (with_job row (with_mark row.job item (Open firing))) called.new_is (opened_stays v now e rows same k item slot read row here (Open firing)) refl c.in_ok-key.key c.in_ok-key.ensures.vacant c.index_mut-2.result.now c.index_mut-2.ensures.value
+
+pub returns-clause-opened : goal.returns-clause-opened
+returns-clause-opened c =
+    let s = c.self.inside in
+    let v : TableView = record { graphs = arc_value s.graphs; workers = s.workers; rows = s.rows.items } in
+    let now = c.args.self.now in
+    let e = c.self.view_is in
+    let rows = c.vacant_key.new.rows.items in
+    let same = c.vacant_key.ensures.same in
+    let k = c.args.row in
+    let item = c.args.item in
+    let slot = c.index_mut.result.now in
+    let read = c.index_mut.ensures.value in
+    let row = c.requires.offered.0 in
+    let here = c.requires.offered.1 in
+    let firing = c.in_ok-firing.firing in
+    let called = call_of v now e rows same k item slot read row here firing c.call_in.new.slot (subst (λ (r : Result Firing AllocError). CallsIn item r slot c.call_in.new.slot) c.in_ok-firing.was c.call_in.ensures.called) in
+    let own : arc_value c.in_ok-graphs.graphs ≡ arc_value s.graphs = c.in_ok-graphs.ensures in
+    let graphs : row.job.graphs ≡ arc_value c.in_ok-graphs.graphs = c.requires.offered.2.0 ∙ (ap (λ (x : TableView). x.graphs) (sym e) ∙ sym own) in
+    let fresh = is_fresh v.graphs v.workers firing c.in_ok-job.job (compile_number (graph_of (arc_value c.in_ok-graphs.graphs).graphs firing) + 1) (c.in_ok-job.ensures.given.0 ∙ own) c.in_ok-job.ensures.given.1 c.in_ok-job.ensures.given.2 c.in_ok-job.ensures.unplaced c.in_ok-job.ensures.free c.in_ok-job.ensures.unlent
+    (fresh_many (arc_value c.in_ok-graphs.graphs) firing c.in_ok-job.job c.in_ok-job.ensures.given.0 c.in_ok-job.ensures.given.2 c.in_ok-job.ensures.free) in
+    let child : Row = record { job = c.in_ok-job.job; upper = Some k; place = c.in_ok-place.place; steps = c.in_ok-steps.steps } in
+    let first = read_row v now e rows same k item c.index.result.now c.index.ensures row here c.row_in.result.now c.row_in.ensures in
+    let second = read_row v now e rows same k item c.index-2.result.now c.index-2.ensures row here c.row_in-2.result.now c.row_in-2.ensures in
+    opens v now e rows same k item slot read row here c.call_in.new.slot (with_job row (with_mark row.job item (Open firing))) called.new_is (opened_stays v now e rows same k item slot read row here (Open firing)) refl c.in_ok-key.key c.in_ok-key.ensures.vacant child c.put_row.new.slot c.put_row.ensures firing called.task_is c.requires.offered.2.1.free
+    (opened_free v now e rows same k item slot read row here firing (item_there v now e rows same k item slot read row here c.call_in.ensures.there) c.requires.offered.2.1.free)
+    (opened_mark v now e rows same k item slot read row here (Open firing) (item_there v now e rows same k item slot read row here c.call_in.ensures.there)) (opened_others v now e rows same k item slot read row here (Open firing)) fresh
+    (c.in_ok-place.ensures ∙ ap (λ (r : Row). item ∷ r.place) first) refl (c.in_ok-steps.ensures ∙ ap (λ (r : Row). r.steps ++ step_of r.job item ∷ []) second)
+
+pub returns-clause-lent : goal.returns-clause-lent
+returns-clause-lent c =
+    let s = c.self.inside in
+    let v : TableView = record { graphs = arc_value s.graphs; workers = s.workers; rows = s.rows.items } in
+    let now = c.args.self.now in
+    let e = c.self.view_is in
+    let rows = c.vacant_key.new.rows.items in
+    let same = c.vacant_key.ensures.same in
+    let k = c.args.row in
+    let item = c.args.item in
+    let slot = c.index_mut.result.now in
+    let read = c.index_mut.ensures.value in
+    let row = c.requires.offered.0 in
+    let here = c.requires.offered.1 in
+    let firing = c.in_ok-firing.firing in
+    let called = call_of v now e rows same k item slot read row here firing c.call_in.new.slot (subst (λ (r : Result Firing AllocError). CallsIn item r slot c.call_in.new.slot) c.in_ok-firing.was c.call_in.ensures.called) in
+    let own : arc_value c.in_ok-graphs.graphs ≡ arc_value s.graphs = c.in_ok-graphs.ensures in
+    let graphs : row.job.graphs ≡ arc_value c.in_ok-graphs.graphs = c.requires.offered.2.0 ∙ (ap (λ (x : TableView). x.graphs) (sym e) ∙ sym own) in
+    let fresh = is_fresh v.graphs v.workers firing c.in_ok-job.job (compile_number (graph_of (arc_value c.in_ok-graphs.graphs).graphs firing) + 1) (c.in_ok-job.ensures.given.0 ∙ own) c.in_ok-job.ensures.given.1 c.in_ok-job.ensures.given.2 c.in_ok-job.ensures.unplaced c.in_ok-job.ensures.free c.in_ok-job.ensures.unlent
+    (fresh_many (arc_value c.in_ok-graphs.graphs) firing c.in_ok-job.job c.in_ok-job.ensures.given.0 c.in_ok-job.ensures.given.2 c.in_ok-job.ensures.free) in
+    let child : Row = record { job = c.in_ok-job.job; upper = Some k; place = c.in_ok-place.place; steps = c.in_ok-steps.steps } in
+    opens_lent v now e rows same k item slot read row here c.call_in.new.slot (with_job row (with_mark row.job item (Open firing))) called.new_is (opened_stays v now e rows same k item slot read row here (Open firing)) refl c.in_ok-key.key c.in_ok-key.ensures.vacant child c.put_row.new.slot c.put_row.ensures fresh.unlent

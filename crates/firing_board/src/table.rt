@@ -1,0 +1,299 @@
+// The table of open jobs and its calls.
+ghost use Rattle.std.specs.Prelude.{◌≡◌, ◌≢◌, ◌+◌, ◌≤◌, ◌<◌, ◌⊎◌, ℕ, false, true, IfOk, IsOk, None, OnErr, OnOk, Some, length};
+ghost use Rattle.std.specs.Arc.{arc_value};
+ghost use Rattle.std.specs.Option.{option_map};
+
+mod asking;
+mod begins;
+mod opening;
+mod row;
+mod slots;
+
+pub(crate) use asking::Asked;
+pub(crate) use begins::Begins;
+use begins::begins_with;
+use board_rules::boards_keep;
+use graph_firing::{Handed, OpenJob, open};
+use job_compiler::Compiled;
+use job_preparing::{CompileEnd, CompileTask, JobGiven};
+use job_rules::rules_are_lawful;
+use kernel_gate::{Frame, KernelFault};
+use opening::{child_place, child_steps, count_rows, end_rows, top_row, vacant_key};
+use pisdf_meaning::{Firing, Refusal};
+use pisdf_model::Graphs;
+use row::Row;
+use slots::{
+    call_in, calling_item, claim_compile_in, claim_in, finish_call_in, finish_compile_in,
+    finish_in, is_quiet, put_row, row_in, take_row,
+};
+use std::alloc::{AllocError, Global};
+use std::marker::Model;
+use std::sync::Arc;
+
+/// The open jobs of a board, each in a row of its own, whose key stays as long as the job is open. It is neither `Drop` nor
+/// `Clone`: it is given up by `end`.
+pub(crate) struct JobTable {
+    pub(crate) graphs: Arc<Graphs>,
+    pub(crate) workers: u32,
+    pub(crate) rows: Vec<Option<Row>>,
+}
+
+impl Model for JobTable {
+    ghost use Rattle.std.specs.Arc.{arc_value};
+    ghost use Rattle.firing_board.specs.Table.View.{TableView};
+
+    ghost Value = { TableView };
+
+    ghost use Rattle.std.specs.Coded.{codes};
+    ghost use Rattle.param_expr.specs.Tree.{tree_code};
+
+    ghost coded = { Prim.hlevel (codes, tree_code) };
+
+    ghost view = { λ t. record { graphs = arc_value t.graphs; workers = t.workers; rows = t.rows.items } };
+}
+
+impl JobTable {
+    ghost use Rattle.job_preparing.specs.CompileTasks.{IsEndOf};
+    ghost use Rattle.job_preparing.specs.Handing.{answer_with, mark_at};
+    ghost use Rattle.job_preparing.specs.View.{HasInherited};
+    ghost use Rattle.job_rules.specs.Meant.{IsFit};
+    ghost use Rattle.nested_jobs.specs.Marks.{Busy, Done, Free};
+    ghost use Rattle.nested_jobs.specs.Rules.{Call};
+    ghost use Rattle.pisdf_model.specs.Valid.{AreValid};
+    ghost use Rattle.graph_firing.specs.Calls.{IsHanded, IsSoundFor, frame_of};
+    ghost use Rattle.graph_firing.specs.View.{IsOfferedCall, IsOfferedCompilation, IsOfferedWork, compilation_of, left_by, task};
+    ghost use Rattle.firing_board.specs.Table.Asked.{IsAsked};
+    ghost use Rattle.firing_board.specs.Table.Calls.{BeginsWith, FinishesIn, IsStarted, LendsAsBefore, LendsItem, MarksItem, OpensChild, SpoilsItem};
+    ghost use Rattle.firing_board.specs.Table.Closing.{Closes, ClosesLong, IsClosingFrom, RowsStay};
+    ghost use Rattle.firing_board.specs.Table.View.{HasJob, NothingIsLent, free_items, keys_of, lent_in};
+
+    /// A table of one job, the top one, of which nothing is claimed. The jobs will be mapped on so many workers.
+    ///
+    /// # Errors
+    ///
+    /// Want of memory.
+    pub(crate) fn start(
+        alloc: Global,
+        graphs: Arc<Graphs>,
+        workers: u32,
+        firing: Firing,
+    ) -> Result<JobTable, AllocError>
+        requires valid { AreValid (arc_value graphs) }
+        requires fit { IsFit (arc_value graphs).graphs firing }
+        requires inherited { HasInherited (arc_value graphs).graphs firing }
+        requires some { 1 ≤ workers }
+        ensures { IfOk result (IsStarted (arc_value graphs) workers firing) }
+    {
+        let own = Arc::try_clone(&graphs)?;
+        // Rows must be spent: from here on no `?` stands.
+        let mut rows = Vec::with_capacity(alloc, 8)?;
+        match open(alloc, own, workers, firing) {
+            Ok(job) => {
+                rows.push_reserved(Some(top_row(alloc, job)));
+                Ok(JobTable {
+                    graphs,
+                    workers,
+                    rows,
+                })
+            }
+            Err(error) => {
+                rows.destroy_empty();
+                Err(error)
+            }
+        }
+    }
+
+    /// The job in a row.
+    pub(crate) fn job(&self, row: usize) -> &OpenJob
+        requires { HasJob (λ job. Unit {0}) self.now row }
+        ensures { HasJob (λ job. result.now ≡ job) self.now row }
+    {
+        &row_in(&self.rows[row]).job
+    }
+
+    /// How many jobs are open.
+    pub(crate) fn open_jobs(&self) -> usize
+        ensures { result ≡ length (keys_of self.now) }
+    {
+        count_rows(self.rows.as_slice())
+    }
+
+    /// The work that goes first for a worker, of all that the jobs offer; none where none offers any.
+    pub(crate) fn first_work(&self, worker: u32) -> Option<Asked>
+        ensures { IsAsked worker false self.now result }
+    {
+        asking::first_work(self.rows.as_slice(), worker)
+    }
+
+    /// The call that goes first for a worker, of all that the jobs offer; none where none offers any.
+    pub(crate) fn first_call(&self, worker: u32) -> Option<Asked>
+        ensures { IsAsked worker true self.now result }
+    {
+        asking::first_call(self.rows.as_slice(), worker)
+    }
+
+    /// What the first item of a job does of which nothing is claimed.
+    pub(crate) fn begins(&self, row: usize) -> Begins
+        requires { HasJob (λ job. (i : ℕ) → mark_at job.marks i ≡ Free) self.now row }
+        ensures { HasJob (λ job. BeginsWith job result) self.now row }
+    {
+        begins_with(&row_in(&self.rows[row]).job)
+    }
+
+    /// Opens the job that an item calls: the key of its row.
+    ///
+    /// # Errors
+    ///
+    /// Want of memory. The item may not be free any more then, without an answer; all else is as before.
+    pub(crate) fn open_child(
+        &mut self,
+        alloc: Global,
+        row: usize,
+        item: usize,
+    ) -> Result<usize, AllocError>
+        requires valid { AreValid self.old.graphs }
+        requires some { 1 ≤ self.old.workers }
+        requires offered { HasJob (λ job. (job.graphs ≡ self.old.graphs) × IsOfferedCall job item) self.old row }
+        requires fit { HasJob (λ job. (firing : Firing) → task job item ≡ Some (Call firing) → IsFit job.graphs.graphs firing) self.old row }
+        ensures opened { IfOk result (λ child. OpensChild row item self.old child self.new) }
+        ensures refused { OnErr result (SpoilsItem row item self.old self.new) }
+        ensures lent { LendsAsBefore self.old self.new }
+    {
+        let key = vacant_key(&mut self.rows)?;
+        let place = child_place(alloc, row_in(&self.rows[row]), item)?;
+        let steps = child_steps(alloc, row_in(&self.rows[row]), item)?;
+        let graphs = Arc::try_clone(&self.graphs)?;
+        let firing = call_in(&mut self.rows[row], alloc, item)?;
+        let job = open(alloc, graphs, self.workers, firing)?;
+        put_row(
+            &mut self.rows[key],
+            Row {
+                job,
+                upper: Some(row),
+                place,
+                steps,
+            },
+        );
+        Ok(key)
+    }
+
+    /// Claims an item that has work of its own, other than the compilation. It takes no memory.
+    pub(crate) fn claim(&mut self, row: usize, item: usize) -> Handed
+        requires { HasJob (λ job. IsOfferedWork job item × (item ≢ compilation_of job)) self.old row }
+        ensures handed { HasJob (λ job. IsHanded job item result) self.old row }
+        ensures claimed { MarksItem row item Busy self.old self.new }
+        ensures lent { LendsItem row item (Some (frame_of result).places) self.old self.new }
+        ensures fewer { free_items self.old ≡ free_items self.new + 1 }
+    {
+        claim_in(&mut self.rows[row], item)
+    }
+
+    /// Claims the compilation of a job, for which one may be at hand that is kept by its key.
+    ///
+    /// # Errors
+    ///
+    /// Want of memory. The compilation is free still.
+    pub(crate) fn claim_compile(
+        &mut self,
+        alloc: Global,
+        row: usize,
+        kept: Option<Arc<Compiled>>,
+    ) -> Result<CompileTask, AllocError>
+        requires { HasJob IsOfferedCompilation self.old row }
+        ensures task { IfOk result (λ task. HasJob (λ job. task ≡ record { graphs = job.graphs; workers = job.workers; firing = job.firing; left = left_by job; kept = option_map arc_value kept }) self.old row) }
+        ensures claimed { OnOk result (HasJob (λ job. MarksItem row (compilation_of job) Busy self.old self.new) self.old row) }
+        ensures fewer { OnOk result (free_items self.old ≡ free_items self.new + 1) }
+        ensures refused { OnErr result (self.new ≡ self.old) }
+        ensures lent { LendsAsBefore self.old self.new }
+    {
+        claim_compile_in(&mut self.rows[row], alloc, kept)
+    }
+
+    /// Finishes an item whose frame is out: it comes back with what its kernel or its node wrote, or with the fault of the
+    /// kernel. It takes no memory, and closes no job.
+    pub(crate) fn finish(
+        &mut self,
+        row: usize,
+        item: usize,
+        frame: Frame,
+        answer: Result<(), KernelFault>,
+    )
+        requires busy { HasJob (λ job. mark_at job.marks item ≡ Busy) self.old row }
+        requires lent { lent_in self.old row item ≡ Some frame.places }
+        requires sound { HasJob (λ job. IsSoundFor (task job item) (IsOk answer)) self.old row }
+        ensures finished { HasJob (λ job. MarksItem row item (Done (answer_with (task job item) frame answer)) self.old self.new) self.old row }
+        ensures lent { LendsItem row item None self.old self.new }
+        ensures free { free_items self.new ≡ free_items self.old }
+    {
+        finish_in(&mut self.rows[row], item, frame, answer)
+    }
+
+    /// Finishes the compilation of a job. It closes no job.
+    ///
+    /// # Errors
+    ///
+    /// Want of memory, also where the compilation ended so. The table is as before.
+    pub(crate) fn finish_compile(
+        &mut self,
+        alloc: Global,
+        row: usize,
+        end: CompileEnd,
+    ) -> Result<(), AllocError>
+        requires busy { HasJob (λ job. mark_at job.marks (compilation_of job) ≡ Busy) self.old row }
+        requires end { HasJob (λ job. IsEndOf job.graphs.graphs job.workers job.firing (left_by job) end) self.old row }
+        ensures compiled { OnOk result (HasJob (FinishesIn row end self.old self.new) self.old row) }
+        ensures refused { OnErr result (self.new ≡ self.old) }
+        ensures lent { LendsAsBefore self.old self.new }
+    {
+        finish_compile_in(&mut self.rows[row], alloc, end)
+    }
+
+    /// Closes the job in a row where nothing more will come of it, tells the item that called it how it ended, and so on
+    /// with the job round it. Where the top job is closed, that is its end; else it is open still.
+    ///
+    /// # Errors
+    ///
+    /// Want of memory, only where a trace would have 2^63 rows or more.
+    pub(crate) fn close_from(
+        &mut self,
+        row: usize,
+    ) -> Result<Option<Result<JobGiven, Refusal>>, AllocError>
+        requires { IsClosingFrom self.old row }
+        ensures closed { IfOk result (Closes self.old row self.new) }
+        ensures stay { RowsStay self.old self.new }
+        ensures fewer { free_items self.new ≤ free_items self.old }
+        ensures long { OnErr result ((c : IsClosingFrom self.old row) → ClosesLong c) }
+    {
+        boards_keep();
+        rules_are_lawful();
+        if !is_quiet(&self.rows[row]) {
+            return Ok(None);
+        }
+        let Row {
+            job,
+            upper,
+            place,
+            steps: _,
+        } = take_row(&mut self.rows[row]);
+        let end = job.outcome()?;
+        match upper {
+            None => Ok(Some(end)),
+            Some(upper) => {
+                finish_call_in(&mut self.rows[upper], calling_item(&place), end);
+                self.close_from(upper)
+            }
+        }
+    }
+
+    /// Gives up all jobs, of which no frame is out.
+    pub(crate) fn end(self)
+        requires { NothingIsLent self }
+    {
+        let JobTable {
+            graphs: _,
+            workers: _,
+            rows,
+        } = self;
+        end_rows(rows)
+    }
+}

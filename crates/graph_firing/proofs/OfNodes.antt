@@ -1,0 +1,23 @@
+-- Lemmas of the nodes of a compiled firing.
+pub mod ActingPlaces
+pub mod HeldFrames
+pub mod WrittenOuts
+pub mod NodeMarks
+pub mod NodeTies
+pub mod NodeSteps
+pub mod OutputRates
+pub mod NodeTasks
+pub mod ClaimedNodes
+pub mod FinishedNodes
+pub mod CalledNodes
+pub mod OfferedNodes
+pub mod AnsweredNodes
+pub mod EndedFiring
+pub mod StartedFiring
+pub mod NamedKernels
+pub mod GivenStates
+pub mod FiringEnds
+pub mod EndSizes
+pub mod SuitedEnds
+pub mod LongTraces
+pub mod LentNodes

@@ -1,0 +1,8 @@
+-- The nodes of a compiled firing.
+pub mod View
+pub mod Calls
+pub mod Stages
+pub mod Sizes
+pub mod Parts
+pub mod Kept
+pub mod Leases

@@ -1,0 +1,45 @@
+-- The fields of a running firing.
+use Rattle.std.specs.Prelude.{List}
+use Rattle.std.specs.Arc.{arc_value}
+use Rattle.param_resolver.specs.Numbering.{acting}
+use Rattle.graph_firing.specs.Nodes.Parts.{Fixed, KeepsAll, fired, job_in, prepared_of}
+use Rattle.graph_firing.specs.Nodes.Stages.{lents_of, marks_of}
+use Rattle.graph_firing.specs.Nodes.View.{RunningView}
+use Rattle.graph_firing.specs.declared.nodes.stage.Stage.{Stage}
+use Rattle.graph_firing.specs.declared.nodes.running.Running.TheInside.{Inside}
+
+abbrev pub fixed_of : Inside → Fixed
+fixed_of i = record {
+  graphs = arc_value i.graphs;
+  firing = i.firing.value;
+  left = i.preparing.left;
+  compilation = arc_value i.compiled;
+  block = i.cells.block;
+  set = i.set;
+  place = i.place;
+  path = i.path;
+  keeps = i.keeps.items;
+  names = i.names.items;
+  rows = i.rows;
+  exports = i.exports;
+  state = i.state;
+}
+
+-- what is seen of nodes in these stages
+abbrev pub view_with : Fixed → List Stage → RunningView
+view_with f stages = record {
+  graphs = f.graphs;
+  workers = f.compilation.workers;
+  firing = f.firing;
+  prepared = prepared_of f;
+  mapping = f.compilation.mapping;
+  cells = record { compilation = f.compilation; block = f.block };
+  marks = marks_of f.firing.path (acting (fired f)) (job_in f).nodes stages;
+  lent = lents_of stages;
+}
+
+abbrev pub view_of : Inside → RunningView
+view_of i = view_with (fixed_of i) i.stages.items
+
+abbrev pub IsRunning : Inside → Type 0
+IsRunning i = KeepsAll (fixed_of i) i.stages.items i.held.items i.traces.items i.job

@@ -1,0 +1,349 @@
+// The nodes of one compiled firing, and their events.
+ghost use Rattle.std.specs.Prelude.{◌≡◌, ◌⊎◌, ◌<◌, ◌==◌, true, length, slice_index, slice_set, Some, None, Ok, IsOk, IfOk, OnErr};
+ghost use Rattle.nested_jobs.specs.Marks.{Busy, Open, Done};
+ghost use Rattle.nested_jobs.specs.Rules.{Call};
+ghost use Rattle.job_flow.specs.Graphs.{node_at};
+ghost use Rattle.job_rules.specs.Words.{answer_of};
+ghost use Rattle.one_job.specs.Pick.{IsFirst};
+ghost use Rattle.one_job.specs.View.{IsFiring};
+ghost use Rattle.job_preparing.specs.View.{HasInherited};
+ghost use Rattle.job_preparing.specs.Handing.{EndSuits, IsNothingLent, answer_with, end_of, lent_at, mark_at};
+
+use crate::nodes::calling::{called, caller_of, firing_of};
+use crate::nodes::ending::{Ending, job_given, refusal_of};
+use crate::nodes::frames::{Held, end_frames, put_frame, spend_held, take_frame, take_refusal};
+use crate::nodes::given::put_trace;
+use crate::nodes::handed::{Handed, hand_out};
+use crate::nodes::stage::{Stage, ended, waiting};
+use crate::nodes::told::{ToldBefore, ToldBlock};
+use crate::nodes::writing::write_child;
+use job_compiler::Compiled;
+use job_flow::{faults_renamed, ready_stays};
+use job_preparing::{JobGiven, Left};
+use kernel_gate::{Frame, KernelFault, told_of};
+use one_job::{Job, JobEnd};
+use param_expr::Name;
+use param_resolver::{LevelSet, level_by_actor};
+use pisdf_meaning::{Firing, Path, Refusal, TraceRow};
+use pisdf_model::Graphs;
+use sdf_level::{List, Node, TokenName};
+use single_rate::{graphs_numbered, tokens_delivered};
+use std::alloc::{AllocError, Global};
+use std::collections::LinkedList;
+use std::marker::Model;
+use std::snapshot::Snapshot;
+use std::sync::Arc;
+
+/// The nodes of one compiled firing of a graph, numbered as in its single-rate graph. Each is claimed or called once, and
+/// finished once. It is neither `Drop` nor `Clone`: it is given up by `outcome` or `end`.
+pub(crate) struct Running {
+    pub(crate) graphs: Arc<Graphs>,
+    pub(crate) compiled: Arc<Compiled>,
+    pub(crate) firing: Snapshot<Firing>,
+    pub(crate) preparing: ToldBefore,
+    pub(crate) cells: ToldBlock,
+    // The place of the graph in its file.
+    pub(crate) place: u32,
+    pub(crate) path: Path,
+    pub(crate) set: LevelSet,
+    // Of each actor of the level whether its state goes on, and its name.
+    pub(crate) keeps: Vec<bool>,
+    pub(crate) names: Vec<Name>,
+    // The rows of its own parameters, and the values of its exports.
+    pub(crate) rows: LinkedList<TraceRow>,
+    pub(crate) exports: List<i64>,
+    // Empty, with room for the state that it leaves.
+    pub(crate) state: Vec<List<i64>>,
+    pub(crate) stages: Vec<Stage>,
+    // At the number of each node that fires a graph: as long as the last such node asks, and empty where no node fires one.
+    pub(crate) held: Vec<Held>,
+    // Of each actor that fires graphs a trace for each firing, of another none.
+    pub(crate) traces: Vec<Vec<LinkedList<TraceRow>>>,
+    pub(crate) job: Job,
+    pub(crate) alloc: Global,
+}
+
+impl Model for Running {
+    ghost use Rattle.graph_firing.specs.Nodes.View.{RunningView};
+
+    ghost Value = { RunningView };
+
+    ghost use Rattle.std.specs.Coded.{codes};
+    ghost use Rattle.param_expr.specs.Tree.{tree_code};
+
+    ghost coded = { Prim.hlevel (codes, tree_code) };
+
+    ghost use Rattle.graph_firing.specs.Nodes.Kept.{IsRunning, view_of};
+
+    ghost view = { view_of };
+
+    ghost invariant = { IsRunning };
+}
+
+impl Running {
+    ghost use Rattle.job_rules.specs.Items.{step_of_node};
+    ghost use Rattle.graph_firing.specs.Nodes.View.{IsOfferedCall, IsOfferedWork, RunningView, graph_in, is_quiet, nodes_of, outcome_of, task};
+    ghost use Rattle.graph_firing.specs.Nodes.Calls.{HasLongTrace, IsEndOfCall, IsHanded, IsLeft, frame_of};
+    ghost use Rattle.graph_firing.specs.Nodes.Leases.{LendsNodes};
+
+    /// What the firing was compiled to. In every state what is lent of the nodes are the leases of their buffers, in the block of
+    /// the firing, at the offsets of the compilation's placement. What isn't free was claimed in the order of the edges.
+    pub(crate) fn compiled(&self) -> &Compiled
+        ensures value { result.now ≡ self.now.cells.compilation }
+        ensures lends { LendsNodes self.now }
+    {
+        self.job.compiled()
+    }
+
+    /// The number of nodes.
+    pub(crate) fn count(&self) -> u32
+        ensures { result ≡ length (nodes_of self.now) }
+    {
+        self.stages.len() as u32
+    }
+
+    /// The node that a worker claims next: of the free nodes with work of their own one whose home is the worker, then that
+    /// of greatest priority, then that of least number. None where there is none.
+    pub(crate) fn pick(&self, worker: u32) -> Option<u32>
+        ensures { IsFirst self.now.mapping worker (IsOfferedWork self.now) result }
+    {
+        graphs_numbered();
+        faults_renamed::<i64, u8, Refusal>();
+        self.job.pick(worker)
+    }
+
+    /// The same among the free nodes that fire graphs.
+    pub(crate) fn pick_call(&self, worker: u32) -> Option<u32>
+        ensures { IsFirst self.now.mapping worker (IsOfferedCall self.now) result }
+    {
+        graphs_numbered();
+        faults_renamed::<i64, u8, Refusal>();
+        self.job.pick_child(worker)
+    }
+
+    /// Whether a worker is a node's home.
+    pub(crate) fn is_home(&self, node: u32, worker: u32) -> bool
+        requires { node < length (nodes_of self.now) }
+        ensures { result ≡ (slice_index self.now.mapping.home node == worker) }
+    {
+        self.job.home(node) == worker
+    }
+
+    /// A node's priority.
+    pub(crate) fn priority(&self, node: u32) -> u64
+        requires { node < length (nodes_of self.now) }
+        ensures { result ≡ slice_index self.now.mapping.priority node }
+    {
+        self.job.priority(node)
+    }
+
+    /// Of a firing of an actor the place of the actor among all actors of the graph, and the number of the firing. Of another
+    /// node 0 and 0.
+    pub(crate) fn step(&self, node: u32) -> (u32, u32)
+        requires { node < length (nodes_of self.now) }
+        ensures { result ≡ step_of_node (graph_in self.now) (node_at (nodes_of self.now) node) }
+    {
+        graphs_numbered();
+        level_by_actor();
+        match self.job.node(node) {
+            Node::Firing { actor, turn } => (self.set.places.items()[actor as usize], turn),
+            Node::Source(_)
+            | Node::Init(_)
+            | Node::End(_)
+            | Node::Sink(_)
+            | Node::Broadcast(_)
+            | Node::Fork { .. }
+            | Node::Join { .. }
+            | Node::Round(_) => (0, 0),
+        }
+    }
+
+    /// Claims a node that has work of its own. Its frame has what the work says. It takes no memory.
+    pub(crate) fn claim(&mut self, node: u32) -> Handed
+        requires { IsOfferedWork self.old node }
+        ensures handed { IsHanded (task self.old node) result }
+        ensures claimed { self.new ≡ record self.old { marks = slice_set self.old.marks node Busy; lent = slice_set self.old.lent node (Some (frame_of result).places) } }
+    {
+        faults_renamed::<i64, u8, Refusal>();
+        ready_stays::<i64, u8, ()>();
+        let which = self.job.node(node);
+        let frame = self.job.claim(node);
+        frame.outputs_fill_leases();
+        self.stages[node as usize] = Stage::Busy(told_of(&frame));
+        hand_out(which, frame)
+    }
+
+    /// Finishes a claimed node: its frame comes back with what it wrote, or with the code of its kernel. It takes no memory.
+    pub(crate) fn finish(&mut self, node: u32, frame: Frame, answer: Result<(), KernelFault>)
+        requires busy { mark_at self.old.marks node ≡ Busy }
+        requires lent { lent_at self.old.lent node ≡ Some frame.places }
+        requires sound { IsFiring (node_at (nodes_of self.old) node) ⊎ IsOk answer }
+        ensures { self.new ≡ record self.old { marks = slice_set self.old.marks node (Done (answer_with (task self.old node) frame answer)); lent = slice_set self.old.lent node None } }
+    {
+        faults_renamed::<i64, u8, Refusal>();
+        ready_stays::<i64, u8, ()>();
+        frame.outputs_fill_leases();
+        self.stages[node as usize] = ended(&frame, &answer);
+        self.job.finish(node, frame, answer);
+    }
+
+    /// Calls the firing of a graph that a node asks for.
+    ///
+    /// # Errors
+    ///
+    /// Want of memory. The node is busy then, and nothing of it is lent.
+    pub(crate) fn call(&mut self, alloc: Global, node: u32) -> Result<Firing, AllocError>
+        requires { IsOfferedCall self.old node }
+        ensures called { IfOk result (λ d. task self.old node ≡ Some (Call d)) }
+        ensures inherited { IfOk result (HasInherited self.old.graphs.graphs) }
+        ensures ok { IfOk result (λ d. self.new ≡ record self.old { marks = slice_set self.old.marks node (Open d) }) }
+        ensures err { OnErr result (self.new ≡ record self.old { marks = slice_set self.old.marks node Busy }) }
+    {
+        level_by_actor();
+        faults_renamed::<i64, u8, Refusal>();
+        ready_stays::<i64, u8, ()>();
+        let which = self.job.node(node);
+        let (actor, turn) = firing_of(which);
+        let frame = self.job.claim(node);
+        let caller = caller_of(
+            self.graphs.graphs.items(),
+            self.place,
+            &self.set,
+            &self.keeps,
+            actor,
+            turn,
+        );
+        let result = called(alloc, &self.path, &caller, &frame);
+        self.stages[node as usize] = waiting(&result, &frame);
+        put_frame(&mut self.held, node as usize, frame);
+        result
+    }
+
+    /// Finishes a node that called the firing of a graph: with what that gave, or with its refusal. It takes no memory.
+    pub(crate) fn finish_call(&mut self, node: u32, end: Result<JobGiven, Refusal>)
+        requires { IsEndOfCall self.old node end }
+        ensures { self.new ≡ record self.old { marks = slice_set self.old.marks node (Done (answer_of (end_of end))) } }
+    {
+        graphs_numbered();
+        ready_stays::<i64, u8, ()>();
+        let which = self.job.node(node);
+        match end {
+            Ok(given) => {
+                let mut frame = take_frame(&mut self.held, node as usize, Held::Nothing);
+                self.stages[node as usize] = Stage::Gave(Snapshot::of(&given));
+                let JobGiven {
+                    outs,
+                    state,
+                    trace,
+                    exports: _,
+                } = given;
+                let (actor, turn) = firing_of(which);
+                let keeps = self.keeps[actor as usize];
+                write_child(&mut frame, keeps, outs.items(), state.items());
+                put_trace(&mut self.traces, actor, turn, trace);
+                self.job.finish(node, frame, Ok(()));
+            }
+            Err(refusal) => {
+                self.stages[node as usize] = Stage::Refused(Snapshot::of(&refusal));
+                let frame = take_frame(&mut self.held, node as usize, Held::Refuses(refusal));
+                self.job.finish(node, frame, Err(KernelFault { code: 0 }));
+            }
+        }
+    }
+
+    /// Whether nothing more will come of any node.
+    pub(crate) fn quiet(&self) -> bool
+        ensures { result ≡ is_quiet self.now }
+    {
+        graphs_numbered();
+        faults_renamed::<i64, u8, Refusal>();
+        self.job.quiet()
+    }
+
+    /// How the firing ends: with the refusal that stands first in the order of one thread, else with what it gives. It is
+    /// given what its configuration actors left.
+    ///
+    /// # Errors
+    ///
+    /// Want of memory, only where the trace would have 2^63 rows or more.
+    pub(crate) fn outcome(self, left: Left) -> Result<Result<JobGiven, Refusal>, AllocError>
+        requires quiet { is_quiet self ≡ true }
+        requires left { IsLeft self left }
+        ensures end { IfOk result (λ end. end_of end ≡ outcome_of self) }
+        ensures long { OnErr result (HasLongTrace (outcome_of self)) }
+        ensures suits { IfOk result (λ end. EndSuits self.graphs.graphs self.firing (end_of end)) }
+    {
+        graphs_numbered();
+        tokens_delivered::<TokenName, TokenName, TokenName>();
+        faults_renamed::<i64, u8, Refusal>();
+        let Running {
+            graphs,
+            compiled,
+            firing: _,
+            preparing: _,
+            cells: _,
+            place,
+            path,
+            set: _,
+            keeps,
+            names,
+            rows,
+            exports,
+            state,
+            stages: _,
+            held,
+            traces,
+            job,
+            alloc,
+        } = self;
+        match job.outcome() {
+            JobEnd::Fault { node, code } => {
+                let which = compiled.graph().nodes.items()[node as usize];
+                let called = take_refusal(held, node as usize);
+                Ok(Err(refusal_of(alloc, path, names, which, called, code)))
+            }
+            JobEnd::Done { outs, stored } => {
+                spend_held(held);
+                let graph = &graphs.graphs.items()[place as usize];
+                let own = Ending {
+                    keeps,
+                    rows,
+                    exports,
+                    state,
+                    traces,
+                };
+                match job_given(alloc, graph, own, left, outs, stored) {
+                    Ok(given) => Ok(Ok(given)),
+                    Err(error) => Err(error),
+                }
+            }
+        }
+    }
+
+    /// Gives up the firing, of which no frame is out.
+    pub(crate) fn end(self)
+        requires { IsNothingLent self.lent }
+    {
+        let Running {
+            graphs: _,
+            compiled: _,
+            firing: _,
+            preparing: _,
+            cells: _,
+            place: _,
+            path: _,
+            set: _,
+            keeps: _,
+            names: _,
+            rows: _,
+            exports: _,
+            state: _,
+            stages: _,
+            held,
+            traces: _,
+            job,
+            alloc: _,
+        } = self;
+        end_frames(job, held).end();
+    }
+}

@@ -1,5 +1,0 @@
-use Rattle.job_running.proofs.NamedKernels.{refusal_named}
-use Rattle.job_running.proofs.ending.kernel_refusal.Goals as goal
-
-pub returns : goal.returns
-returns c = λ own named. refusal_named c.args.path own c.args.names.items c.args.which c.args.code c.in-Firing.actor c.in-Firing.turn c.take_name.result named c.in-Firing.is c.take_name.ensures

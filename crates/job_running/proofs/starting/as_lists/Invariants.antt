@@ -1,6 +1,0 @@
-use Rattle.std.proofs.Common.{◌≡◌}
-use Rattle.sdf_level.specs.Lists.{lists_of}
-use Rattle.job_running.proofs.starting.as_lists.Given as goal
-
-abbrev pub invariant-loop-line : goal.invariant-loop-line
-invariant-loop-line l = l.lists.items ≡ lists_of l.yielded

@@ -1,7 +1,0 @@
-use Rattle.std.proofs.Common.{◌≡◌, map, take}
-use Rattle.param_resolver.specs.Numbering.{acting}
-use Rattle.pisdf_model.specs.declared.actor.Actor.{Actor}
-use Rattle.job_running.proofs.starting.names_at.Given as goal
-
-abbrev pub invariant-loop-n : goal.invariant-loop-n
-invariant-loop-n l = l.names.items ≡ map (λ (a : Actor). a.name) (take l.n (acting l.graph))

@@ -1,5 +1,0 @@
-use Rattle.std.proofs.Common.{◌≡◌, ◌++◌, take, drop}
-use Rattle.job_running.proofs.writing.write_outs.Given as goal
-
-abbrev pub invariant-loop-port : goal.invariant-loop-port
-invariant-loop-port l = l.frame ≡ record l.initial.frame { outputs = take l.port l.outs ++ drop l.port l.initial.frame.outputs }

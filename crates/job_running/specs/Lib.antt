@@ -1,7 +1,0 @@
-pub mod View
-pub mod Calls
-pub mod Stages
-pub mod Sizes
-pub mod Parts
-pub mod Kept
-pub mod Leases

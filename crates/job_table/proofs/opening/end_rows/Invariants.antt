@@ -1,9 +1,0 @@
-use Rattle.std.proofs.Common.{All}
-use Rattle.job_table.specs.Slots.{IsUnlent}
-use Rattle.job_table.proofs.opening.end_rows.Given as goal
-
-abbrev pub invariant-loop-slot : goal.invariant-loop-slot
-invariant-loop-slot l = All IsUnlent l.rows.items
-
-abbrev pub decreases-loop-slot : goal.decreases-loop-slot
-decreases-loop-slot l = goal.left-loop-slot l

@@ -1,8 +1,0 @@
-use Rattle.std.proofs.Common.{sym, subst}
-use Rattle.std.specs.Arc.{arc_value}
-use Rattle.job_table.specs.View.{NothingIsLent}
-use Rattle.job_table.proofs.Methods.{all_unlent}
-use Rattle.job_table.proofs.table.JobTable.end.Goals as goal
-
-pub end_rows-requires : goal.end_rows-requires
-end_rows-requires c = all_unlent record { graphs = arc_value c.self.inside.graphs; workers = c.self.inside.workers; rows = c.self.inside.rows.items } (subst NothingIsLent (sym c.self.view_is) c.requires)

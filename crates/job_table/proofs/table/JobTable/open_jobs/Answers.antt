@@ -1,8 +1,0 @@
-use Rattle.std.proofs.Common.{is_some, length, sym, ap, ◌∙◌}
-use Rattle.std.specs.List.{count_by}
-use Rattle.job_table.specs.View.{TableView, keys_of}
-use Rattle.job_table.proofs.Keys.{keys_many}
-use Rattle.job_table.proofs.table.JobTable.open_jobs.Goals as goal
-
-pub returns : goal.returns
-returns c = c.count_rows.ensures ∙ (ap (count_by is_some) c.as_slice.ensures.value ∙ (sym (keys_many c.self.inside.rows.items) ∙ ap (λ (v : TableView). length (keys_of v)) c.self.view_is))
