@@ -15,3 +15,4 @@ pub mod Fitting
 pub mod GraphsSending
 pub mod BoardSending
 pub mod Sending
+pub mod Lending

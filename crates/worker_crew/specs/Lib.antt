@@ -4,3 +4,4 @@ pub mod Asked
 pub mod Alone
 pub mod Small
 pub mod Laws
+pub mod Lent

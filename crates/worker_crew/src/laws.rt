@@ -1,6 +1,7 @@
 // What is known of boards and of what workers run, for the proofs of whoever runs what was claimed. The functions do nothing;
 // their contracts are the laws.
 ghost use Rattle.worker_crew.specs.Laws.{BoardsHaveLaws, CompilationsEnd, WorkFits};
+ghost use Rattle.worker_crew.specs.Lent.{CellsAreLentOnce};
 
 use board_rules::entries_tell_steps;
 use job_flow::{edges_have_ports, frames_told, ready_stays};
@@ -43,3 +44,9 @@ pub fn work_fits()
     edges_have_ports::<i64>();
     repetition_suffices();
 }
+
+/// Of the cells of an open firing none stands in what the lock lends to two workers, nor at two ports of one item: so what a
+/// worker has no other has.
+pub fn cells_are_lent_once()
+    ensures { CellsAreLentOnce }
+{}

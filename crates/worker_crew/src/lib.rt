@@ -18,6 +18,6 @@ mod under_lock;
 mod working;
 
 pub use crew::{run_crew, run_crew_by};
-pub use laws::{board_laws, compilations_end, work_fits};
+pub use laws::{board_laws, cells_are_lent_once, compilations_end, work_fits};
 pub use load::Load;
 pub use working::work;
