@@ -1,5 +1,6 @@
 """What the tests of the tools share: the places of the repository, the program where it is built, and a graph to spoil."""
 import os
+import shlex
 import subprocess
 import sys
 import tempfile
@@ -60,11 +61,26 @@ def read_text(text, path="g.json"):
     return reading.read(Source(path, text if isinstance(text, bytes) else text.encode()))
 
 
-def call(words, files=(), tool=None):
+def stored_program(folder, end="exit 0", errors="", output=""):
+    """A program that answers each call alike, for what can be tried without the built one. `end` is the line of shell by which it ends."""
+    path = os.path.join(folder, "stored")
+    with open(path, "w", encoding="utf-8") as file:
+        file.write(f"#!/bin/sh\nprintf %s {shlex.quote(output)}\nprintf %s {shlex.quote(errors)} >&2\n{end}\n")
+    os.chmod(path, 0o755)
+    return path
+
+
+def call_over(answer, words, files, tool):
+    """A call of a tool over a program that answers so, in a folder with these files."""
+    with tempfile.TemporaryDirectory() as room:
+        return call(words, files, tool, stored_program(room, **answer))
+
+
+def call(words, files=(), tool=None, program=PROGRAM):
     """A call of the program, or of a tool with the program before its words, in a folder with these files."""
     with tempfile.TemporaryDirectory() as folder:
         for name, text in dict(files).items():
             with open(os.path.join(folder, name), "wb") as file:
                 file.write(text if isinstance(text, bytes) else text.encode())
-        command = [sys.executable, os.path.join(TOOLS, tool), PROGRAM] if tool else [PROGRAM]
+        command = [sys.executable, os.path.join(TOOLS, tool), program] if tool else [program]
         return subprocess.run(command + list(words), cwd=folder, stdin=subprocess.DEVNULL, capture_output=True, timeout=60)
