@@ -94,7 +94,7 @@ def main(words):
     try:
         return written("check", lambda: check(*words), WRITE_FAILED)
     except OSError as fault:
-        print(f"check: {fault}.", file=sys.stderr)
+        print(f"check: {fault.filename}: {fault.strerror}.", file=sys.stderr)
         return UNREAD
     except Exception as fault:
         if os.environ.get("PISDF_TOOLS_TRACE"):

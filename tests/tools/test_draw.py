@@ -8,6 +8,8 @@ import time
 import unittest
 import xml.etree.ElementTree as xml
 
+from support import chain, pixels
+
 TOP = os.path.realpath(os.path.join(os.path.dirname(__file__), "..", ".."))
 DRAW = os.path.join(TOP, "tools", "draw.py")
 SVG = "{http://www.w3.org/2000/svg}"
@@ -60,6 +62,10 @@ class Graphs(unittest.TestCase):
             graph["graphs"][0]["fifos"][1]["delay"] = 10 ** 15
 
         self.assertIn("delay 0, 0, 0, 0, .. (1000000000000000 tokens)", draw("graph", "-", stdin=spoiled(change))[1])
+
+    def test_a_long_graph_is_drawn_from_the_top_down(self):
+        self.assertIn("rankdir=LR", draw("graph", example("first"))[1])
+        self.assertIn("rankdir=TB", draw("graph", "-", stdin=chain(62))[1])
 
     def test_all_examples(self):
         for name in os.listdir(os.path.join(TOP, "examples")):
@@ -157,7 +163,8 @@ class Plans(unittest.TestCase):
         out = draw("plan", "-", stdin="\n".join([*nodes, *edges, "height,3000"]))[1]
         self.assertLess(time.monotonic() - begun, 5)
         self.assertEqual(out.count("1000 nodes"), 2)
-        self.assertIn('label="1000 edges, 3000 tokens"', out)
+        self.assertIn('g0 [label="a\\n1000 nodes"', out)
+        self.assertIn('g0 -> g1 [label="1000 edges, 3000 tokens"', out)
 
     def test_what_is_no_plan(self):
         self.assertEqual(draw("plan", "-", stdin="tokens,0,y,5\n")[2], "draw: -, line 1: no row of a plan, a schedule or a memory begins with 'tokens'\n")
@@ -165,6 +172,7 @@ class Plans(unittest.TestCase):
         self.assertEqual(draw("plan", "-", stdin="height,5\n")[2], "draw: - has no row 'node'\n")
         self.assertEqual(draw("plan", "-", stdin="node,1,firing\n")[2], "draw: -, line 1: a row 'node' has 5 fields after it, and this one has 2\n")
         self.assertEqual(draw("plan", "-", stdin="node,0,firing,a:0,0,1\nedge,0,0,7,1,0\n")[2], "draw: -: edge 0 names node 7, and no row has it\n")
+        self.assertEqual(draw("plan", "-", stdin="node,0,firing,a:0,0,1\nedge,0,7,0,1,0\n")[2], "draw: -: edge 0 names node 7, and no row has it\n")
         self.assertEqual(draw("plan", "-", stdin="height,many\n")[2], "draw: -, line 1: a field that has to be a number isn't one\n")
 
 
@@ -180,6 +188,9 @@ class Charts(unittest.TestCase):
         self.assertEqual(len(bars), 6)
         told = [shape.find(f"{SVG}title").text for shape in bars]
         self.assertTrue(any(words.startswith("a:0: from ") for words in told), told)
+        # Node 2 runs on worker 1 from 14 to 18 of 26: the chart is 900 wide, and a row 32 high.
+        box, = [shape for shape in bars if shape.findtext(f"{SVG}title").startswith("a:1: from 14 to 18, worker 1")]
+        self.assertEqual([box.get(name) for name in ("x", "y", "width", "height")], [f"{70 + 14 * 900 / 26:.1f}", "106", f"{4 * 900 / 26:.1f}", "24"])
 
     def test_a_box_of_cells_for_each_buffer(self):
         drawn = self.shapes("cells", PLAN)
@@ -192,6 +203,8 @@ class Charts(unittest.TestCase):
         drawn = self.shapes("cells", PLAN)
         box, = [shape for shape in drawn.iter(f"{SVG}rect") if "from fork of x to a:1" in (shape.findtext(f"{SVG}title") or "")]
         self.assertEqual((box.get("x"), box.get("width")), ("220", "450"))
+        # It lies in the cells 6 and 7 of 8, which are 420 high.
+        self.assertEqual((box.get("y"), box.get("height")), (str(70 + 6 * 420 // 8), str(2 * 420 // 8)))
 
     def test_the_cells_of_a_memory(self):
         offsets = "".join(f"offset,{number},{2 * number}\n" for number in range(6))
@@ -209,7 +222,12 @@ class Charts(unittest.TestCase):
         edges = [f"edge,{number},{number},{number + 1},1,{number}" for number in range(4999)]
         status, out, error = draw("cells", "-", stdin="\n".join([*nodes, *edges, "height,4999"]))
         self.assertEqual((status, error), (0, ""))
-        self.assertEqual(len(list(xml.fromstring(out).iter(f"{SVG}image"))), 1)
+        image, = xml.fromstring(out).iter(f"{SVG}image")
+        rows = pixels(image.get("href"))
+        self.assertEqual((len(rows), len(rows[0])), (420, 900))
+        # A buffer of each step lies one cell lower: all are on the way from the corner above to the corner below.
+        self.assertTrue(rows[0][0] < 0xf4 and rows[-1][-1] < 0xf4 and rows[210][450] < 0xf4)
+        self.assertEqual((rows[0][-1], rows[-1][0]), (0xf4, 0xf4))
 
 
 if __name__ == "__main__":
