@@ -63,6 +63,10 @@ class Summaries(unittest.TestCase):
         bounds = changed(level, ('"kernel":"gain","args":["m"]', '"kernel":"clamp","args":["m","100"]'))
         self.assertEqual(self.refusals(bounds), [])
 
+    def test_what_interfaces_lose_or_give_again(self):
+        lines = self.lines(example("adaptive-mean"))
+        self.assertIn("  repetition: m 2 (x of rate 8 is read 2 x 5 = 10, from the front again; y of rate 1 gets 2 x 1 = 2 and keeps the last) where n = 5", lines)
+
     def test_parameters_with_too_many_values(self):
         wide = changed(example("adaptive-mean"), ('"high":8', '"high":600'))
         lines = self.lines(wide)

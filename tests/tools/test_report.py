@@ -227,6 +227,9 @@ class Report(unittest.TestCase):
         for path, what in ((graph, "graph"), (tokens, "token")):
             status, told = self.call(graph=graph, tokens=tokens, target=path)
             self.assertEqual((status, told), (2, f"report: the page would be written over the {what} file {path}. Give the page a name of its own\n"))
+        link = os.path.join(self.room, "page.html")
+        os.symlink(graph, link)
+        self.assertEqual(self.call(graph=graph, tokens=tokens, target=link)[0], 2)
         for path, source in ((graph, GRAPH), (tokens, TOKENS)):
             self.assertTrue(filecmp.cmp(path, source, shallow=False))
 
