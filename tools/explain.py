@@ -13,10 +13,8 @@ import sys
 
 sys.dont_write_bytecode = True
 
-from pisdf_tools.output import status_of
+from pisdf_tools.output import WRITE_FAILED, status_of
 from pisdf_tools.refusals import Explanation
-
-WRITE_FAILED = 6
 
 
 def call(program, words):

@@ -118,6 +118,11 @@ class Summaries(unittest.TestCase):
         for text in (example("running-sum"), WHOLE, changed(WHOLE, ('"kernel":"gain","args":["m"],"ins":[{"name":"i","rate":"1"}]', '"kernel":"gain","args":["m"],"ins":[{"name":"i","rate":"n"}]'))):
             self.assertEqual(self.refusals(text), [])
 
+    def test_a_graph_that_some_values_refuse_may_be_run(self):
+        text = changed(example("adaptive-mean"), ('"low":1', '"low":0'))
+        self.assertEqual(self.refusals(text), [])
+        self.assertIn("  each firing is refused: rates where n = 0", self.lines(text))
+
     def test_each_refusal_is_told(self):
         text = changed(WHOLE, ('"kernel":"pass"', '"kernel":"sum"'), ('"kernel":"gain","args":["m"]', '"kernel":"median","args":[]'), ('"outs":[{"name":"o","rate":"1"}]', '"outs":[{"name":"o","rate":"2"}]'))
         self.assertEqual([refused.line for refused, _ in self.refusals(text)], ["run: g kernel a:0 3", "run: g/b:0 kernel e:0 3"])

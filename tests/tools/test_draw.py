@@ -1,6 +1,7 @@
 """Pictures of graph files, plans, schedules and cells."""
 import json
 import os
+import re
 import subprocess
 import sys
 import tempfile
@@ -8,7 +9,7 @@ import time
 import unittest
 import xml.etree.ElementTree as xml
 
-from support import chain, pixels
+from support import WHOLE, chain, pixels
 
 TOP = os.path.realpath(os.path.join(os.path.dirname(__file__), "..", ".."))
 DRAW = os.path.join(TOP, "tools", "draw.py")
@@ -45,6 +46,9 @@ class Graphs(unittest.TestCase):
         self.assertIn('"g/c" -> "g/n" [style=dashed', out)
         self.assertIn('"g/n" -> "g/m" [style=dashed', out)
         self.assertEqual(out.count("style=dashed"), 2)
+        whole = draw("graph", "-", stdin=WHOLE)[1]
+        found = re.findall(r'"(\w+/\w+)" -> "(\w+/\w+)" \[style=dashed', whole)
+        self.assertEqual(sorted(found), [("g/c", "g/n"), ("g/k", "g/b"), ("g/k", "g/y"), ("g/m", "g/a"), ("g/n", "g/m"), ("h/p", "h/e"), ("h/p", "h/u"), ("h/p", "h/v")])
 
     def test_a_delay_with_its_tokens_and_its_life(self):
         out = draw("graph", example("running-sum"))[1]
