@@ -121,7 +121,7 @@ class Summaries(unittest.TestCase):
     def test_a_graph_that_some_values_refuse_may_be_run(self):
         text = changed(example("adaptive-mean"), ('"low":1', '"low":0'))
         self.assertEqual(self.refusals(text), [])
-        self.assertIn("  each firing is refused: rates where n = 0", self.lines(text))
+        self.assertIn("  each firing is refused: rates and kernel m:0 3 where n = 0", self.lines(text))
 
     def test_each_refusal_is_told(self):
         text = changed(WHOLE, ('"kernel":"pass"', '"kernel":"sum"'), ('"kernel":"gain","args":["m"]', '"kernel":"median","args":[]'), ('"outs":[{"name":"o","rate":"1"}]', '"outs":[{"name":"o","rate":"2"}]'))
