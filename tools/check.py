@@ -33,10 +33,9 @@ def first_answer(program, path):
 
 
 def refused_lines(found, line):
-    """The program's fault first, then the further ones."""
+    """The program's fault with this line first, then the further ones."""
     first = found.fault_of(line)
     others = [fault for fault in found.faults if fault is not first]
-    yield line
     yield ""
     yield found.text_of(first) if first else "This tool finds no more about it. docs/FORMATS.md has the table of the faults."
     yield from (f"\n{words}" for words in found.repeated_words())
@@ -77,6 +76,9 @@ def check(program, path):
         if status == UNREAD:
             print(f"\nThe graph file is {quoted(path)}. {why_unread(path)}")
         return status
+    if status == 2:
+        # The program's line is written first, whatever becomes of the rest.
+        print(line, flush=True)
     found = reading.read(read_source(path))
     if status == 2:
         print("\n".join(refused_lines(found, line)))

@@ -1,9 +1,12 @@
 """`check`: all faults of a file, and what is told of a file without one."""
 import os
+import subprocess
+import sys
+import tempfile
 import time
 import unittest
 
-from support import TOP, WHOLE, call, call_over, changed, needs_program, read_text
+from support import TOOLS, TOP, WHOLE, call, call_over, changed, needs_program, read_text, stored_program
 
 SPOILED = changed(WHOLE, ('"kernel":"gain"', '"kernel":"gian"'), ('"rate":"4"', '"rate":4'), ('"to":"a.i"', '"to":"a.k"'))
 
@@ -180,6 +183,14 @@ class Answers(unittest.TestCase):
     def test_a_program_that_is_not_there(self):
         done = call(["g.json"], {"g.json": WHOLE}, "check.py", "/nowhere/pisdf")
         self.assertEqual((done.returncode, done.stderr), (5, b"check: /nowhere/pisdf: No such file or directory.\n"))
+
+    def test_a_fault_of_the_tool_itself(self):
+        broken = "import sys; sys.path.insert(0, sys.argv.pop(1)); import check, pisdf_tools.reading as reading; reading.read = lambda source: 1 // 0; sys.exit(check.main(sys.argv[1:]))"
+        with tempfile.TemporaryDirectory() as room:
+            program = stored_program(room, errors="graph: 1 json\n", end="exit 2")
+            done = subprocess.run([sys.executable, "-c", broken, TOOLS, program, __file__], capture_output=True, text=True, timeout=60)
+        self.assertEqual((done.returncode, done.stdout), (2, "graph: 1 json\n"))
+        self.assertEqual(done.stderr, "More can't be told of this file (ZeroDivisionError). docs/FORMATS.md has all faults.\n")
 
     def test_very_many_faults(self):
         for count in (30, 22, 21):
