@@ -95,6 +95,12 @@ class Launcher(unittest.TestCase):
         self.assertEqual(self.call(), (1, "", "pisdf: give a command: ./pisdf --help lists them\n"))
         self.assertEqual(self.builds(), 0)
 
+    def test_a_misspelt_word_builds_nothing(self):
+        self.assertEqual(self.call("rnu", "g.json"), (1, "", "pisdf: 'rnu' is no command: ./pisdf --help lists them\n"))
+        self.assertEqual(self.builds(), 0)
+        self.built()
+        self.assertEqual(self.call("rnu", "g.json"), (3, "[rnu][g.json]\n", ""))
+
     def test_help_needs_nothing(self):
         status, out, error = self.call("--help", kit=False)
         self.assertEqual((status, error), (0, ""))
