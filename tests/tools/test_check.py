@@ -17,6 +17,10 @@ def example(name):
 
 
 class Summaries(unittest.TestCase):
+    def explorer(self, text):
+        from pisdf_tools.exploring import Explorer
+        return Explorer(read_text(text).file)
+
     def lines(self, text):
         from pisdf_tools.exploring import Explorer
         from pisdf_tools.summary import Summary
@@ -69,12 +73,16 @@ class Summaries(unittest.TestCase):
     def test_what_interfaces_lose_or_give_again(self):
         lines = self.lines(example("adaptive-mean"))
         self.assertIn("  repetition: m 2 (x of rate 8 is read 2 x 5 = 10, from the front again; y of rate 1 gets 2 x 1 = 2 and keeps the last) where n = 5", lines)
+        lines = self.lines(changed(WHOLE, ('"rate":"2*k"', '"rate":"5"')))
+        self.assertIn("  repetition: a 6, s 6, d 6, b 3 (x of rate 4 is read 6 x 1 = 6, from the front again; y of rate 5 gets 3 x 2 = 6 and keeps the last)", lines)
 
     def test_parameters_with_too_many_values(self):
         wide = changed(example("adaptive-mean"), ('"high":8', '"high":600'))
         lines = self.lines(wide)
         self.assertIn("  of n (1 to 600) 64 values were tried; the others weren't", lines)
-        self.assertTrue(any("where n = 600" in line or "cases aren't shown" in line for line in lines), lines)
+        self.assertTrue(any("cases aren't shown" in line for line in lines), lines)
+        tried = [outcome.values["n"] for outcome in self.explorer(wide).outcomes["g"]]
+        self.assertEqual((tried[0], tried[-1], len(set(tried))), (1, 600, 64))
         self.assertEqual(self.refusals(wide), [])
         fed = changed(wide, ('{"name":"width","rate":"1"}', '{"name":"width","rate":"2"}'))
         self.assertEqual([refused.line for refused, _ in self.refusals(fed)], ["run: g kernel c:0 3"])

@@ -56,10 +56,11 @@ class Graphs(unittest.TestCase):
         self.assertIn('label=" delay 0 "', out)
 
     def test_a_long_delay_is_counted(self):
-        def change(graph):
-            graph["graphs"][0]["fifos"][0]["delay"] = [1, 2, 3, 4, 5, 6]
+        for tokens, words in (([1, 2, 3, 4], '" delay 1, 2, 3, 4 "'), ([1, 2, 3, 4, 5, 6], '" delay 1, 2, 3, 4, .. (6 tokens) "')):
+            def change(graph):
+                graph["graphs"][0]["fifos"][0]["delay"] = tokens
 
-        self.assertIn("delay 1, 2, 3, 4, .. (6 tokens)", draw("graph", "-", stdin=spoiled(change))[1])
+            self.assertIn(words, draw("graph", "-", stdin=spoiled(change))[1])
 
     def test_a_delay_of_too_many_tokens(self):
         def change(graph):

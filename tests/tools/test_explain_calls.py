@@ -4,6 +4,7 @@ import subprocess
 import sys
 import tempfile
 import unittest
+from unittest import mock
 
 from support import PROGRAM, TOOLS, TOP, WHOLE, call, call_over, changed, needs_program, stored_program
 
@@ -49,6 +50,11 @@ class Unread(unittest.TestCase):
         self.assertIn("Do you mean", why_unread(os.path.join(TOP, "examples", "first", "g.jsn")))
         self.assertIn("This is a folder", why_unread(os.path.join(TOP, "examples", "first")))
         self.assertIn("There is no folder", why_unread("no-such-folder/g.json"))
+
+    def test_a_file_that_this_user_may_not_read(self):
+        from pisdf_tools.refusals import why_unread
+        with mock.patch("os.access", return_value=False):
+            self.assertEqual(why_unread(os.path.join(TOP, "examples", "first", "g.json")), "The file is there, and this user may not read it.")
 
     def test_a_link_that_leads_nowhere(self):
         from pisdf_tools.refusals import why_unread
