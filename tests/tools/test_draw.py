@@ -211,6 +211,11 @@ class Charts(unittest.TestCase):
         # It lies in the cells 6 and 7 of 8, which are 420 high.
         self.assertEqual((box.get("y"), box.get("height")), (str(70 + 6 * 420 // 8), str(2 * 420 // 8)))
 
+    def test_the_marks_of_a_scale(self):
+        from drawing.svg import marks
+        for length, count, wanted in ((0, 12, [0]), (10, 12, list(range(11))), (20, 12, list(range(0, 21, 2))), (26, 12, [0, 5, 10, 15, 20, 25]), (1000, 9, [0, 200, 400, 600, 800, 1000])):
+            self.assertEqual(list(marks(length, count)), wanted)
+
     def test_the_cells_of_a_memory(self):
         offsets = "".join(f"offset,{number},{2 * number}\n" for number in range(6))
         with tempfile.NamedTemporaryFile("w") as memory:

@@ -27,7 +27,7 @@ a { color: var(--value); } nav ul { display: flex; flex-wrap: wrap; gap: 0.3rem 
 .skip { position: absolute; left: -99rem; } .skip:focus { position: static; }
 .figure { overflow-x: auto; background: var(--panel); border: 1px solid var(--grid); border-radius: 4px; padding: 0.5rem; }
 .figure:focus-visible, pre:focus-visible, a:focus-visible, summary:focus-visible { outline: 3px solid var(--value); outline-offset: 2px; }
-.caption { margin: 0.5rem 0 0.2rem; } .chart .wide { display: none; } .figure svg { display: block; } .figure + .figure { margin-top: 0.5rem; } .chart svg { width: 100%; max-width: 65rem; min-width: 52rem; height: auto; }
+.caption { margin: 0.5rem 0 0.2rem; } .chart .wide { display: none; } .figure svg { display: block; } .figure + .figure { margin-top: 0.5rem; } .chart svg { width: 100%; max-width: 65rem; min-width: 52rem; height: auto; margin-top: -1.2rem; }
 details { margin: 0.3rem 0; } .words { columns: 20rem; font-size: 0.9em; } .note { color: var(--soft); } .bad { color: var(--bad); font-weight: bold; }
 .table { overflow-x: auto; } table { border-collapse: collapse; } caption { text-align: left; color: var(--soft); }
 th, td { padding: 0.25rem 0.8rem 0.25rem 0; text-align: left; border-bottom: 1px solid var(--grid); vertical-align: top; } td.number { text-align: right; font-variant-numeric: tabular-nums; }
