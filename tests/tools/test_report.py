@@ -136,6 +136,13 @@ class Report(unittest.TestCase):
         self.assertEqual([words for _, words in row], ["j 1", "delay 0, permanent", "p 1"])
         self.assertGreater(row[2][0] - row[0][0], 6 * len("j 1delay 0, permanentp 1"))
 
+    def test_how_many_iterations_are_planned_as_one(self):
+        from drawing import run
+        graph, tokens = (os.path.join(TOP, "examples", "cascade", name) for name in ("g.json", "t.csv"))
+        for iterations, times, group in (("4", "4", 4), ("3", "4", 1), ("8", "4", 4), ("8", "1", 1)):
+            made = run.Run(os.path.join(self.room, "program"), graph, tokens, iterations, "2", times)
+            self.assertEqual((made.group, made.planned.top_graph.inputs[0].rate.text), (group, str(group)))
+
     def test_shares_make_a_hundred(self):
         from drawing.page import shares
         self.assertEqual(shares([2, 1]), [67, 33])
@@ -240,6 +247,11 @@ class Report(unittest.TestCase):
         image, = drawn.iter(f"{XHTML}image")
         rows = pixels(image.get("href"))
         self.assertEqual([list(row) for row in rows], [[number * at % 256 for at in range(64)] for number in range(64)])
+
+    def test_the_lines_of_an_image(self):
+        from drawing.page import lines_of
+        self.assertEqual(lines_of([[1, 2, 3, 4, 5, 6, 7]]), [[1, 2], [3, 4], [5, 6], [7]])
+        self.assertEqual(lines_of([[1, 2], [], [3]]), [[1, 2], [3]])
 
     def test_a_greater_value_stands_higher(self):
         self.put("run", "tokens,0,y,-5,0,9\n")
