@@ -1,6 +1,7 @@
 """The page of a report, over a program that answers from stored texts."""
 import filecmp
 import os
+import re
 import shutil
 import subprocess
 import sys
@@ -344,6 +345,15 @@ class Report(unittest.TestCase):
                       [["a", ("p", 1), "c"], ["b", ("q", 1), "d"]])
         self.assertEqual(bands.bands, [0, 1, 2])
         self.assertFalse(any(self.crosses(*one, *other) for one in self.parts(bands.route(0)) for other in self.parts(bands.route(1))))
+
+    def test_links_of_one_box_go_on_apart(self):
+        from drawing.layout import Arrow, Box, drawing
+        boxes = [Box(name, [name * 150], "#fff") for name in "abc"]
+        drawn = xml.fromstring(drawing(boxes, [Arrow("a", "b"), Arrow("a", "c")], "two links"))
+        links = [re.findall(r"(-?[\d.]+),(-?[\d.]+)(?= C|$)", part.get("d")) for part in drawn.iter(f"{XHTML}path") if part.get("class") == "edge"]
+        self.assertEqual([len(points) for points in links], [6, 6])
+        self.assertTrue(all(points[0][1] == points[1][1] and points[4][1] == points[5][1] for points in links), links)
+        self.assertNotEqual(links[0][0][1], links[1][0][1])
 
     def parts(self, points):
         return list(zip(points, points[1:]))
