@@ -2,10 +2,10 @@
 import json
 import os
 import re
+import resource
 import subprocess
 import sys
 import tempfile
-import time
 import unittest
 import xml.etree.ElementTree as xml
 
@@ -20,6 +20,12 @@ PLAN, SCHEDULE, MEMORY = (os.path.join(TOP, "tests", "commands", name, "stdout")
 def draw(*words, stdin=""):
     done = subprocess.run([sys.executable, "-B", DRAW, *words], input=stdin, capture_output=True, text=True, timeout=60)
     return done.returncode, done.stdout, done.stderr
+
+
+def spent():
+    """The processor time of the calls that have ended."""
+    used = resource.getrusage(resource.RUSAGE_CHILDREN)
+    return used.ru_utime + used.ru_stime
 
 
 def example(name):
@@ -164,9 +170,9 @@ class Plans(unittest.TestCase):
     def test_a_large_plan_is_drawn_by_actors_in_a_second(self):
         nodes = [f"node,{number},firing,a:{number},0,1" for number in range(1000)] + [f"node,{number},firing,b:{number - 1000},0,1" for number in range(1000, 2000)]
         edges = [f"edge,{number},{number},{number + 1000},3,{3 * number}" for number in range(1000)]
-        begun = time.monotonic()
+        begun = spent()
         out = draw("plan", "-", stdin="\n".join([*nodes, *edges, "height,3000"]))[1]
-        self.assertLess(time.monotonic() - begun, 5)
+        self.assertLess(spent() - begun, 5)
         self.assertEqual(out.count("1000 nodes"), 2)
         self.assertIn('g0 [label="a\\n1000 nodes"', out)
         self.assertIn('g0 -> g1 [label="1000 edges, 3000 tokens"', out)
