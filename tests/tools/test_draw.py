@@ -153,6 +153,9 @@ class Plans(unittest.TestCase):
         self.assertEqual(out.count(" -> "), 6)
         self.assertIn("penwidth=3", out)
         self.assertIn('n0 -> n3 [label="4 at 0"', out)
+        # Node 2 is at home on worker 1, and all others of these on worker 0.
+        fills = dict(re.findall(r'n(\d) \[label="[^"]*", fillcolor="(#\w+)"', out))
+        self.assertEqual([fills[number] == fills["0"] for number in "0124"], [True, True, False, True])
 
     def test_nodes_are_called_by_what_they_stand_beside(self):
         nodes = ["node,0,source,x,0,9", "node,1,init,0,0,8", "node,2,firing,a:0,0,7", "node,3,broadcast,1,0,6", "node,4,round,2,0,5", "node,5,end,0,0,4", "node,6,sink,y,0,3"]
@@ -199,6 +202,10 @@ class Charts(unittest.TestCase):
         self.assertEqual(len(bars), 6)
         told = [shape.find(f"{SVG}title").text for shape in bars]
         self.assertTrue(any(words.startswith("a:0: from ") for words in told), told)
+        fills = {}
+        for shape in bars:
+            fills.setdefault(re.search(r"worker (\d+)", shape.findtext(f"{SVG}title"))[1], set()).add(shape.get("fill"))
+        self.assertEqual(fills, {"0": {"#a6cee3"}, "1": {"#b2df8a"}})
         # Node 2 runs on worker 1 from 14 to 18 of 26: the chart is 900 wide, and a row 32 high.
         box, = [shape for shape in bars if shape.findtext(f"{SVG}title").startswith("a:1: from 14 to 18, worker 1")]
         self.assertEqual([box.get(name) for name in ("x", "y", "width", "height")], [f"{70 + 14 * 900 / 26:.1f}", "106", f"{4 * 900 / 26:.1f}", "24"])

@@ -92,6 +92,8 @@ class Told(unittest.TestCase):
         graph = changed(WHOLE, ('"delay":[0],"life":"permanent"', '"delay":[0]'))
         text = self.told(["run", "g.json", "t.csv", "2", "1"], {"g.json": graph, "t.csv": "w,2,3\nx,1,2,3,4,5,6,7,8\n"})
         self.assertIn("The delay of FIFO 4 (`d.p` to `s.j`) begins anew in each iteration, since no `life` is stated.", text)
+        text = self.told(["run", "g.json", "t.csv", "1", "1"], {"g.json": graph, "t.csv": "w,2\nx,1,2,3,4\n"})
+        self.assertEqual(text, "The call is done. No interface lost tokens or gave them again.\n")
 
     def test_delays_of_a_child_whose_life_is_not_stated(self):
         with open(os.path.join(TOP, "examples", "running-sum", "g.json"), encoding="utf-8") as file:

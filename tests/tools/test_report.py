@@ -190,6 +190,9 @@ class Report(unittest.TestCase):
         self.assertEqual((rows["Nodes"], rows["Edges"], rows["Cells of the plan"], rows["Cells under fixed orders"]), ("6", "6", "16", "14"))
         self.assertEqual((rows["Firings of m"], rows["Critical path"], rows["Tokens of y"]), ("2", "20", "2"))
         self.assertIn("nor than the work divided by the workers, 12.", text)
+        self.put("run.line", "left: width 1\nleft: x 8\n")
+        rows = {row[0].text: row[1].text for row in self.page()[1].iter("tr") if len(row) == 2}
+        self.assertEqual((rows["Tokens left of width"], rows["Tokens left of x"]), ("1", "8"))
         self.put("schedule", SCHEDULE.replace("work,24", "work,25"))
         self.assertIn("nor than the work divided by the workers, 13.", self.page()[0])
 
