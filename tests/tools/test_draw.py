@@ -180,6 +180,15 @@ class Plans(unittest.TestCase):
         self.assertIn('g0 [label="a\\n1000 nodes"', out)
         self.assertIn('g0 -> g1 [label="1000 edges, 3000 tokens"', out)
 
+    def test_texts_of_other_kinds(self):
+        self.assertEqual(draw("plan", "-", stdin="a" * 200_000)[::2], (2, f"draw: -, line 1: no row of a plan, a schedule or a memory begins with '{'a' * 58}..'\n"))
+        self.assertEqual(draw("plan", "-", stdin='"node\n')[::2], (2, "draw: -, line 1: no row of a plan, a schedule or a memory begins with '\"node'\n"))
+        self.assertEqual(draw("plan", "-", stdin=" {" + "x" * 200_000)[2][:30], "draw: - is a graph file, which")
+        self.assertEqual(draw("gantt", "-", stdin="critical,1\nwork,1\nlength,1\npath,0,x\n")[2], "draw: -, line 4: a field that has to be a number isn't one\n")
+        with open(PLAN, encoding="utf-8") as file:
+            text = file.read()
+        self.assertEqual(draw("plan", "-", stdin=text.replace("\n", "\r\n\r\n")), draw("plan", PLAN))
+
     def test_what_is_no_plan(self):
         self.assertEqual(draw("plan", "-", stdin="tokens,0,y,5\n")[2], "draw: -, line 1: no row of a plan, a schedule or a memory begins with 'tokens'\n")
         self.assertEqual(draw("plan", example("first"))[::2], (2, f"draw: {example('first')} is a graph file, which `draw graph` draws. The answer of plan, schedule or memory is wanted here\n"))
