@@ -15,7 +15,7 @@ sys.dont_write_bytecode = True
 
 from pisdf_tools import reading
 from pisdf_tools.exploring import Explorer
-from pisdf_tools.output import WRITE_FAILED, written
+from pisdf_tools.output import WRITE_FAILED, status_of, written
 from pisdf_tools.refusals import why_unread
 from pisdf_tools.source import once_words, read_source
 from pisdf_tools.summary import Summary, certain_refusals
@@ -28,14 +28,14 @@ RUN_REFUSED, UNREAD = 4, 5
 def first_answer(program, path):
     """The program's status and its line on the file."""
     done = subprocess.run([program, "upgrade", path], stdout=subprocess.DEVNULL, stderr=subprocess.PIPE, stdin=subprocess.DEVNULL)
-    return done.returncode, done.stderr.decode("utf-8", "replace").strip()
+    status = status_of(done)
+    return status, done.stderr.decode("utf-8", "replace").strip() or f"The program ended with {status} and without a line."
 
 
 def refused_lines(found, line):
-    """The program's fault first, then the further ones."""
+    """The program's fault with this line first, then the further ones."""
     first = found.fault_of(line)
     others = [fault for fault in found.faults if fault is not first]
-    yield line
     yield ""
     yield found.text_of(first) if first else "This tool finds no more about it. docs/FORMATS.md has the table of the faults."
     yield from (f"\n{words}" for words in found.repeated_words())
@@ -48,7 +48,7 @@ def refused_lines(found, line):
         yield fault.line
         yield found.text_of(fault)
     if len(others) > MOST_FAULTS:
-        yield f"\n{len(others) - MOST_FAULTS} more aren't shown."
+        yield f"\n{counted(len(others) - MOST_FAULTS, 'more isn', 'more aren')}'t shown."
 
 
 def sound_lines(found, path, explorer, refusals):
@@ -76,6 +76,9 @@ def check(program, path):
         if status == UNREAD:
             print(f"\nThe graph file is {quoted(path)}. {why_unread(path)}")
         return status
+    if status == 2:
+        # The program's line is written first, whatever becomes of the rest.
+        print(line, flush=True)
     found = reading.read(read_source(path))
     if status == 2:
         print("\n".join(refused_lines(found, line)))
@@ -93,7 +96,7 @@ def main(words):
     try:
         return written("check", lambda: check(*words), WRITE_FAILED)
     except OSError as fault:
-        print(f"check: {fault.strerror or fault}.", file=sys.stderr)
+        print(f"check: {fault.filename}: {fault.strerror}.", file=sys.stderr)
         return UNREAD
     except Exception as fault:
         if os.environ.get("PISDF_TOOLS_TRACE"):

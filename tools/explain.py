@@ -13,15 +13,14 @@ import sys
 
 sys.dont_write_bytecode = True
 
+from pisdf_tools.output import WRITE_FAILED, status_of
 from pisdf_tools.refusals import Explanation
-
-WRITE_FAILED = 6
 
 
 def call(program, words):
     """The status of a call and what it wrote to the standard error. Its standard output is this one."""
     done = subprocess.run([program] + words, stderr=subprocess.PIPE, close_fds=False)
-    return done.returncode if done.returncode >= 0 else 128 - done.returncode, done.stderr
+    return status_of(done), done.stderr
 
 
 def explained(program, words, status, errors):
@@ -48,6 +47,8 @@ def main(words):
     except OSError as fault:
         print(f"explain: the program {program} can't be called: {fault.strerror}.", file=sys.stderr)
         return 127
+    if sys.stderr is None:
+        return WRITE_FAILED if errors else status
     try:
         sys.stderr.buffer.write(errors)
         sys.stderr.buffer.flush()

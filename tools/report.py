@@ -42,18 +42,19 @@ def main(words):
     try:
         # A name of a file may have bytes that are no UTF-8.
         text = page.page(Run(program, graph, tokens, iterations, workers, *times)).encode("utf-8", "backslashreplace")
-        with open(target, "wb") as file:
-            file.write(text)
     except Refused as refused:
         print(f"report: {refused}", file=sys.stderr)
-        return 2
-    except OSError as error:
-        print(f"report: {target} can't be written: {error.strerror}", file=sys.stderr)
         return 2
     except Exception as error:
         if os.environ.get("PISDF_TOOLS_TRACE"):
             raise
         print(f"report: no page can be made of this ({type(error).__name__}). ./pisdf explain tells what the program answers", file=sys.stderr)
+        return 2
+    try:
+        with open(target, "wb") as file:
+            file.write(text)
+    except OSError as error:
+        print(f"report: {target} can't be written: {error.strerror}", file=sys.stderr)
         return 2
     return 0
 

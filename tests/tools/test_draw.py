@@ -1,12 +1,15 @@
 """Pictures of graph files, plans, schedules and cells."""
 import json
 import os
+import re
+import resource
 import subprocess
 import sys
 import tempfile
-import time
 import unittest
 import xml.etree.ElementTree as xml
+
+from support import WHOLE, chain, pixels
 
 TOP = os.path.realpath(os.path.join(os.path.dirname(__file__), "..", ".."))
 DRAW = os.path.join(TOP, "tools", "draw.py")
@@ -17,6 +20,12 @@ PLAN, SCHEDULE, MEMORY = (os.path.join(TOP, "tests", "commands", name, "stdout")
 def draw(*words, stdin=""):
     done = subprocess.run([sys.executable, "-B", DRAW, *words], input=stdin, capture_output=True, text=True, timeout=60)
     return done.returncode, done.stdout, done.stderr
+
+
+def spent():
+    """The processor time of the calls that have ended."""
+    used = resource.getrusage(resource.RUSAGE_CHILDREN)
+    return used.ru_utime + used.ru_stime
 
 
 def example(name):
@@ -43,6 +52,9 @@ class Graphs(unittest.TestCase):
         self.assertIn('"g/c" -> "g/n" [style=dashed', out)
         self.assertIn('"g/n" -> "g/m" [style=dashed', out)
         self.assertEqual(out.count("style=dashed"), 2)
+        whole = draw("graph", "-", stdin=WHOLE)[1]
+        found = re.findall(r'"(\w+/\w+)" -> "(\w+/\w+)" \[style=dashed', whole)
+        self.assertEqual(sorted(found), [("g/c", "g/n"), ("g/k", "g/b"), ("g/k", "g/y"), ("g/m", "g/a"), ("g/n", "g/m"), ("h/p", "h/e"), ("h/p", "h/u"), ("h/p", "h/v")])
 
     def test_a_delay_with_its_tokens_and_its_life(self):
         out = draw("graph", example("running-sum"))[1]
@@ -50,16 +62,21 @@ class Graphs(unittest.TestCase):
         self.assertIn('label=" delay 0 "', out)
 
     def test_a_long_delay_is_counted(self):
-        def change(graph):
-            graph["graphs"][0]["fifos"][0]["delay"] = [1, 2, 3, 4, 5, 6]
+        for tokens, words in (([1, 2, 3, 4], '" delay 1, 2, 3, 4 "'), ([1, 2, 3, 4, 5, 6], '" delay 1, 2, 3, 4, .. (6 tokens) "')):
+            def change(graph):
+                graph["graphs"][0]["fifos"][0]["delay"] = tokens
 
-        self.assertIn("delay 1, 2, 3, 4, .. (6 tokens)", draw("graph", "-", stdin=spoiled(change))[1])
+            self.assertIn(words, draw("graph", "-", stdin=spoiled(change))[1])
 
     def test_a_delay_of_too_many_tokens(self):
         def change(graph):
             graph["graphs"][0]["fifos"][1]["delay"] = 10 ** 15
 
         self.assertIn("delay 0, 0, 0, 0, .. (1000000000000000 tokens)", draw("graph", "-", stdin=spoiled(change))[1])
+
+    def test_a_long_graph_is_drawn_from_the_top_down(self):
+        self.assertIn("rankdir=LR", draw("graph", example("first"))[1])
+        self.assertIn("rankdir=TB", draw("graph", "-", stdin=chain(62))[1])
 
     def test_all_examples(self):
         for name in os.listdir(os.path.join(TOP, "examples")):
@@ -136,6 +153,9 @@ class Plans(unittest.TestCase):
         self.assertEqual(out.count(" -> "), 6)
         self.assertIn("penwidth=3", out)
         self.assertIn('n0 -> n3 [label="4 at 0"', out)
+        # Node 2 is at home on worker 1, and all others of these on worker 0.
+        fills = dict(re.findall(r'n(\d) \[label="[^"]*", fillcolor="(#\w+)"', out))
+        self.assertEqual([fills[number] == fills["0"] for number in "0124"], [True, True, False, True])
 
     def test_nodes_are_called_by_what_they_stand_beside(self):
         nodes = ["node,0,source,x,0,9", "node,1,init,0,0,8", "node,2,firing,a:0,0,7", "node,3,broadcast,1,0,6", "node,4,round,2,0,5", "node,5,end,0,0,4", "node,6,sink,y,0,3"]
@@ -153,11 +173,21 @@ class Plans(unittest.TestCase):
     def test_a_large_plan_is_drawn_by_actors_in_a_second(self):
         nodes = [f"node,{number},firing,a:{number},0,1" for number in range(1000)] + [f"node,{number},firing,b:{number - 1000},0,1" for number in range(1000, 2000)]
         edges = [f"edge,{number},{number},{number + 1000},3,{3 * number}" for number in range(1000)]
-        begun = time.monotonic()
+        begun = spent()
         out = draw("plan", "-", stdin="\n".join([*nodes, *edges, "height,3000"]))[1]
-        self.assertLess(time.monotonic() - begun, 5)
+        self.assertLess(spent() - begun, 5)
         self.assertEqual(out.count("1000 nodes"), 2)
-        self.assertIn('label="1000 edges, 3000 tokens"', out)
+        self.assertIn('g0 [label="a\\n1000 nodes"', out)
+        self.assertIn('g0 -> g1 [label="1000 edges, 3000 tokens"', out)
+
+    def test_texts_of_other_kinds(self):
+        self.assertEqual(draw("plan", "-", stdin="a" * 200_000)[::2], (2, f"draw: -, line 1: no row of a plan, a schedule or a memory begins with '{'a' * 58}..'\n"))
+        self.assertEqual(draw("plan", "-", stdin='"node\n')[::2], (2, "draw: -, line 1: no row of a plan, a schedule or a memory begins with '\"node'\n"))
+        self.assertEqual(draw("plan", "-", stdin=" {" + "x" * 200_000)[2][:30], "draw: - is a graph file, which")
+        self.assertEqual(draw("gantt", "-", stdin="critical,1\nwork,1\nlength,1\npath,0,x\n")[2], "draw: -, line 4: a field that has to be a number isn't one\n")
+        with open(PLAN, encoding="utf-8") as file:
+            text = file.read()
+        self.assertEqual(draw("plan", "-", stdin=text.replace("\n", "\r\n\r\n")), draw("plan", PLAN))
 
     def test_what_is_no_plan(self):
         self.assertEqual(draw("plan", "-", stdin="tokens,0,y,5\n")[2], "draw: -, line 1: no row of a plan, a schedule or a memory begins with 'tokens'\n")
@@ -165,6 +195,7 @@ class Plans(unittest.TestCase):
         self.assertEqual(draw("plan", "-", stdin="height,5\n")[2], "draw: - has no row 'node'\n")
         self.assertEqual(draw("plan", "-", stdin="node,1,firing\n")[2], "draw: -, line 1: a row 'node' has 5 fields after it, and this one has 2\n")
         self.assertEqual(draw("plan", "-", stdin="node,0,firing,a:0,0,1\nedge,0,0,7,1,0\n")[2], "draw: -: edge 0 names node 7, and no row has it\n")
+        self.assertEqual(draw("plan", "-", stdin="node,0,firing,a:0,0,1\nedge,0,7,0,1,0\n")[2], "draw: -: edge 0 names node 7, and no row has it\n")
         self.assertEqual(draw("plan", "-", stdin="height,many\n")[2], "draw: -, line 1: a field that has to be a number isn't one\n")
 
 
@@ -180,6 +211,13 @@ class Charts(unittest.TestCase):
         self.assertEqual(len(bars), 6)
         told = [shape.find(f"{SVG}title").text for shape in bars]
         self.assertTrue(any(words.startswith("a:0: from ") for words in told), told)
+        fills = {}
+        for shape in bars:
+            fills.setdefault(re.search(r"worker (\d+)", shape.findtext(f"{SVG}title"))[1], set()).add(shape.get("fill"))
+        self.assertEqual(fills, {"0": {"#a6cee3"}, "1": {"#b2df8a"}})
+        # Node 2 runs on worker 1 from 14 to 18 of 26: the chart is 900 wide, and a row 32 high.
+        box, = [shape for shape in bars if shape.findtext(f"{SVG}title").startswith("a:1: from 14 to 18, worker 1")]
+        self.assertEqual([box.get(name) for name in ("x", "y", "width", "height")], [f"{70 + 14 * 900 / 26:.1f}", "106", f"{4 * 900 / 26:.1f}", "24"])
 
     def test_a_box_of_cells_for_each_buffer(self):
         drawn = self.shapes("cells", PLAN)
@@ -192,6 +230,13 @@ class Charts(unittest.TestCase):
         drawn = self.shapes("cells", PLAN)
         box, = [shape for shape in drawn.iter(f"{SVG}rect") if "from fork of x to a:1" in (shape.findtext(f"{SVG}title") or "")]
         self.assertEqual((box.get("x"), box.get("width")), ("220", "450"))
+        # It lies in the cells 6 and 7 of 8, which are 420 high.
+        self.assertEqual((box.get("y"), box.get("height")), (str(70 + 6 * 420 // 8), str(2 * 420 // 8)))
+
+    def test_the_marks_of_a_scale(self):
+        from drawing.svg import marks
+        for length, count, wanted in ((0, 12, [0]), (10, 12, list(range(11))), (20, 12, list(range(0, 21, 2))), (26, 12, [0, 5, 10, 15, 20, 25]), (1000, 9, [0, 200, 400, 600, 800, 1000])):
+            self.assertEqual(list(marks(length, count)), wanted)
 
     def test_the_cells_of_a_memory(self):
         offsets = "".join(f"offset,{number},{2 * number}\n" for number in range(6))
@@ -209,7 +254,12 @@ class Charts(unittest.TestCase):
         edges = [f"edge,{number},{number},{number + 1},1,{number}" for number in range(4999)]
         status, out, error = draw("cells", "-", stdin="\n".join([*nodes, *edges, "height,4999"]))
         self.assertEqual((status, error), (0, ""))
-        self.assertEqual(len(list(xml.fromstring(out).iter(f"{SVG}image"))), 1)
+        image, = xml.fromstring(out).iter(f"{SVG}image")
+        rows = pixels(image.get("href"))
+        self.assertEqual((len(rows), len(rows[0])), (420, 900))
+        # A buffer of each step lies one cell lower: all are on the way from the corner above to the corner below.
+        self.assertTrue(rows[0][0] < 0xf4 and rows[-1][-1] < 0xf4 and rows[210][450] < 0xf4)
+        self.assertEqual((rows[0][-1], rows[-1][0]), (0xf4, 0xf4))
 
 
 if __name__ == "__main__":

@@ -204,6 +204,15 @@ class GraphFaults(unittest.TestCase):
         self.assertEqual([fault.line for fault in found.faults],
                          ["graph: 2 shape /graphs/0/inputs/1/rate", "graph: 5 unknown a.k", "graph: 6 kernel gian"])
 
+    def test_marks_stand_below_what_they_mark(self):
+        from pisdf_tools.source import Source
+        long = "".join(f"{number:04}," for number in range(100))
+        for text, start, end in (("ab\ncd ef\ngh", 6, 8), ("ab", 2, 3), ("a\tb", 2, 3), (long, 0, 4), (long, 250, 254), (long, 495, 499), (f"x\n{long}\ny", 252, 256)):
+            line, marks = Source("g", text.encode()).snippet(start, end).split("\n")
+            at = marks.index("^")
+            self.assertEqual((marks.strip(), line[at:at + end - start]), ("^" * (end - start), text[start:end]), (text[:9], start))
+            self.assertLessEqual(len(line), 4 + 100 + 4)
+
     @needs_program
     def test_the_program_answers_the_same_lines(self):
         for name, changes, line, _, words in ROWS:

@@ -88,11 +88,13 @@ ROWS = [
     ("two rings that share none", APART, "x,1", "run: g deadlock own 1 twin 1 less 1 more 1 last 1 back 1", '{"from":"back.o","to":"less.j"}',
      ["Firings are left of `own` (1), `twin` (1), `less` (1)", "More than one FIFO needs a delay: begin with this one."]),
     ("an overflow", TWO % ("1", "gain", '["2"]', "1", "1"), "x,4611686018427387904", "run: g kernel a:0 1", '"gain"',
-     ["4611686018427387904 * 2 is 9223372036854775808", "`i` read 1 token", "a number lies outside 64 bits"]),
+     ["4611686018427387904 * 2 is 9223372036854775808", "`i` read 1 token", "a number lies outside 64 bits", "Overflow of `gain`: a product lies outside 64 bits."]),
+    ("a division by 0", changed(TWO % ("1", "div", "[]", "1", "1"), ('"ins":[{"name":"i","rate":"1"}]', '"ins":[{"name":"i","rate":"1"},{"name":"j","rate":"1"}]'), ('"inputs":[', '"inputs":[{"name":"z","rate":"1"},'),
+     ('"fifos":[', '"fifos":[{"from":"z","to":"a.j"},')), "x,1\nz,0", "run: g kernel a:0 2", '"div"', ["1 is divided by 0", "Division of `div`: `z[n]` is 0."]),
     ("rates that don't fit the kernel", TWO % ("4", "sum", "[]", "4", "2"), "x,1,2,3,4", "run: g kernel a:0 3", '"sum"',
      ["the output's rate must be 1, and it is 2", "Rates of `sum`: `s = 1`"]),
     ("a value that the kernel doesn't take", TWO % ("1", "clamp", '["3","1"]', "1", "1"), "x,1", "run: g kernel a:0 4", '"clamp"',
-     ["the lower bound 3 is greater than the upper bound 1"]),
+     ["the lower bound 3 is greater than the upper bound 1", "Value of `clamp`: `low` is greater than `high`."]),
     ("a refusal in a child", changed(WHOLE, ('"kernel":"pass"', '"kernel":"sum"')), TOKENS, "run: g/b:0 kernel e:0 3", '"sum"',
      ["in graph `h`, actor `e`", "in the firing `g/b:0` of iteration 0"]),
 ]
@@ -131,11 +133,14 @@ class RunRefusals(unittest.TestCase):
 
     def test_lines_alone_are_explained_too(self):
         from pisdf_tools.static_refusals import plain_words
-        for name, graph, _, line, _, _ in ROWS:
+        for name, graph, _, line, _, words in ROWS:
             with self.subTest(name):
                 text = plain_words(read_text(graph), line)
                 self.assertTrue(text.startswith("g.json, line "), text)
                 self.assertGreater(len(text.splitlines()[-1]), 40)
+                for word in words:
+                    if " of `" in word and line.startswith("run: g kernel"):
+                        self.assertIn(word, text)
 
     @needs_program
     def test_the_program_answers_the_same_lines(self):

@@ -21,8 +21,11 @@ def text_of(text):
         return text
     if isinstance(text, list):
         return "".join(text_of(part) for part in text)
+    if "quoted" in text:
+        return text_of(text["quoted"]).replace("'", '"')
     if "each" in text:
-        return text.get("between", "").join(text["each"].replace("#", str(place)).replace("@", str(place + 1)) for place in range(text["times"]))
+        places = range(text.get("from", 0), text.get("from", 0) + text["times"])
+        return text.get("between", "").join(text["each"].replace("#", str(place)).replace("@", str(place + 1)) for place in places)
     return text.get("between", "").join([text_of(text["of"])] * text["times"])
 
 
@@ -117,6 +120,71 @@ class Readings(unittest.TestCase):
         for old, new in row.get("changes", []) if "of" in row else []:
             text = text.replace(text_of(old), text_of(new), 1)
         return text if len(text) < MOST else None
+
+
+class Runs(unittest.TestCase):
+    """What the tools work out of a run by rules of their own, against what the program is wanted to write."""
+
+    def calls(self, name, commands):
+        """The words of the calls with these commands, their graphs, their tokens, and what is wanted. Very long files are left out."""
+        for row in rows_of(name):
+            words = row["words"].split(" ") if isinstance(row.get("words"), str) else [""]
+            files = {file[0]: file[1] for file in row["files"]}
+            if words[0] in commands and len(files) == 2 and len(json.dumps(row)) < MOST and row["want"][2] in (0, 4) and not any(key.startswith("failing") for key in row):
+                yield words, read_text(text_of(files[words[1]])), text_of(files[words[2]]).encode(), [text_of(text) for text in row["want"][:2]]
+
+    def test_runs_end_as_the_rows_want(self):
+        from pisdf_tools import firing, token_file
+        from pisdf_tools.levels import Refused
+
+        class Told(firing.Runner):
+            """Keeps the rows of the iterations that are done."""
+            rows, done = (), ()
+
+            def top_early(self):
+                self.done, self.rows = [*self.done, *self.rows], []
+                return super().top_early()
+
+            def configure(self, graph, path, early, ins, state):
+                chosen, outs = super().configure(graph, path, early, ins, state)
+                self.rows += [f"param,{self.iteration},{path},{name},{value}" for name, value in chosen.items()]
+                return chosen, outs
+
+            def graph(self, graph, path, early, ins, state):
+                found = super().graph(graph, path, early, ins, state)
+                if "/" not in path:
+                    self.rows += [",".join(["tokens", str(self.iteration), port.name.text, *map(str, found[0][port.name.text])]) for port in graph.outputs]
+                return found
+
+        tried = 0
+        for words, found, data, (out, error) in self.calls("runs.jsonl", ("run", "plain")):
+            runner, line = Told(found.file, 20), ""
+            try:
+                runner.run(int(words[3]), token_file.Streams(data, {port.name.text for port in found.file.top_graph.inputs}).tokens)
+                runner.done = [*runner.done, *runner.rows]
+            except Refused as refused:
+                line = f"{refused.line}\n"
+            self.assertEqual((sorted(runner.done), line), (sorted(out.splitlines()), error if error.startswith("run: ") else ""), (words, found.source.text))
+            tried += 1
+        self.assertGreater(tried, 100)
+
+    def test_nodes_are_numbered_as_the_rows_want(self):
+        from drawing import nodes
+        from pisdf_tools import token_file
+        from pisdf_tools.levels import Refused
+        tried = 0
+        for _, found, data, (out, _) in self.calls("jobs.jsonl", ("plan",)):
+            wanted = [line.split(",")[1:4] for line in out.splitlines() if line.startswith("node,")]
+            if wanted:
+                recorder = nodes.Recorder(found.file, 20)
+                try:
+                    recorder.run(1, token_file.Streams(data, {port.name.text for port in found.file.top_graph.inputs}).tokens)
+                except Refused:
+                    # A kernel that faults refuses no plan, and the level was found before.
+                    pass
+                self.assertEqual(nodes.rows_of(*recorder.found[found.file.top.text])["node"], wanted, found.source.text)
+                tried += 1
+        self.assertGreater(tried, 10)
 
 
 if __name__ == "__main__":

@@ -1,4 +1,5 @@
 """Each refusal of a token file: the place, and what the explanation has to say."""
+import time
 import unittest
 
 from support import call, needs_program
@@ -57,6 +58,15 @@ class TokenFaults(unittest.TestCase):
         self.assertEqual([streams.length(name) for name in "xyz"], [100_000, 0, 0])
         self.assertEqual(streams.tokens("x", 99_998, 2), [99_998, 99_999])
         self.assertEqual([streams.tokens("x", 99_999, 2), streams.tokens("y", 0, 0), streams.tokens("z", 0, 1)], [None, [], None])
+
+    def test_a_long_file_in_quotes_is_read_soon(self):
+        from pisdf_tools.token_file import records
+        begun = time.process_time()
+        record, = records(b'"x",' + b",".join(b'"%d"' % number for number in range(300_000)) + b"\n")
+        self.assertEqual((record.count(), record.field(300_000)), (300_001, b"299999"))
+        plain, = records(b'"x",' + b"7" * 20_000_000)
+        self.assertEqual(len(plain.field(1)), 20_000_000)
+        self.assertLess(time.process_time() - begun, 5)
 
     def test_further_faults_are_named(self):
         from pisdf_tools.token_file import TokenFaults

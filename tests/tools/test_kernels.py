@@ -33,6 +33,9 @@ class Kernels(unittest.TestCase):
             self.assertIn("Example: ", out)
             actor = json.loads(re.search(r"^As an actor of a graph file: (.*)$", out, re.M).group(1))
             self.assertEqual((actor["kernel"], "sets" in actor), (name, 'the kind "config"' in out))
+            for part, count in zip(("args", "ins", "outs", "sets"), re.search(r"; arguments: (.*), inputs: (.*), outputs: (.*), parameters set: (.*)\.", out).groups()):
+                least, _, most = count.partition(" to ")
+                self.assertTrue(int(least) <= len(actor.get(part, [])) <= int(most or least), (name, part, count))
             self.assertNotIn("###", out)
 
     def test_a_name_that_is_none(self):

@@ -44,7 +44,7 @@ class Launcher(unittest.TestCase):
         room = tempfile.TemporaryDirectory()
         self.addCleanup(room.cleanup)
         self.room = room.name
-        self.tree = os.path.join(self.room, "a tree")
+        self.tree = os.path.join(self.room, "a [big] tree")
         os.makedirs(self.tree)
         shutil.copy(os.path.join(TOP, "pisdf"), self.tree)
         write(self.path("crates.txt"), "# crates\nlow:\npisdf may_wait=1: low std_io\n")
@@ -92,8 +92,14 @@ class Launcher(unittest.TestCase):
         self.assertEqual(out, "[plan][][two words][*][--help][\ufffd\ufffd]\n")
 
     def test_no_words(self):
+        self.assertEqual(self.call(), (1, "", "pisdf: give a command: ./pisdf --help lists them\n"))
+        self.assertEqual(self.builds(), 0)
+
+    def test_a_misspelt_word_builds_nothing(self):
+        self.assertEqual(self.call("rnu", "g.json"), (1, "", "pisdf: 'rnu' is no command: ./pisdf --help lists them\n"))
+        self.assertEqual(self.builds(), 0)
         self.built()
-        self.assertEqual(self.call()[:2], (3, "\n"))
+        self.assertEqual(self.call("rnu", "g.json"), (3, "[rnu][g.json]\n", ""))
 
     def test_help_needs_nothing(self):
         status, out, error = self.call("--help", kit=False)
@@ -104,10 +110,21 @@ class Launcher(unittest.TestCase):
             self.assertEqual(self.call(word, kit=False), (0, out, ""))
         self.assertEqual(self.builds(), 0)
 
+    @unittest.skipUnless(os.path.exists("/dev/full"), "there is no /dev/full")
+    def test_a_text_that_cant_be_written(self):
+        self.built()
+        for word in ("--help", "--version"):
+            with open("/dev/full", "wb") as full:
+                done = subprocess.run([self.path("pisdf"), word], env={"PATH": self.plain}, stdout=full, stderr=subprocess.PIPE, timeout=60)
+            self.assertEqual(done.returncode, 6)
+            self.assertIn(b"No space left on device", done.stderr)
+
     def test_version(self):
         self.assertIn("isn't built yet", self.call("--version", kit=False)[1])
         self.built()
-        self.assertIn("proved and built with toolchain 7", self.call("--version", kit=False)[1])
+        self.assertTrue(self.call("--version", kit=False)[1].endswith("proved and built with toolchain 7\n"))
+        write(self.path("crates/low/src/lib.rt"), "three")
+        self.assertTrue(self.call("--version", kit=False)[1].endswith("proved and built with toolchain 7\nthe sources were changed since then: the next call proves and builds them\n"))
 
     def test_version_of_a_program_that_another_call_built(self):
         write(self.path("crates/pisdf/out/pisdf"), PROGRAM, executable=True)
@@ -128,8 +145,18 @@ class Launcher(unittest.TestCase):
 
     def test_scripts_get_the_program(self):
         self.built()
-        write(self.path("tools/explain.py"), "import sys\nprint(sys.argv[1:])\n")
-        self.assertEqual(self.call("explain", "run", "x")[1], f"{[self.path('crates/pisdf/out/pisdf'), 'run', 'x']}\n")
+        for word in ("explain", "check", "report"):
+            write(self.path(f"tools/{word}.py"), f"import sys\nprint('{word}', sys.argv[1:])\nsys.exit(4)\n")
+            self.assertEqual(self.call(word, "run", "x"), (4, f"{word} {[self.path('crates/pisdf/out/pisdf'), 'run', 'x']}\n", ""))
+
+    def test_scripts_that_need_no_program(self):
+        for word in ("draw", "kernels"):
+            write(self.path(f"tools/{word}.py"), f"import sys\nprint('{word}', sys.argv[1:])\nsys.exit(2)\n")
+            self.assertEqual(self.call(word, "graph", "x", kit=False), (2, f"{word} ['graph', 'x']\n", ""))
+
+    def test_a_word_that_needs_python(self):
+        os.remove(os.path.join(self.plain, "python3"))
+        self.assertEqual(self.call("kernels"), (127, "", "pisdf: this word needs Python 3, and 'python3' isn't on the PATH\n"))
 
     # ---- whether the program is current
 
@@ -160,12 +187,22 @@ class Launcher(unittest.TestCase):
 
     def test_a_copy_of_a_changed_tree_is_built(self):
         self.built()
-        write(self.path("crates/low/src/lib.rt"), "three")
-        copy = os.path.join(self.room, "copy")
-        shutil.copytree(self.tree, copy)
-        late = time.time() + 5
-        os.utime(os.path.join(copy, "crates/pisdf/out/pisdf"), (late, late))
-        self.assertEqual(self.call("run", kit=False, tree=copy)[0], 127)
+        for name, text in (("crates/low/src/lib.rt", "three"), ("crates.txt", "low:\npisdf: low std_io\n")):
+            copy = os.path.join(self.room, "copy of " + os.path.basename(name))
+            shutil.copytree(self.tree, copy)
+            write(os.path.join(copy, name), text)
+            late = time.time() + 5
+            os.utime(os.path.join(copy, "crates/pisdf/out/pisdf"), (late, late))
+            self.assertEqual(self.call("run", kit=False, tree=copy)[0], 127)
+
+    def test_an_older_file_copied_over_a_source_is_built(self):
+        older = os.path.join(self.room, "older.rt")
+        write(older, "older")
+        os.utime(older, (time.time() - 1000, time.time() - 1000))
+        self.built()
+        shutil.copy2(older, self.path("crates/low/src/lib.rt"))
+        self.assertEqual(self.call("run")[0], 3)
+        self.assertEqual(self.builds(), 2)
 
     def test_a_new_file_and_a_lost_one_are_built(self):
         self.built()
@@ -218,6 +255,21 @@ class Launcher(unittest.TestCase):
         status, out, error = self.call("run")
         self.assertEqual((status, out), (127, ""))
         self.assertIn("what went wrong", error)
+
+    def test_how_many_crates_are_worked_on_at_once(self):
+        with open(self.path("pisdf"), encoding="utf-8") as file:
+            text = file.read()
+        self.assertEqual(text.count("/proc/meminfo"), 1)
+        memory = os.path.join(self.room, "meminfo")
+        write(self.path("pisdf"), text.replace("/proc/meminfo", f"'{memory}'"), executable=True)
+        write(os.path.join(self.kit, "nproc"), "#!/bin/bash\necho 4\n", executable=True)
+        for available, asked, jobs in ((2_000_000, None, 1), (10_000_000, None, 3), (99_000_000, None, 4), (10_000_000, "7", 7)):
+            write(memory, f"MemTotal: 100000000 kB\nMemAvailable: {available} kB\n")
+            write(self.path("crates/low/src/lib.rt"), f"{available} {asked}")
+            environment = {"PATH": self.kit + ":" + self.plain, **({"PISDF_JOBS": asked} if asked else {})}
+            subprocess.run([self.path("pisdf"), "run"], env=environment, capture_output=True, timeout=60)
+            with open(os.path.join(self.kit, "calls"), encoding="utf-8") as file:
+                self.assertEqual([line for line in file if line.startswith("all")][-1], f"all check --jobs {jobs}\n")
 
     def test_a_number_of_jobs_that_is_none(self):
         environment = {"PATH": self.kit + ":" + self.plain, "PISDF_JOBS": "many"}

@@ -1,6 +1,7 @@
 """The page of a report, over a program that answers from stored texts."""
 import filecmp
 import os
+import re
 import shutil
 import subprocess
 import sys
@@ -9,7 +10,7 @@ import unittest
 from unittest import mock
 import xml.etree.ElementTree as xml
 
-from support import PROGRAM as BUILT, needs_program
+from support import PROGRAM as BUILT, chain, needs_program, pixels, read_text
 
 TOP = os.path.realpath(os.path.join(os.path.dirname(__file__), "..", ".."))
 REPORT = os.path.join(TOP, "tools", "report.py")
@@ -136,6 +137,13 @@ class Report(unittest.TestCase):
         self.assertEqual([words for _, words in row], ["j 1", "delay 0, permanent", "p 1"])
         self.assertGreater(row[2][0] - row[0][0], 6 * len("j 1delay 0, permanentp 1"))
 
+    def test_how_many_iterations_are_planned_as_one(self):
+        from drawing import run
+        graph, tokens = (os.path.join(TOP, "examples", "cascade", name) for name in ("g.json", "t.csv"))
+        for iterations, times, group in (("4", "4", 4), ("3", "4", 1), ("8", "4", 4), ("8", "1", 1)):
+            made = run.Run(os.path.join(self.room, "program"), graph, tokens, iterations, "2", times)
+            self.assertEqual((made.group, made.planned.top_graph.inputs[0].rate.text), (group, str(group)))
+
     def test_shares_make_a_hundred(self):
         from drawing.page import shares
         self.assertEqual(shares([2, 1]), [67, 33])
@@ -182,6 +190,11 @@ class Report(unittest.TestCase):
         self.assertEqual((rows["Nodes"], rows["Edges"], rows["Cells of the plan"], rows["Cells under fixed orders"]), ("6", "6", "16", "14"))
         self.assertEqual((rows["Firings of m"], rows["Critical path"], rows["Tokens of y"]), ("2", "20", "2"))
         self.assertIn("nor than the work divided by the workers, 12.", text)
+        self.put("run.line", "left: width 1\nleft: x 8\n")
+        rows = {row[0].text: row[1].text for row in self.page()[1].iter("tr") if len(row) == 2}
+        self.assertEqual((rows["Tokens left of width"], rows["Tokens left of x"]), ("1", "8"))
+        self.put("schedule", SCHEDULE.replace("work,24", "work,25"))
+        self.assertIn("nor than the work divided by the workers, 13.", self.page()[0])
 
     def test_a_picture_can_be_moved_by_the_keyboard(self):
         _, page = self.page()
@@ -225,6 +238,9 @@ class Report(unittest.TestCase):
         for path, what in ((graph, "graph"), (tokens, "token")):
             status, told = self.call(graph=graph, tokens=tokens, target=path)
             self.assertEqual((status, told), (2, f"report: the page would be written over the {what} file {path}. Give the page a name of its own\n"))
+        link = os.path.join(self.room, "page.html")
+        os.symlink(graph, link)
+        self.assertEqual(self.call(graph=graph, tokens=tokens, target=link)[0], 2)
         for path, source in ((graph, GRAPH), (tokens, TOKENS)):
             self.assertTrue(filecmp.cmp(path, source, shallow=False))
 
@@ -233,11 +249,130 @@ class Report(unittest.TestCase):
         _, page = self.page(iterations="64")
         drawn, = self.labelled(page, "Tokens of y")
         image, = drawn.iter(f"{XHTML}image")
-        self.assertTrue(image.get("href").startswith("data:image/png;base64,"))
+        rows = pixels(image.get("href"))
+        self.assertEqual([list(row) for row in rows], [[number * at % 256 for at in range(64)] for number in range(64)])
+
+    def test_the_lines_of_an_image(self):
+        from drawing.page import lines_of
+        self.assertEqual(lines_of([[1, 2, 3, 4, 5, 6, 7]]), [[1, 2], [3, 4], [5, 6], [7]])
+        self.assertEqual(lines_of([[1, 2], [], [3]]), [[1, 2], [3]])
+
+    def test_a_greater_value_stands_higher(self):
+        self.put("run", "tokens,0,y,-5,0,9\n")
+        _, page = self.page(iterations="1")
+        drawn, = self.labelled(page, "Tokens of y")
+        dots = {dot.findtext(f"{XHTML}title"): float(dot.get("cy")) for dot in drawn.iter(f"{XHTML}circle")}
+        self.assertEqual(dots, {"token 0: -5": 220, "token 1: 0": 40 + round(9 * 180 / 14, 1), "token 2: 9": 40})
+
+    def test_arrows_lead_from_who_sets_a_parameter_to_who_uses_it(self):
+        _, page = self.page()
+        drawn, = self.labelled(page, "The graph g")
+        at = {words.text: float(words.get("x")) for words in drawn.iter(f"{XHTML}text") if words.text in "cnm"}
+        self.assertTrue(at["c"] < at["n"] < at["m"], at)
+        ends = [[float(part.get("d").split(" ")[place].split(",")[0].lstrip("M")) for place in (0, -1)] for part in drawn.iter(f"{XHTML}path") if part.get("class") == "use"]
+        self.assertEqual(len(ends), 2)
+        self.assertTrue(all(at[one] < start < end < at[other] for (start, end), (one, other) in zip(sorted(ends), ("cn", "nm"))), (ends, at))
+        heads = [part.get("d").split(" ")[1] for part in drawn.iter(f"{XHTML}path") if part.get("class") == "head"]
+        self.assertEqual(set(heads), {"l-7,-4"})
+
+    def test_captions_stand_above_charts(self):
+        text, page = self.page()
+        main = list(page.iter("main"))[0]
+        charts = [(above, part) for section in main.iter() for above, part in zip(section, list(section)[1:]) if part.get("class") == "figure chart"]
+        self.assertEqual(len(charts), 6)
+        for above, part in charts:
+            self.assertEqual((above.get("class"), above.text), ("caption", part.find(f"{XHTML}svg").findtext(f"{XHTML}title")))
+        self.assertIn(".chart .wide { display: none; }", text)
+
+    def test_words_of_files_and_answers_are_no_html(self):
+        graph = os.path.join(self.room, "g<b>&amp;.json")
+        shutil.copy(GRAPH, graph)
+        self.put("run.status", "4")
+        self.put("run.line", "run: <i>&amp;\n")
+        text, page = self.page(graph=graph)
+        self.assertEqual((list(page.iter("b")), list(page.iter("i"))), ([], []))
+        self.assertEqual(page.find("head").find("title").text, f"Report: {graph} with {TOKENS}")
+        self.assertIn("run: <i>&amp;", "".join(page.itertext()))
+
+    def test_a_token_file_that_is_refused(self):
+        self.put("t.csv", "width,4\nx,1,one\n")
+        for name in ("run", "plan", "schedule", "memory", "journal"):
+            self.put(name, "")
+            self.put(f"{name}.status", "3")
+            self.put(f"{name}.line", "tokens: number 2 3\n")
+        text, page = self.page(tokens=os.path.join(self.room, "t.csv"))
+        self.assertIn("which is no token", text)
+        self.assertEqual(len(self.labelled(page, "The graph g")), 1)
+
+    def test_a_graph_without_parts(self):
+        self.put("g.json", '{"pisdf":3,"top":"g","graphs":[{"name":"g","params":[],"inputs":[],"outputs":[],"actors":[],"fifos":[],"exports":[]}]}')
+        for name, text in (("run", ""), ("plan", "height,0\n"), ("schedule", "critical,0\nwork,0\nlength,0\npath\n"), ("memory", "height,0\nordered,0\n"), ("journal", "claim,0,0,g,compile,0\nfinish,0,0\n")):
+            self.put(name, text)
+        _, page = self.page(graph=os.path.join(self.room, "g.json"))
+        rows = {row[0].text: row[1].text for row in page.iter("tr") if len(row) == 2}
+        self.assertEqual((rows["Nodes"], rows["Edges"], rows["Cells of the plan"]), ("0", "0", "0"))
+
+    def test_what_isnt_drawn_is_told(self):
+        from drawing import page, run
+        self.put("run", "".join(f"param,{at},g,n,4\ntokens,{at},y,{','.join(['1'] * 500)}\n" for at in range(4)))
+        with mock.patch.multiple(page, MOST_ITEMS=2, MOST_VALUES=3, MOST_ROWS=3):
+            text = page.page(run.Run(os.path.join(self.room, "program"), GRAPH, TOKENS, "4", "2"))
+        for words in ("2 of 4 items", "3 of 4 values", "3 of 4 lines of the image"):
+            self.assertIn(f"Only the first {words} are drawn.", text)
+        drawn = xml.fromstring(text.split("\n", 1)[1])
+        workers, = self.labelled(drawn, "What the workers did")
+        self.assertEqual(len([part for part in workers.iter(f"{XHTML}rect")]), 2)
+        rows = {row[0].text: row[1].text for row in drawn.iter("tr") if len(row) == 3}
+        self.assertEqual((rows["worker 0"], rows["worker 1"]), ("2", "2"))
+
+    def test_a_long_graph_is_laid_out_in_bands(self):
+        from drawing.graphs import graph_picture
+        file = read_text(chain(62)).file
+        drawn = xml.fromstring(graph_picture(file.top_graph, file))
+        self.assertLess(float(drawn.get("width")), 1200)
+        boxes = [[float(box.get(name)) for name in ("x", "y", "width", "height")] for box in drawn.iter(f"{XHTML}rect")]
+        self.assertEqual(len(boxes), 64)
+        for place, (x, y, wide, high) in enumerate(boxes):
+            self.assertTrue(0 <= x and x + wide <= float(drawn.get("width")) and 0 <= y and y + high <= float(drawn.get("height")))
+            self.assertTrue(all(x + wide < left or left + width < x or y + high < top or top + height < y for left, top, width, height in boxes[:place]))
+        self.assertGreater(len({y for _, y, _, _ in boxes}), 5)
+        links = [part.get("d") for part in drawn.iter(f"{XHTML}path") if part.get("class") == "edge"]
+        self.assertEqual(len(links), 63)
+        # A link to the next band goes over five parts: to the right, down, to the left, down, and to the right.
+        self.assertEqual({link.count("C") for link in links}, {1, 5})
+
+    def test_links_that_go_on_in_the_next_band_dont_cross(self):
+        from drawing.bands import Bands
+        rows = [["a", "b"], [("p", 1), ("q", 1)]] + [["c", "d"]]
+        bands = Bands(rows, [700, 700, 700], [90, 90, 90], dict.fromkeys(["a", "b", ("p", 1), ("q", 1), "c", "d"], 20), {"a": 10, "b": 60, ("p", 1): 10, ("q", 1): 60, "c": 10, "d": 60},
+                      [["a", ("p", 1), "c"], ["b", ("q", 1), "d"]])
+        self.assertEqual(bands.bands, [0, 1, 2])
+        self.assertFalse(any(self.crosses(*one, *other) for one in self.parts(bands.route(0)) for other in self.parts(bands.route(1))))
+
+    def test_links_of_one_box_go_on_apart(self):
+        from drawing.layout import Arrow, Box, drawing
+        boxes = [Box(name, [name * 150], "#fff") for name in "abc"]
+        drawn = xml.fromstring(drawing(boxes, [Arrow("a", "b"), Arrow("a", "c")], "two links"))
+        links = [re.findall(r"(-?[\d.]+),(-?[\d.]+)(?= C|$)", part.get("d")) for part in drawn.iter(f"{XHTML}path") if part.get("class") == "edge"]
+        self.assertEqual([len(points) for points in links], [6, 6])
+        self.assertTrue(all(points[0][1] == points[1][1] and points[4][1] == points[5][1] for points in links), links)
+        self.assertNotEqual(links[0][0][1], links[1][0][1])
+
+    def parts(self, points):
+        return list(zip(points, points[1:]))
+
+    def crosses(self, one, other, start, end):
+        """Whether a level part and an upright one cross."""
+        if (one[0] == other[0]) == (start[0] == end[0]):
+            return False
+        (x, y), (to_x, to_y) = (one, other) if one[0] == other[0] else (start, end)
+        (left, at), (right, _) = sorted((start, end) if one[0] == other[0] else (one, other))
+        return left < x < right and min(y, to_y) < at < max(y, to_y)
 
     def test_a_refused_run(self):
         tokens = os.path.join(self.room, "t.csv")
         self.put("t.csv", "width,4,8,9\nx," + ",".join(["1"] * 24) + "\n")
+        self.put("run", RUN.replace("tokens,1,y,4\n", "tokens,1,y,4\ntokens,1,z,4\n"))
         line = "run: g param n value 9 range 1 8"
         for name in ("run", "journal"):
             self.put(f"{name}.status", "4")

@@ -83,6 +83,16 @@ class Rules(unittest.TestCase):
         self.assertEqual(unfolded_text(read_text(text).file, 3), wanted)
 
 
+    def test_the_groups_of_a_run(self):
+        from pisdf_tools.unfolding import group_words
+        file = read_text(PASS).file
+        cases = [(4, 8, "2 groups of 4 iterations are fired as one."), (4, 6, "1 group of 4 iterations is fired as one, and 2 iterations behind it one by one."),
+                 (4, 9, "2 groups of 4 iterations are fired as one, and 1 iteration behind them one by one."), (4, 4, "1 group of 4 iterations is fired as one."),
+                 (5, 4, "A group has 5 iterations, and 4 were asked for. So they are made one by one."), (1, 8, "TIMES is 1, so the iterations are made one by one, as by `run`.")]
+        for times, iterations, words in cases:
+            self.assertEqual(group_words(file, times, iterations), words)
+
+
 class Drawings(unittest.TestCase):
     def draw(self, *words):
         done = subprocess.run([sys.executable, "-B", os.path.join(TOOLS, "draw.py"), *words], capture_output=True, text=True, timeout=60)

@@ -4,6 +4,7 @@ import heapq
 from drawing.inputs import Refused
 from drawing.parts import Names
 from drawing.svg import GREY, colour, element, firing_colour, image, marks, picture, text, title
+from pisdf_tools.wording import counted
 
 WIDTH, MARGIN, ROW = 900, 70, 32
 # A bar has a border from this width on.
@@ -45,7 +46,7 @@ def gantt(schedule, names=None):
     drawn = sorted(bars, key=lambda row: str(row[0]) in critical)
     bars_drawn = [bar(start, end, worker, names.of(str(node)) if names else str(node), scale, str(node) in critical) for node, worker, start, end in drawn]
     parts = [text(MARGIN, 24, summary, "wide"), *grid(length, scale, MARGIN, bottom), *lanes(workers), *bars_drawn]
-    return picture(WIDTH + 2 * MARGIN, bottom + 20, f"List schedule of {len(bars)} nodes on {workers} workers: {summary}", parts)
+    return picture(WIDTH + 2 * MARGIN, bottom + 20, f"List schedule of {counted(len(bars), 'node')} on {counted(workers, 'worker')}: {summary}", parts)
 
 
 # ---- cells
@@ -89,13 +90,13 @@ def cells(plan, memory=None, names=None):
     height = int((memory["ordered"] if memory else plan["height"])[0][0])
     buffers, nodes, place = buffers_of(plan, offsets), len(plan["node"]), order_of(plan)
     across, up = WIDTH / max(1, nodes), 420 / max(1, height)
-    label = f"{len(buffers)} buffers in {height} cells over {nodes} steps of one worker"
+    label = f"{counted(len(buffers), 'buffer')} in {counted(height, 'cell')} over {counted(nodes, 'step')} of one worker; a buffer lives from the node that writes it to the node that reads it"
     if len(buffers) > MOST_BUFFERS:
         drawn = [cells_image(buffers, place, height)]
     else:
         drawn = [cell(buffer, place, across, up, names) for buffer in buffers]
     scale = [part for mark in marks(height, 9) for part in (text(MARGIN - 8, MARGIN + mark * up + 4, str(mark), "small end"),)]
-    heads = [text(MARGIN, 24, label + "; a buffer lives from the node that writes it to the node that reads it", "wide"), text(8, 50, "cell / step")]
+    heads = [text(MARGIN, 24, label, "wide"), text(8, 50, "cell / step")]
     frame = element("rect", x=MARGIN, y=MARGIN, width=WIDTH, height=420, class_="frame")
     return picture(WIDTH + 2 * MARGIN, MARGIN + 440, label, [*heads, *grid(nodes, across, MARGIN, MARGIN + 420), *scale, *drawn, frame])
 

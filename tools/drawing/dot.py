@@ -1,4 +1,5 @@
 """Graph files and plans as text for Graphviz."""
+from drawing.layout import Arrow, forward, layers_of
 from drawing.parts import Names, actor_lines, delay_label, end_label, param_lines, rates_of, uses
 from drawing.svg import colour
 from pisdf_tools.wording import counted
@@ -12,6 +13,8 @@ LOOKS = {
     "param": 'shape=house, fillcolor="#d6e4ff", fontsize=11, margin="0.03,0.01", height=0.3',
 }
 FONT = 'fontname="Helvetica,Arial,sans-serif"'
+# A graph of more layers is drawn from the top down: from left to right it would be a strip that is wider than any page.
+MOST_LAYERS = 16
 # A plan with more nodes is drawn with a node for each actor.
 MOST_NODES = 200
 
@@ -55,9 +58,17 @@ def cluster_lines(graph, file):
     yield "  }"
 
 
+def layers(graph):
+    """How many layers the parts of a graph lie in, by the longest way over FIFOs and uses of parameters."""
+    names = [part.name.text for part in graph.inputs + graph.outputs + graph.actors + graph.params]
+    arrows = [Arrow(fifo.tail.text.partition(".")[0], fifo.head.text.partition(".")[0]) for fifo in graph.fifos] + [Arrow(*pair) for pair in uses(graph)]
+    return max(layers_of(names, forward(names, arrows)).values(), default=0) + 1
+
+
 def graph_dot(file):
+    is_long = max(map(layers, file.graphs), default=0) > MOST_LAYERS
     yield "digraph {"
-    yield f"  rankdir=LR; ranksep=0.7; nodesep=0.35; {FONT}; fontsize=13;"
+    yield f"  {'rankdir=TB; ranksep=0.7; nodesep=0.7' if is_long else 'rankdir=LR; ranksep=0.7; nodesep=0.35'}; {FONT}; fontsize=13;"
     yield f'  node [style=filled, {FONT}, fontsize=13, height=0.45, color="#445566"];'
     yield f'  edge [{FONT}, fontsize=11, labelfontsize=11, labeldistance=1.7, labelangle=22, arrowsize=0.7, color="#445566"];'
     # Graphviz draws the boxes from below.

@@ -1,10 +1,9 @@
 """Reads graph files and what the program wrote. What can't be read is told in a line that names the place."""
-import csv
-import io
 import sys
 
 from pisdf_tools import reading
 from pisdf_tools.source import Source
+from pisdf_tools.wording import shortened
 
 # With a fault of a greater number all parts of a graph are known, and it can be drawn.
 LAST_OF_NAMES = 6
@@ -69,20 +68,21 @@ FIELDS = {
 def rows_of(path):
     """The rows of a plan, a schedule or a memory by their first fields, each a list of its other fields."""
     rows = {}
-    for number, row in enumerate(csv.reader(io.StringIO(text_of(path))), 1):
-        if not row:
+    for number, line in enumerate(text_of(path).split("\n"), 1):
+        kind, *fields = line.rstrip("\r").split(",")
+        if not kind and not fields:
             continue
-        wanted = FIELDS.get(row[0])
-        fields = row[1:]
-        if wanted is None and row[0].lstrip().startswith("{"):
+        wanted = FIELDS.get(kind)
+        if wanted is None and kind.lstrip().startswith("{"):
             raise Refused(f"{path} is a graph file, which `draw graph` draws. The answer of plan, schedule or memory is wanted here")
         if wanted is None:
-            raise Refused(f"{path}, line {number}: no row of a plan, a schedule or a memory begins with '{row[0]}'")
-        if row[0] not in ("path", "order") and len(fields) != len(wanted):
-            raise Refused(f"{path}, line {number}: a row '{row[0]}' has {len(wanted)} fields after it, and this one has {len(fields)}")
-        if row[0] != "order" and not all(field.isascii() and field.isdigit() for field, is_number in zip(fields, wanted) if is_number):
+            raise Refused(f"{path}, line {number}: no row of a plan, a schedule or a memory begins with '{shortened(kind)}'")
+        if kind not in ("path", "order") and len(fields) != len(wanted):
+            raise Refused(f"{path}, line {number}: a row '{kind}' has {len(wanted)} fields after it, and this one has {len(fields)}")
+        wanted = wanted + wanted[-1:] * (len(fields) - len(wanted))
+        if kind != "order" and not all(field.isascii() and field.isdigit() for field, is_number in zip(fields, wanted) if is_number):
             raise Refused(f"{path}, line {number}: a field that has to be a number isn't one")
-        rows.setdefault(row[0], []).append(fields)
+        rows.setdefault(kind, []).append(fields)
     return rows
 
 

@@ -1,9 +1,12 @@
 """A layered drawing of a directed graph, after Sugiyama, Tagawa and Toda (1981): layers by longest paths, an order in each layer by means
-of neighbours, and links that run over places of their own in the layers between."""
+of neighbours, and links that run over places of their own in the layers between. Many layers are laid out in bands below each other."""
+from drawing.bands import Bands
 from drawing.svg import element, picture, text
 
 GAP_X, GAP_Y, LINE, PAD, CHARACTER = 70, 26, 15, 9, 6.6
 BENT, END_GAP = 14, 28
+# The height of a link beside others: two of them may be nearer to each other than GAP_Y.
+LINK = -10
 
 
 class Box:
@@ -146,19 +149,15 @@ def place(boxes, arrows):
         for one, other in zip(link, link[1:]):
             neighbours.setdefault(one, []).append(other)
             neighbours.setdefault(other, []).append(one)
-    heights = {name: by_name[name].height if name in by_name else 8 for row in rows for name in row}
+    heights = {name: by_name[name].height if name in by_name else LINK for row in rows for name in row}
     y = spread(ordered(rows, neighbours), neighbours, heights)
-    gaps = gaps_of([arrow for arrow in arrows if arrow.tail != arrow.head], links, layer)
-    x, at = {}, 0.0
-    for number, row in enumerate(rows):
-        wide = max((by_name[name].width for name in row if name in by_name), default=0)
-        for name in row:
-            x[name] = at + wide / 2
-        at += wide + gaps.get(number, GAP_X)
+    found = gaps_of([arrow for arrow in arrows if arrow.tail != arrow.head], links, layer)
+    gaps = [found.get(number, GAP_X) for number in range(len(rows))]
+    widths = [max((by_name[name].width for name in row if name in by_name), default=0) for row in rows]
+    bands = Bands(rows, widths, gaps, heights, y, links)
     for box in boxes:
-        box.x, box.y, box.layer = x[box.name], y[box.name], layer[box.name]
-    size = at - gaps.get(len(rows) - 1, GAP_X), max((y[name] + heights[name] / 2 for name in y), default=0)
-    return size, [[(x[name], y[name]) for name in link] for link in links]
+        (box.x, box.y), box.layer = bands.place(box.name), layer[box.name]
+    return bands.size(), [bands.route(number) for number in range(len(links))]
 
 
 def box_parts(box, left, top):
@@ -199,14 +198,23 @@ def attach(routes, by_name):
     """Moves the ends of links at one side of a box apart, in the order of where they lead, and to that side."""
     sides = {}
     for arrow, points, is_turned in routes:
-        for name, at, beside, is_right in ((arrow.tail, 0, 1, not is_turned), (arrow.head, -1, -2, is_turned)):
-            sides.setdefault((name, is_right), []).append((points[beside][1], len(sides), points, at))
+        for name, at, step, is_right in ((arrow.tail, 0, 1, not is_turned), (arrow.head, -1, -1, is_turned)):
+            beside = points[at + step]
+            sides.setdefault((name, is_right), []).append((beside[1], -beside[0], points, at, step))
     for (name, is_right), ends in sides.items():
         box = by_name[name]
         ends.sort(key=lambda end: end[:2])
-        for number, (_, _, points, at) in enumerate(ends):
+        for number, (_, _, points, at, step) in enumerate(ends):
             reach = box.width / 2 if is_right else -box.width / 2
-            points[at] = box.x + reach, box.y - box.height / 2 + box.height * (number + 1) / (len(ends) + 1)
+            end = box.x + reach, box.y - box.height / 2 + box.height * (number + 1) / (len(ends) + 1)
+            if is_corner(points, at, step):
+                points[at + step] = points[at + step][0], end[1]
+            points[at] = end
+
+
+def is_corner(points, at, step):
+    """Whether a link turns to another band beside this end."""
+    return len(points) > 2 and points[at + step][0] == points[at + 2 * step][0]
 
 
 def arrow_parts(arrow, points, is_turned, left, top, taken, labels):

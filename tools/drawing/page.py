@@ -15,7 +15,8 @@ TOLD, BAR = re.compile("<title>([^<]*)</title>"), re.compile(r": from (\d+) to \
 MOST_SERIES = 12
 # More tokens of an output are drawn as an image.
 MOST_POINTS = 1500
-MOST_VALUES = 20000
+# So many values of a parameter, so many lines of an image and so many items of workers are drawn.
+MOST_VALUES, MOST_ROWS, MOST_ITEMS = 20000, 2000, 10000
 
 STYLE = """
 :root { color-scheme: light dark; --paper: #ffffff; --ink: #1a222b; --soft: #55626f; --line: #8094a8; --grid: #dfe4e9; --use: #4667ad; --value: #1f6fb2; --panel: #f4f6f8; --bad: #a40000; }
@@ -26,7 +27,7 @@ a { color: var(--value); } nav ul { display: flex; flex-wrap: wrap; gap: 0.3rem 
 .skip { position: absolute; left: -99rem; } .skip:focus { position: static; }
 .figure { overflow-x: auto; background: var(--panel); border: 1px solid var(--grid); border-radius: 4px; padding: 0.5rem; }
 .figure:focus-visible, pre:focus-visible, a:focus-visible, summary:focus-visible { outline: 3px solid var(--value); outline-offset: 2px; }
-.figure svg { display: block; } .figure + .figure { margin-top: 0.5rem; } .chart svg { width: 100%; max-width: 65rem; min-width: 52rem; height: auto; }
+.caption { margin: 0.5rem 0 0.2rem; } .chart .wide { display: none; } .figure svg { display: block; } .figure + .figure { margin-top: 0.5rem; } .chart svg { width: 100%; max-width: 65rem; min-width: 52rem; height: auto; margin-top: -1.2rem; }
 details { margin: 0.3rem 0; } .words { columns: 20rem; font-size: 0.9em; } .note { color: var(--soft); } .bad { color: var(--bad); font-weight: bold; }
 .table { overflow-x: auto; } table { border-collapse: collapse; } caption { text-align: left; color: var(--soft); }
 th, td { padding: 0.25rem 0.8rem 0.25rem 0; text-align: left; border-bottom: 1px solid var(--grid); vertical-align: top; } td.number { text-align: right; font-variant-numeric: tabular-nums; }
@@ -41,11 +42,13 @@ def figure(picture, label):
 
 
 def chart(picture, label, things):
-    """A chart, which becomes narrower with the page. What the mouse is told over its boxes or dots stands behind it in words as well."""
-    words = sorted(TOLD.findall(picture)[1:], key=started)
+    """A chart, which becomes narrower with the page. Its caption stands above it, since a narrow page would cut it. What the mouse is told
+    over its boxes or dots stands behind it in words as well."""
+    caption, *told = TOLD.findall(picture)
+    words = sorted(told, key=started)
     listed = "".join(f"<li>{word}</li>" for word in words)
     in_words = f"<details><summary>{escape(label)} in words: {counted(len(words), *things)}</summary><ul class=\"words\">{listed}</ul></details>" if words else ""
-    return figure(picture, label).replace('class="figure"', 'class="figure chart"', 1) + in_words
+    return f'<p class="caption">{caption}</p>' + figure(picture, label).replace('class="figure"', 'class="figure chart"', 1) + in_words
 
 
 def started(words):
@@ -176,7 +179,13 @@ def workers_part(run):
         "The journal is of a call of its own, and not of the one that gave the tokens. More than one worker may share the work otherwise in each call. "
         "A bar goes from a claim to its finish. A colour is a firing of a graph. The places are those of lines in the journal; they say nothing of time."
     )
-    return chart(charts.work(steps, int(run.workers), label), "What the workers did", ["item"]) + note(words) + note(judged_words(run.audit)) + table("What each worker was handed", ["Worker", "Items", "Share of the items"], rows)
+    drawn = chart(charts.work(steps[:MOST_ITEMS], int(run.workers), label), "What the workers did", ["item"]) + only_first(steps, MOST_ITEMS, "items")
+    return drawn + note(words) + note(judged_words(run.audit)) + table("What each worker was handed", ["Worker", "Items", "Share of the items"], rows)
+
+
+def only_first(things, most, what):
+    """A note where not all things are drawn."""
+    return note(f"Only the first {most:,} of {len(things):,} {what} are drawn.") if len(things) > most else ""
 
 
 def judged_words(audit):
@@ -204,9 +213,9 @@ def parameter_part(run):
     for name, values in list(series.items())[:MOST_SERIES]:
         numbers = [value for _, value in values]
         label = f"{name}: {counted(len(values), 'value')}, from {min(numbers)} to {max(numbers)}"
-        yield chart(charts.line(values[:MOST_VALUES], label, "iteration", (), 100), f"Values of {name}", ["value"])
+        yield chart(charts.line(values[:MOST_VALUES], label, "iteration", (), 100), f"Values of {name}", ["value"]) + only_first(values, MOST_VALUES, "values")
     if len(series) > MOST_SERIES:
-        yield note(f"{len(series) - MOST_SERIES} more parameters of other firings aren't drawn.")
+        yield note(f"{counted(len(series) - MOST_SERIES, 'more parameter')} of other firings {'is' if len(series) == MOST_SERIES + 1 else 'are'}n't drawn.")
 
 
 def token_part(run):
@@ -222,13 +231,13 @@ def token_part(run):
             turns = [0, *accumulate(len(row) for row in rows[:-1])]
             yield chart(charts.line(list(enumerate(values)), label, "token", turns), f"Tokens of {name}", ["token"])
         else:
-            yield chart(charts.grey_image(lines_of(rows), name), f"Tokens of {name}", ["token"])
+            yield chart(charts.grey_image(lines_of(rows)[:MOST_ROWS], name), f"Tokens of {name}", ["token"]) + only_first(lines_of(rows), MOST_ROWS, "lines of the image")
 
 
 def lines_of(rows):
     """The tokens of iterations as the lines of an image: a line each, or the lines of a square where there is one iteration."""
     if len(rows) > 1:
-        return [row for row in rows if row][:2000]
+        return [row for row in rows if row]
     side = max(1, int(len(rows[0]) ** 0.5))
     return [rows[0][at:at + side] for at in range(0, len(rows[0]), side)]
 

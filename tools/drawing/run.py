@@ -5,6 +5,7 @@ import io
 import os
 import subprocess
 import tempfile
+from collections import defaultdict
 
 from drawing import nodes
 from drawing.inputs import Refused, read_graphs
@@ -20,8 +21,6 @@ from pisdf_tools.words import explain_usage
 SECONDS = 120
 # The status of a call that took longer.
 TOO_LONG = 124
-# So many lines of a journal are read.
-MOST_LINES = 20000
 # So long the first iteration is made again to know its levels.
 LEVEL_SECONDS = 2
 
@@ -38,9 +37,10 @@ class Answer:
         return [row[1:] for row in self.rows if row[0] == kind]
 
     def by_kind(self):
-        kinds = {}
+        """The rows by their first fields. A graph without actors and interfaces has none of many kinds."""
+        kinds = defaultdict(list)
         for row in self.rows:
-            kinds.setdefault(row[0], []).append(row[1:])
+            kinds[row[0]].append(row[1:])
         return kinds
 
 
@@ -117,7 +117,8 @@ class Run:
             streams = token_file.Streams(read_source(self.token_file).data, {port.name.text for port in self.planned.top_graph.inputs})
             recorder = nodes.Recorder(self.planned, LEVEL_SECONDS)
             recorder.run(1, streams.tokens)
-        except (RunRefused, TooLong, OSError, RecursionError):
+        except (RunRefused, TooLong, OSError, RecursionError, ValueError):
+            # A field that is no token is a ValueError. What is wrong is told by the program.
             pass
         return recorder.found if recorder else {}
 
@@ -159,7 +160,7 @@ class Run:
         """What each worker did in the first iteration or group: the worker, the places of the claim and of the finish in the journal, what it was,
         and the job that it was of."""
         names, running, found = self.names_by_path(), {}, []
-        for place, row in enumerate(self.journal.rows[:MOST_LINES]):
+        for place, row in enumerate(self.journal.rows):
             worker = int(row[2])
             if row[0] == "claim":
                 running[worker] = (place, row[3], row[4], row[5])

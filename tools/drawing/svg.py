@@ -1,5 +1,6 @@
 """Pictures as SVG: elements, colours, and images of many points."""
 import base64
+import itertools
 import re
 import struct
 import zlib
@@ -60,11 +61,8 @@ def alone(drawn):
 
 def marks(length, count):
     """Round numbers from 0 to a length, at most so many of them."""
-    step = 1
-    while length // step >= count:
-        step *= 5 if str(step)[0] == "2" else 2
-        step = int(str(step)[0] + "0" * (len(str(step)) - 1))
-    return range(0, length + 1, step)
+    steps = (digit * 10**power for power in itertools.count() for digit in (1, 2, 5))
+    return range(0, length + 1, next(step for step in steps if length // step < count))
 
 
 def image(rows):

@@ -77,7 +77,7 @@ class Explorer:
 
     def __init__(self, file):
         self.file, self.runner, self.outcomes, self.unknown = file, Runner(file, SECONDS), {}, {}
-        self.end, self.seen, self.rate_params = time.monotonic() + SECONDS, set(), RateParams(file)
+        self.end, self.seen, self.rate_params = time.thread_time() + SECONDS, set(), RateParams(file)
         top = file.top_graph
         try:
             early = self.runner.top_early()
@@ -111,7 +111,7 @@ class Explorer:
             self.unknown[name] = (len(tried), every)
             setting.loose |= {param.name.text for param in chosen}
         for place, values in enumerate(tried):
-            if time.monotonic() > self.end:
+            if time.thread_time() > self.end:
                 self.unknown[name] = (place, every)
                 setting.loose |= {param.name.text for param in chosen}
                 return

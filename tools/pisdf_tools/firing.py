@@ -11,7 +11,7 @@ from .levels import Levels, Refused
 
 
 class TooLong(Exception):
-    """The time that an explanation may take is over."""
+    """The time that an explanation may take is over. It is that of this thread, so that a busy machine changes nothing of what is told."""
 
 
 @dataclass
@@ -31,7 +31,7 @@ class Runner:
     often each graph was fired."""
 
     def __init__(self, file, seconds):
-        self.file, self.levels, self.end = file, Levels(file), time.monotonic() + seconds
+        self.file, self.levels, self.end = file, Levels(file), time.thread_time() + seconds
         self.notes, self.levels_done, self.iteration, self.is_done = {}, {}, 0, False
 
     def first_state(self, graph):
@@ -41,7 +41,7 @@ class Runner:
                                            for actor in graph.actors if actor.is_hierarchical}}
 
     def check_time(self):
-        if time.monotonic() > self.end:
+        if time.thread_time() > self.end:
             raise TooLong
 
     def top_early(self):

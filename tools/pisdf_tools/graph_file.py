@@ -16,10 +16,6 @@ class Word:
     value: Value
     pointer: str
 
-    @property
-    def is_end_of_port(self):
-        return "." in self.text
-
 
 @dataclass
 class Expression:

@@ -42,7 +42,8 @@ OTHER_WORDS = {
     "subtract": "The kernel `sub` gives differences, place by place.",
     "upsample": "The kernel `up` gives each token several times in a row.",
 }
-CODES = {1: "overflow", 2: "division", 3: "shape", 4: "value"}
+# Under which word a section tells of a code.
+ABOUT = {1: "Overflow", 2: "Division", 3: "Rates", 4: "Value"}
 
 
 @dataclass(frozen=True)
@@ -77,6 +78,11 @@ class Kernel:
     def sentence(self, about):
         """What the page says of `Rates`, `Arguments`, `Value` and so on, or an empty text."""
         return dict(re.findall(r"^- (\w+): (.*)$", self.section, re.M)).get(about, "")
+
+    def rule(self, code):
+        """What the page says of the faults with this code, as `Rates of `sum`: ..`, or an empty text."""
+        rule = self.sentence(ABOUT[code])
+        return f"{ABOUT[code]} of `{self.name}`: {rule}" if rule else ""
 
     def example(self):
         """The first example of the section: a row of the table of kernels, with numbers for arguments and rates."""

@@ -47,7 +47,7 @@ def notes(runner, source, most=4):
     """Paragraphs on the interfaces of a run, each told once."""
     found = [note_text(note, runner, source) for note in runner.notes.values()]
     if len(found) > most:
-        found = found[:most] + [f"{len(found) - most} more interfaces of other graphs lose tokens or give them again."]
+        found = found[:most] + [f"At {counted(len(found) - most, 'more interface')} of other graphs tokens are lost or read again as well."]
     return found
 
 

@@ -25,6 +25,11 @@ def written(name, work, unread=0):
         return failed(name, fault.strerror or str(fault))
 
 
+def status_of(done):
+    """The status of a call that has ended, as a shell tells it: of one that a signal has ended it is 128 and the signal's number."""
+    return done.returncode if done.returncode >= 0 else 128 - done.returncode
+
+
 def drop_output():
     """What is left to write has nowhere to go."""
     os.dup2(os.open(os.devnull, os.O_WRONLY), sys.stdout.fileno())

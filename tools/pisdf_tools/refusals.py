@@ -17,7 +17,7 @@ from .words import call_of, explain_usage
 
 SECONDS = 4
 # The files of the call by which it is told what the answers of a status mean.
-READ_AGAIN = {0: ("GRAPH", "TOKENS"), 2: ("GRAPH",), 3: ("GRAPH", "TOKENS"), 4: ("GRAPH", "TOKENS")}
+READ_AGAIN = {0: ("GRAPH", "TOKENS"), 2: ("GRAPH",), 3: ("GRAPH", "TOKENS"), 4: ("GRAPH", "TOKENS"), 9: ("JOURNAL",)}
 STARTS = {"plan": 1, "schedule": 1, "memory": 1}
 
 

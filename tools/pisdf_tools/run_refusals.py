@@ -305,12 +305,10 @@ class RunRefusals:
         reads = listed([f"{quoted(port.name.text)} read {counted(len(tokens), 'token')}{': ' * bool(tokens)}{tokens_words(tokens)}"
                         for port, tokens in zip(actor.ins, more["ins"])])
         gives = listed([f"{quoted(port.name.text)} has the rate {rate}" for port, rate in zip(actor.outs, more["outs"])])
-        about = {1: "Overflow", 2: "Division", 3: "Rates", 4: "Value"}[fault.code]
-        rule = row.sentence(about)
         return self.at(actor.kernel, f"Firing {more['firing']} of the actor {quoted(actor.name.text)} met code {fault.code}: {code_meaning(fault.code)}.",
                        f"{quoted(row.name)} in short: {row.short}. Here {fault.text}." if row.is_config else
                        f"The kernel {quoted(row.name)}{args} gives {row.short}. Here {fault.text}.", self.feeding_words(actor), f"{reads[:1].upper()}{reads[1:]}." if reads else "",
-                       f"{gives[:1].upper()}{gives[1:]}." if gives else "", f"{about} of {quoted(row.name)}: {rule}" if rule else "", self.env_words(self.used_by(actor)))
+                       f"{gives[:1].upper()}{gives[1:]}." if gives else "", row.rule(fault.code), self.env_words(self.used_by(actor)))
 
     def used_by(self, actor):
         """The parameters that an actor's arguments and rates name, and those that these are derived from."""

@@ -43,9 +43,7 @@ def part_at(file, graph, name):
 
 def kernel_words(actor, code):
     row = table()[actor.kernel.text]
-    about = {1: "Overflow", 2: "Division", 3: "Rates", 4: "Value"}[code]
-    rule = row.sentence(about)
-    return joined([f"The kernel {quoted(row.name)} met code {code}: {code_meaning(code)}.", f"{about} of {quoted(row.name)}: {rule}" if rule else ""])
+    return joined([f"The kernel {quoted(row.name)} met code {code}: {code_meaning(code)}.", row.rule(code)])
 
 
 def plain_words(reading, line):

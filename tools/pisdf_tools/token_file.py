@@ -8,6 +8,7 @@ MARK = b"\xef\xbb\xbf"
 MARKS_OF_UTF_16 = (b"\xff\xfe", b"\xfe\xff")
 CLOSED = re.compile(rb'"(?:[^"]|"")*"')
 LINE_END = re.compile(rb"[\r\n]")
+FIELD_END = re.compile(rb"[,\r\n]")
 TOKEN = re.compile(rb"-?[0-9]+")
 
 
@@ -78,16 +79,16 @@ class QuotedRecord:
 
 def quoted_record(data, start):
     """A record with quotes in it, and where the next one begins."""
-    fields, starts, at, end = [], [], start, len(data)
+    fields, starts, at = [], [], start
     while True:
         starts.append(at)
         field = bytearray()
         if data[at:at + 1] == b'"':
             at = quoted_part(data, at + 1, field)
-        while at < end and data[at:at + 1] not in (b",", b"\r", b"\n"):
-            field += data[at:at + 1]
-            at += 1
-        fields.append(bytes(field))
+        match = FIELD_END.search(data, at)
+        stop = match.start() if match else len(data)
+        fields.append(bytes(field + data[at:stop]))
+        at = stop
         if data[at:at + 1] != b",":
             return QuotedRecord(fields, starts), at + 1
         at += 1
