@@ -295,7 +295,7 @@ class Report(unittest.TestCase):
         self.assertIn("run: <i>&amp;", "".join(page.itertext()))
 
     def test_a_token_file_that_is_refused(self):
-        self.put("t.csv", "width,4\nx,1,one\n")
+        self.put("t.csv", "width,4\nx,1,one,3,4,5,6,7,8\n")
         for name in ("run", "plan", "schedule", "memory", "journal"):
             self.put(name, "")
             self.put(f"{name}.status", "3")
