@@ -1,11 +1,12 @@
 -- What a job offers, in the words of the rules of boards.
-use Rattle.std.proofs.Common.{◌≡◌, ℕ, ◌-◌, ◌<◌, ◌≤◌, ◌==◌, nat_lt, not, Bool, true, false, length, Option, Some, None, refl, sym, ap, subst, arith, ⊎_elim, if◌then◌else◌}
+use Rattle.std.proofs.Common.{◌≡◌, ℕ, ◌-◌, ◌<◌, ◌≤◌, ◌==◌, nat_lt, not, Bool, true, false, length, Option, Some, None, refl, sym, ap, ◌∙◌, subst, arith, ⊎_elim, if◌then◌else◌}
 use Rattle.std.specs.Prelude.{slice_index}
 use Rattle.std.specs.Arc.{arc_value}
 use Rattle.std.specs.Option.{option_map}
 use Rattle.std.proofs.lemmas.Bool.{cases_lt, le-ltb, lt-ltb}
+use Rattle.std.proofs.lemmas.List.{get_or_default}
 use Rattle.board_rules.specs.Asking as board
-use Rattle.board_rules.specs.Asking.{IsAskedFor, IsHomed, IsOffered, standing_of}
+use Rattle.board_rules.specs.Asking.{IsAskedFor, IsHomed, IsOffered, goes_first, standing_of}
 use Rattle.board_rules.specs.Keys.{Key}
 use Rattle.board_rules.specs.Picks.{ItemStands, Standing}
 use Rattle.job_rules.specs.Items.{Prepared, compile_number, graph_of, node_base, prepared_in}
@@ -16,13 +17,13 @@ use Rattle.pisdf_meaning.specs.declared.firing.Firing.{Firing}
 use Rattle.pisdf_model.specs.declared.graph.Graph.{Graph}
 use Rattle.audit_job.specs.Jobs.{IsJob, IsPrepared, row_of}
 use Rattle.audit_job.specs.Marks.{answers}
-use Rattle.audit_job.specs.Offering.{IsFirstBelow, IsOfferedIn, early_offer, node_offer, offer_at, offer_by, offer_of}
+use Rattle.audit_job.specs.Offering.{IsFirstOf, IsOfferedIn, early_offer, node_offer, offer_at, offer_by, offer_of}
 use Rattle.audit_job.specs.declared.job.Job.{Job}
 use Rattle.audit_job.specs.declared.job.Nodes.{Nodes}
 use Rattle.audit_job.specs.declared.offering.Offer.{Offer}
 use Rattle.audit_job.proofs.Answered.{unprepared}
 use Rattle.audit_job.proofs.Compiled as compiled
-use Rattle.audit_job.proofs.ItemRules.{item_there}
+use Rattle.audit_job.proofs.ListedItems.{listed}
 
 one_item : (b : Bool) (nodes : Nodes) (w n i : ℕ) → (if b then node_offer nodes w n i else early_offer i).item ≡ i
 one_item true nodes w n i = refl
@@ -79,16 +80,21 @@ module _ (key : Key) (m : Marks Firing words.Answer) (place : Place) (job : Job)
   in_row : (i : ℕ) → IsOfferedIn key.graphs.graphs opens job i → IsOffered key opens (row_of place job) i
   in_row i offered = record { free = offered.free; task = offered.task; has_task = offered.has_task; kind = offered.kind }
 
-  inside : (i : ℕ) → IsOffered key opens (row_of place job) i → i < length job.marks.items
-  inside i offered =
-      let there = item_there key.graphs.graphs job.firing (answers job.marks.items) i offered.task offered.has_task in
-      let many = is.one_each in
-      omega arith
+  -- an item that is offered is a candidate
+  place_of : (i : ℕ) → IsOffered key opens (row_of place job) i → (k : ℕ) × (k < length job.candidates.items) × (slice_index job.candidates.items k ≡ i)
+  place_of i offered =
+      let at = listed key.graphs.graphs key.workers job is i offered.free offered.task offered.has_task in
+      (at.0, at.1, get_or_default job.candidates.items at.0 0 i at.1 ∙ at.2)
 
-  pub asked_so : (o : Option Offer) → IsFirstBelow (IsOfferedIn key.graphs.graphs opens job) (offer_at job w) (length job.marks.items) o → IsAskedFor key m w opens (row_of place job) (option_map offer_of o)
-  asked_so None none = λ i offered. none i (inside i offered) (in_job i offered)
+  pub asked_so : (o : Option Offer) → IsFirstOf (IsOfferedIn key.graphs.graphs opens job) (offer_at job w) job.candidates.items (length job.candidates.items) o → IsAskedFor key m w opens (row_of place job) (option_map offer_of o)
+  asked_so None none = λ i offered.
+      let at = place_of i offered in
+      none at.0 at.1 (subst (λ (j : ℕ). IsOfferedIn key.graphs.graphs opens job j) (sym at.2) (in_job i offered))
   asked_so (Some offer) best = record {
     offered = in_row (offer_of offer).item best.holds;
     homed = subst (λ (x : board.Offer). IsHomed key m w opens (row_of place job) x) (sym best.is) (homed (offer_of offer).item);
-    first = λ j other differs. (offer_at job w j, item_is job w j, homed j, best.first j (inside j other) (in_job j other) differs);
+    first = λ j other differs.
+        let at = place_of j other in
+        let goes = best.first at.0 at.1 (subst (λ (i : ℕ). IsOfferedIn key.graphs.graphs opens job i) (sym at.2) (in_job j other)) (λ same. differs (sym at.2 ∙ same)) in
+        (offer_at job w j, item_is job w j, homed j, subst (λ (i : ℕ). goes_first (offer_of offer) (offer_at job w i) ≡ true) at.2 goes);
   }

@@ -9,7 +9,7 @@ use Rattle.job_flow.specs.Frames.{edges_into}
 use Rattle.job_rules.specs.Doing as doing
 use Rattle.job_rules.specs.Items as items
 use Rattle.job_flow.specs.Graphs.{node_at}
-use Rattle.job_rules.specs.Items.{Prepared, actor_of, compile_number, count, edges_in, graph_of, is_done, keeps_state, left_in, node_base, node_result, node_values, nodes_in, prepared_by, prepared_in}
+use Rattle.job_rules.specs.Items.{actor_of, compile_number, count, edges_in, graph_of, is_done, keeps_state, left_in, node_base, node_result, node_values, nodes_in, prepared_by, prepared_in}
 use Rattle.job_rules.specs.Words as words
 use Rattle.job_rules.specs.Words.{Answer}
 use Rattle.job_preparing.specs.CompileTasks.{schedule_of}
@@ -22,6 +22,7 @@ use Rattle.pisdf_meaning.specs.declared.refusal.Refusal.{Refusal}
 use Rattle.pisdf_model.specs.declared.graph.Graph.{Graph}
 use Rattle.sdf_level.specs.declared.single_rate.Edge.{Edge}
 use Rattle.audit_job.specs.Answering.{IsMarked}
+use Rattle.audit_job.specs.Candidates.{AreCandidates, running_in, waits_in}
 use Rattle.audit_job.specs.Compiling.{ComesWith, IsCompileRefusal, IsNew}
 use Rattle.audit_job.specs.Jobs.{AreNodes, IsCompileAnswer, IsJob, IsPrepared, prepared_of}
 use Rattle.audit_job.specs.Marking.{nodes_by}
@@ -109,10 +110,11 @@ module _ (graphs : List Graph) (workers : ℕ) (old : Job) (is : IsJob graphs wo
       omega arith
 
   -- it is a job still
-  pub compiled_job : (new : Job) → new.firing ≡ old.firing → new.early ≡ old.early → new.places ≡ old.places → new.marks ≡ marks → ComesWith graphs workers old.firing left a new.nodes → length marks.items ≡ length old.marks.items + nodes_by new.nodes → IsJob graphs workers new
-  compiled_job new firing_is early_is places_are marks_are with_it long =
+  pub compiled_job : (new : Job) → new.firing ≡ old.firing → new.early ≡ old.early → new.places ≡ old.places → new.marks ≡ marks → ComesWith graphs workers old.firing left a new.nodes → length marks.items ≡ length old.marks.items + nodes_by new.nodes →
+      AreCandidates marks.items (length old.places.items) (waits_in new.nodes) new.candidates → new.running ≡ running_in marks.items → IsJob graphs workers new
+  compiled_job new firing_is early_is places_are marks_are with_it long candidates running =
       let P : Answer → Type 0 = IsCompileAnswer in
-      let one : IsJob graphs workers (record old { marks = marks; nodes = new.nodes }) = record {
+      let one : IsJob graphs workers (record old { marks = marks; candidates = new.candidates; running = new.running; nodes = new.nodes }) = record {
         fit = is.fit;
         early_is = is.early_is;
         places_are = is.places_are;
@@ -121,6 +123,8 @@ module _ (graphs : List Graph) (workers : ℕ) (old : Job) (is : IsJob graphs wo
         compiled = λ answer at. let same : a ≡ answer = let e : Some a ≡ Some answer = sym now ∙ at in cc in subst P (sym compiled.answer_is ∙ same) (compile_answer compiled.end);
         uncalled = λ d at. let e : mark.Done a ≡ mark.Open d = sym marked.here ∙ at in cc;
         others = λ i answer differs at. is.others i answer differs (sym (rest i differs) ∙ at);
+        candidates = candidates;
+        running_are = running;
       } in
-      let path : record old { marks = marks; nodes = new.nodes } ≡ new = λ i. record { firing = sym firing_is i; early = sym early_is i; places = sym places_are i; marks = sym marks_are i; nodes = new.nodes } in
+      let path : record old { marks = marks; candidates = new.candidates; running = new.running; nodes = new.nodes } ≡ new = λ i. record { firing = sym firing_is i; early = sym early_is i; places = sym places_are i; marks = sym marks_are i; candidates = new.candidates; running = new.running; nodes = new.nodes } in
       subst (λ (j : Job). IsJob graphs workers j) path one

@@ -1,5 +1,6 @@
 -- The first of what is offered, one item after the other.
 use Rattle.std.proofs.Common.{◌≡◌, ◌≢◌, ℕ, ◌+◌, ◌<◌, nat_lt, not, ◌&&◌, Bool, true, false, refl, sym, ap, ◌∙◌, subst, arith, ⊎_elim, []}
+use Rattle.std.specs.Prelude.{List, slice_index}
 use Rattle.std.proofs.lemmas.Bool.{cases_eq, cases_lt}
 use Rattle.nested_jobs.specs.Pick.{decide, is_more_urgent}
 use Rattle.board_rules.specs.Asking as board
@@ -31,66 +32,65 @@ one_first a b differs not = go (goes_first b a) refl
     go true e = e
     go false e = absurd (differs (ap (λ (s : Standing). s.number) (standings_ordered.same (stand a) (stand b) (sym (as_standing a b) ∙ not) (sym (as_standing b a) ∙ e))))
 
-module _ (P : ℕ → Type 0) (at : ℕ → board.Offer) (own : (i : ℕ) → (at i).item ≡ i) where
-  pub none_more : (n : ℕ) → ((i : ℕ) → i < n → ¬ (P i)) → ¬ (P n) → (i : ℕ) → i < n + 1 → ¬ (P i)
-  none_more n none lacks i below holds = ⊎_elim
-      (λ (less : i < n). none i less holds)
-      (λ more. let e : i ≡ n = omega arith in lacks (subst P e holds))
-      (cases_lt i n)
+module _ (P : ℕ → Type 0) (at : ℕ → board.Offer) (own : (i : ℕ) → (at i).item ≡ i) (items : List ℕ) where
+  abbrev item : ℕ → ℕ
+  item k = slice_index items k
 
-  pub still : (n : ℕ) (o : board.Offer) → GoesFirst P at n o → ¬ (P n) → GoesFirst P at (n + 1) o
-  still n o best lacks =
-      let inside = best.inside in
-      record {
-        inside = omega arith;
-        holds = best.holds;
-        is = best.is;
-        first = λ j below holds differs. ⊎_elim
-            (λ (less : j < n). best.first j less holds differs)
-            (λ more. let e : j ≡ n = omega arith in absurd (lacks (subst P e holds)))
-            (cases_lt j n);
-      }
+  same_item : (j k : ℕ) → j ≡ k → item j ≡ item k
+  same_item j k same = ap item same
 
-  pub found : (n : ℕ) → ((i : ℕ) → i < n → ¬ (P i)) → P n → GoesFirst P at (n + 1) (at n)
+  pub none_more : (n : ℕ) → ((k : ℕ) → k < n → ¬ (P (item k))) → ¬ (P (item n)) → (k : ℕ) → k < n + 1 → ¬ (P (item k))
+  none_more n none lacks k below holds = ⊎_elim
+      (λ (less : k < n). none k less holds)
+      (λ more. let e : k ≡ n = omega arith in lacks (subst P (same_item k n e) holds))
+      (cases_lt k n)
+
+  pub still : (n : ℕ) (o : board.Offer) → GoesFirst P at items n o → ¬ (P (item n)) → GoesFirst P at items (n + 1) o
+  still n o best lacks = record {
+    holds = best.holds;
+    is = best.is;
+    first = λ k below holds differs. ⊎_elim
+        (λ (less : k < n). best.first k less holds differs)
+        (λ more. let e : k ≡ n = omega arith in absurd (lacks (subst P (same_item k n e) holds)))
+        (cases_lt k n);
+  }
+
+  pub found : (n : ℕ) → ((k : ℕ) → k < n → ¬ (P (item k))) → P (item n) → GoesFirst P at items (n + 1) (at (item n))
   found n none holds =
-      let e = own n in
+      let e = own (item n) in
       record {
-        inside = omega arith;
         holds = subst P (sym e) holds;
         is = ap at (sym e);
-        first = λ j below other differs. ⊎_elim
-            (λ (less : j < n). absurd (none j less other))
-            (λ more. absurd (differs (omega arith)))
-            (cases_lt j n);
+        first = λ k below other differs. ⊎_elim
+            (λ (less : k < n). absurd (none k less other))
+            (λ more. let f : k ≡ n = omega arith in absurd (differs (same_item k n f ∙ sym e)))
+            (cases_lt k n);
       }
 
-  pub stays : (n : ℕ) (o : board.Offer) → GoesFirst P at n o → P n → goes_first (at n) o ≡ false → GoesFirst P at (n + 1) o
-  stays n o best holds after =
-      let inside = best.inside in
-      let e = own n in
-      let apart : (at n).item ≢ o.item = λ same. absurd (omega arith) in
-      record {
-        inside = omega arith;
-        holds = best.holds;
-        is = best.is;
-        first = λ j below other differs. ⊎_elim
-            (λ (less : j < n). best.first j less other differs)
-            (λ more. let f : n ≡ j = omega arith in subst (λ (k : ℕ). goes_first o (at k) ≡ true) f (one_first (at n) o apart after))
-            (cases_lt j n);
-      }
+  pub stays : (n : ℕ) (o : board.Offer) → GoesFirst P at items n o → goes_first (at (item n)) o ≡ false → GoesFirst P at items (n + 1) o
+  stays n o best after = record {
+    holds = best.holds;
+    is = best.is;
+    first = λ k below other differs. ⊎_elim
+        (λ (less : k < n). best.first k less other differs)
+        (λ more.
+        let f : n ≡ k = omega arith in
+        let apart : (at (item n)).item ≢ o.item = λ same. absurd (differs (sym (same_item n k f) ∙ sym (own (item n)) ∙ same)) in
+        subst (λ (i : ℕ). goes_first o (at i) ≡ true) (same_item n k f) (one_first (at (item n)) o apart after))
+        (cases_lt k n);
+  }
 
-  pub gives_way : (n : ℕ) (o : board.Offer) → GoesFirst P at n o → P n → goes_first (at n) o ≡ true → GoesFirst P at (n + 1) (at n)
+  pub gives_way : (n : ℕ) (o : board.Offer) → GoesFirst P at items n o → P (item n) → goes_first (at (item n)) o ≡ true → GoesFirst P at items (n + 1) (at (item n))
   gives_way n o best holds before =
-      let e = own n in
+      let e = own (item n) in
       record {
-        inside = omega arith;
         holds = subst P (sym e) holds;
         is = ap at (sym e);
-        first = λ j below other differs. ⊎_elim
-            (λ (less : j < n). ⊎_elim
-            (λ (same : j ≡ o.item). subst (λ (x : board.Offer). goes_first (at n) x ≡ true) (best.is ∙ ap at (sym same)) before)
-            (λ (apart : j ≢ o.item). through (at n) o (at j) before (best.first j less other apart))
-            (cases_eq j o.item))
-            (λ more. absurd (differs (omega arith)))
-            (cases_lt j n);
+        first = λ k below other differs. ⊎_elim
+            (λ (less : k < n). ⊎_elim
+            (λ (same : item k ≡ o.item). subst (λ (x : board.Offer). goes_first (at (item n)) x ≡ true) (best.is ∙ ap at (sym same)) before)
+            (λ (apart : item k ≢ o.item). through (at (item n)) o (at (item k)) before (best.first k less other apart))
+            (cases_eq (item k) o.item))
+            (λ more. let f : k ≡ n = omega arith in absurd (differs (same_item k n f ∙ sym e)))
+            (cases_lt k n);
       }

@@ -1,6 +1,11 @@
 pub mod Arriving
 pub mod ArrivesHere
 pub mod Waits
+pub mod WaitingCounts
+pub mod ItemLists
+pub mod AddedSoFar
+pub mod RunningItems
+pub mod CandidateSteps
 pub mod PortReads
 pub mod Results
 pub mod Frames
@@ -10,6 +15,9 @@ pub mod KindTasks
 pub mod Refusals
 pub mod Compiled
 pub mod Sinking
+pub mod OutletPlaces
+pub mod FiringPlaces
+pub mod ActorRows
 pub mod Readiness
 pub mod FirstOffers
 pub mod ItemRules
@@ -17,6 +25,9 @@ pub mod NodeFlow
 pub mod Answered
 pub mod Storing
 pub mod Quieting
+pub mod EdgesByNode
+pub mod EdgeRows
+pub mod ReleasedEdges
 pub mod Asking
 pub mod ConfigItems
 pub mod Ended
@@ -29,6 +40,7 @@ pub mod OfferedItems
 pub mod KindsOfItems
 pub mod WaitingNodes
 pub mod OpenedJob
+pub mod ListedItems
 pub mod QuietJob
 pub mod OffersInTurn
 pub mod MarkedJob

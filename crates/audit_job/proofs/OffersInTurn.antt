@@ -1,5 +1,6 @@
 -- What a job offers first, one item after the other.
-use Rattle.std.proofs.Common.{◌≡◌, ◌≢◌, ◌↔◌, ℕ, ◌+◌, not, Bool, true, false, IsTrue, List, Option, Some, None, refl, sym, ap, ◌∙◌, subst, if◌then◌else◌}
+use Rattle.std.proofs.Common.{◌≡◌, ◌≢◌, ◌↔◌, ℕ, ◌+◌, not, Bool, true, false, IsTrue, List, Option, Some, None, refl, sym, ap, ◌∙◌, subst}
+use Rattle.std.specs.Prelude.{slice_index}
 use Rattle.board_rules.specs.Asking as board
 use Rattle.board_rules.specs.Asking.{goes_first}
 use Rattle.board_rules.specs.Offers.{calls}
@@ -10,7 +11,7 @@ use Rattle.nested_jobs.specs.Rules.{Call, Task, Work}
 use Rattle.pisdf_meaning.specs.declared.firing.Firing.{Firing}
 use Rattle.pisdf_model.specs.declared.graph.Graph.{Graph}
 use Rattle.audit_job.specs.Marks.{answers, mark_at}
-use Rattle.audit_job.specs.Offering.{GoesFirst, IsFirstBelow, IsOfferedIn, first_of, offer_of}
+use Rattle.audit_job.specs.Offering.{GoesFirst, IsFirstOf, IsOfferedIn, leads, offer_of}
 use Rattle.audit_job.specs.declared.job.Job.{Job}
 use Rattle.audit_job.specs.declared.offering.Offer.{Offer}
 use Rattle.audit_job.proofs.FirstOffers.{found, gives_way, none_more, stays, still}
@@ -45,16 +46,16 @@ call_offered false graphs job i called task free = ((λ e. absurd (cc)), (λ off
 
 -- ---- one after the other
 
-module _ (P : ℕ → Type 0) (at : ℕ → board.Offer) (own : (i : ℕ) → (at i).item ≡ i) (n : ℕ) where
-  pub nothing_more : (best : Option Offer) → IsFirstBelow P at n best → ¬ (P n) → IsFirstBelow P at (n + 1) best
-  nothing_more None none lacks = none_more P at own n none lacks
-  nothing_more (Some best) first lacks = still P at own n (offer_of best) first lacks
+module _ (P : ℕ → Type 0) (at : ℕ → board.Offer) (own : (i : ℕ) → (at i).item ≡ i) (items : List ℕ) (n : ℕ) where
+  pub nothing_more : (best : Option Offer) → IsFirstOf P at items n best → ¬ (P (slice_index items n)) → IsFirstOf P at items (n + 1) best
+  nothing_more None none lacks = none_more P at own items n none lacks
+  nothing_more (Some best) first lacks = still P at own items n (offer_of best) first lacks
 
-  module _ (next : Offer) (next_is : offer_of next ≡ at n) (holds : P n) where
-    chosen : (best : Offer) → GoesFirst P at n (offer_of best) → (b : Bool) → goes_first (offer_of next) (offer_of best) ≡ b → IsFirstBelow P at (n + 1) (if b then Some next else Some best)
-    chosen best first true is = subst (λ (o : board.Offer). GoesFirst P at (n + 1) o) (sym next_is) (gives_way P at own n (offer_of best) first holds (ap (λ (o : board.Offer). goes_first o (offer_of best)) (sym next_is) ∙ is))
-    chosen best first false is = stays P at own n (offer_of best) first holds (ap (λ (o : board.Offer). goes_first o (offer_of best)) (sym next_is) ∙ is)
+  module _ (next : Offer) (next_is : offer_of next ≡ at (slice_index items n)) where
+    pub passed_by : (best : Option Offer) → IsFirstOf P at items n best → leads (offer_of next) best ≡ false → IsFirstOf P at items (n + 1) best
+    passed_by None none after = absurd (cc)
+    passed_by (Some best) first after = stays P at own items n (offer_of best) first (ap (λ (o : board.Offer). goes_first o (offer_of best)) (sym next_is) ∙ after)
 
-    pub one_more : (best : Option Offer) → IsFirstBelow P at n best → IsFirstBelow P at (n + 1) (first_of best next)
-    one_more None none = subst (λ (o : board.Offer). GoesFirst P at (n + 1) o) (sym next_is) (found P at own n none holds)
-    one_more (Some best) first = chosen best first (goes_first (offer_of next) (offer_of best)) refl
+    pub taken : P (slice_index items n) → (best : Option Offer) → IsFirstOf P at items n best → leads (offer_of next) best ≡ true → IsFirstOf P at items (n + 1) (Some next)
+    taken holds None none before = subst (λ (o : board.Offer). GoesFirst P at items (n + 1) o) (sym next_is) (found P at own items n none holds)
+    taken holds (Some best) first before = subst (λ (o : board.Offer). GoesFirst P at items (n + 1) o) (sym next_is) (gives_way P at own items n (offer_of best) first holds (ap (λ (o : board.Offer). goes_first o (offer_of best)) (sym next_is) ∙ before))

@@ -15,6 +15,7 @@ use Rattle.pisdf_meaning.specs.declared.firing.Firing.{Firing}
 use Rattle.pisdf_model.specs.declared.graph.Graph.{Graph}
 use Rattle.sdf_level.specs.declared.single_rate.Edge.{Edge}
 use Rattle.audit_job.specs.Answering.{IsMarked}
+use Rattle.audit_job.specs.Candidates.{AreCandidates, running_in, waits_in}
 use Rattle.audit_job.specs.Jobs.{AreNodes, IsJob, IsPrepared, IsUnscheduled, prepared_of}
 use Rattle.audit_job.specs.Marks.{answers, mark_at}
 use Rattle.audit_job.specs.Giving.{gives}
@@ -32,9 +33,10 @@ module _ (graphs : List Graph) (workers : ℕ) (old new : Job) (is : IsJob graph
   g = graph_of graphs old.firing
 
   -- a job that has as many items, which answered the same, and whose compilation isn't open
-  pub job_stays : length new.marks.items ≡ length old.marks.items → answers new.marks.items ≡ answers old.marks.items → ((d : Firing) → mark_at new.marks.items (compile_number (graph_of graphs old.firing)) ≢ mark.Open d) → IsJob graphs workers new
-  job_stays long same uncalled =
-      let one : IsJob graphs workers (record old { marks = new.marks }) = record {
+  pub job_stays : length new.marks.items ≡ length old.marks.items → answers new.marks.items ≡ answers old.marks.items → ((d : Firing) → mark_at new.marks.items (compile_number (graph_of graphs old.firing)) ≢ mark.Open d) →
+      AreCandidates new.marks.items (length old.places.items) (waits_in old.nodes) new.candidates → new.running ≡ running_in new.marks.items → IsJob graphs workers new
+  job_stays long same uncalled candidates running =
+      let one : IsJob graphs workers (record old { marks = new.marks; candidates = new.candidates; running = new.running }) = record {
         fit = is.fit;
         early_is = is.early_is;
         places_are = is.places_are;
@@ -43,8 +45,10 @@ module _ (graphs : List Graph) (workers : ℕ) (old new : Job) (is : IsJob graph
         compiled = λ answer at. is.compiled answer (ap (λ (v : Values Answer). v (compile_number (graph_of graphs old.firing))) (sym same) ∙ at);
         uncalled = uncalled;
         others = λ i answer differs at. is.others i answer differs (ap (λ (v : Values Answer). v i) (sym same) ∙ at);
+        candidates = candidates;
+        running_are = running;
       } in
-      let path : record old { marks = new.marks } ≡ new = λ i. record { firing = sym firing_is i; early = sym early_is i; places = sym places_are i; marks = new.marks; nodes = sym nodes_are i } in
+      let path : record old { marks = new.marks; candidates = new.candidates; running = new.running } ≡ new = λ i. record { firing = sym firing_is i; early = sym early_is i; places = sym places_are i; marks = new.marks; candidates = new.candidates; running = new.running; nodes = sym nodes_are i } in
       subst (λ (j : Job). IsJob graphs workers j) path one
 
 -- ---- an answer more
@@ -125,6 +129,7 @@ module _ (graphs : List Graph) (workers : ℕ) (old : Job) (is : IsJob graphs wo
         ready = are.made.ready;
         sources_are = are.made.sources_are;
         starts_are = are.made.starts_are;
+        rows = record { into = are.made.rows.into; out_of = are.made.rows.out_of };
         keeps_are = are.made.keeps_are;
         one_each = less.many ∙ are.made.one_each;
       };
@@ -158,9 +163,10 @@ module _ (graphs : List Graph) (workers : ℕ) (old : Job) (is : IsJob graphs wo
       (cases_eq i item)
 
   -- it is a job still
-  pub answered_job : (new : Job) → new.firing ≡ old.firing → new.early ≡ old.early → new.places ≡ old.places → new.marks ≡ marks → GoOn old.nodes new.nodes → IsJob graphs workers new
-  answered_job new firing_is early_is places_are marks_are goes =
-      let one : IsJob graphs workers (record old { marks = marks; nodes = new.nodes }) = record {
+  pub answered_job : (new : Job) → new.firing ≡ old.firing → new.early ≡ old.early → new.places ≡ old.places → new.marks ≡ marks → GoOn old.nodes new.nodes →
+      AreCandidates marks.items (length old.places.items) (waits_in new.nodes) new.candidates → new.running ≡ running_in marks.items → IsJob graphs workers new
+  answered_job new firing_is early_is places_are marks_are goes candidates running =
+      let one : IsJob graphs workers (record old { marks = marks; candidates = new.candidates; running = new.running; nodes = new.nodes }) = record {
         fit = is.fit;
         early_is = is.early_is;
         places_are = is.places_are;
@@ -169,6 +175,8 @@ module _ (graphs : List Graph) (workers : ℕ) (old : Job) (is : IsJob graphs wo
         compiled = λ answer at. is.compiled answer (sym at_compilation ∙ at);
         uncalled = λ d at. is.uncalled d (sym (marked.others (compile_number h) (λ same. other (sym same))) ∙ at);
         others = others_so;
+        candidates = candidates;
+        running_are = running;
       } in
-      let path : record old { marks = marks; nodes = new.nodes } ≡ new = λ i. record { firing = sym firing_is i; early = sym early_is i; places = sym places_are i; marks = sym marks_are i; nodes = new.nodes } in
+      let path : record old { marks = marks; candidates = new.candidates; running = new.running; nodes = new.nodes } ≡ new = λ i. record { firing = sym firing_is i; early = sym early_is i; places = sym places_are i; marks = sym marks_are i; candidates = new.candidates; running = new.running; nodes = new.nodes } in
       subst (λ (j : Job). IsJob graphs workers j) path one

@@ -1,5 +1,5 @@
 -- How jobs end.
-use Rattle.std.specs.Prelude.{◌≡◌, ℕ, ◌<◌, true, List, [], length, Option, Some, None, IsSome}
+use Rattle.std.specs.Prelude.{◌≡◌, ℕ, ◌<◌, true, List, [], length, slice_index, Option, Some, None, IsSome}
 use Rattle.job_rules.specs.Items.{first_refusal, job_rules, trace_of}
 use Rattle.job_rules.specs.Words as words
 use Rattle.nested_jobs.specs.Rules.{Values}
@@ -18,6 +18,10 @@ use Rattle.audit_job.specs.declared.job.Job.{Job}
 -- the trace of each firing of each actor of the level, where the nodes answered this
 abbrev pub traces_at : List Node → Values words.Answer → ℕ → ℕ → List TraceRow
 traces_at nodes v a k = trace_of (v (place_of nodes (node.Firing a k)))
+
+-- the trace of each firing that stands at one of these places
+abbrev pub traces_of : List ℕ → Values words.Answer → ℕ → List TraceRow
+traces_of places v k = trace_of (v (slice_index places k))
 
 -- the refusal of an item, if it was refused
 abbrev pub refusal_in : Option words.Answer → Option Refusal

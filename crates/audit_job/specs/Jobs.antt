@@ -16,7 +16,9 @@ use Rattle.job_rules.specs.Words as words
 use Rattle.nested_jobs.specs.Marks.{Open}
 use Rattle.nested_jobs.specs.Rules.{Place, Values}
 use Rattle.board_rules.specs.Asking.{JobRow}
+use Rattle.audit_job.specs.Candidates.{AreCandidates, running_in, waits_in}
 use Rattle.audit_job.specs.Marks.{answers, mark_at}
+use Rattle.audit_job.specs.Rows.{HasRows}
 use Rattle.audit_job.specs.Waiting.{waiting}
 use Rattle.audit_job.specs.declared.job.Job.{Job}
 use Rattle.audit_job.specs.declared.job.Nodes.{Nodes}
@@ -34,6 +36,7 @@ pub record IsMadeOf (graphs : List Graph) (workers : ℕ) (firing : Firing) (nod
   pub ready : IsReadyWith graphs workers firing nodes.left.items (arc_value nodes.compiled) nodes.set nodes.values
   pub sources_are : nodes.sources ≡ source_tokens (graph_of graphs firing) firing nodes.left.items
   pub starts_are : lists_of nodes.starts.items ≡ link_starts graphs (graph_of graphs firing) firing
+  pub rows : HasRows nodes
   pub keeps_are : nodes.keeps.items ≡ map (has_state graphs) (acting (graph_of graphs firing))
   pub one_each : length nodes.waits.items ≡ length (nodes_in graphs (graph_of graphs firing) firing (prepared_of nodes))
 
@@ -74,6 +77,8 @@ pub record IsJob (graphs : List Graph) (workers : ℕ) (job : Job) : Type 0 wher
   pub compiled : (answer : words.Answer) → answers job.marks.items (compile_number (graph_in graphs job)) ≡ Some answer → IsCompileAnswer answer
   pub uncalled : (d : Firing) → mark_at job.marks.items (compile_number (graph_in graphs job)) ≢ Open d
   pub others : (i : ℕ) (answer : words.Answer) → i ≢ compile_number (graph_in graphs job) → answers job.marks.items i ≡ Some answer → IsUnscheduled answer
+  pub candidates : AreCandidates job.marks.items (length job.places.items) (waits_in job.nodes) job.candidates
+  pub running_are : job.running ≡ running_in job.marks.items
 
 -- the job as the rules of boards have it, at a place
 abbrev pub row_of : Place → Job → JobRow

@@ -2,12 +2,15 @@ pub mod Marks
 pub mod Kinds
 pub mod Giving
 pub mod Waiting
+pub mod Candidates
 pub mod Wires
 pub mod Flowing
+pub mod Rows
 pub mod Answering
 pub mod Working
 pub mod Jobs
 pub mod Compiling
+pub mod Outlets
 pub mod Ending
 pub mod Offering
 pub mod Marking

@@ -48,19 +48,18 @@ pub record IsOfferedIn (graphs : List Graph) (opens : Bool) (job : Job) (i : ℕ
   pub has_task : rule graphs job.firing (answers job.marks.items) i ≡ Some task
   pub kind : calls task ≡ opens
 
--- of those below n of which this holds, and which stand so, the item goes first
-pub record GoesFirst (P : ℕ → Type 0) (at : ℕ → board.Offer) (n : ℕ) (offer : board.Offer) : Type 0 where
-  pub inside : offer.item < n
+-- of the first n of these items, those of which this holds, and which stand so, the item goes first
+pub record GoesFirst (P : ℕ → Type 0) (at : ℕ → board.Offer) (items : List ℕ) (n : ℕ) (offer : board.Offer) : Type 0 where
   pub holds : P offer.item
   pub is : offer ≡ at offer.item
-  pub first : (j : ℕ) → j < n → P j → j ≢ offer.item → goes_first offer (at j) ≡ true
+  pub first : (k : ℕ) → k < n → P (slice_index items k) → slice_index items k ≢ offer.item → goes_first offer (at (slice_index items k)) ≡ true
 
 -- it goes first, or none is there
-abbrev pub IsFirstBelow : (ℕ → Type 0) → (ℕ → board.Offer) → ℕ → Option Offer → Type 0
-IsFirstBelow P at n None = (i : ℕ) → i < n → ¬ (P i)
-IsFirstBelow P at n (Some offer) = GoesFirst P at n (offer_of offer)
+abbrev pub IsFirstOf : (ℕ → Type 0) → (ℕ → board.Offer) → List ℕ → ℕ → Option Offer → Type 0
+IsFirstOf P at items n None = (k : ℕ) → k < n → ¬ (P (slice_index items k))
+IsFirstOf P at items n (Some offer) = GoesFirst P at items n (offer_of offer)
 
--- the first of what was found before and of another offer
-abbrev pub first_of : Option Offer → Offer → Option Offer
-first_of None next = Some next
-first_of (Some best) next = if goes_first (offer_of next) (offer_of best) then Some next else Some best
+-- whether an offer goes before what was found before, if anything was
+abbrev pub leads : board.Offer → Option Offer → Bool
+leads next None = true
+leads next (Some best) = goes_first next (offer_of best)

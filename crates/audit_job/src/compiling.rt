@@ -16,6 +16,7 @@ ghost use Rattle.audit_job.specs.Compiling.{EndsAs, IsNew};
 
 use crate::answer::Answer;
 use crate::job::Nodes;
+use crate::rows::{Side, edges_by};
 use crate::wires::edge_counts;
 use crate::working::acting_at;
 use job_compiler::{Compiled, Kept, Key};
@@ -110,11 +111,11 @@ fn nodes_of(
     let starts = link_starts(alloc, graphs, graph, firing)?;
     let keeps = keeps_at(alloc, graphs, graph, set.places.items())?;
     let single_rate = compiled.graph();
-    let waits = edge_counts(
-        alloc,
-        single_rate.nodes.items().len(),
-        single_rate.edges.items(),
-    )?;
+    let edges = single_rate.edges.items();
+    let waits = edge_counts(alloc, single_rate.nodes.items().len(), edges)?;
+    let count = waits.len();
+    let into = edges_by(alloc, count, edges, Side::Head)?;
+    let out_of = edges_by(alloc, count, edges, Side::Tail)?;
     Ok(Nodes {
         left,
         compiled,
@@ -123,6 +124,8 @@ fn nodes_of(
         sources,
         starts,
         keeps,
+        into,
+        out_of,
         waits,
     })
 }

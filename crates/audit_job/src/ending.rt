@@ -1,11 +1,12 @@
 // How a job ends of which nothing more will come.
-ghost use Rattle.std.specs.Prelude.{◌≡◌, ◌<◌, ◌^◌, ◌++◌, ℕ, None, Some, IfOk, IsSome, MatchOption, OnOk, is_some, length};
+ghost use Rattle.std.specs.Prelude.{◌≡◌, ◌<◌, ◌++◌, ℕ, [], None, Some, IfOk, IsSome, MatchOption, OnOk, is_some, length, slice_index_or};
 ghost use Rattle.std.specs.Arc.{arc_value};
+ghost use Rattle.job_flow.specs.Frames.{given};
 ghost use Rattle.job_flow.specs.Outcomes as flow;
 ghost use Rattle.job_rules.specs.Items.{first_refusal, outcome, trace_of};
 ghost use Rattle.pisdf_meaning.specs.Running.{HaveRows, traces_below};
 ghost use Rattle.sdf_level.specs.Lists.{lists_of};
-ghost use Rattle.audit_job.specs.Ending.{IsFirstRefused, IsSettledJob, refusal_in, traces_at};
+ghost use Rattle.audit_job.specs.Ending.{IsFirstRefused, IsSettledJob, refusal_in, traces_at, traces_of};
 ghost use Rattle.audit_job.specs.Flowing.{flow_of, results_of};
 ghost use Rattle.audit_job.specs.Marks.{answer_of, answers, mark_of};
 ghost use Rattle.nested_jobs.specs.Marks.{answer_of as answer_in};
@@ -13,25 +14,25 @@ ghost use Rattle.nested_jobs.specs.Marks.{answer_of as answer_in};
 use crate::answer::{Answer, Mark};
 use crate::copying::push_rows;
 use crate::job::{Job, Nodes};
+use crate::outlets::{Outlet, firing_places, outlet_places};
 use crate::reading::push_written;
-use crate::wires::{keeps_state, place_of};
+use crate::wires::keeps_state;
 use pisdf_meaning::{LevelEnd, Refusal, TraceRow, given_by};
 use pisdf_model::Graph;
 use sdf_level::{Link, List, Node};
 use std::alloc::{AllocError, Global};
 
-/// What a node with one output has given.
+/// What the node at a place has given at its first output; nothing past the end.
 fn put_out(
     alloc: Global,
     nodes: &[Node],
     marks: &[Mark],
     keeps: &[bool],
-    node: Node,
+    place: usize,
 ) -> Result<List<i64>, AllocError>
     requires { length marks.now ≡ length nodes.now }
-    ensures { IfOk result (λ tokens. tokens ≡ flow.put_out nodes.now (results_of nodes.now keeps.now (answers marks.now)) node) }
+    ensures { IfOk result (λ tokens. tokens ≡ slice_index_or (given (results_of nodes.now keeps.now (answers marks.now) place)) 0 []) }
 {
-    let place = place_of(nodes, node);
     let mut line = Vec::new(alloc);
     if place < nodes.len() {
         push_written(
@@ -53,12 +54,12 @@ fn sunk(
     rates: &[u32],
 ) -> Result<List<List<i64>>, AllocError>
     requires many { length marks.now ≡ length nodes.now }
-    requires few { length rates.now < 2 ^ 32 }
     ensures { IfOk result (λ outs. outs ≡ flow.sunk nodes.now (results_of nodes.now keeps.now (answers marks.now)) 0 rates.now) }
 {
+    let places = outlet_places(alloc, nodes, Outlet::Sink, rates.len())?;
     let mut outs = Vec::with_capacity(alloc, rates.len())?;
     for sink in 0..rates.len() {
-        outs.push(put_out(alloc, nodes, marks, keeps, Node::Sink(sink as u32))?)?;
+        outs.push(put_out(alloc, nodes, marks, keeps, places[sink])?)?;
     }
     Ok(List::new(outs))
 }
@@ -72,12 +73,12 @@ fn left_over(
     links: &[Link],
 ) -> Result<List<List<i64>>, AllocError>
     requires many { length marks.now ≡ length nodes.now }
-    requires few { length links.now < 2 ^ 32 }
     ensures { IfOk result (λ left. left ≡ flow.left_over nodes.now (results_of nodes.now keeps.now (answers marks.now)) 0 links.now) }
 {
+    let places = outlet_places(alloc, nodes, Outlet::End, links.len())?;
     let mut left = Vec::with_capacity(alloc, links.len())?;
     for link in 0..links.len() {
-        left.push(put_out(alloc, nodes, marks, keeps, Node::End(link as u32))?)?;
+        left.push(put_out(alloc, nodes, marks, keeps, places[link])?)?;
     }
     Ok(List::new(left))
 }
@@ -96,18 +97,15 @@ fn push_trace(alloc: Global, mark: &Mark, rows: &mut Vec<TraceRow>) -> Result<()
     }
 }
 
-/// Adds the trace of a firing of an actor.
+/// Adds the trace of the node at a place; nothing past the end.
 fn push_firing(
     alloc: Global,
-    nodes: &[Node],
     marks: &[Mark],
-    actor: u32,
-    turn: u32,
+    place: usize,
     rows: &mut Vec<TraceRow>,
 ) -> Result<(), AllocError>
-    ensures { OnOk result (rows.new.items ≡ rows.old.items ++ traces_at nodes.now (answers marks.now) actor turn) }
+    ensures { OnOk result (rows.new.items ≡ rows.old.items ++ trace_of (answers marks.now place)) }
 {
-    let place = place_of(nodes, Node::Firing { actor, turn });
     if place < marks.len() {
         push_trace(alloc, &marks[place], rows)
     } else {
@@ -115,37 +113,30 @@ fn push_firing(
     }
 }
 
-/// The traces of so many firings of an actor.
-fn actor_rows(
-    alloc: Global,
-    nodes: &[Node],
-    marks: &[Mark],
-    actor: u32,
-    count: u32,
-) -> Result<Vec<TraceRow>, AllocError>
-    ensures { IfOk result (λ rows. rows.items ≡ traces_below (traces_at nodes.now (answers marks.now) actor) count) }
+/// The traces of the firings of an actor, which stand at these places among the nodes.
+fn actor_rows(alloc: Global, marks: &[Mark], places: &[usize]) -> Result<Vec<TraceRow>, AllocError>
+    ensures { IfOk result (λ rows. rows.items ≡ traces_below (traces_of places.now (answers marks.now)) (length places.now)) }
 {
     let mut rows = Vec::new(alloc);
-    for turn in 0..count {
-        push_firing(alloc, nodes, marks, actor, turn, &mut rows)?;
+    for turn in 0..places.len() {
+        push_firing(alloc, marks, places[turn], &mut rows)?;
     }
     Ok(rows)
 }
 
-/// The traces of the firings of all actors of the level, of which there are so many.
+/// The traces of the firings of all actors of the level.
 fn all_rows(
     alloc: Global,
     nodes: &[Node],
     marks: &[Mark],
     counts: &[u32],
-    actors: u32,
 ) -> Result<Vec<Vec<TraceRow>>, AllocError>
-    requires { length counts.now ≡ actors }
     ensures { IfOk result (λ all. HaveRows counts.now (traces_at nodes.now (answers marks.now)) (lists_of all.items)) }
 {
     let mut all = Vec::with_capacity(alloc, counts.len())?;
-    for actor in 0..actors {
-        all.push(actor_rows(alloc, nodes, marks, actor, counts[actor as usize])?)?;
+    let places = firing_places(alloc, nodes, counts)?;
+    for actor in 0..places.len() {
+        all.push(actor_rows(alloc, marks, &places[actor])?)?;
     }
     Ok(all)
 }
@@ -159,11 +150,10 @@ fn level_end(alloc: Global, job: &Nodes, marks: &[Mark]) -> Result<LevelEnd, All
     let nodes = job.compiled.graph().nodes.items();
     let level = &job.set.level;
     let counts = job.compiled.counts();
-    let actors = job.compiled.level().actors;
     Ok(LevelEnd {
         outs: sunk(alloc, nodes, marks, &job.keeps, level.sinks.items())?,
         left: left_over(alloc, nodes, marks, &job.keeps, level.links.items())?,
-        rows: all_rows(alloc, nodes, marks, counts, actors)?,
+        rows: all_rows(alloc, nodes, marks, counts)?,
     })
 }
 
@@ -242,13 +232,7 @@ pub fn outcome(alloc: Global, graphs: &[Graph], job: Job) -> Result<Answer, Allo
     match first_refused(&job.marks) {
         None => job_given(alloc, graphs, &job),
         Some(item) => {
-            let Job {
-                firing: _,
-                early: _,
-                places: _,
-                mut marks,
-                nodes: _,
-            } = job;
+            let Job { mut marks, .. } = job;
             Ok(Answer::Refuses(refusal_of(marks.swap_remove(item))))
         }
     }

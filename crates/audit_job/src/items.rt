@@ -19,6 +19,7 @@ ghost use Rattle.audit_job.specs.Kinds.{IsKind, settles};
 ghost use Rattle.audit_job.specs.Marks.{answer_of as told, answers, mark_at, mark_of};
 
 use crate::answer::{Answer, Kind, Mark};
+use crate::candidates::add_first;
 use crate::configuring::{all_gave, config_answer, config_call, config_kind, config_places};
 use crate::job::Job;
 use crate::working::{kind_of_node, node_answer, node_call};
@@ -67,11 +68,15 @@ pub fn open(alloc: Global, graphs: &Graphs, firing: Firing) -> Result<Job, Alloc
     let mut marks = Vec::new(alloc);
     push_free(&mut marks, places.len())?;
     push_free(&mut marks, 1)?;
+    let mut candidates = Vec::new(alloc);
+    add_first(&mut candidates, marks.len())?;
     Ok(Job {
         firing,
         early,
         places,
         marks,
+        candidates,
+        running: 0,
         nodes: None,
     })
 }
@@ -145,7 +150,11 @@ pub fn is_quiet(graphs: &Graphs, job: &Job) -> bool
     requires { (workers : ℕ) × IsJob graphs.now.graphs workers job.now }
     ensures { result ≡ is_quiet_row (job_rules graphs.now.graphs) (row_of [] job.now) }
 {
-    for item in 0..job.marks.len() {
+    if job.running != 0 {
+        return false;
+    }
+    for place in 0..job.candidates.len() {
+        let item = job.candidates[place];
         if !is_settled(&job.marks[item], kind_of(graphs, job, item)) {
             return false;
         }

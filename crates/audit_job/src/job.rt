@@ -2,7 +2,7 @@ use crate::answer::Mark;
 use job_compiler::Compiled;
 use param_resolver::{Early, LevelSet};
 use pisdf_meaning::{Configured, Firing};
-use sdf_level::List;
+use sdf_level::{Edge, List};
 use std::sync::Arc;
 
 /// One open job: a firing of a graph, and where each of its items stands. Its configuration actors have the numbers from 0 on in
@@ -15,6 +15,10 @@ pub struct Job {
     /// The place of each configuration actor among all actors of the graph.
     pub places: Vec<usize>,
     pub marks: Vec<Mark>,
+    /// The numbers of the items that may be offered, in no order: each free item that waits for nothing is among them.
+    pub candidates: Vec<usize>,
+    /// How many items a worker runs or have an open call.
+    pub running: usize,
     /// What its compilation made.
     pub nodes: Option<Nodes>,
 }
@@ -34,6 +38,10 @@ pub struct Nodes {
     pub starts: Vec<Vec<i64>>,
     /// Of each actor of the level whether its state goes on.
     pub keeps: Vec<bool>,
+    /// For each node the edges into it, in their order.
+    pub into: Vec<Vec<Edge>>,
+    /// For each node the edges out of it, in their order.
+    pub out_of: Vec<Vec<Edge>>,
     /// For each node how many edges lead into it from nodes that haven't given anything yet.
     pub waits: Vec<u32>,
 }

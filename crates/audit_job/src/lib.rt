@@ -3,6 +3,7 @@
 #![tactic(auto)]
 
 mod answer;
+mod candidates;
 mod compiling;
 mod configuring;
 mod copying;
@@ -13,7 +14,9 @@ mod job;
 mod marking;
 mod naming;
 mod offering;
+mod outlets;
 mod reading;
+mod rows;
 mod wires;
 mod working;
 

@@ -1,5 +1,5 @@
 // How the items of a job are claimed and finished.
-ghost use Rattle.std.specs.Prelude.{◌≡◌, ◌≢◌, ◌<◌, ◌≤◌, ◌++◌, ℕ, List as Seq, None, Some, OnOk, length, replicate};
+ghost use Rattle.std.specs.Prelude.{◌≡◌, ◌≢◌, ◌<◌, ◌≤◌, ◌++◌, ◌+◌, ◌^◌, ℕ, List as Seq, Some, OnOk, length, replicate, true, vec_capacity};
 ghost use Rattle.job_rules.specs.Items.{rule};
 ghost use Rattle.job_rules.specs.Words as words;
 ghost use Rattle.kernel_gate.specs.Signed.{unnamed};
@@ -9,12 +9,14 @@ ghost use Rattle.pisdf_model.specs.Valid.{AreValid};
 ghost use Rattle.pisdf_model.specs.declared.graph.Graph.{Graph as GraphView};
 ghost use Rattle.pisdf_meaning.specs.declared.firing.Firing.{Firing as FiringView};
 ghost use Rattle.audit_job.specs.Answering.{FitsWork};
+ghost use Rattle.audit_job.specs.Candidates.{Adds, IsReleased, is_running, waiting_in, waits_in};
 ghost use Rattle.audit_job.specs.Giving.{gives};
 ghost use Rattle.audit_job.specs.Jobs.{IsJob, IsUnscheduled};
 ghost use Rattle.audit_job.specs.Marking.{Finishes, Marks, MayRelease, Releases, TakesEnd, nodes_by};
 ghost use Rattle.audit_job.specs.Marks.{answer_of as told, answers, mark_at};
 
 use crate::answer::{Answer, Mark};
+use crate::candidates::{add_nodes, take_out};
 use crate::compiling::{CompileEnd, compile};
 use crate::configuring::all_left;
 use crate::items::{answer_of, push_free};
@@ -33,6 +35,9 @@ pub fn claim(job: &mut Job, item: usize)
     requires free { mark_at job.old.marks.items item ≡ mark.Free }
     ensures { Marks item mark.Busy job.old job.new }
 {
+    take_out(&mut job.candidates, item);
+    // No job has so many items that this stops at the end of the type.
+    job.running = job.running.saturating_add(1);
     job.marks[item] = Mark::Busy;
 }
 
@@ -43,6 +48,8 @@ pub fn mark_open(job: &mut Job, item: usize, called: Snapshot<Firing>)
     requires call { (graphs : Seq GraphView) × (workers : ℕ) × IsJob graphs workers job.old × (rule graphs job.old.firing (answers job.old.marks.items) item ≡ Some (Call called.value)) }
     ensures { Marks item (mark.Open called.value) job.old job.new }
 {
+    take_out(&mut job.candidates, item);
+    job.running = job.running.saturating_add(1);
     job.marks[item] = Mark::Open(called);
 }
 
@@ -57,34 +64,52 @@ fn gives(answer: &Answer) -> bool
     }
 }
 
-/// Where a node has given something, those after it wait for it no more.
-fn release_after(nodes: &mut Option<Nodes>, gives: bool, node: usize)
-    requires { MayRelease gives node nodes.old }
-    ensures { Releases gives node nodes.old nodes.new }
+/// Where a node has given something, those after it wait for it no more, and those that wait for nothing then are candidates.
+/// Node 0 has the number `first` among the items.
+fn release_after(
+    nodes: &mut Option<Nodes>,
+    candidates: &mut Vec<usize>,
+    first: usize,
+    gives: bool,
+    node: usize,
+)
+    requires may { MayRelease gives node nodes.old }
+    requires numbers { first + length (waits_in nodes.old) < 2 ^ 64 }
+    requires room { length candidates.old.items + waiting_in (waits_in nodes.old) ≤ vec_capacity candidates.old }
+    ensures released { Releases gives node nodes.old nodes.new }
+    ensures added { Adds first (length (waits_in nodes.old)) (IsReleased (waits_in nodes.old) (waits_in nodes.new)) candidates.old candidates.new }
+    ensures room { length candidates.new.items + waiting_in (waits_in nodes.new) ≤ vec_capacity candidates.new }
 {
     match nodes {
         Some(nodes) => {
             if gives {
-                release(nodes.compiled.graph().edges.items(), node, &mut nodes.waits);
+                release(
+                    &nodes.out_of[node],
+                    node,
+                    &mut nodes.waits,
+                    candidates,
+                    first,
+                );
             }
         }
         None => {}
     }
 }
 
-/// Stores the answer of an item that isn't finished, other than the compilation.
+/// Stores the answer of an item that runs, other than the compilation.
 fn store(job: &mut Job, item: usize, answer: Answer)
     requires is { (graphs : Seq GraphView) × (workers : ℕ) × IsJob graphs workers job.old }
-    requires inside { item < length job.old.marks.items }
-    requires unfinished { answers job.old.marks.items item ≡ None }
+    requires runs { is_running (mark_at job.old.marks.items item) ≡ true }
     requires other { item ≢ length job.old.places.items }
     requires unscheduled { IsUnscheduled (told answer) }
     ensures { Marks item (mark.Done (told answer)) job.old job.new }
 {
     let given = gives(&answer);
     job.marks[item] = Mark::Done(answer);
-    let node = item.saturating_sub(job.places.len() + 1);
-    release_after(&mut job.nodes, given, node);
+    job.running = job.running.saturating_sub(1);
+    let base = job.places.len();
+    let node = item.saturating_sub(base + 1);
+    release_after(&mut job.nodes, &mut job.candidates, base + 1, given, node);
 }
 
 /// Finishes an item that has called a job, which ended with this answer.
@@ -114,9 +139,11 @@ fn take_end(job: &mut Job, end: CompileEnd) -> Result<(), AllocError>
 {
     let CompileEnd { nodes, answer } = end;
     push_nodes(&mut job.marks, &nodes)?;
-    job.nodes = nodes;
     let base = job.places.len();
+    add_nodes(&mut job.candidates, &nodes, base + 1)?;
+    job.nodes = nodes;
     job.marks[base] = Mark::Done(answer);
+    job.running = job.running.saturating_sub(1);
     Ok(())
 }
 

@@ -1,5 +1,5 @@
 // Which of its items a job offers a worker first.
-ghost use Rattle.std.specs.Prelude.{◌≡◌, ◌<◌, ◌↔◌, IsTrue, ℕ, List as Seq, length};
+ghost use Rattle.std.specs.Prelude.{◌≡◌, ◌<◌, ◌+◌, ◌↔◌, IsTrue, ℕ, List as Seq, length, slice_index};
 ghost use Rattle.std.specs.Option.{option_map};
 ghost use Rattle.board_rules.specs.Asking.{IsAskedFor, goes_first};
 ghost use Rattle.board_rules.specs.Keys.{Key as KeyView};
@@ -10,7 +10,7 @@ ghost use Rattle.nested_jobs.specs.Rules.{Place};
 ghost use Rattle.pisdf_meaning.specs.declared.firing.Firing.{Firing as FiringView};
 ghost use Rattle.pisdf_model.specs.declared.graph.Graph.{Graph as GraphView};
 ghost use Rattle.audit_job.specs.Jobs.{IsJob, row_of};
-ghost use Rattle.audit_job.specs.Offering.{IsFirstBelow, IsOfferedIn, early_offer, first_of, offer_at, offer_of, ordering_by};
+ghost use Rattle.audit_job.specs.Offering.{IsFirstOf, IsOfferedIn, early_offer, leads, offer_at, offer_of, ordering_by};
 
 use crate::answer::Kind;
 use crate::items::{is_free, kind_of};
@@ -87,19 +87,13 @@ fn goes_first(one: &Offer, other: &Offer) -> bool
     order.is_lt()
 }
 
-/// The first of what was found before and of another offer.
-fn better(best: Option<Offer>, next: Offer) -> Option<Offer>
-    ensures { result ≡ first_of best next }
+/// Whether an offer goes before what was found before, if anything was.
+fn leads(next: &Offer, best: &Option<Offer>) -> bool
+    ensures { result ≡ leads (offer_of next.now) best.now }
 {
     match best {
-        Some(best) => {
-            if goes_first(&next, &best) {
-                Some(next)
-            } else {
-                Some(best)
-            }
-        }
-        None => Some(next),
+        Some(best) => goes_first(next, best),
+        None => true,
     }
 }
 
@@ -119,16 +113,37 @@ fn is_offered(graphs: &Graphs, job: &Job, item: usize, calls: bool) -> bool
     }
 }
 
-/// The first of its free items by home, urgency and number, which have work of their own, or call jobs.
-fn first_below(graphs: &Graphs, job: &Job, worker: u32, calls: bool) -> Option<Offer>
+/// What goes first once one more item is looked at: the item, if it is offered and goes before what was found before.
+fn better(
+    graphs: &Graphs,
+    job: &Job,
+    worker: u32,
+    calls: bool,
+    best: Option<Offer>,
+    item: usize,
+) -> Option<Offer>
+    requires is { (workers : ℕ) × IsJob graphs.now.graphs workers job.now }
+    requires inside { item < length job.now.marks.items }
+    ensures { (items : Seq ℕ) (n : ℕ) → slice_index items n ≡ item → IsFirstOf (IsOfferedIn graphs.now.graphs calls job.now) (offer_at job.now worker) items n best → IsFirstOf (IsOfferedIn graphs.now.graphs calls job.now) (offer_at job.now worker) items (n + 1) result }
+{
+    let next = offer_of(job, item, worker);
+    if !leads(&next, &best) {
+        return best;
+    }
+    if !is_offered(graphs, job, item, calls) {
+        return best;
+    }
+    Some(next)
+}
+
+/// The first of the candidates by home, urgency and number, which have work of their own, or call jobs.
+fn first_candidate(graphs: &Graphs, job: &Job, worker: u32, calls: bool) -> Option<Offer>
     requires { (workers : ℕ) × IsJob graphs.now.graphs workers job.now }
-    ensures { IsFirstBelow (IsOfferedIn graphs.now.graphs calls job.now) (offer_at job.now worker) (length job.now.marks.items) result }
+    ensures { IsFirstOf (IsOfferedIn graphs.now.graphs calls job.now) (offer_at job.now worker) job.now.candidates.items (length job.now.candidates.items) result }
 {
     let mut best: Option<Offer> = None;
-    for item in 0..job.marks.len() {
-        if is_offered(graphs, job, item, calls) {
-            best = better(best, offer_of(job, item, worker));
-        }
+    for place in 0..job.candidates.len() {
+        best = better(graphs, job, worker, calls, best, job.candidates[place]);
     }
     best
 }
@@ -139,5 +154,5 @@ pub fn first_offer(graphs: &Graphs, job: &Job, worker: u32, calls: bool) -> Opti
     requires { (workers : ℕ) × IsJob graphs.now.graphs workers job.now }
     ensures { (key : KeyView) (m : Marks FiringView words.Answer) (place : Place) → key.graphs ≡ graphs.now → IsJob key.graphs.graphs key.workers job.now → IsAskedFor key m worker calls (row_of place job.now) (option_map offer_of result) }
 {
-    first_below(graphs, job, worker, calls)
+    first_candidate(graphs, job, worker, calls)
 }

@@ -9,6 +9,7 @@ ghost use Rattle.sdf_level.specs.Lists.{lists_of};
 ghost use Rattle.sdf_level.specs.declared.single_rate.Edge.{Edge as EdgeView};
 ghost use Rattle.audit_job.specs.Flowing.{Arrives, flow_of, results_of, stored_in};
 ghost use Rattle.audit_job.specs.Marks.{answers, mark_of};
+ghost use Rattle.audit_job.specs.Rows.{HasRows};
 
 use crate::answer::{Answer, Mark};
 use crate::job::Nodes;
@@ -172,17 +173,27 @@ fn stored_at(job: &Nodes, which: Node) -> Option<&[i64]>
     }
 }
 
+/// How many edges lead into a node of a job.
+fn count_into(job: &Nodes, node: u32) -> usize
+    requires there { node < length (flow_of job.now).nodes }
+    requires rows { HasRows job.now }
+    ensures { result ≡ flow.edges_into (flow_of job.now).edges node }
+{
+    edges_into(&job.into[node as usize], node)
+}
+
 /// How many input ports a node has.
 fn ports_of(job: &Nodes, which: Node, node: u32) -> usize
+    requires there { node < length (flow_of job.now).nodes }
+    requires rows { HasRows job.now }
     ensures { result ≡ flow.ports_in (flow_of job.now) which node }
 {
-    let edges = job.compiled.graph().edges.items();
     match which {
         Node::Source(_) => 1,
         Node::Init(_) => 1,
         Node::Firing { actor, turn: _ } => links_into(job.set.level.links.items(), actor),
-        Node::Join { link: _, turn: _ } => edges_into(edges, node),
-        Node::Round(_) => edges_into(edges, node),
+        Node::Join { link: _, turn: _ } => count_into(job, node),
+        Node::Round(_) => count_into(job, node),
         Node::End(_) => 1,
         Node::Sink(_) => 1,
         Node::Broadcast(_) => 1,
@@ -199,11 +210,11 @@ pub(crate) fn read_by(
 ) -> Result<List<List<i64>>, AllocError>
     requires there { node < length (flow_of job.now).nodes }
     requires ends { All (λ (e : EdgeView). e.tail < length (flow_of job.now).nodes) (flow_of job.now).edges }
+    requires rows { HasRows job.now }
     requires marks { length (flow_of job.now).nodes ≤ length marks.now }
     ensures { IfOk result (λ read. read ≡ flow.inputs (flow_of job.now) (results_of (flow_of job.now).nodes job.now.keeps.items (answers marks.now)) node) }
 {
-    let graph = job.compiled.graph();
-    let nodes = graph.nodes.items();
+    let nodes = job.compiled.graph().nodes.items();
     let which = nodes[node as usize];
     if let Some(tokens) = stored_at(job, which) {
         return stored(alloc, tokens);
@@ -212,7 +223,7 @@ pub(crate) fn read_by(
     arriving(
         alloc,
         nodes,
-        graph.edges.items(),
+        &job.into[node as usize],
         marks,
         &job.keeps,
         node,

@@ -1,14 +1,14 @@
 // What the edges and the links of a job say of its nodes.
-ghost use Rattle.std.specs.Prelude.{◌≡◌, ◌<◌, ◌≤◌, ◌^◌, ◌+◌, ℕ, All, IfOk, length, slice_index};
+ghost use Rattle.std.specs.Prelude.{◌≡◌, ◌<◌, ◌≤◌, ◌^◌, ◌+◌, ℕ, All, IfOk, length, slice_index, vec_capacity};
 ghost use Rattle.job_flow.specs.Frames as flow;
 ghost use Rattle.sdf_level.specs.Kept.{how_many};
 ghost use Rattle.sdf_level.specs.Run.{is_into_actor};
 ghost use Rattle.sdf_level.specs.declared.single_rate.Edge.{Edge as EdgeView};
-ghost use Rattle.single_rate.specs.Expanded.{place_of};
-ghost use Rattle.single_rate.specs.Nodes.{kind, same, subject, turn_of};
+ghost use Rattle.audit_job.specs.Candidates.{Adds, IsReleased, waiting_in};
 ghost use Rattle.audit_job.specs.Waiting.{between};
 ghost use Rattle.audit_job.specs.Wires.{keeps_in};
 
+use crate::candidates::release_one;
 use sdf_level::{Edge, Head, Link, Node};
 use std::alloc::{AllocError, Global};
 
@@ -95,91 +95,26 @@ pub(crate) fn edge_counts(
     Ok(counts)
 }
 
-/// The nodes to which edges lead from this one wait for these edges no more.
-pub(crate) fn release(edges: &[Edge], node: usize, waits: &mut [u32])
+/// The nodes to which edges lead from this one wait for these edges no more, and those that wait for none then are candidates.
+/// Node 0 has the number `first` among the items.
+pub(crate) fn release(
+    edges: &[Edge],
+    node: usize,
+    waits: &mut [u32],
+    candidates: &mut Vec<usize>,
+    first: usize,
+)
     requires there { All (λ (e : EdgeView). e.head < length waits.old) edges.now }
     requires enough { (n : ℕ) → n < length waits.old → between edges.now node n ≤ slice_index waits.old n }
-    ensures { (n : ℕ) → n < length waits.old → slice_index waits.new n + between edges.now node n ≡ slice_index waits.old n }
+    requires numbers { first + length waits.old < 2 ^ 64 }
+    requires room { length candidates.old.items + waiting_in waits.old ≤ vec_capacity candidates.old }
+    ensures fewer { (n : ℕ) → n < length waits.old → slice_index waits.new n + between edges.now node n ≡ slice_index waits.old n }
+    ensures added { Adds first (length waits.old) (IsReleased waits.old waits.new) candidates.old candidates.new }
+    ensures room { length candidates.new.items + waiting_in waits.new ≤ vec_capacity candidates.new }
 {
     for edge in edges {
         if edge.tail as usize == node {
-            waits[edge.head as usize] -= 1;
+            release_one(waits, candidates, first, edge.head as usize);
         }
     }
-}
-
-/// A number for each kind of nodes.
-fn kind_of(node: Node) -> u32
-    ensures { result ≡ kind node }
-{
-    match node {
-        Node::Source(_) => 0,
-        Node::Init(_) => 1,
-        Node::Firing { actor: _, turn: _ } => 2,
-        Node::End(_) => 3,
-        Node::Sink(_) => 4,
-        Node::Broadcast(_) => 5,
-        Node::Fork { link: _, turn: _ } => 6,
-        Node::Join { link: _, turn: _ } => 7,
-        Node::Round(_) => 8,
-    }
-}
-
-/// The number of its source, link, actor or sink.
-fn subject_of(node: Node) -> u32
-    ensures { result ≡ subject node }
-{
-    match node {
-        Node::Source(source) => source,
-        Node::Init(link) => link,
-        Node::Firing { actor, turn: _ } => actor,
-        Node::End(link) => link,
-        Node::Sink(sink) => sink,
-        Node::Broadcast(link) => link,
-        Node::Fork { link, turn: _ } => link,
-        Node::Join { link, turn: _ } => link,
-        Node::Round(link) => link,
-    }
-}
-
-/// Its turn, or 0 where it has none.
-fn turn_of(node: Node) -> u32
-    ensures { result ≡ turn_of node }
-{
-    match node {
-        Node::Source(_) => 0,
-        Node::Init(_) => 0,
-        Node::Firing { actor: _, turn } => turn,
-        Node::End(_) => 0,
-        Node::Sink(_) => 0,
-        Node::Broadcast(_) => 0,
-        Node::Fork { link: _, turn } => turn,
-        Node::Join { link: _, turn } => turn,
-        Node::Round(_) => 0,
-    }
-}
-
-/// Whether two nodes are one and the same.
-fn is_same(node: Node, other: Node) -> bool
-    ensures { result ≡ same node other }
-{
-    if kind_of(node) != kind_of(other) {
-        return false;
-    }
-    if subject_of(node) != subject_of(other) {
-        return false;
-    }
-    turn_of(node) == turn_of(other)
-}
-
-/// The number of the first node of the list that is this one, or how many there are where none is.
-pub(crate) fn place_of(nodes: &[Node], node: Node) -> usize
-    ensures { result ≡ place_of nodes.now node }
-{
-    for place in 0..nodes.len() {
-        if is_same(node, nodes[place]) {
-            return place;
-        }
-    }
-    nodes.len()
 }

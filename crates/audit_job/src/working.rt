@@ -1,6 +1,6 @@
 // What the nodes of a job are to do, and what comes of it.
 ghost use Rattle.std.specs.Prelude.{◌≡◌, ◌≢◌, ◌<◌, ◌≤◌, ◌^◌, ◌↔◌, ℕ, ℤ, false, List as Seq, [], Some, All, IfOk, IsTrue, MatchOption, length, map, slice_get, slice_index, slice_index_or};
-ghost use Rattle.job_flow.specs.Frames.{lens};
+ghost use Rattle.job_flow.specs.Frames.{lens, sizes_out as flow_sizes_out};
 ghost use Rattle.job_flow.specs.Graphs.{node_at};
 ghost use Rattle.job_rules.specs.Doing.{IsCopied};
 ghost use Rattle.job_rules.specs.Items.{firing_task, graph_of, node_task, node_values, ready_task};
@@ -30,6 +30,7 @@ ghost use Rattle.audit_job.specs.Flowing.{flow_of};
 ghost use Rattle.audit_job.specs.Jobs.{AreNodes, prepared_of};
 ghost use Rattle.audit_job.specs.Kinds.{IsKind};
 ghost use Rattle.audit_job.specs.Marks.{answer_of, answers};
+ghost use Rattle.audit_job.specs.Rows.{HasRows};
 ghost use Rattle.audit_job.specs.Working.{IsEnd, IsKernelActor, task_at};
 
 use crate::answer::{Answer, Kind, Mark};
@@ -176,6 +177,15 @@ fn passes_on(which: Node) -> bool
     }
 }
 
+/// The sizes of the edges out of a node of a job.
+fn written_by(alloc: Global, job: &Nodes, node: u32) -> Result<Vec<u32>, AllocError>
+    requires there { node < length (flow_of job.now).nodes }
+    requires rows { HasRows job.now }
+    ensures { IfOk result (λ sizes. sizes.items ≡ flow_sizes_out (flow_of job.now).edges node) }
+{
+    sizes_out(alloc, &job.out_of[node as usize], node)
+}
+
 /// What a node of a job answers that is no firing, and reads this.
 fn copy_answer(
     alloc: Global,
@@ -186,6 +196,8 @@ fn copy_answer(
 ) -> Result<Answer, AllocError>
     requires which { node_at (flow_of job.now).nodes node ≡ which }
     requires copies { kind which ≢ 2 }
+    requires there { node < length (flow_of job.now).nodes }
+    requires rows { HasRows job.now }
     requires fit { HasLengths which (lengths read) (lens (flow_of job.now) node) }
     requires few_inputs { length read < 2 ^ 32 }
     requires few_outputs { length (lens (flow_of job.now) node) < 2 ^ 32 }
@@ -194,7 +206,7 @@ fn copy_answer(
     if passes_on(which) {
         return Ok(passed(alloc, read));
     }
-    let written = sizes_out(alloc, job.compiled.graph().edges.items(), node)?;
+    let written = written_by(alloc, job, node)?;
     copied(alloc, which, read, &written)
 }
 
@@ -212,6 +224,7 @@ pub(crate) fn node_answer<K: Gate>(
     requires set { IsLevelSet graphs.now graph.now firing.now job.now.values job.now.set }
     requires there { node < length (flow_of job.now).nodes }
     requires ends { All (λ (e : EdgeView). e.tail < length (flow_of job.now).nodes) (flow_of job.now).edges }
+    requires rows { HasRows job.now }
     requires marks { length (flow_of job.now).nodes ≤ length marks.now }
     requires work { (work : words.Work) × (task_at graphs.now graph.now firing.now job.now (answers marks.now) node ≡ Some (Work work)) }
     requires fits { (work : words.Work) → task_at graphs.now graph.now firing.now job.now (answers marks.now) node ≡ Some (Work work) → FitsWork (unnamed (K.kernels gate.now)) work }
@@ -298,6 +311,7 @@ pub(crate) fn node_call(
     requires keeps { job.now.keeps.items ≡ map (has_state graphs.now) (acting graph.now) }
     requires there { node < length (flow_of job.now).nodes }
     requires ends { All (λ (e : EdgeView). e.tail < length (flow_of job.now).nodes) (flow_of job.now).edges }
+    requires rows { HasRows job.now }
     requires marks { length (flow_of job.now).nodes ≤ length marks.now }
     requires call { (d : FiringView) × (task_at graphs.now graph.now firing.now job.now (answers marks.now) node ≡ Some (Call d)) }
     ensures { IfOk result (λ d. task_at graphs.now graph.now firing.now job.now (answers marks.now) node ≡ Some (Call d)) }

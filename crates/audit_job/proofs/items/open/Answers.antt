@@ -5,7 +5,7 @@ use Rattle.audit_job.specs.declared.answer.Mark.{Mark}
 use Rattle.audit_job.specs.declared.answer.Mark.TheVariants as stands
 use Rattle.audit_job.specs.Marks.{mark_of}
 use Rattle.audit_job.proofs.ConfigItems.{graph_found}
-use Rattle.audit_job.proofs.OpenedJob.{AllFree, both_free, copies_free, is_job}
+use Rattle.audit_job.proofs.OpenedJob.{AllFree, all_first, both_free, copies_free, is_job}
 use Rattle.audit_job.proofs.items.open.Goals as goal
 
 -- the marks of a job at its start
@@ -33,6 +33,7 @@ returns-clause-is c = λ workers.
     let graph = graph_found graphs firing c.requires.fit c.items.result.now firing.graph c.index-items-firing.result c.items.ensures refl c.index-items-firing.is in
     let long = ap (λ (l : List Mark). length l) marks ∙ start_long c.len.result in
     is_job graphs workers firing c.in_ok-early.early c.in_ok-places.places c.push_free-2.new.marks c.index-items-firing.result c.requires.fit c.in_ok-early.ensures graph c.in_ok-places.ensures (subst AllFree (sym marks) (start_free c.len.result)) (omega arith)
+    c.add_first.new.candidates (all_first c.push_free-2.new.marks.items (length c.in_ok-places.places.items) c.len-2.result c.new-candidates.result c.add_first.new.candidates c.new-candidates.ensures.items c.in_ok-add_first.ensures (omega (arith, c.push_free-2.new.marks.ok.0)) (omega (arith, c.push_free-2.new.marks.ok.0, c.in_ok-places.places.ok.0)))
 
 pub returns-clause-free : goal.returns-clause-free
 returns-clause-free c = λ i.

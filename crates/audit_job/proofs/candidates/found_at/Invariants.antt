@@ -1,0 +1,6 @@
+use Rattle.std.proofs.Common.{◌≢◌, ℕ, ◌<◌}
+use Rattle.std.specs.Prelude.{slice_index}
+use Rattle.audit_job.proofs.candidates.found_at.Given as goal
+
+abbrev pub invariant-loop-place : goal.invariant-loop-place
+invariant-loop-place l = (k : ℕ) → k < l.place → slice_index l.items k ≢ l.item

@@ -1,0 +1,54 @@
+// The edges of a graph by their nodes.
+ghost use Rattle.std.specs.Prelude.{◌≡◌, ◌<◌, ℕ, [], All, IfOk, length, slice_index_or};
+ghost use Rattle.sdf_level.specs.Lists.{lists_of};
+ghost use Rattle.sdf_level.specs.declared.single_rate.Edge.{Edge as EdgeView};
+ghost use Rattle.audit_job.specs.Rows.{AreRows, end_of};
+
+use sdf_level::Edge;
+use std::alloc::{AllocError, Global};
+
+/// An end of an edge.
+#[derive(Debug, Clone, Copy, PartialEq, Eq, Drop)]
+pub(crate) enum Side {
+    Tail,
+    Head,
+}
+
+/// The node at an end of an edge.
+fn end_of(edge: &Edge, side: Side) -> u32
+    ensures { result ≡ end_of side edge.now }
+{
+    match side {
+        Side::Tail => edge.tail,
+        Side::Head => edge.head,
+    }
+}
+
+/// So many empty lists.
+fn empty_rows(alloc: Global, count: usize) -> Result<Vec<Vec<Edge>>, AllocError>
+    ensures many { IfOk result (λ rows. length rows.items ≡ count) }
+    ensures empty { IfOk result (λ rows. (n : ℕ) → slice_index_or (lists_of rows.items) n [] ≡ []) }
+{
+    let mut rows = Vec::with_capacity(alloc, count)?;
+    for row in 0..count {
+        rows.push(Vec::new(alloc))?;
+    }
+    Ok(rows)
+}
+
+/// For each of so many nodes the edges that have it at this end, in their order.
+pub(crate) fn edges_by(
+    alloc: Global,
+    nodes: usize,
+    edges: &[Edge],
+    side: Side,
+) -> Result<Vec<Vec<Edge>>, AllocError>
+    requires { All (λ (e : EdgeView). end_of side e < nodes) edges.now }
+    ensures { IfOk result (λ rows. AreRows side nodes edges.now (lists_of rows.items)) }
+{
+    let mut rows = empty_rows(alloc, nodes)?;
+    for edge in edges {
+        rows[end_of(edge, side) as usize].push(*edge)?;
+    }
+    Ok(rows)
+}
