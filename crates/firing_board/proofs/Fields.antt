@@ -1,5 +1,5 @@
 -- What the fields of a board tell of the steps that were taken on it.
-use Rattle.std.proofs.Common.{◌≡◌, ℕ, ◌<◌, Bool, true, false, List, map, get_or, Option, Some, None, refl, sym, ap, ap₂, ◌∙◌, subst, arith}
+use Rattle.std.proofs.Common.{◌≡◌, ℕ, ◌<◌, Bool, true, false, List, get_or, Option, Some, None, refl, sym, ap, ap₂, ◌∙◌, subst, arith}
 use Rattle.pisdf_model.specs.declared.graph.Graphs.{Graphs}
 use Rattle.pisdf_meaning.specs.declared.firing.Firing.{Firing}
 use Rattle.board_rules.specs.Board.{RunsAs}
@@ -8,14 +8,13 @@ use Rattle.board_rules.specs.Keys.{Key}
 use Rattle.board_rules.specs.Laws.{JournalsTellSteps}
 use Rattle.board_rules.specs.Legal.{AreLegal, journal_of, state_after}
 use Rattle.firing_board.specs.Table.View.{NothingIsLent, lent_in, table_of}
-use Rattle.firing_board.specs.Counted.{counts_kept}
 use Rattle.firing_board.specs.Kept.{Keeps, StandsOrStarves, key_with, view_with}
 use Rattle.firing_board.specs.OnCore.{KeepsKey, MayClaim}
 use Rattle.firing_board.specs.Runs.{AreAllIdle, IsIdle}
 use Rattle.firing_board.specs.Starved.{StillRuns}
 use Rattle.firing_board.specs.View.{IsAt}
 use Rattle.firing_board.specs.declared.state.Core.{Core}
-use Rattle.firing_board.specs.declared.counts.KernelCounts.{KernelCounts}
+use Rattle.kernel_gate.specs.Signed.{Counts}
 use Rattle.firing_board.specs.declared.run.Run.{Run}
 use Rattle.firing_board.proofs.Handed.{none_if, run_of}
 use Rattle.firing_board.proofs.Runners.{held_as, inside_of}
@@ -67,6 +66,6 @@ may_claim tell key c keeps w idle = record { keeps = keeps; is_worker = idle.is_
 
 -- ---- the key
 
-pub key_same : (signatures : List KernelCounts) (top : Firing) (old new : Core) → KeepsKey old new → key_with signatures top new ≡ key_with signatures top old
+pub key_same : (signatures : List Counts) (top : Firing) (old new : Core) → KeepsKey old new → key_with signatures top new ≡ key_with signatures top old
 key_same signatures top old new kept =
-    ap₂ (λ (graphs : Graphs) (workers : ℕ). record { graphs = graphs; signatures = map counts_kept signatures; delays = top.state; ins = top.inputs; workers = workers }) kept.graphs_are kept.workers_are
+    ap₂ (λ (graphs : Graphs) (workers : ℕ). record { graphs = graphs; signatures = signatures; delays = top.state; ins = top.inputs; workers = workers }) kept.graphs_are kept.workers_are

@@ -18,6 +18,7 @@ pub mod Writes
 pub mod Freeing
 pub mod Closings
 pub mod Beginnings
+pub mod LentJobs
 pub mod Methods
 pub mod Openings
 pub mod CloseSteps

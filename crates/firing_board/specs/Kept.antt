@@ -1,25 +1,24 @@
 -- The fields of a board.
-use Rattle.std.specs.Prelude.{◌≡◌, ◌≤◌, Bool, true, false, List, is_some, length, map}
+use Rattle.std.specs.Prelude.{◌≡◌, ◌≤◌, Bool, true, false, List, is_some, length}
+use Rattle.kernel_gate.specs.Signed.{Counts}
 use Rattle.pisdf_meaning.specs.declared.firing.Firing.{Firing}
 use Rattle.board_rules.specs.Entries.{Step}
 use Rattle.board_rules.specs.Keys.{IsKey, Key}
 use Rattle.firing_board.specs.Table.View.{firings_of}
 use Rattle.firing_board.specs.Core.{HasRoom, IsLentToRunners, RowsHaveOwners, StandsAt, lent_of, runners}
 use Rattle.firing_board.specs.Starved.{StarvesAt}
-use Rattle.firing_board.specs.Counted.{counts_kept}
 use Rattle.firing_board.specs.View.{BoardView}
-use Rattle.firing_board.specs.declared.counts.KernelCounts.{KernelCounts}
 use Rattle.firing_board.specs.declared.board.Board.TheInside.{Inside}
 use Rattle.firing_board.specs.declared.state.Core.{Core}
 
-abbrev pub key_with : List KernelCounts → Firing → Core → Key
-key_with signatures top c = record { graphs = c.table.graphs; signatures = map counts_kept signatures; delays = top.state; ins = top.inputs; workers = c.table.workers }
+abbrev pub key_with : List Counts → Firing → Core → Key
+key_with signatures top c = record { graphs = c.table.graphs; signatures = signatures; delays = top.state; ins = top.inputs; workers = c.table.workers }
 
 abbrev pub view_with : Key → Core → Bool → BoardView
 view_with key c starved = record { key = key; journal = c.journal.entries; starved = starved; firings = firings_of c.table; lent = lent_of c.table c.running.items; kept = false }
 
 abbrev pub key_of : Inside → Key
-key_of i = key_with i.signatures.items i.top.value i.core
+key_of i = key_with i.signatures.counts i.top.value i.core
 
 abbrev pub view_of : Inside → BoardView
 view_of i = record (view_with (key_of i) i.core i.starved) { kept = is_some i.kept }

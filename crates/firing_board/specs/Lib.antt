@@ -18,4 +18,3 @@ pub mod Closing
 pub mod Kept
 pub mod OnCore
 pub mod Locking
-pub mod Counted

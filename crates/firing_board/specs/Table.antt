@@ -1,6 +1,7 @@
 -- The table of open jobs.
 pub mod View
 pub mod Slots
+pub mod Lending
 pub mod Suits
 pub mod Calls
 pub mod Closing

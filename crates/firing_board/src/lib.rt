@@ -5,7 +5,6 @@
 mod board;
 mod claim;
 mod claiming;
-mod counts;
 mod ending;
 mod finding;
 mod finishing;
@@ -18,6 +17,7 @@ mod run;
 mod starting;
 mod state;
 mod table;
+mod told;
 
 pub use board::Board;
 pub use claim::{Claim, Ticket};

@@ -22,10 +22,7 @@ use opening::{child_place, child_steps, count_rows, end_rows, top_row, vacant_ke
 use pisdf_meaning::{Firing, Refusal};
 use pisdf_model::Graphs;
 use row::Row;
-use slots::{
-    call_in, calling_item, claim_compile_in, claim_in, finish_call_in, finish_compile_in,
-    finish_in, is_quiet, put_row, row_in, take_row,
-};
+use slots::{calling_item, is_quiet, job_in, put_row, row_in, take_row};
 use std::alloc::{AllocError, Global};
 use std::marker::Model;
 use std::sync::Arc;
@@ -163,7 +160,7 @@ impl JobTable {
         let place = child_place(alloc, row_in(&self.rows[row]), item)?;
         let steps = child_steps(alloc, row_in(&self.rows[row]), item)?;
         let graphs = Arc::try_clone(&self.graphs)?;
-        let firing = call_in(&mut self.rows[row], alloc, item)?;
+        let firing = job_in(&mut self.rows[row]).call(alloc, item)?;
         let job = open(alloc, graphs, self.workers, firing)?;
         put_row(
             &mut self.rows[key],
@@ -185,7 +182,7 @@ impl JobTable {
         ensures lent { LendsItem row item (Some (frame_of result).places) self.old self.new }
         ensures fewer { free_items self.old ≡ free_items self.new + 1 }
     {
-        claim_in(&mut self.rows[row], item)
+        job_in(&mut self.rows[row]).claim(item)
     }
 
     /// Claims the compilation of a job, for which one may be at hand that is kept by its key.
@@ -206,7 +203,7 @@ impl JobTable {
         ensures refused { OnErr result (self.new ≡ self.old) }
         ensures lent { LendsAsBefore self.old self.new }
     {
-        claim_compile_in(&mut self.rows[row], alloc, kept)
+        job_in(&mut self.rows[row]).claim_compile(alloc, kept)
     }
 
     /// Finishes an item whose frame is out: it comes back with what its kernel or its node wrote, or with the fault of the
@@ -225,7 +222,7 @@ impl JobTable {
         ensures lent { LendsItem row item None self.old self.new }
         ensures free { free_items self.new ≡ free_items self.old }
     {
-        finish_in(&mut self.rows[row], item, frame, answer)
+        job_in(&mut self.rows[row]).finish(item, frame, answer)
     }
 
     /// Finishes the compilation of a job. It closes no job.
@@ -245,7 +242,7 @@ impl JobTable {
         ensures refused { OnErr result (self.new ≡ self.old) }
         ensures lent { LendsAsBefore self.old self.new }
     {
-        finish_compile_in(&mut self.rows[row], alloc, end)
+        job_in(&mut self.rows[row]).finish_compile(alloc, end)
     }
 
     /// Closes the job in a row where nothing more will come of it, tells the item that called it how it ended, and so on
@@ -279,7 +276,7 @@ impl JobTable {
         match upper {
             None => Ok(Some(end)),
             Some(upper) => {
-                finish_call_in(&mut self.rows[upper], calling_item(&place), end);
+                job_in(&mut self.rows[upper]).finish_call(calling_item(&place), end);
                 self.close_from(upper)
             }
         }

@@ -3,21 +3,20 @@ use Rattle.std.proofs.Common.{◌≡◌, ℕ, suc, ◌+◌, ◌<◌, List, [], �
 use Rattle.std.specs.Prelude.{drop}
 use Rattle.kernel_gate.specs.Leased.{AreWhole}
 use Rattle.kernel_gate.specs.Value.{Places}
-use Rattle.one_job.specs.Leased.{JobCells, LendsBuffers}
-use Rattle.one_job.specs.Marks as one
+use Rattle.one_job.specs.Leased.{LendsBuffers}
 use Rattle.pisdf_model.specs.declared.graph.Graphs.{Graphs}
 use Rattle.pisdf_meaning.specs.declared.firing.Firing.{Firing}
 use Rattle.pisdf_meaning.specs.declared.refusal.Refusal.{Refusal}
 use Rattle.sdf_level.specs.declared.node.Node.{Node}
 use Rattle.sdf_level.specs.declared.single_rate.Edge.{Edge}
-use Rattle.job_rules.specs.Items.{Prepared, compile_number, edges_in, graph_of, nodes_in, prepared_in}
+use Rattle.job_rules.specs.Items.{compile_number, edges_in, graph_of, nodes_in, prepared_in}
 use Rattle.job_preparing.specs.Handing.{AreOwnBlocks, ItemMarks, lent_at}
 use Rattle.job_preparing.specs.View as preparing
 use Rattle.job_preparing.specs.View.{ConfiguringView}
 use Rattle.graph_firing.specs.Nodes.Leases.{LendsNodes, as_nodes}
 use Rattle.graph_firing.specs.Nodes.View.{RunningView}
 use Rattle.graph_firing.specs.Kept.{KeepsWith, compile_mark, node_lent as stage_lent, node_marks as stage_marks, stage_cells, view_with}
-use Rattle.graph_firing.specs.Leases.{IsCompilationOf, LendsIn, LendsAs, LendsItems, node_lent, node_marks}
+use Rattle.graph_firing.specs.Leases.{IsCompilationOf, LendsAs, LendsItems, node_lent, node_marks}
 use Rattle.graph_firing.specs.View.{OpenView, answered, graph_in}
 use Rattle.graph_firing.specs.declared.stage.Stage.{Stage}
 use Rattle.graph_firing.specs.declared.stage.Stage.TheVariants.{Waiting, Compiling, Refused, Nodes}

@@ -1,5 +1,5 @@
 -- No cell of a job has two owners among its items.
-use Rattle.std.proofs.Common.{◌≡◌, ◌⊎◌, ⊎_elim, ℕ, zero, suc, ◌+◌, ◌<◌, true, List, [], ◌∷◌, slice_get, Option, Some, None, refl, sym, ap, ◌∙◌, subst, arith}
+use Rattle.std.proofs.Common.{◌≡◌, ◌⊎◌, ⊎_elim, ℕ, zero, suc, ◌+◌, ◌<◌, true, List, [], ◌∷◌, slice_get, Option, Some, None, sym, ap, ◌∙◌, subst}
 use Rattle.split_block.specs.View.{LeasePlace, IsWholePlace}
 use Rattle.kernel_gate.specs.Leased.{AllWhole, AreWhole}
 use Rattle.kernel_gate.specs.Value.{Places}

@@ -7,4 +7,5 @@ pub mod Running
 pub mod Stages
 pub mod Kept
 pub mod Leases
+pub mod Lending
 pub mod Nodes

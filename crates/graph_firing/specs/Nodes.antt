@@ -2,6 +2,7 @@
 pub mod View
 pub mod Calls
 pub mod Stages
+pub mod Told
 pub mod Sizes
 pub mod Parts
 pub mod Kept

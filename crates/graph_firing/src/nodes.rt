@@ -7,6 +7,7 @@ mod given;
 mod handed;
 mod running;
 mod stage;
+mod stages;
 mod starting;
 mod told;
 mod tracing;

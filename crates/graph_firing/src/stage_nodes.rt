@@ -36,12 +36,8 @@ pub(crate) fn node_step(stage: &Stage, node: usize) -> (u32, u32)
     requires { HasNodes (IsNode node) stage.now }
     ensures { HasNodes (IsNodeStep node result) stage.now }
 {
-    match stage {
-        Stage::Nodes(running) => running.step(number_of(running, node)),
-        Stage::Waiting => unreachable!(),
-        Stage::Compiling => unreachable!(),
-        Stage::Refused(_) => unreachable!(),
-    }
+    let running = stage.nodes();
+    running.step(number_of(running, node))
 }
 
 /// The number of a node that may be claimed.
@@ -49,12 +45,7 @@ pub(crate) fn node_number(stage: &Stage, node: usize) -> u32
     requires { HasNodes (MayClaim node) stage.now }
     ensures { result ≡ node }
 {
-    match stage {
-        Stage::Nodes(running) => number_of(running, node),
-        Stage::Waiting => unreachable!(),
-        Stage::Compiling => unreachable!(),
-        Stage::Refused(_) => unreachable!(),
-    }
+    number_of(stage.nodes(), node)
 }
 
 /// Claims a node.
@@ -62,15 +53,9 @@ pub(crate) fn claim_node(stage: &mut Stage, node: usize) -> Handed
     requires { HasNodes (MayClaim node) stage.old }
     ensures { NodesGoOn (ClaimsNode node result) stage.old stage.new }
 {
-    match stage {
-        Stage::Nodes(running) => {
-            let n = number_of(running, node);
-            handed_node(running.claim(n))
-        }
-        Stage::Waiting => unreachable!(),
-        Stage::Compiling => unreachable!(),
-        Stage::Refused(_) => unreachable!(),
-    }
+    let running = stage.nodes_mut();
+    let n = number_of(running, node);
+    handed_node(running.claim(n))
 }
 
 /// Opens a node that fires a graph.
@@ -78,15 +63,9 @@ pub(crate) fn call_node(stage: &mut Stage, alloc: Global, node: usize) -> Result
     requires { HasNodes (MayCall node) stage.old }
     ensures { NodesGoOn (CallsNode node result) stage.old stage.new }
 {
-    match stage {
-        Stage::Nodes(running) => {
-            let n = number_of(running, node);
-            running.call(alloc, n)
-        }
-        Stage::Waiting => unreachable!(),
-        Stage::Compiling => unreachable!(),
-        Stage::Refused(_) => unreachable!(),
-    }
+    let running = stage.nodes_mut();
+    let n = number_of(running, node);
+    running.call(alloc, n)
 }
 
 /// Finishes a node whose frame is out.
@@ -99,15 +78,9 @@ pub(crate) fn finish_node(
     requires { HasNodes (MayFinish node frame (IsOk answer)) stage.old }
     ensures { NodesGoOn (FinishesNode node frame answer) stage.old stage.new }
 {
-    match stage {
-        Stage::Nodes(running) => {
-            let n = number_of(running, node);
-            running.finish(n, frame, answer)
-        }
-        Stage::Waiting => unreachable!(),
-        Stage::Compiling => unreachable!(),
-        Stage::Refused(_) => unreachable!(),
-    }
+    let running = stage.nodes_mut();
+    let n = number_of(running, node);
+    running.finish(n, frame, answer)
 }
 
 /// Finishes a node that called a job.
@@ -115,13 +88,7 @@ pub(crate) fn finish_node_call(stage: &mut Stage, node: usize, end: Result<JobGi
     requires { HasNodes (MayAnswer node end) stage.old }
     ensures { NodesGoOn (FinishesCall node end) stage.old stage.new }
 {
-    match stage {
-        Stage::Nodes(running) => {
-            let n = number_of(running, node);
-            running.finish_call(n, end)
-        }
-        Stage::Waiting => unreachable!(),
-        Stage::Compiling => unreachable!(),
-        Stage::Refused(_) => unreachable!(),
-    }
+    let running = stage.nodes_mut();
+    let n = number_of(running, node);
+    running.finish_call(n, end)
 }

@@ -19,7 +19,6 @@ use Rattle.job_compiler.proofs.key.Key.TheSendSync as key
 use Rattle.job_preparing.proofs.handing.JobGiven.TheSendSync as given
 use Rattle.board_journal.proofs.kept.Entries.TheSendSync as entries
 use Rattle.board_journal.proofs.told.Past.TheLaws.TheKnot as past
-use Rattle.firing_board.proofs.counts.KernelCounts.TheSendSync as counts
 use Rattle.firing_board.proofs.run.Run.TheSendSync as run
 use Rattle.param_resolver.specs.contracts.known.Early as Early
 use Rattle.param_resolver.specs.contracts.level_set.LevelSet as LevelSet
@@ -32,6 +31,7 @@ use Rattle.firing_board.specs.contracts.table.JobTable as JobTable
 use Rattle.board_journal.specs.contracts.told.Told as JournalTold
 use Rattle.board_journal.specs.contracts.journal.Journal as Journal
 use Rattle.firing_board.specs.contracts.board.Board as Board
+use Rattle.firing_board.specs.contracts.told.ToldSignatures as ToldSignatures
 use Rattle.sdf_level.proofs.list.List.TheSendSync as list
 use Rattle.kernel_gate.specs.contracts.told.Told as Told
 use Rattle.one_job.specs.contracts.stage.Stage as JobStage
@@ -40,6 +40,8 @@ use Rattle.job_preparing.proofs.stage.Spare.TheSendSync as spare
 use Rattle.graph_firing.specs.contracts.nodes.told.ToldBefore as ToldBefore
 use Rattle.graph_firing.specs.contracts.nodes.told.ToldBlock as ToldBlock
 use Rattle.graph_firing.specs.contracts.nodes.stage.Stage as RunningStage
+use Rattle.graph_firing.specs.contracts.nodes.stages.Stages as RunningStages
+use Rattle.graph_firing.proofs.nodes.stages.Past.TheLaws.TheKnot as stages_past
 use Rattle.graph_firing.specs.contracts.nodes.frames.Held as RunningHeld
 use Rattle.worker_crew.proofs.GraphsSending.{graphs_send, graphs_sync}
 
@@ -79,11 +81,14 @@ told_block_send = search sendable depth 20
 running_stage_send : IsSend RunningStage.the_row
 running_stage_send = search (told_send, sendable) depth 20
 
+running_stages_send : IsSend RunningStages.the_row
+running_stages_send = search (stages_past.crosses, running_stage_send, crosses, sendable) depth 60 fits 20000
+
 running_held_send : IsSend RunningHeld.the_row
 running_held_send = search (frame.the_send, refusal.the_field_send, crosses, sendable) depth 20
 
 running_send : IsSend Running.the_row
-running_send = search (running_stage_send, running_held_send, told_before_send, told_block_send, graphs_send, graphs_sync, level_set_field_send, job_send, compiled.the_send, compiled.the_sync, path.the_send, name.the_send, linked.the_send, row.the_send, list.the_send, crosses, sendable) depth 60 fits 6000
+running_send = search (running_stages_send, running_held_send, told_before_send, told_block_send, graphs_send, graphs_sync, level_set_field_send, job_send, compiled.the_send, compiled.the_sync, path.the_send, name.the_send, linked.the_send, row.the_send, list.the_send, crosses, sendable) depth 60 fits 6000
 
 open_send : IsSend OpenJob.the_row
 open_send = search (configuring_send, running_send, crosses, sendable) depth 60 fits 20000
@@ -97,5 +102,8 @@ journal_told_send = search (past.crosses, crosses, sendable) depth 60 fits 20000
 journal_send : IsSend Journal.the_row
 journal_send = search (journal_told_send, entries.the_send, crosses, sendable) depth 60 fits 20000
 
+told_signatures_send : IsSend ToldSignatures.the_row
+told_signatures_send = search sendable depth 20
+
 pub board_send : IsSend Board.the_row
-board_send = search (table_send, counts.the_send, run.the_send, journal_send, given.the_send, refusal.the_send, kept.the_send, key.the_send, crosses, sendable) depth 60 fits 20000
+board_send = search (table_send, told_signatures_send, run.the_send, journal_send, given.the_send, refusal.the_send, kept.the_send, key.the_send, crosses, sendable) depth 60 fits 20000

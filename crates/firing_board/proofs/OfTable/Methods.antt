@@ -1,6 +1,6 @@
 -- What the methods of a table give, from what they do to one row.
 use Rattle.std.proofs.Common.{◌≡◌, ℕ, ◌<◌, ◌+◌, List, [], ◌∷◌, ◌++◌, length, get_or, set, Option, Some, None, Result, Ok, Err, OnOk, OnErr, All, refl, sym, ap, ◌∙◌, subst, arith, length-append}
-use Rattle.std.proofs.lemmas.List.{get_or_append_left, get_or_at}
+use Rattle.std.proofs.lemmas.List.{get_or_append_left, get_or_at, set-get_or}
 use Rattle.std.proofs.lemmas.List.Elements.{All-from_get_or, All-get_or}
 use Rattle.std.specs.declared.alloc.AllocError.{AllocError}
 use Rattle.job_preparing.specs.Handing.{lent_at, mark_at}
@@ -26,6 +26,10 @@ module _ (v now : TableView) (e : v ≡ now) (k : ℕ) (slot : Option Row) (read
 
   pub slot_has : (P : OpenView → Type 0) → HasJob P now k → InSlot P slot
   slot_has P has = in_slot P v k slot (has.0, ap (λ (x : TableView). row_at x k) e ∙ has.1, has.2) read
+
+  -- what was read is written back
+  pub slot_same : (slot' : Option Row) → slot' ≡ slot → with_slot slot' ≡ now
+  slot_same slot' is = ap (λ (rows : List (Option Row)). record { graphs = v.graphs; workers = v.workers; rows = rows }) (ap (set v.rows k) (is ∙ read) ∙ set-get_or v.rows k slot) ∙ e
 
   module _ (row : Row) (here : row_at now k ≡ Some row) where
     here_v : row_at v k ≡ Some row
@@ -95,6 +99,10 @@ module _ (v now : TableView) (e : v ≡ now) (k : ℕ) (slot : Option Row) (read
     pub compile_lent : (end : CompileEnd) (slot' : Option Row) (r : Result (Unit {0}) AllocError) → OnOk r (CompilesSlot end slot slot') → OnErr r (slot' ≡ slot) → LendsAsBefore now (with_slot slot')
     compile_lent end slot' (Ok done) ok err = (compiled end slot' ok).1
     compile_lent end slot' (Err error) ok err = lent_still row.job slot' (err ∙ slot_is) (λ i. refl)
+
+    pub busy_lent : {T : Type 0} (r : Result T AllocError) (item : ℕ) (slot' : Option Row) → OnOk r (slot' ≡ Some (with_job row (with_mark row.job item Busy))) → OnErr r (slot' ≡ slot) → LendsAsBefore now (with_slot slot')
+    busy_lent (Ok x) item slot' ok err = lent_still (with_mark row.job item Busy) slot' ok (λ i. refl)
+    busy_lent (Err error) item slot' ok err = lent_still row.job slot' (err ∙ slot_is) (λ i. refl)
 
     pub busy_inside : (item : ℕ) → mark_at row.job.marks item ≡ Busy → item < length row.job.marks
     busy_inside item busy = mark_inside row.job.marks item Busy busy (λ no. cc)

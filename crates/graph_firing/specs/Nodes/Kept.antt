@@ -39,7 +39,7 @@ view_with f stages = record {
 }
 
 abbrev pub view_of : Inside → RunningView
-view_of i = view_with (fixed_of i) i.stages.items
+view_of i = view_with (fixed_of i) i.stages
 
 abbrev pub IsRunning : Inside → Type 0
-IsRunning i = KeepsAll (fixed_of i) i.stages.items i.held.items i.traces.items i.job
+IsRunning i = KeepsAll (fixed_of i) i.stages i.held.items i.traces.items i.job

@@ -15,6 +15,7 @@ use crate::nodes::frames::{Held, end_frames, put_frame, spend_held, take_frame, 
 use crate::nodes::given::put_trace;
 use crate::nodes::handed::{Handed, hand_out};
 use crate::nodes::stage::{Stage, ended, waiting};
+use crate::nodes::stages::Stages;
 use crate::nodes::told::{ToldBefore, ToldBlock};
 use crate::nodes::writing::write_child;
 use job_compiler::Compiled;
@@ -54,7 +55,7 @@ pub(crate) struct Running {
     pub(crate) exports: List<i64>,
     // Empty, with room for the state that it leaves.
     pub(crate) state: Vec<List<i64>>,
-    pub(crate) stages: Vec<Stage>,
+    pub(crate) stages: Stages,
     // At the number of each node that fires a graph: as long as the last such node asks, and empty where no node fires one.
     pub(crate) held: Vec<Held>,
     // Of each actor that fires graphs a trace for each firing, of another none.
@@ -99,7 +100,7 @@ impl Running {
     pub(crate) fn count(&self) -> u32
         ensures { result ≡ length (nodes_of self.now) }
     {
-        self.stages.len() as u32
+        self.job.compiled().graph().nodes.items().len() as u32
     }
 
     /// The node that a worker claims next: of the free nodes with work of their own one whose home is the worker, then that
@@ -169,7 +170,7 @@ impl Running {
         let which = self.job.node(node);
         let frame = self.job.claim(node);
         frame.outputs_fill_leases();
-        self.stages[node as usize] = Stage::Busy(told_of(&frame));
+        self.stages.put(node, Stage::Busy(told_of(&frame)));
         hand_out(which, frame)
     }
 
@@ -183,7 +184,7 @@ impl Running {
         faults_renamed::<i64, u8, Refusal>();
         ready_stays::<i64, u8, ()>();
         frame.outputs_fill_leases();
-        self.stages[node as usize] = ended(&frame, &answer);
+        self.stages.put(node, ended(&frame, &answer));
         self.job.finish(node, frame, answer);
     }
 
@@ -214,7 +215,7 @@ impl Running {
             turn,
         );
         let result = called(alloc, &self.path, &caller, &frame);
-        self.stages[node as usize] = waiting(&result, &frame);
+        self.stages.put(node, waiting(&result, &frame));
         put_frame(&mut self.held, node as usize, frame);
         result
     }
@@ -230,7 +231,7 @@ impl Running {
         match end {
             Ok(given) => {
                 let mut frame = take_frame(&mut self.held, node as usize, Held::Nothing);
-                self.stages[node as usize] = Stage::Gave(Snapshot::of(&given));
+                self.stages.put(node, Stage::Gave(Snapshot::of(&given)));
                 let JobGiven {
                     outs,
                     state,
@@ -244,7 +245,8 @@ impl Running {
                 self.job.finish(node, frame, Ok(()));
             }
             Err(refusal) => {
-                self.stages[node as usize] = Stage::Refused(Snapshot::of(&refusal));
+                self.stages
+                    .put(node, Stage::Refused(Snapshot::of(&refusal)));
                 let frame = take_frame(&mut self.held, node as usize, Held::Refuses(refusal));
                 self.job.finish(node, frame, Err(KernelFault { code: 0 }));
             }

@@ -14,14 +14,14 @@ ghost use Rattle.job_rules.specs.Meant.{IsFit};
 ghost use Rattle.job_preparing.specs.CompileTasks.{IsReadyWith};
 ghost use Rattle.job_preparing.specs.Handing.{LeftSuits};
 ghost use Rattle.job_preparing.specs.View.{IsReady, graph_in, left_by};
-ghost use Rattle.graph_firing.specs.Nodes.Parts.{call_count, kernel_in, kind_of_actor, prepared_with, row_at};
+ghost use Rattle.graph_firing.specs.Nodes.Parts.{kernel_in, kind_of_actor, prepared_with};
 ghost use Rattle.graph_firing.specs.Nodes.View.{nodes_of};
 
 use crate::nodes::calling::acting_at;
 use crate::nodes::frames::{Held, nothing_held};
 use crate::nodes::given::empty_rows;
 use crate::nodes::running::Running;
-use crate::nodes::stage::Stage;
+use crate::nodes::stages::Stages;
 use crate::nodes::told::{told_before, told_block};
 use job_compiler::Compiled;
 use job_preparing::Configuring;
@@ -148,17 +148,6 @@ fn as_lists(alloc: Global, lines: Vec<Vec<i64>>) -> Result<List<List<i64>>, Allo
     Ok(List::new(lists))
 }
 
-/// So many free nodes.
-fn free_stages(alloc: Global, count: usize) -> Result<Vec<Stage>, AllocError>
-    ensures { IfOk result (λ v. v.items ≡ replicate count Stage.Free) }
-{
-    let mut stages = Vec::with_capacity(alloc, count)?;
-    for _n in 0..count {
-        stages.push(Stage::Free)?;
-    }
-    Ok(stages)
-}
-
 // ---- what a firing is set up with
 
 /// What the job of leases of a firing is started with, beside its compilation.
@@ -262,29 +251,6 @@ fn level_parts(
     })
 }
 
-/// Of each node how far it is, and of each firing of each actor that calls graphs the trace of what it called.
-#[derive(Drop)]
-struct FreeNodes {
-    stages: Vec<Stage>,
-    traces: Vec<Vec<LinkedList<TraceRow>>>,
-}
-
-/// So many free nodes, where the actors have these kernels and fire so often.
-fn free_nodes(
-    alloc: Global,
-    kinds: &[Option<u32>],
-    counts: &[u32],
-    nodes: usize,
-) -> Result<FreeNodes, AllocError>
-    ensures stages { IfOk result (λ free. free.stages.items ≡ replicate nodes Stage.Free) }
-    ensures many { IfOk result (λ free. length free.traces.items ≡ length counts.now) }
-    ensures traces { IfOk result (λ free. (a : ℕ) → row_at free.traces.items a ≡ replicate (call_count kinds.now counts.now a) []) }
-{
-    let traces = empty_rows(alloc, kinds, counts)?;
-    let stages = free_stages(alloc, nodes)?;
-    Ok(FreeNodes { stages, traces })
-}
-
 /// How long a list is that has an entry at the number of each node that fires a graph: empty where none does.
 fn room_needed(job: &Job, nodes: usize) -> usize
     requires many { nodes ≡ length job.now.compilation.graph.nodes }
@@ -374,12 +340,8 @@ pub(crate) fn run(
     let lists = job_lists(alloc, all, graph, firing, preparing.left(), &set)?;
     let own = own_rows(alloc, graph, &firing.path, values.items())?;
     let parts = level_parts(alloc, all, graph, set.places.items())?;
-    let free = free_nodes(
-        alloc,
-        lists.kinds.items(),
-        compiled.counts(),
-        compiled.graph().nodes.items().len(),
-    )?;
+    let traces = empty_rows(alloc, lists.kinds.items(), compiled.counts())?;
+    let stages = Stages::free(compiled.graph().nodes.items().len());
     let told = Snapshot::of(firing);
     let place = firing.graph;
     let shared = Arc::try_clone(&compiled)?;
@@ -398,9 +360,9 @@ pub(crate) fn run(
         rows: own.rows,
         exports: own.exports,
         state: parts.state,
-        stages: free.stages,
+        stages,
         held,
-        traces: free.traces,
+        traces,
         job,
         alloc,
     })

@@ -40,7 +40,7 @@ invariant_of-self c =
       runs = runs_as false (view_of i) w (MayComeBack key c.args.frame c.args.answer (IsOk c.args.answer)) (subst (λ (b : BoardView). Runs b w (MayComeBack b.key c.args.frame c.args.answer (IsOk c.args.answer))) (sym c.self.view_is) c.requires.runs);
       lent = ap (λ (b : BoardView). lent_to b w) c.self.view_is ∙ c.requires.lent;
     } in
-    let same = key_same i.signatures.items i.top.value i.core new kept in
+    let same = key_same i.signatures.counts i.top.value i.core new kept in
     (subst (λ (k : Key). Keeps k new after) (sym same) f.keeps, c.self.invariant.1 ∙ sym kept.one_each, room_unless i.starved after i.core new f.stays c.self.invariant.2 (λ live has. c.finish_frame-self-inside.ensures.room has))
 
 pub returns-clause-finishes : goal.returns-clause-finishes
@@ -55,10 +55,10 @@ returns-clause-finishes c =
       runs = runs_as false (view_of i) w (MayComeBack key c.args.frame c.args.answer (IsOk c.args.answer)) (subst (λ (b : BoardView). Runs b w (MayComeBack b.key c.args.frame c.args.answer (IsOk c.args.answer))) (sym c.self.view_is) c.requires.runs);
       lent = ap (λ (b : BoardView). lent_to b w) c.self.view_is ∙ c.requires.lent;
     } in
-    let same = key_same i.signatures.items i.top.value i.core new c.finish_frame-self-inside.ensures.kept in
+    let same = key_same i.signatures.counts i.top.value i.core new c.finish_frame-self-inside.ensures.kept in
     let has = is_some i.kept in
     let whole = finishes_as has (view_with key i.core i.starved) (view_with key new after) w f.finishes in
-    subst (λ (b : BoardView). Finishes b (keeping has (view_with (key_with i.signatures.items i.top.value new) new after)) w) c.self.view_is
+    subst (λ (b : BoardView). Finishes b (keeping has (view_with (key_with i.signatures.counts i.top.value new) new after)) w) c.self.view_is
     (subst (λ (k : Key). Finishes (view_of i) (keeping has (view_with k new after)) w) (sym same) whole)
 
 pub returns-clause-starved : goal.returns-clause-starved
@@ -85,11 +85,11 @@ returns-clause-live c = λ live starves.
       runs = runs_as false (view_of i) w (MayComeBack key c.args.frame c.args.answer (IsOk c.args.answer)) (subst (λ (b : BoardView). Runs b w (MayComeBack b.key c.args.frame c.args.answer (IsOk c.args.answer))) (sym c.self.view_is) c.requires.runs);
       lent = ap (λ (b : BoardView). lent_to b w) c.self.view_is ∙ c.requires.lent;
     } in
-    let same = key_same i.signatures.items i.top.value i.core new c.finish_frame-self-inside.ensures.kept in
+    let same = key_same i.signatures.counts i.top.value i.core new c.finish_frame-self-inside.ensures.kept in
     let has = is_some i.kept in
     let was : i.starved ≡ false = ap (λ (b : BoardView). b.starved) c.self.view_is ∙ live in
     let long = long_as has (view_with key new true) (c.finish_frame-self-inside.ensures.live was starves key may) in
-    subst (λ (s : Bool). HasLongTraces (keeping has (view_with (key_with i.signatures.items i.top.value new) new s))) (sym starves)
+    subst (λ (s : Bool). HasLongTraces (keeping has (view_with (key_with i.signatures.counts i.top.value new) new s))) (sym starves)
     (subst (λ (k : Key). HasLongTraces (keeping has (view_with k new true))) (sym same) long)
 
 pub returns-clause-firings : goal.returns-clause-firings

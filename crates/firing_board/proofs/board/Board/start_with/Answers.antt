@@ -50,8 +50,8 @@ invariant_of-result c =
     let held : c.of-top.result.value ≡ top_job key = c.of-top.ensures ∙ firing in
     let graphs = s.started.graphs_are in
     let workers = s.started.workers_are in
-    let signatures = c.in_ok-signatures.ensures in
-    let key_is : key_with c.in_ok-signatures.signatures.items c.of-top.result.value i ≡ key =
+    let signatures = c.told_signatures-signatures.ensures in
+    let key_is : key_with c.told_signatures-signatures.result.counts c.of-top.result.value i ≡ key =
     (λ x. record { graphs = graphs x; signatures = signatures x; delays = (held x).state; ins = (held x).inputs; workers = workers x }) in
     let keeps = begins c.boards_keep.ensures.start c.tables_suit.ensures.starts_with c.tables_suit.ensures.start key c.requires.key i s in
     (subst (λ (k : Key). Keeps k i false) (sym key_is) keeps, c.in_ok-compiling.ensures ∙ sym keeps.one_each, c.in_ok-core.ensures.room)
@@ -72,8 +72,8 @@ returns c =
     let held : c.of-top.result.value ≡ top_job key = c.of-top.ensures ∙ firing in
     let graphs = s.started.graphs_are in
     let workers = s.started.workers_are in
-    let signatures = c.in_ok-signatures.ensures in
-    let key_is : key_with c.in_ok-signatures.signatures.items c.of-top.result.value i ≡ key =
+    let signatures = c.told_signatures-signatures.ensures in
+    let key_is : key_with c.told_signatures-signatures.result.counts c.of-top.result.value i ≡ key =
     (λ x. record { graphs = graphs x; signatures = signatures x; delays = (held x).state; ins = (held x).inputs; workers = workers x }) in
     let lent : lent_of i.table i.running.items ≡ replicate c.args.workers None = ap (lent_of i.table) s.running_are ∙ none_lent i.table c.args.workers in
     let entries = s.entries_are in

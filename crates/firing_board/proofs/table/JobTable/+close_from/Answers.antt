@@ -14,6 +14,7 @@ use Rattle.firing_board.specs.declared.table.row.Row.{Row}
 use Rattle.firing_board.proofs.OfTable.Closings.{AllLawful, none_busy_at, rows_less, rows_through}
 use Rattle.firing_board.proofs.OfTable.CloseSteps.{HasClosed, closes_on, ends, falls, may_finish, mid, mid_free, next, place_some, quiet_by, rest_stays, stays_on, stops, unquiet_by, upper_inside}
 use Rattle.firing_board.proofs.OfTable.Freeing.{less_free}
+use Rattle.firing_board.proofs.OfTable.LentJobs.{job_has, job_written, left_with, there_in}
 use Rattle.firing_board.proofs.OfTable.LongTraces.{closes_long}
 use Rattle.firing_board.proofs.OfTable.Methods.{on_err_by, on_err_weaker}
 use Rattle.firing_board.proofs.OfTable.Rows.{inside_of, the_same}
@@ -157,8 +158,34 @@ calling_item-requires t c =
     let below = c.in-Some.is in
     place_some lawful now k row end rest closed go_on l below c.requires
 
-pub finish_call_in-requires : goal.finish_call_in-requires
-finish_call_in-requires t c =
+pub job_in-requires : goal.job_in-requires
+job_in-requires t c =
+    let now = c.args.self.now in
+    let k = c.args.row in
+    let e = c.self.view_is in
+    let s = c.self.inside in
+    let slot = c.index_mut.result.now in
+    let read : slot ≡ get_or now.rows k slot = c.index_mut.ensures.value ∙ ap (λ (x : TableView). get_or x.rows k slot) e in
+    let row = c.take_row-job.result in
+    let here : row_at now k ≡ Some row = c.requires.here ∙ (sym (slot_row now k c.requires.row slot c.requires.here read) ∙ c.take_row-job.ensures.taken) in
+    let first = c.index.result.now in
+    let quiet = quiet_by row first c.is_quiet.result (slot_row now k row first here (c.index.ensures ∙ ap (λ (x : TableView). get_or x.rows k first) e)) c.is_quiet.ensures c.if-not-is_quiet.false in
+    let lawful : AllLawful = λ key is. c.rules_are_lawful.ensures key.graphs is.valid.valid in
+    let rest : TableView = record { graphs = arc_value s.graphs; workers = s.workers; rows = set s.rows.items k c.take_row-job.new.slot } in
+    let graphs : rest.graphs ≡ now.graphs = ap (λ (x : TableView). x.graphs) e in
+    let workers : rest.workers ≡ now.workers = ap (λ (x : TableView). x.workers) e in
+    let less : rest.rows ≡ set now.rows k None = ap (λ (x : TableView). set x.rows k c.take_row-job.new.slot) e ∙ ap (set now.rows k) c.take_row-job.ensures.rest in
+    let end = c.in_ok-end.end in
+    let closed : HasClosed now k row end rest = record { here = here; quiet = quiet; outcome = c.in_ok-end.ensures.outcome; suits = c.in_ok-end.ensures.suits; graphs_are = graphs; workers_are = workers; rows_are = less } in
+    let go_on = c.boards_keep.ensures.go_on in
+    let l = c.in-Some.upper in
+    let below = c.in-Some.is in
+    let other = c.index_mut-in-Some.result.now in
+    let is = may_finish lawful now k row end rest closed go_on l below c.requires other c.index_mut-in-Some.ensures.value in
+    there_in other (λ (j : OpenView). (d : Firing) × (mark_at j.marks (slice_index row.place 0) ≡ Open d) × EndSuits j.graphs.graphs d (end_of end)) is
+
+pub finish_call-requires : goal.finish_call-requires
+finish_call-requires t c =
     let now = c.args.self.now in
     let k = c.args.row in
     let e = c.self.view_is in
@@ -182,7 +209,7 @@ finish_call_in-requires t c =
     let other = c.index_mut-in-Some.result.now in
     let is = may_finish lawful now k row end rest closed go_on l below c.requires other c.index_mut-in-Some.ensures.value in
     let P : ℕ → Type 0 = λ i. InSlot (λ (j : OpenView). (d : Firing) × (mark_at j.marks i ≡ Open d) × EndSuits j.graphs.graphs d (end_of end)) other in
-    subst P (sym c.calling_item.ensures) is
+    job_has other c.job_in.result.now (λ (j : OpenView). (d : Firing) × (mark_at j.marks c.calling_item.result ≡ Open d) × EndSuits j.graphs.graphs d (end_of end)) c.job_in.ensures.value (subst P (sym c.calling_item.ensures) is)
 
 pub close_from-requires : goal.close_from-requires
 close_from-requires t c =
@@ -208,9 +235,9 @@ close_from-requires t c =
     let below = c.in-Some.is in
     let other = c.index_mut-in-Some.result.now in
     let other_read = c.index_mut-in-Some.ensures.value in
-    let written : c.finish_call_in.new.slot ≡ change_row (λ (j : OpenView). job.with_mark j (slice_index row.place 0) (Done (answer_of (end_of end)))) other =
-    c.finish_call_in.ensures ∙ ap (λ i. change_row (λ (j : OpenView). job.with_mark j i (Done (answer_of (end_of end)))) other) c.calling_item.ensures in
-    (let f = falls lawful now k row end rest closed go_on l below c.requires other c.finish_call_in.new.slot other_read written in let d = c.decreases in omega arith, next lawful now k row end rest closed go_on l below c.requires other c.finish_call_in.new.slot other_read written)
+    let written : left_with c.finish_call.new.self other ≡ change_row (λ (j : OpenView). job.with_mark j (slice_index row.place 0) (Done (answer_of (end_of end)))) other =
+    job_written other c.job_in.result.now c.finish_call.new.self (λ (j : OpenView). job.with_mark j c.calling_item.result (Done (answer_of (end_of end)))) c.job_in.ensures.value c.finish_call.ensures ∙ ap (λ i. change_row (λ (j : OpenView). job.with_mark j i (Done (answer_of (end_of end)))) other) c.calling_item.ensures in
+    (let f = falls lawful now k row end rest closed go_on l below c.requires other (left_with c.finish_call.new.self other) other_read written in let d = c.decreases in omega arith, next lawful now k row end rest closed go_on l below c.requires other (left_with c.finish_call.new.self other) other_read written)
 
 pub returns-clause-closed : goal.returns-clause-closed
 returns-clause-closed t c =
@@ -236,9 +263,9 @@ returns-clause-closed t c =
     let below = c.in-Some.is in
     let other = c.index_mut-in-Some.result.now in
     let other_read = c.index_mut-in-Some.ensures.value in
-    let written : c.finish_call_in.new.slot ≡ change_row (λ (j : OpenView). job.with_mark j (slice_index row.place 0) (Done (answer_of (end_of end)))) other =
-    c.finish_call_in.ensures ∙ ap (λ i. change_row (λ (j : OpenView). job.with_mark j i (Done (answer_of (end_of end)))) other) c.calling_item.ensures in
-    IfOk-weaker c.close_from.result _ _ (λ o closes. closes_on lawful now k row end rest closed go_on l below other c.finish_call_in.new.slot other_read written c.close_from.new.self o closes) c.close_from.ensures.closed
+    let written : left_with c.finish_call.new.self other ≡ change_row (λ (j : OpenView). job.with_mark j (slice_index row.place 0) (Done (answer_of (end_of end)))) other =
+    job_written other c.job_in.result.now c.finish_call.new.self (λ (j : OpenView). job.with_mark j c.calling_item.result (Done (answer_of (end_of end)))) c.job_in.ensures.value c.finish_call.ensures ∙ ap (λ i. change_row (λ (j : OpenView). job.with_mark j i (Done (answer_of (end_of end)))) other) c.calling_item.ensures in
+    IfOk-weaker c.close_from.result _ _ (λ o closes. closes_on lawful now k row end rest closed go_on l below other (left_with c.finish_call.new.self other) other_read written c.close_from.new.self o closes) c.close_from.ensures.closed
 
 pub returns-clause-stay : goal.returns-clause-stay
 returns-clause-stay t c =
@@ -264,9 +291,9 @@ returns-clause-stay t c =
     let below = c.in-Some.is in
     let other = c.index_mut-in-Some.result.now in
     let other_read = c.index_mut-in-Some.ensures.value in
-    let written : c.finish_call_in.new.slot ≡ change_row (λ (j : OpenView). job.with_mark j (slice_index row.place 0) (Done (answer_of (end_of end)))) other =
-    c.finish_call_in.ensures ∙ ap (λ i. change_row (λ (j : OpenView). job.with_mark j i (Done (answer_of (end_of end)))) other) c.calling_item.ensures in
-    rows_through now (mid lawful now k row end rest closed go_on l below c.requires other c.finish_call_in.new.slot other_read written) c.close_from.new.self (stays_on lawful now k row end rest closed go_on l below c.requires other c.finish_call_in.new.slot other_read written) c.close_from.ensures.stay
+    let written : left_with c.finish_call.new.self other ≡ change_row (λ (j : OpenView). job.with_mark j (slice_index row.place 0) (Done (answer_of (end_of end)))) other =
+    job_written other c.job_in.result.now c.finish_call.new.self (λ (j : OpenView). job.with_mark j c.calling_item.result (Done (answer_of (end_of end)))) c.job_in.ensures.value c.finish_call.ensures ∙ ap (λ i. change_row (λ (j : OpenView). job.with_mark j i (Done (answer_of (end_of end)))) other) c.calling_item.ensures in
+    rows_through now (mid lawful now k row end rest closed go_on l below c.requires other (left_with c.finish_call.new.self other) other_read written) c.close_from.new.self (stays_on lawful now k row end rest closed go_on l below c.requires other (left_with c.finish_call.new.self other) other_read written) c.close_from.ensures.stay
 
 pub returns-then-not-is_quiet-clause-fewer : goal.returns-then-not-is_quiet-clause-fewer
 returns-then-not-is_quiet-clause-fewer t c = let same = ap free_items c.self.view_is in omega (arith, same)
@@ -333,9 +360,9 @@ returns-clause-fewer t c =
     let below = c.in-Some.is in
     let other = c.index_mut-in-Some.result.now in
     let other_read = c.index_mut-in-Some.ensures.value in
-    let written : c.finish_call_in.new.slot ≡ change_row (λ (j : OpenView). job.with_mark j (slice_index row.place 0) (Done (answer_of (end_of end)))) other =
-    c.finish_call_in.ensures ∙ ap (λ i. change_row (λ (j : OpenView). job.with_mark j i (Done (answer_of (end_of end)))) other) c.calling_item.ensures in
-    let less = mid_free lawful now k row end rest closed go_on l below c.requires other c.finish_call_in.new.slot other_read written in
+    let written : left_with c.finish_call.new.self other ≡ change_row (λ (j : OpenView). job.with_mark j (slice_index row.place 0) (Done (answer_of (end_of end)))) other =
+    job_written other c.job_in.result.now c.finish_call.new.self (λ (j : OpenView). job.with_mark j c.calling_item.result (Done (answer_of (end_of end)))) c.job_in.ensures.value c.finish_call.ensures ∙ ap (λ i. change_row (λ (j : OpenView). job.with_mark j i (Done (answer_of (end_of end)))) other) c.calling_item.ensures in
+    let less = mid_free lawful now k row end rest closed go_on l below c.requires other (left_with c.finish_call.new.self other) other_read written in
     let after = c.close_from.ensures.fewer in
     omega (arith, less, after)
 
@@ -377,11 +404,11 @@ returns-clause-long t c =
     let below = c.in-Some.is in
     let other = c.index_mut-in-Some.result.now in
     let other_read = c.index_mut-in-Some.ensures.value in
-    let written : c.finish_call_in.new.slot ≡ change_row (λ (j : OpenView). job.with_mark j (slice_index row.place 0) (Done (answer_of (end_of end)))) other =
-    c.finish_call_in.ensures ∙ ap (λ i. change_row (λ (j : OpenView). job.with_mark j i (Done (answer_of (end_of end)))) other) c.calling_item.ensures in
-    let after : TableView = record { graphs = rest.graphs; workers = rest.workers; rows = set rest.rows l c.finish_call_in.new.slot } in
+    let written : left_with c.finish_call.new.self other ≡ change_row (λ (j : OpenView). job.with_mark j (slice_index row.place 0) (Done (answer_of (end_of end)))) other =
+    job_written other c.job_in.result.now c.finish_call.new.self (λ (j : OpenView). job.with_mark j c.calling_item.result (Done (answer_of (end_of end)))) c.job_in.ensures.value c.finish_call.ensures ∙ ap (λ i. change_row (λ (j : OpenView). job.with_mark j i (Done (answer_of (end_of end)))) other) c.calling_item.ensures in
+    let after : TableView = record { graphs = rest.graphs; workers = rest.workers; rows = set rest.rows l (left_with c.finish_call.new.self other) } in
     on_err_weaker c.close_from.result ((c' : IsClosingFrom after l) → ClosesLong c') ((c' : IsClosingFrom now k) → ClosesLong c')
     (λ (h : (c' : IsClosingFrom after l) → ClosesLong c') (c' : IsClosingFrom now k).
-    let g = h (next lawful now k row end rest closed go_on l below c' other c.finish_call_in.new.slot other_read written) in
+    let g = h (next lawful now k row end rest closed go_on l below c' other (left_with c.finish_call.new.self other) other_read written) in
     record { place = g.place; answer = g.answer; done = g.done; is_long = g.is_long })
     c.close_from.ensures.long

@@ -1,4 +1,4 @@
-use Rattle.std.proofs.Common.{sym, ap, ◌∙◌, subst}
+use Rattle.std.proofs.Common.{sym, subst}
 use Rattle.graph_firing.specs.declared.stage.Stage.TheVariants.{Waiting, Compiling, Refused, Nodes}
 use Rattle.graph_firing.specs.Calls.{PlacedIn}
 use Rattle.graph_firing.proofs.Lent.{cells_are, lends_compiling, lends_nodes, lends_refused, lends_waiting}

@@ -63,7 +63,7 @@ invariant_of-result c =
     let told_is : firing ≡ c.of-told.result.value = sym (c.of-told.ensures ∙ c.firing-firing.ensures) in
     let same : f ≡ made_with c.of-told.result.value c.told_before.result.left (arc_value c.in_ok-shared.shared) c.told_block.result.block = λ k. made_with (told_is k) (sym c.told_before.ensures k) (sym c.in_ok-shared.ensures k) (sym c.told_block.ensures k) in
     let nodes_are : c.items-4.result.now ≡ (arc_value c.args.compiled).graph.nodes = c.items-4.ensures ∙ ap (λ (x : SingleRate). x.nodes) (c.graph.ensures.value ∙ ap (λ (x : Compilation). x.graph) c.deref-3.ensures) in
-    let stages_are : c.in_ok-free.free.stages.items ≡ replicate (length (arc_value c.args.compiled).graph.nodes) Free = c.in_ok-free.ensures.stages ∙ ap (λ (l : List Node). replicate (length l) Free) nodes_are in
+    let stages_are : c.free-stages.result ≡ replicate (length (arc_value c.args.compiled).graph.nodes) Free = c.free-stages.ensures ∙ ap (λ (l : List Node). replicate (length l) Free) nodes_are in
     let kinds_are : c.in_ok-lists.lists.kinds ≡ map kind_of_actor (acting (graph_of gs.graphs firing)) = c.in_ok-lists.ensures.kinds ∙ (λ k. map kind_of_actor (acting (here k))) in
     let values_same : c.items.result.now ≡ values_of f = c.items.ensures ∙ sym (values_are f (arc_value c.args.compiled).workers c.args.values c.requires.valid c.requires.fit suits c.requires.compiled) in
     let parts : AreParts f = record {
@@ -82,11 +82,11 @@ invariant_of-result c =
     λ k. record { compilation = c.in_ok-job.ensures.compilation k; kinds = c.in_ok-job.ensures.given.0 k; args = c.in_ok-job.ensures.given.1 k; sources = c.in_ok-job.ensures.given.2 k; stored = c.in_ok-job.ensures.given.3 k; block = c.in_ok-job.field-0.job.block } in
     let kinds_same : c.items-3.result.now ≡ c.in_ok-job.field-0.job.kinds = c.items-3.ensures ∙ sym c.in_ok-job.ensures.given.0 in
     let counts_are : c.counts.result.now ≡ (arc_value c.args.compiled).counts = c.counts.ensures.value ∙ ap (λ (x : Compilation). x.counts) c.deref-2.ensures in
-    let rows_are : (a : ℕ) → row_at c.in_ok-free.free.traces.items a ≡ replicate (call_count c.in_ok-job.field-0.job.kinds (arc_value c.args.compiled).counts a) [] =
-    λ a. c.in_ok-free.ensures.traces a ∙ ap₂ (λ kinds counts. let none : List (List TraceRow) = replicate (call_count kinds counts a) [] in none) kinds_same counts_are in
-    subst (λ (x : Fixed). KeepsAll x c.in_ok-free.free.stages.items c.in_ok-job.field-0.held.items c.in_ok-free.free.traces.items c.in_ok-job.field-0.job) same
+    let rows_are : (a : ℕ) → row_at c.in_ok-traces.traces.items a ≡ replicate (call_count c.in_ok-job.field-0.job.kinds (arc_value c.args.compiled).counts a) [] =
+    λ a. c.in_ok-traces.ensures.rows a ∙ ap₂ (λ kinds counts. let none : List (List TraceRow) = replicate (call_count kinds counts a) [] in none) kinds_same counts_are in
+    subst (λ (x : Fixed). KeepsAll x c.free-stages.result c.in_ok-job.field-0.held.items c.in_ok-traces.traces.items c.in_ok-job.field-0.job) same
     (keeps_at_start f (arc_value c.args.compiled).workers c.args.values c.requires.valid c.requires.fit suits c.requires.compiled c.in_ok-lists.lists.sources c.in_ok-lists.lists.stored given c.in_ok-lists.lists.kinds c.in_ok-lists.lists.args kinds_are c.in_ok-lists.ensures.args
-    c.in_ok-job.field-0.job started c.in_ok-job.ensures.given.0 c.in_ok-job.ensures.free c.in_ok-free.free.stages.items stages_are c.in_ok-job.field-0.held.items c.in_ok-job.ensures.nothing c.in_ok-job.ensures.few c.in_ok-job.ensures.room c.in_ok-free.free.traces.items (c.in_ok-free.ensures.many ∙ ap length counts_are) rows_are parts)
+    c.in_ok-job.field-0.job started c.in_ok-job.ensures.given.0 c.in_ok-job.ensures.free c.free-stages.result stages_are c.in_ok-job.field-0.held.items c.in_ok-job.ensures.nothing c.in_ok-job.ensures.few c.in_ok-job.ensures.room c.in_ok-traces.traces.items (c.in_ok-traces.ensures.many ∙ ap length counts_are) rows_are parts)
 
 pub returns-clause-free : goal.returns-clause-free
 returns-clause-free c =
@@ -99,9 +99,9 @@ returns-clause-free c =
     let told_is : firing ≡ c.of-told.result.value = sym (c.of-told.ensures ∙ c.firing-firing.ensures) in
     let same : f ≡ made_with c.of-told.result.value c.told_before.result.left (arc_value c.in_ok-shared.shared) c.told_block.result.block = λ k. made_with (told_is k) (sym c.told_before.ensures k) (sym c.in_ok-shared.ensures k) (sym c.told_block.ensures k) in
     let nodes_are : c.items-4.result.now ≡ (arc_value c.args.compiled).graph.nodes = c.items-4.ensures ∙ ap (λ (x : SingleRate). x.nodes) (c.graph.ensures.value ∙ ap (λ (x : Compilation). x.graph) c.deref-3.ensures) in
-    let stages_are : c.in_ok-free.free.stages.items ≡ replicate (length (arc_value c.args.compiled).graph.nodes) Free = c.in_ok-free.ensures.stages ∙ ap (λ (l : List Node). replicate (length l) Free) nodes_are in
-    subst (λ (x : Fixed). (view_with x c.in_ok-free.free.stages.items).marks ≡ replicate (length (nodes_of (view_with x c.in_ok-free.free.stages.items))) mark.Free) same
-    (marks_start f (arc_value c.args.compiled).workers c.args.values c.requires.valid c.requires.fit suits c.requires.compiled c.in_ok-free.free.stages.items stages_are)
+    let stages_are : c.free-stages.result ≡ replicate (length (arc_value c.args.compiled).graph.nodes) Free = c.free-stages.ensures ∙ ap (λ (l : List Node). replicate (length l) Free) nodes_are in
+    subst (λ (x : Fixed). (view_with x c.free-stages.result).marks ≡ replicate (length (nodes_of (view_with x c.free-stages.result))) mark.Free) same
+    (marks_start f (arc_value c.args.compiled).workers c.args.values c.requires.valid c.requires.fit suits c.requires.compiled c.free-stages.result stages_are)
 
 pub returns-clause-nothing : goal.returns-clause-nothing
 returns-clause-nothing c =
@@ -114,6 +114,6 @@ returns-clause-nothing c =
     let told_is : firing ≡ c.of-told.result.value = sym (c.of-told.ensures ∙ c.firing-firing.ensures) in
     let same : f ≡ made_with c.of-told.result.value c.told_before.result.left (arc_value c.in_ok-shared.shared) c.told_block.result.block = λ k. made_with (told_is k) (sym c.told_before.ensures k) (sym c.in_ok-shared.ensures k) (sym c.told_block.ensures k) in
     let nodes_are : c.items-4.result.now ≡ (arc_value c.args.compiled).graph.nodes = c.items-4.ensures ∙ ap (λ (x : SingleRate). x.nodes) (c.graph.ensures.value ∙ ap (λ (x : Compilation). x.graph) c.deref-3.ensures) in
-    let stages_are : c.in_ok-free.free.stages.items ≡ replicate (length (arc_value c.args.compiled).graph.nodes) Free = c.in_ok-free.ensures.stages ∙ ap (λ (l : List Node). replicate (length l) Free) nodes_are in
-    subst (λ (x : Fixed). (view_with x c.in_ok-free.free.stages.items).lent ≡ replicate (length (nodes_of (view_with x c.in_ok-free.free.stages.items))) None) same
-    (lents_start f (arc_value c.args.compiled).workers c.args.values c.requires.valid c.requires.fit suits c.requires.compiled c.in_ok-free.free.stages.items stages_are)
+    let stages_are : c.free-stages.result ≡ replicate (length (arc_value c.args.compiled).graph.nodes) Free = c.free-stages.ensures ∙ ap (λ (l : List Node). replicate (length l) Free) nodes_are in
+    subst (λ (x : Fixed). (view_with x c.free-stages.result).lent ≡ replicate (length (nodes_of (view_with x c.free-stages.result))) None) same
+    (lents_start f (arc_value c.args.compiled).workers c.args.values c.requires.valid c.requires.fit suits c.requires.compiled c.free-stages.result stages_are)

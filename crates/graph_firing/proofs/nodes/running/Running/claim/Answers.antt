@@ -1,4 +1,4 @@
-use Rattle.std.proofs.Common.{◌≡◌, set, Some, sym, ap, ◌∙◌, subst}
+use Rattle.std.proofs.Common.{◌≡◌, set, List, Some, sym, ap, ◌∙◌, subst}
 use Rattle.kernel_gate.specs.Value.{FrameView}
 use Rattle.nested_jobs.specs.Marks.{Busy}
 use Rattle.nested_jobs.specs.Rules.{Work}
@@ -6,33 +6,35 @@ use Rattle.sdf_level.specs.declared.node.Node.{Node}
 use Rattle.job_flow.specs.Graphs.{node_at}
 use Rattle.one_job.specs.View as leased
 use Rattle.graph_firing.specs.Nodes.Calls.{IsHanded, frame_of, handed_out}
-use Rattle.graph_firing.specs.Nodes.Kept.{fixed_of, view_of}
+use Rattle.graph_firing.specs.Nodes.Kept.{fixed_of, view_of, view_with}
 use Rattle.graph_firing.specs.Nodes.Parts.{KeepsAll}
 use Rattle.graph_firing.specs.Nodes.View.{IsOfferedWork, RunningView, task}
 use Rattle.graph_firing.specs.declared.nodes.stage.Stage.TheVariants as stage
 use Rattle.graph_firing.specs.declared.nodes.handed.Handed.{Handed}
 use Rattle.graph_firing.proofs.OfNodes.ClaimedNodes.{frame_out, handed, keeps_claimed, view_claimed}
 use Rattle.graph_firing.proofs.OfNodes.NodeTasks.{enabled}
+use Rattle.graph_firing.specs.declared.nodes.stage.Stage.{Stage}
 use Rattle.graph_firing.proofs.nodes.running.Running.claim.Goals as goal
 
 pub claim-frame-requires : goal.claim-frame-requires
 claim-frame-requires c =
     let i = c.self.inside in
     let offered = subst (λ (v : RunningView). IsOfferedWork v c.args.node) (sym c.self.view_is) c.requires in
-    enabled (fixed_of i) i.stages.items i.held.items i.traces.items i.job c.self.invariant c.faults_renamed.ensures.ready c.faults_renamed.ensures.inputs c.args.node (Work offered.work) offered.free offered.task_is
+    enabled (fixed_of i) i.stages i.held.items i.traces.items i.job c.self.invariant c.faults_renamed.ensures.ready c.faults_renamed.ensures.inputs c.args.node (Work offered.work) offered.free offered.task_is
 
 pub invariant_of-self : goal.invariant_of-self
 invariant_of-self c =
     let i = c.self.inside in
     let offered = subst (λ (v : RunningView). IsOfferedWork v c.args.node) (sym c.self.view_is) c.requires in
-    subst (λ (j : leased.JobView). KeepsAll (fixed_of i) (set i.stages.items c.args.node (stage.Busy c.told_of.result)) i.held.items i.traces.items j) (sym c.claim-frame.ensures.claimed)
-    (keeps_claimed (fixed_of i) i.stages.items i.held.items i.traces.items i.job c.self.invariant c.args.node c.faults_renamed.ensures.ready c.faults_renamed.ensures.inputs c.ready_stays.ensures.ready offered c.claim-frame.result c.claim-frame.ensures.kind c.claim-frame.ensures.inputs c.claim-frame.ensures.outputs c.told_of.result c.told_of.ensures c.outputs_fill_leases.ensures)
+    subst (λ (s : List Stage). KeepsAll (fixed_of i) s i.held.items i.traces.items c.claim-frame.new.self) (sym c.put.ensures)
+    (subst (λ (j : leased.JobView). KeepsAll (fixed_of i) (set i.stages c.args.node (stage.Busy c.told_of.result)) i.held.items i.traces.items j) (sym c.claim-frame.ensures.claimed)
+    (keeps_claimed (fixed_of i) i.stages i.held.items i.traces.items i.job c.self.invariant c.args.node c.faults_renamed.ensures.ready c.faults_renamed.ensures.inputs c.ready_stays.ensures.ready offered c.claim-frame.result c.claim-frame.ensures.kind c.claim-frame.ensures.inputs c.claim-frame.ensures.outputs c.told_of.result c.told_of.ensures c.outputs_fill_leases.ensures))
 
 pub returns-clause-handed : goal.returns-clause-handed
 returns-clause-handed c =
     let i = c.self.inside in
     let offered = subst (λ (v : RunningView). IsOfferedWork v c.args.node) (sym c.self.view_is) c.requires in
-    let so = handed (fixed_of i) i.stages.items i.held.items i.traces.items i.job c.self.invariant c.args.node c.faults_renamed.ensures.ready c.faults_renamed.ensures.inputs c.ready_stays.ensures.ready offered c.claim-frame.result c.claim-frame.ensures.kind c.claim-frame.ensures.inputs c.claim-frame.ensures.outputs in
+    let so = handed (fixed_of i) i.stages i.held.items i.traces.items i.job c.self.invariant c.args.node c.faults_renamed.ensures.ready c.faults_renamed.ensures.inputs c.ready_stays.ensures.ready offered c.claim-frame.result c.claim-frame.ensures.kind c.claim-frame.ensures.inputs c.claim-frame.ensures.outputs in
     let is : c.hand_out.result ≡ handed_out (node_at i.job.compilation.graph.nodes c.args.node) c.claim-frame.result =
     c.hand_out.ensures ∙ ap (λ (x : Node). handed_out x c.claim-frame.result) c.node-which.ensures in
     subst (λ (v : RunningView). IsHanded (task v c.args.node) c.hand_out.result) c.self.view_is (subst (λ (h : Handed). IsHanded (task (view_of i) c.args.node) h) (sym is) so)
@@ -43,6 +45,7 @@ returns-clause-claimed c =
     let offered = subst (λ (v : RunningView). IsOfferedWork v c.args.node) (sym c.self.view_is) c.requires in
     let frame_is : frame_of c.hand_out.result ≡ c.claim-frame.result =
     ap frame_of c.hand_out.ensures ∙ frame_out c.node-which.result c.claim-frame.result in
-    view_claimed (fixed_of i) i.stages.items i.held.items i.traces.items i.job c.self.invariant c.args.node c.faults_renamed.ensures.ready c.faults_renamed.ensures.inputs c.ready_stays.ensures.ready offered c.claim-frame.result c.claim-frame.ensures.kind c.claim-frame.ensures.inputs c.claim-frame.ensures.outputs c.told_of.result c.told_of.ensures
+    ap (view_with (fixed_of i)) c.put.ensures
+    ∙ view_claimed (fixed_of i) i.stages i.held.items i.traces.items i.job c.self.invariant c.args.node c.faults_renamed.ensures.ready c.faults_renamed.ensures.inputs c.ready_stays.ensures.ready offered c.claim-frame.result c.claim-frame.ensures.kind c.claim-frame.ensures.inputs c.claim-frame.ensures.outputs c.told_of.result c.told_of.ensures
     ∙ ap (λ (x : FrameView). record (view_of i) { marks = set (view_of i).marks c.args.node Busy; lent = set (view_of i).lent c.args.node (Some x.places) }) (sym frame_is)
     ∙ ap (λ (v : RunningView). record v { marks = set v.marks c.args.node Busy; lent = set v.lent c.args.node (Some (frame_of c.hand_out.result).places) }) c.self.view_is
