@@ -21,13 +21,14 @@ use crate::soak_tokens::{soak_iterations, soak_part};
 use crate::soak_totals::{Total, total_row, with_tokens, y_tokens};
 use crate::status::Status;
 use crate::stop::stop_status;
+use board_journal::Journal;
 use graph_writer::write;
 use job_compiler::{Kept, kept};
 use kernel_gate::{Gate, Signature};
 use outer_world::{Sink, put_text};
 use pisdf_meaning::{Delays, Iteration, first_delays};
 use pisdf_model::Graphs;
-use quiescent_driver::{Stop, run_iteration};
+use quiescent_driver::{Load, Stop, run_iteration_by};
 use std::alloc::Global;
 use std::sync::{Arc, Wait};
 use std::thread::Threads;
@@ -62,6 +63,7 @@ fn soak_iteration<K: Gate + Sync, R: Threads + Wait + Sync>(
     iteration: u32,
     workers: u32,
     kept: &mut Option<Kept>,
+    load: &mut Load,
     delays: &mut Delays,
     gate: &K,
 ) -> Result<Iteration, Stop>
@@ -82,7 +84,7 @@ fn soak_iteration<K: Gate + Sync, R: Threads + Wait + Sync>(
     let Ok(ins) = soak_part(alloc, number, iteration) else {
         return Err(Stop::Memory);
     };
-    match run_iteration(
+    match run_iteration_by(
         rt,
         alloc,
         graphs,
@@ -90,7 +92,9 @@ fn soak_iteration<K: Gate + Sync, R: Threads + Wait + Sync>(
         ins.as_slice(),
         workers,
         kept,
+        load,
         gate,
+        Journal::unreadable(),
     ) {
         Ok((iteration, _journal)) => Ok(iteration),
         Err(fault) => Err(Stop::from(fault)),
@@ -120,6 +124,7 @@ fn run_soak<K: Gate + Sync, R: Threads + Wait + Sync>(
     let Ok(mut delays) = first_delays(alloc, graphs) else {
         return Err(Stop::Memory);
     };
+    let mut load = Load::new();
     let mut total = Total { count: 0, sum: 0 };
     for place in 0..soak_iterations(number) {
         let iteration = match soak_iteration(
@@ -130,6 +135,7 @@ fn run_soak<K: Gate + Sync, R: Threads + Wait + Sync>(
             place,
             workers,
             kept,
+            &mut load,
             &mut delays,
             gate,
         ) {

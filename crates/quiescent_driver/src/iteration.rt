@@ -130,7 +130,7 @@ fn iterate<K: Gate + Sync, R: Threads + Wait + Sync>(
 /// - `Memory`: want of memory.
 ///
 /// Either leaves `delays` unchanged.
-pub(crate) fn iterate_by<K: Gate + Sync, R: Threads + Wait + Sync>(
+pub fn run_iteration_by<K: Gate + Sync, R: Threads + Wait + Sync>(
     rt: &R,
     alloc: Global,
     graphs: &Arc<Graphs>,
@@ -219,7 +219,7 @@ pub fn run_iteration<K: Gate + Sync, R: Threads + Wait + Sync>(
 {
     let mut load = Load::new();
     let journal = Journal::new(alloc);
-    iterate_by(
+    run_iteration_by(
         rt, alloc, graphs, delays, ins, workers, kept, &mut load, gate, journal,
     )
 }

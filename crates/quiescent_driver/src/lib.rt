@@ -16,8 +16,9 @@ mod unfolded;
 
 pub use end::RunEnd;
 pub use fault::IterationFault;
-pub use iteration::run_iteration;
+pub use iteration::{run_iteration, run_iteration_by};
 pub use run::{plain_run, run_all, top_of};
 pub use stop::Stop;
 pub use streams::{Lack, Streams};
 pub use unfolded::run_unfolded;
+pub use worker_crew::Load;

@@ -6,7 +6,7 @@ ghost use Rattle.pisdf_meaning.specs.Sound.{AreValidFor};
 ghost use Rattle.quiescent_driver.specs.Making.{IsMade, MayBegin};
 
 use crate::carried::Carried;
-use crate::iteration::iterate_by;
+use crate::iteration::run_iteration_by;
 use crate::stop::Stop;
 use board_journal::Journal;
 use kernel_gate::Gate;
@@ -60,7 +60,7 @@ pub(crate) fn make_by_workers<K: Gate + Sync, R: Threads + Wait + Sync>(
     requires few { workers ≤ 16 }
     ensures { IsMade (arc_value graphs.now) delays.old.lists ins.now delays.new.lists result }
 {
-    match iterate_by(
+    match run_iteration_by(
         rt,
         alloc,
         graphs,

@@ -17,7 +17,7 @@ ghost use Rattle.quiescent_driver.specs.Unfolding.{StandsFor};
 use crate::carried::Carried;
 use crate::end::RunEnd;
 use crate::fault::IterationFault;
-use crate::iteration::iterate_by;
+use crate::iteration::run_iteration_by;
 use crate::maker::{Made, make_by_workers};
 use crate::run::{put_iteration, run_all, run_from};
 use crate::streams::Streams;
@@ -89,7 +89,7 @@ fn next_group<K: Gate + Sync, R: Threads + Wait + Sync>(
         None => {}
     }
     let ins = streams.taken(alloc, group)?;
-    let iteration = match iterate_by(
+    let iteration = match run_iteration_by(
         rt,
         alloc,
         &unfolded.graphs,

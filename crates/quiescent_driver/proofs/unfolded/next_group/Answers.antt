@@ -7,21 +7,21 @@ use Rattle.quiescent_driver.proofs.Groups.{group_given, pieces_counted}
 use Rattle.quiescent_driver.proofs.Making.{taken_lengths}
 use Rattle.quiescent_driver.proofs.unfolded.next_group.Goals as goal
 
-pub iterate_by-requires-clause-valid : goal.iterate_by-requires-clause-valid
-iterate_by-requires-clause-valid g c = λ lives within.
+pub run_iteration_by-requires-clause-valid : goal.run_iteration_by-requires-clause-valid
+run_iteration_by-requires-clause-valid g c = λ lives within.
     let fits = c.requires.stands.fits in
     record { valid = fits.valid; kernels = fits.kernels (unnamed (g.K.Gate.kernels c.args.gate.now)) c.requires.valid.kernels }
 
-pub iterate_by-requires-clause-sound : goal.iterate_by-requires-clause-sound
-iterate_by-requires-clause-sound g c = λ lives within. c.requires.stands.fits.sound
+pub run_iteration_by-requires-clause-sound : goal.run_iteration_by-requires-clause-sound
+run_iteration_by-requires-clause-sound g c = λ lives within. c.requires.stands.fits.sound
 
-pub iterate_by-requires-clause-inputs : goal.iterate_by-requires-clause-inputs
-iterate_by-requires-clause-inputs g c = λ lives within.
+pub run_iteration_by-requires-clause-inputs : goal.run_iteration_by-requires-clause-inputs
+run_iteration_by-requires-clause-inputs g c = λ lives within.
     taken_lengths c.args.group c.args.streams.now.needs.now (run.top_needs (arc_value c.args.unfolded.now.graphs)) c.args.streams.now.tokens.now c.as_slice.result.now
     c.requires.fit c.in-None.ensures (c.as_slice.ensures.value ∙ c.in_ok-ins.ensures) c.requires.needs
 
-pub iterate_by-requires-clause-state : goal.iterate_by-requires-clause-state
-iterate_by-requires-clause-state g c = λ lives within. c.requires.state ∙ sym (ap lengths c.requires.stands.fits.begins)
+pub run_iteration_by-requires-clause-state : goal.run_iteration_by-requires-clause-state
+run_iteration_by-requires-clause-state g c = λ lives within. c.requires.state ∙ sym (ap lengths c.requires.stands.fits.begins)
 
 pub returns-clause-given : goal.returns-clause-given
 returns-clause-given g c =
@@ -29,17 +29,17 @@ returns-clause-given g c =
     let ins = c.as_slice.ensures.value ∙ c.in_ok-ins.ensures in
     let long = taken_lengths c.args.group c.args.streams.now.needs.now (run.top_needs (arc_value u.graphs)) c.args.streams.now.tokens.now c.as_slice.result.now c.requires.fit c.in-None.ensures ins c.requires.needs in
     group_given (unnamed (g.K.Gate.kernels c.args.gate.now)) (arc_value c.args.graphs.now) u c.requires.stands c.requires.valid.kernels c.signatures-signatures.ensures.lengths
-    c.args.group c.args.streams.now.tokens.now c.args.delays.now.lists c.iterate_by.new.delays.lists c.as_slice.result.now c.args.streams.now.needs.now c.in-Ok.iteration c.in_ok-pieces.pieces
+    c.args.group c.args.streams.now.tokens.now c.args.delays.now.lists c.run_iteration_by.new.delays.lists c.as_slice.result.now c.args.streams.now.needs.now c.in-Ok.iteration c.in_ok-pieces.pieces
     c.requires.needs c.in-None.ensures ins long c.requires.state c.in-Ok.ensures.gives c.in_ok-pieces.ensures.pieces
 
 pub returns-clause-all : goal.returns-clause-all
 returns-clause-all g c = pieces_counted c.args.unfolded.now c.in-Ok.iteration c.in_ok-pieces.pieces c.in_ok-pieces.ensures.pieces
 
 pub returns-clause-state : goal.returns-clause-state
-returns-clause-state g c = c.iterate_by.ensures.state ∙ ap lengths c.requires.stands.fits.begins
+returns-clause-state g c = c.run_iteration_by.ensures.state ∙ ap lengths c.requires.stands.fits.begins
 
 pub cut-requires-clause-of : goal.cut-requires-clause-of
 cut-requires-clause-of g c = (arc_value c.args.graphs.now, c.requires.valid.valid, c.requires.stands.unfolded)
 
 pub cut-requires-clause-done : goal.cut-requires-clause-done
-cut-requires-clause-done g c = (c.as_slice.result.now, c.args.delays.now.lists, c.iterate_by.new.delays.lists, c.in-Ok.ensures.gives)
+cut-requires-clause-done g c = (c.as_slice.result.now, c.args.delays.now.lists, c.run_iteration_by.new.delays.lists, c.in-Ok.ensures.gives)

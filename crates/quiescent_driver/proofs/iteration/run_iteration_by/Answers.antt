@@ -2,7 +2,7 @@ use Rattle.std.proofs.Common.{refl}
 use Rattle.std.specs.Arc.{arc_value}
 use Rattle.kernel_gate.specs.Signed.{unnamed}
 use Rattle.quiescent_driver.proofs.OneAnswer.{only_given, only_refused, state_left}
-use Rattle.quiescent_driver.proofs.iteration.iterate_by.Goals as goal
+use Rattle.quiescent_driver.proofs.iteration.run_iteration_by.Goals as goal
 
 pub returns-clause-only_given : goal.returns-clause-only_given
 returns-clause-only_given g c = only_given (arc_value c.args.graphs.now) c.args.ins.now c.args.delays.now.lists (c.one_meaning.ensures.firings (arc_value c.args.graphs.now).graphs) c.iterate.result c.iterate.new.delays.lists c.iterate.ensures.gives c.iterate.ensures.refused
