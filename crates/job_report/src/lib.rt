@@ -11,5 +11,5 @@ mod schedule;
 mod text;
 mod values;
 
-pub use names::{JobNames, job_names};
+pub use names::JobNames;
 pub use text::{JobText, job_text};

@@ -160,7 +160,11 @@ fn sink_names(alloc: Global, outputs: &[Interface]) -> Result<Vec<Name>, AllocEr
 }
 
 /// The names of the parts of a graph's level, where these are all graphs of its file. The only error is want of memory.
-pub fn job_names(alloc: Global, graphs: &[Graph], graph: &Graph) -> Result<JobNames, AllocError>
+pub(crate) fn job_names(
+    alloc: Global,
+    graphs: &[Graph],
+    graph: &Graph,
+) -> Result<JobNames, AllocError>
     ensures { IfOk result (λ names. names ≡ names_of graphs.now graph.now) }
 {
     Ok(JobNames {
