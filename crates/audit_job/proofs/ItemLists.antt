@@ -35,7 +35,7 @@ module _ (old new : Vec ℕ Global) (place item : ℕ) (inside : place < length 
   pub taken_out : TakesOut item old new
   taken_out = record { others = others_stay; only = only_old; fewer = omega arith; room = same_room }
 
--- it isn't there
+-- nothing is taken out
 pub none_out : (item : ℕ) (old : Vec ℕ Global) → TakesOut item old old
 none_out item old = record { others = λ i differs at. at; only = All-contains_itself old.items; fewer = omega arith; room = refl }
 

@@ -42,14 +42,15 @@ pub record AreCandidates (marks : List OwnMark) (base : ℕ) (waits : List ℕ) 
   pub nodes : (n : ℕ) → n < length waits → slice_index waits n ≡ 0 → mark_at marks (base + 1 + n) ≡ Free → Contains candidates.items (base + 1 + n)
   pub room : length candidates.items + waiting_in waits ≤ vec_capacity candidates
 
--- the item is none of them now, the others are as before
+-- no other item is gone, and none is new; that this one is gone isn't said, since an offer is looked up in the marks
 pub record TakesOut (item : ℕ) (old new : Vec ℕ Global) : Type 0 where
   pub others : (i : ℕ) → i ≢ item → Contains old.items i → Contains new.items i
   pub only : All (λ (i : ℕ). Contains old.items i) new.items
   pub fewer : length new.items ≤ length old.items
   pub room : vec_capacity new ≡ vec_capacity old
 
--- those of so many nodes are added of which this holds; node 0 has this number among the items
+-- those of so many nodes of which this holds are there now, and what is new is one of these nodes; node 0 has this number among
+-- the items
 pub record Adds (first count : ℕ) (P : ℕ → Type 0) (old new : Vec ℕ Global) : Type 0 where
   pub kept : (i : ℕ) → Contains old.items i → Contains new.items i
   pub added : (n : ℕ) → n < count → P n → Contains new.items (first + n)
