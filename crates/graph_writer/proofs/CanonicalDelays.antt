@@ -24,7 +24,7 @@ use Rattle.graph_format.specs.Objects.{has_lives}
 use Rattle.graph_format.specs.States.{StatesDelay}
 use Rattle.graph_format.specs.Values.{AreItems, IsWhole}
 use Rattle.graph_writer.specs.ReadAgain.{HasI64Tokens}
-use Rattle.graph_writer.proofs.Distinct.{not_told}
+use Rattle.pisdf_model.proofs.Distinct.{not_told}
 use Rattle.graph_writer.proofs.CanonicalValue.{AreShown, IsShown, shows_life}
 use Rattle.graph_format.specs.declared.fifo.FileDelay.TheVariants.{Zeros, Tokens}
 

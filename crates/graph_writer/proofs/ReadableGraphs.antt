@@ -29,7 +29,7 @@ use Rattle.graph_format.specs.declared.file.File.{File}
 use Rattle.graph_format.specs.declared.file.FileGraph.{FileGraph}
 use Rattle.graph_writer.specs.ReadAgain.{CanBeReadAgain, HasI64Tokens, kind_fits, WasRead}
 use Rattle.graph_writer.proofs.CanonicalDelays.{fifos_shown}
-use Rattle.graph_writer.proofs.Distinct.{none_at}
+use Rattle.pisdf_model.proofs.Distinct.{none_at}
 use Rattle.graph_writer.proofs.KernelPlaces.{passes_there}
 use Rattle.graph_writer.proofs.KeptNames.{here, meant, each_none, each_numbered, unless_none}
 use Rattle.graph_writer.proofs.NamedFile.{placed_then_named, restated}

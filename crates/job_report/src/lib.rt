@@ -11,5 +11,4 @@ mod schedule;
 mod text;
 mod values;
 
-pub use names::JobNames;
 pub use text::{JobText, job_text};

@@ -16,13 +16,13 @@ use std::alloc::{AllocError, Global};
 
 /// The names of the parts of a graph's level, each by its number there.
 #[derive(Drop)]
-pub struct JobNames {
+pub(crate) struct JobNames {
     /// The actors that are no configuration actors.
-    pub actors: List<Name>,
+    pub(crate) actors: List<Name>,
     /// The inputs that feed no configuration actor, then the outputs of the configuration actors, as `c.o`.
-    pub sources: List<Name>,
+    pub(crate) sources: List<Name>,
     /// The outputs.
-    pub sinks: List<Name>,
+    pub(crate) sinks: List<Name>,
 }
 
 /// Puts the name of an actor behind others, unless it is a configuration actor.

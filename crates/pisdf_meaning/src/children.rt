@@ -82,7 +82,7 @@ pub fn child_firing(
 /// # Errors
 ///
 /// Want of memory.
-pub fn child_made(alloc: Global, keeps: bool, given: Given) -> Result<Made, AllocError>
+pub(crate) fn child_made(alloc: Global, keeps: bool, given: Given) -> Result<Made, AllocError>
     ensures outs { IfOk result (λ made. Ok made.outs ≡ child_fires keeps (Ok given)) }
     ensures trace { IfOk result (λ made. made.trace ≡ given.trace) }
 {
@@ -131,7 +131,7 @@ pub fn config_firing(
 /// # Errors
 ///
 /// Want of memory.
-pub fn child_left(alloc: Global, given: Given) -> Result<Configured, AllocError>
+pub(crate) fn child_left(alloc: Global, given: Given) -> Result<Configured, AllocError>
     ensures leaves { IfOk result (λ one. Ok one ≡ child_leaves (Ok given)) }
     ensures outs { IfOk result (λ one. one.outs ≡ given.outs) }
 {

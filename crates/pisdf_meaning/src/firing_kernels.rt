@@ -80,19 +80,19 @@ pub(crate) fn leave_kernel<K: Gate>(
 
 /// The one firing of a configuration actor that fires a kernel.
 #[derive(Drop)]
-pub struct ConfigCall<'a> {
+pub(crate) struct ConfigCall<'a> {
     /// The actor's name.
-    pub actor: &'a Name,
+    pub(crate) actor: &'a Name,
     /// The actor's number among the configuration actors of its graph.
-    pub number: usize,
+    pub(crate) number: usize,
     /// The actor's place among all actors of its graph.
-    pub place: usize,
+    pub(crate) place: usize,
     /// The kernel that it fires.
-    pub kernel: u32,
+    pub(crate) kernel: u32,
     /// How many inputs it has.
-    pub inputs: usize,
+    pub(crate) inputs: usize,
     /// How many parameters it sets.
-    pub sets: u32,
+    pub(crate) sets: u32,
 }
 
 /// What a configuration actor that fires a kernel leaves.
@@ -101,7 +101,7 @@ pub struct ConfigCall<'a> {
 ///
 /// - `Refused`: the kernel faults.
 /// - `Memory`: want of memory.
-pub fn leave_config<K: Gate>(
+pub(crate) fn leave_config<K: Gate>(
     alloc: Global,
     gate: &K,
     graph: &Graph,

@@ -12,6 +12,7 @@ use kernel_gate::{Frame, Gate, Lent};
 use sdf_level::List;
 use split_block::Lease;
 use std::alloc::{AllocError, Global};
+use std::mem;
 
 /// What a kernel gave.
 #[derive(Drop)]
@@ -47,18 +48,14 @@ fn gave(alloc: Global, frame: Frame, lists: Vec<List<i64>>) -> KernelEnd
     requires room { length frame.outputs ≤ vec_capacity lists }
     ensures { fired_answer result ≡ Gives frame.outputs frame.sets }
 {
-    let Lent {
-        args,
-        inputs,
-        outputs,
-        sets,
-    } = frame.take_back();
-    let no_outputs = List::new(Vec::new(alloc));
-    let no_sets = List::new(Vec::new(alloc));
-    Frame::lend(0, args, inputs, no_outputs, no_sets).end();
+    let mut lent = frame.take_back();
+    let parts: &mut Lent = &mut lent;
+    let outputs = mem::replace(&mut parts.outputs, Vec::new(alloc));
+    let sets = mem::replace(&mut parts.sets, Vec::new(alloc));
+    Frame::lend(lent).end();
     KernelEnd::Gave {
-        outs: lists_of_leases(outputs.into_items(), lists),
-        sets,
+        outs: lists_of_leases(outputs, lists),
+        sets: List::new(sets),
     }
 }
 

@@ -2,6 +2,7 @@ pub mod Alike
 pub mod Closure
 pub mod CountedFaults
 pub mod Cycles
+pub mod Distinct
 pub mod EachGraph
 pub mod Falling
 pub mod Firsts

@@ -3,8 +3,8 @@ use Rattle.std.proofs.Common.{◌≡◌, ◌⊎◌, ⊎_elim, ℕ, List, Option,
 use Rattle.job_compiler.specs.Compilation.{Compilation}
 use Rattle.job_report.specs.Names.{names_of}
 use Rattle.job_report.specs.Told.{Tells}
-use Rattle.job_report.specs.declared.names.JobNames.{JobNames}
 use Rattle.job_report.specs.declared.text.JobText.{JobText}
+use Rattle.pisdf_model.specs.declared.graph.Graph.{Graph}
 use Rattle.pisdf_model.specs.declared.graph.Graphs.{Graphs}
 use Rattle.pisdf_program.specs.Job.{EndsJob, JobEnd}
 use Rattle.pisdf_program.specs.Loaded.{is_answer}
@@ -27,9 +27,9 @@ abbrev out_of_memory : Result (String Global) Status
 out_of_memory = Err WantOfMemory
 
 -- what is told of a job is this text
-pub same_told : (what : JobText) (g : Graphs) (names : JobNames) (job : Compilation) (text : List ℕ) → names ≡ names_of g.graphs (top_of g) → ((other : List ℕ) → Tells what names job other → other ≡ text)
+pub same_told : (what : JobText) (g : Graphs) (all : List Graph) (top : Graph) (job : Compilation) (text : List ℕ) → names_of all top ≡ names_of g.graphs (top_of g) → ((other : List ℕ) → Tells what (names_of all top) job other → other ≡ text)
     → (o : Outcome) → TellsEnd what g (Ok job) o → o ≡ told text
-same_told what g names job text is only o (other, tells, same) = same ∙ ap told (only other (subst (λ (n : JobNames). Tells what n job other) (sym is) tells))
+same_told what g all top job text is only o (other, tells, same) = same ∙ ap told (only other (subst (λ names. Tells what names job other) (sym is) tells))
 
 module _ (what : JobText) (workers : ℕ) (graph tokens : File) (input : Input) (end : JobEnd) (gives : Gives graph tokens input) where
   -- each outcome is told of this end
