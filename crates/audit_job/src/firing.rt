@@ -9,7 +9,7 @@ ghost use Rattle.special_actors.specs.Fitting.{HasLengths};
 ghost use Rattle.audit_job.specs.Marks.{answer_of};
 
 use crate::answer::Answer;
-use kernel_gate::{Frame, Lent};
+use kernel_gate::{Frame, Lent, spend};
 use param_expr::Name;
 use pisdf_meaning::{Cause, Given, KernelEnd, Path, Refusal, copy_name, lists_of_leases};
 use sdf_level::{List, Node};
@@ -45,21 +45,21 @@ pub(crate) fn fired(
 }
 
 /// What stands in the outputs of a frame, which is given up: `lists` is empty, and has room for them.
-fn outputs_of(alloc: Global, frame: Frame, lists: Vec<List<i64>>) -> List<List<i64>>
+fn outputs_of(frame: Frame, lists: Vec<List<i64>>) -> List<List<i64>>
     requires whole { AreWhole frame.places }
     requires empty { lists.items ≡ [] }
     requires room { length frame.outputs ≤ vec_capacity lists }
     ensures { result ≡ frame.outputs }
 {
     let Lent {
-        args,
+        kind: _,
+        args: _,
         inputs,
         outputs,
-        sets,
-    } = frame.take_back();
-    let no_outputs = List::new(Vec::new(alloc));
-    Frame::lend(0, args, inputs, no_outputs, sets).end();
-    lists_of_leases(outputs.into_items(), lists)
+        sets: _,
+    } = Box::into_inner(frame.take_back());
+    spend(inputs);
+    lists_of_leases(outputs, lists)
 }
 
 /// What a node answers that passes on what it reads.
@@ -90,7 +90,7 @@ pub(crate) fn copied(
     let args = List::new(Vec::new(alloc));
     let mut frame = Frame::start(alloc, 0, args, read, written, 0)?;
     run_special(&node, &mut frame);
-    let outs = outputs_of(alloc, frame, lists);
+    let outs = outputs_of(frame, lists);
     Ok(Answer::Gives(Given {
         outs,
         state: List::new(Vec::new(alloc)),

@@ -2,7 +2,7 @@
 ghost use Rattle.std.specs.Prelude.{◌≡◌, ◌≤◌, length};
 
 use case_rows::{Trouble, answer_of};
-use kernel_gate::{Frame, Lent};
+use kernel_gate::Frame;
 use sdf_level::List;
 use serde_json::Value;
 use std::alloc::Global;
@@ -20,17 +20,11 @@ pub(crate) fn count_ports(frame: Frame) -> Counted
     ensures ins { result.ins ≡ length frame.inputs }
     ensures outs { result.outs ≡ length frame.outputs }
 {
-    let kind = frame.kind();
-    let Lent {
-        args,
-        inputs,
-        outputs,
-        sets,
-    } = frame.take_back();
-    let ins = inputs.items().len();
-    let outs = outputs.items().len();
+    let lent = frame.take_back();
+    let ins = lent.inputs.len();
+    let outs = lent.outputs.len();
     Counted {
-        frame: Frame::lend(kind, args, inputs, outputs, sets),
+        frame: Frame::lend(lent),
         ins,
         outs,
     }

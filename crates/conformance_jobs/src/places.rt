@@ -68,7 +68,7 @@ pub(crate) fn end_frames(mut job: Job, mut frames: Vec<Option<Frame>>) -> Job
         match place {
             Some(frame) => {
                 let node = frames.len() as u32;
-                job.finish(node, frame, Ok(()));
+                job.finish(node, frame, Ok(())).end();
             }
             None => {}
         }

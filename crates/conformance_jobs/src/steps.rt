@@ -9,6 +9,7 @@
 //   how many they were.
 ghost use Rattle.std.specs.Prelude.{◌≡◌, ◌⊎◌, ◌<◌, length, IfOk, IfSome, IsOk};
 ghost use Rattle.std.specs.Bool.{OnTrue};
+ghost use Rattle.kernel_gate.specs.Rooms.{Suffices};
 ghost use Rattle.one_job.specs.View.{IsEnabled, IsFiring};
 ghost use Rattle.conformance_jobs.specs.Held.{Holds, KeepsHeld};
 
@@ -16,11 +17,11 @@ use crate::frames::{Counted, copy_through, count_ports, told, write};
 use crate::places::{is_held, put_frame, take_frame};
 use crate::starting::token_lists;
 use case_rows::{Trouble, small};
-use kernel_gate::{Frame, KernelFault};
+use kernel_gate::{Frame, KernelFault, Room};
 use one_job::Job;
 use sdf_level::Node;
 use serde_json::Value;
-use std::alloc::Global;
+use std::alloc::{AllocError, Global};
 
 /// The node that the member of this name is.
 fn node_of(job: &Job, step: &Value, name: &'static str) -> Result<u32, Trouble>
@@ -93,6 +94,13 @@ fn is_handed(job: &Job, node: u32) -> bool
     }
 }
 
+/// Memory for the frame of any node of a job.
+fn room_for(alloc: Global, job: &Job) -> Result<Room, AllocError>
+    ensures { IfOk result (λ room. Suffices job.now.room room) }
+{
+    Room::start(alloc, job.room_size())
+}
+
 /// Claims a node, and tells what its frame holds.
 fn claim(
     alloc: Global,
@@ -107,7 +115,8 @@ fn claim(
     if !is_handed(job, node) {
         return Err(Trouble::Member("claim"));
     }
-    let counted = count_ports(job.claim(node));
+    let room = room_for(alloc, job)?;
+    let counted = count_ports(job.claim(node, room));
     let told = told(alloc, &counted);
     let Counted {
         frame,
@@ -162,23 +171,24 @@ fn finish(
     } = count_ports(take_frame(frames, node as usize));
     write(&mut frame, count, outs.items());
     let answer = answer_with(job.node(node), code);
-    job.finish(node, frame, answer);
+    job.finish(node, frame, answer).end();
     Ok(Value::from(0u32))
 }
 
-/// Claims a node, which copies its inputs to its outputs, and finishes it.
-fn pass(alloc: Global, job: &mut Job, node: u32) -> Result<(), Trouble>
+/// Claims a node, which copies its inputs to its outputs, and finishes it. Its frame is made in the room.
+fn pass(alloc: Global, job: &mut Job, node: u32, room: Room) -> Result<(), Trouble>
     requires enabled { IsEnabled job.old node }
     requires marked { node < length job.old.marks }
+    requires room { Suffices job.old.room room }
     ensures { KeepsHeld job.old job.new }
 {
     let Counted {
         mut frame,
         ins,
         outs,
-    } = count_ports(job.claim(node));
+    } = count_ports(job.claim(node, room));
     let copied = copy_through(alloc, &mut frame, ins, outs);
-    job.finish(node, frame, Ok(()));
+    job.finish(node, frame, Ok(())).end();
     copied
 }
 
@@ -201,7 +211,8 @@ fn pass_all(alloc: Global, job: &mut Job, worker: u32) -> Result<u32, Trouble>
         let Some(node) = next(job, worker) else {
             return Ok(count);
         };
-        pass(alloc, job, node)?;
+        let room = room_for(alloc, job)?;
+        pass(alloc, job, node, room)?;
     }
     Ok(1_000_000)
 }

@@ -21,7 +21,7 @@ use Rattle.board_rules.specs.Picks.{IsPick, is_open}
 use Rattle.firing_board.specs.Table.Asked.{IsAsked, PathsDiffer, offer_of}
 use Rattle.firing_board.specs.Table.Laws.{CallsAreFit}
 use Rattle.firing_board.specs.Table.View.{TableView, job_row, row_at, table_of}
-use Rattle.firing_board.specs.declared.table.asking.Asked.{Asked}
+use Rattle.firing_board.specs.declared.table.pick.Asked.{Asked}
 use Rattle.firing_board.specs.declared.table.row.Row.{Row}
 use Rattle.firing_board.specs.Core.{StandsAt, held_of}
 use Rattle.firing_board.specs.Finding.{HasNoWork, IsFound}

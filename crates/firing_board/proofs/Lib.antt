@@ -1,5 +1,6 @@
 pub mod OfTable
 pub mod Rows
+pub mod FrameSteps
 pub mod Openings
 pub mod Below
 pub mod Found

@@ -74,6 +74,8 @@ keeps_on a b c one two = record {
   lasts = lasts_on a.table b.table c.table one.lasts two.lasts;
   rows = rows_on a.table b.table c.table one.rows two.rows;
   lent = λ k i. two.lent k i ∙ one.lent k i;
+  rooms_are = two.rooms_are ∙ one.rooms_are;
+  asked = λ k. two.asked k ∙ one.asked k;
 }
 
 pub if_ok : {X E : Type 0} (r : Result X E) (P Q : X → Type 0) → ((x : X) → P x → Q x) → IfOk r P → IfOk r Q

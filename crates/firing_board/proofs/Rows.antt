@@ -193,7 +193,7 @@ keys_open v = keys_count 0 v.rows
 
 -- ---- owners
 
-lends_row : (o : Option Row) (i : ℕ) (p : Places) → lent_by o i ≡ Some p → (row : Row) × (o ≡ Some row)
+pub lends_row : (o : Option Row) (i : ℕ) (p : Places) → lent_by o i ≡ Some p → (row : Row) × (o ≡ Some row)
 lends_row None i p is = absurd (cc)
 lends_row (Some row) i p is = (row, refl)
 

@@ -15,7 +15,7 @@ use Rattle.board_rules.specs.Keys.{IsKey, Key, top_job}
 use Rattle.board_journal.specs.View.{path_at}
 use Rattle.firing_board.specs.Table.Calls.{IsStarted}
 use Rattle.firing_board.specs.Table.Laws.{StartsSuit, TablesStart}
-use Rattle.firing_board.specs.Table.View.{NothingIsLent, TableView, firing_of, firings_of, lent_by, lent_in, row_at, table_of}
+use Rattle.firing_board.specs.Table.View.{NothingIsLent, TableView, firing_of, firings_of, lent_by, lent_in, room_by, room_in, row_at, table_of}
 use Rattle.firing_board.specs.declared.table.row.Row.{Row}
 use Rattle.firing_board.specs.Beginning.{IsStartedOn}
 use Rattle.firing_board.specs.Core.{AreNumbered, IsLentToRunners, StandsAt, held_of, lent_of, runners}
@@ -70,6 +70,13 @@ started_unlent graphs workers top v s k i = go (row_at v k) refl
         ap (λ (o : Option Row). lent_by o i) here ∙ (ap (λ (r : Row). lent_by (Some r) i) (sym same) ∙ s.fresh.unlent.each i))
         (λ other. absurd (let none = s.others k other in cc))
         (cases_eq k s.key)
+
+-- the top job has no nodes yet
+pub started_roomless : (graphs : Graphs) (workers : ℕ) (top : Firing) (v : TableView) → IsStarted graphs workers top v → (k : ℕ) → room_in v k ≡ None
+started_roomless graphs workers top v s k = ⊎_elim
+    (λ (e : k ≡ s.key). ap (room_in v) e ∙ (ap room_by s.here ∙ s.fresh.roomless))
+    (λ other. ap room_by (s.others k other))
+    (cases_eq k s.key)
 
 module _ (boards_start : BoardsStart) (tables_start : TablesStart) (suit : StartsSuit) (key : Key) (is_key : IsKey key) (c : Core) (s : IsStartedOn key.graphs key.workers (top_job key) c) where
   abbrev st : IsStarted key.graphs key.workers (top_job key) c.table

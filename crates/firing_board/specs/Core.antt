@@ -1,7 +1,10 @@
 -- The open jobs of a board, what each worker runs of them, and how both stand where steps were taken.
-use Rattle.std.specs.Prelude.{◌≡◌, ℕ, suc, ◌+◌, ◌*◌, ◌<◌, ◌≤◌, List, [], ◌∷◌, Option, Some, None, Result, length, map, slice_index_or}
+use Rattle.std.specs.Prelude.{◌≡◌, ℕ, suc, ◌+◌, ◌*◌, ◌<◌, ◌≤◌, true, List, [], ◌∷◌, Option, Some, None, Result, length, map, slice_index_or}
 use Rattle.std.specs.Option.{option_map}
+use Rattle.graph_firing.specs.Rooms.{is_node}
+use Rattle.kernel_gate.specs.Rooms.{Suffices}
 use Rattle.kernel_gate.specs.Value.{Places}
+use Rattle.kernel_gate.specs.declared.room.RoomSize.{RoomSize}
 use Rattle.nested_jobs.specs.Marks.{Done, Mark}
 use Rattle.job_preparing.specs.Handing.{end_of}
 use Rattle.job_preparing.specs.declared.handing.JobGiven.{JobGiven}
@@ -14,9 +17,10 @@ use Rattle.board_rules.specs.Entries.{Step}
 use Rattle.board_rules.specs.Keys.{Key}
 use Rattle.board_rules.specs.Legal.{journal_of, state_after}
 use Rattle.board_journal.specs.View.{path_at}
+use Rattle.firing_board.specs.FrameRooms.{IsWithin, slot_at}
 use Rattle.firing_board.specs.Table.Calls.{StaysAs}
 use Rattle.firing_board.specs.Table.Suits.{Suits}
-use Rattle.firing_board.specs.Table.View.{TableView, free_items, lent_in, row_at, table_of}
+use Rattle.firing_board.specs.Table.View.{TableView, free_items, lent_in, room_in, row_at, table_of}
 use Rattle.firing_board.specs.declared.table.row.Row.{Row}
 use Rattle.firing_board.specs.declared.state.Core.{Core}
 use Rattle.firing_board.specs.declared.run.Run.{Run}
@@ -81,8 +85,41 @@ abbrev pub entries_to_come : Core → ℕ
 entries_to_come c = runners c.running.items + 2 * free_items c.table
 
 -- there is room for them
-abbrev pub HasRoom : Core → Type 0
-HasRoom c = entries_to_come c ≤ c.journal.room
+abbrev pub HasEntries : Core → Type 0
+HasEntries c = entries_to_come c ≤ c.journal.room
+
+-- ---- rooms for frames
+
+-- what a worker runs is a node
+abbrev pub RunsNode : TableView → Run → Type 0
+RunsNode table run = (row : Row) → row_at table run.row ≡ Some row → is_node row.job run.item ≡ true
+
+-- it is a node, and its frame is out, made in a room of at least this size
+pub record IsOut (size : RoomSize) (table : TableView) (run : Run) : Type 0 where
+  pub places : Places
+  pub lent : lent_in table run.row run.item ≡ Some places
+  pub enough : Suffices size places.room
+  pub node : RunsNode table run
+
+abbrev pub OutWith : RoomSize → TableView → Option Run → Type 0
+OutWith size table None = ⊥
+OutWith size table (Some run) = IsOut size table run
+
+-- a worker that runs this has a room of at least this size: in its slot, or else out with the frame of the node that it runs
+abbrev pub HoldsRoom : RoomSize → TableView → Option Run → (slot : Option RoomSize) → Type 0
+HoldsRoom size table run None = OutWith size table run
+HoldsRoom size table run (Some room) = Suffices size room
+
+-- the rooms of workers suffice for the frame of any node of an open job; while no job has nodes, none has to be there
+pub record HaveRooms (c : Core) : Type 0 where
+  pub one_each : length c.rooms.slots.items ≡ length c.running.items
+  pub needs : (k : ℕ) (need : RoomSize) → room_in c.table k ≡ Some need → IsWithin need c.rooms.size
+  pub each : (w : ℕ) (size : RoomSize) → w < length c.running.items → c.rooms.size ≡ Some size → HoldsRoom size c.table (slice_index_or c.running.items w None) (slot_at c.rooms.slots.items w)
+
+-- there is room for the entries that may come, and for the frames
+pub record HasRoom (c : Core) : Type 0 where
+  pub entries : HasEntries c
+  pub rooms : HaveRooms c
 
 -- ---- the end
 

@@ -1,5 +1,5 @@
 -- What a worker is handed that claims an item.
-use Rattle.std.specs.Prelude.{◌≡◌, ◌≢◌, ◌⊎◌, ℕ, ◌-◌, ◌<◌, List, [], ◌∷◌, ◌++◌, Option, Some, length, slice_index_or, slice_set}
+use Rattle.std.specs.Prelude.{◌≡◌, ◌≢◌, ◌⊎◌, ℕ, ◌-◌, ◌<◌, List, [], ◌∷◌, ◌++◌, Option, Some, None, length, slice_index_or, slice_set}
 use Rattle.nested_jobs.specs.Marks.{Busy}
 use Rattle.job_compiler.specs.Compilation.{Compilation}
 use Rattle.job_preparing.specs.Handing.{lent_at}
@@ -44,11 +44,13 @@ pub record Enters (old : Core) (w : ℕ) (run : Run) (item : Item) (ticket : Tic
   pub running_are : new.running.items ≡ slice_set old.running.items w (Some run)
   pub numbers_are : new.numbers ≡ old.numbers
   pub journal_is : new.journal ≡ with_claim old.journal w (path_in old run.row) item
+  pub rooms_are : new.rooms ≡ old.rooms
   pub end_is : new.end ≡ old.end
 
--- the claim of a worker can be entered
+-- the claim of a worker can be entered, which runs nothing
 pub record MayEnter (c : Core) (w : ℕ) (run : Run) : Type 0 where
   pub is_worker : w < length c.running.items
+  pub idle : slice_index_or c.running.items w None ≡ None
   pub known : slice_index_or c.numbers.items run.row 0 < length c.journal.paths
 
 -- a frame is handed out with an item, whose claim is entered

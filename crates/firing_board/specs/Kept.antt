@@ -38,10 +38,10 @@ pub record Keeps (key : Key) (c : Core) (starved : Bool) : Type 0 where
   pub taken : List Step
   pub at : StandsOrStarves starved key taken c
 
--- unless memory was wanted, so has each entry that may come
+-- unless memory was wanted, so has each entry that may come, and each frame
 abbrev pub HasRoomUnless : Bool → Core → Type 0
 HasRoomUnless false c = HasRoom c
 HasRoomUnless true c = Unit {0}
 
 abbrev pub IsBoard : Inside → Type 0
-IsBoard i = Keeps (key_of i) i.core i.starved × (length i.compiling.items ≡ length i.core.running.items) × HasRoomUnless i.starved i.core
+IsBoard i = Keeps (key_of i) i.core i.starved × (length i.compiling.items ≡ length i.core.running.items) × HasRoomUnless i.starved i.core × (length i.core.rooms.slots.items ≡ length i.core.running.items)

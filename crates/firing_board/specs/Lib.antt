@@ -1,4 +1,5 @@
 pub mod Table
+pub mod FrameRooms
 pub mod View
 pub mod Firings
 pub mod Starts

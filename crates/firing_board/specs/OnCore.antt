@@ -13,11 +13,12 @@ use Rattle.firing_board.specs.View.{lent_to}
 use Rattle.firing_board.specs.declared.claim.Claim.{Claim}
 use Rattle.firing_board.specs.declared.state.Core.{Core}
 
--- the key stays
+-- the key stays, and each worker has its place
 pub record KeepsKey (old new : Core) : Type 0 where
   pub graphs_are : new.table.graphs ≡ old.table.graphs
   pub workers_are : new.table.workers ≡ old.table.workers
   pub one_each : length new.running.items ≡ length old.running.items
+  pub slots_each : length new.rooms.slots.items ≡ length old.rooms.slots.items
 
 -- ---- claims
 

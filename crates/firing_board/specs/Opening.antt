@@ -11,7 +11,7 @@ use Rattle.pisdf_meaning.specs.declared.firing.Firing.{Firing}
 use Rattle.board_rules.specs.Board.{HasOpened, OpenJobs}
 use Rattle.board_rules.specs.Keys.{Key}
 use Rattle.board_rules.specs.Offers.{AreFirst}
-use Rattle.firing_board.specs.Table.Calls.{LendsAsBefore, OpensChild}
+use Rattle.firing_board.specs.Table.Calls.{AsksAsBefore, LendsAsBefore, OpensChild}
 use Rattle.firing_board.specs.Table.Suits.{Suits}
 use Rattle.firing_board.specs.Table.View.{TableView, row_at, table_of}
 use Rattle.firing_board.specs.declared.table.row.Row.{Row}
@@ -43,6 +43,8 @@ pub record KeepsRuns (old new : Core) : Type 0 where
   pub lasts : Lasts old.table new.table
   pub rows : RowsLast old.table new.table
   pub lent : LendsAsBefore old.table new.table
+  pub rooms_are : new.rooms ≡ old.rooms
+  pub asked : AsksAsBefore old.table new.table
 
 -- a job is opened, and the journal has its path
 pub record OpensAt (old : Core) (at : Run) (child : ℕ) (new : Core) : Type 0 where

@@ -7,11 +7,13 @@ use Rattle.job_preparing.specs.CompileTasks.{IsEndOf}
 use Rattle.job_preparing.specs.Handing.{answer_with, mark_at}
 use Rattle.job_preparing.specs.declared.compiling.CompileEnd.{CompileEnd}
 use Rattle.graph_firing.specs.Calls.{IsSoundFor}
+use Rattle.graph_firing.specs.Rooms.{is_node, slot_after}
 use Rattle.graph_firing.specs.View.{OpenView, compilation_of, left_by, task}
 use Rattle.board_rules.specs.declared.entry.Entry.TheVariants as entry
 use Rattle.board_journal.specs.View.{JournalView}
-use Rattle.firing_board.specs.Table.Calls.{FinishesIn, LendsAsBefore, LendsItem, MarksItem}
+use Rattle.firing_board.specs.Table.Calls.{AsksAsBefore, FinishesIn, LendsAsBefore, LendsItem, MarksItem}
 use Rattle.firing_board.specs.Table.View.{lent_in, row_at}
+use Rattle.firing_board.specs.FrameRooms.{slot_at}
 use Rattle.firing_board.specs.declared.table.row.Row.{Row}
 use Rattle.firing_board.specs.declared.state.Core.{Core}
 use Rattle.firing_board.specs.declared.run.Run.{Run}
@@ -50,7 +52,8 @@ pub record Leaves (old : Core) (w : ℕ) (run : Run) (new : Core) : Type 0 where
   pub journal_is : HasFinish old.journal w new.journal
   pub end_is : new.end ≡ old.end
 
--- the frame is back, and what its kernel or its node wrote is the item's answer
+-- the frame is back, and what its kernel or its node wrote is the item's answer; the room of a node's frame is back in the slot of
+-- the worker, or was given up
 pub record Returns (frame : FrameView) (result : Result (Unit {0}) KernelFault) (old : Core) (w : ℕ) (new : Core) (k : ℕ) : Type 0 where
   pub run : Run
   pub row_is : k ≡ run.row
@@ -59,6 +62,9 @@ pub record Returns (frame : FrameView) (result : Result (Unit {0}) KernelFault) 
   pub here : row_at old.table run.row ≡ Some row
   pub marks : MarksItem run.row run.item (Done (answer_with (task row.job run.item) frame result)) old.table new.table
   pub lends : LendsItem run.row run.item None old.table new.table
+  pub asked : AsksAsBefore old.table new.table
+  pub size_is : new.rooms.size ≡ old.rooms.size
+  pub slots_are : new.rooms.slots.items ≡ slice_set old.rooms.slots.items w (slot_after (is_node row.job run.item) (slot_at old.rooms.slots.items w) frame.places)
 
 -- the compilation is done
 pub record Compiles (end : CompileEnd) (old : Core) (w : ℕ) (new : Core) (k : ℕ) : Type 0 where

@@ -1,22 +1,29 @@
 // Hands out the item that is picked for a worker.
-ghost use Rattle.std.specs.Prelude.{ℕ, List as Seq, ◌≡◌, ◌≢◌, ◌+◌, ◌<◌, ◌≤◌, ◌⊎◌, ◌↔◌, All, IfOk, IsTrue, None, OnErr, OnOk, false, is_some, length};
+ghost use Rattle.std.specs.Prelude.{ℕ, List as Seq, ◌≡◌, ◌≢◌, ◌+◌, ◌<◌, ◌≤◌, ◌⊎◌, ◌↔◌, All, IfOk, IsTrue, None, OnErr, OnOk, Some, false, is_some, length, slice_index_or};
 ghost use Rattle.board_rules.specs.Entries.{item_of};
 ghost use Rattle.board_rules.specs.Keys.{Key as BoardKey};
-ghost use Rattle.firing_board.specs.Table.View.{HasJob};
+ghost use Rattle.firing_board.specs.FrameRooms.{TakesSlot, slot_at};
+ghost use Rattle.firing_board.specs.Table.Calls.{AsksAsBefore, LendsItem, MarksItem};
+ghost use Rattle.firing_board.specs.Table.View.{HasJob, free_items};
+ghost use Rattle.graph_firing.specs.Calls.{IsHanded, frame_of};
+ghost use Rattle.graph_firing.specs.Rooms.{HasRoomFor, is_node};
+ghost use Rattle.nested_jobs.specs.Marks.{Busy};
 ghost use Rattle.graph_firing.specs.View.{IsOfferedCompilation, IsOfferedWork, compilation_of, graph_in};
 ghost use Rattle.firing_board.specs.Core.{HasRoom, IsNumbered};
-ghost use Rattle.firing_board.specs.Handing.{Enters, HandsCompilation, HandsFrame, HandsOut, MayEnter};
+ghost use Rattle.firing_board.specs.Handing.{Enters, HandsCompilation, HandsFrame, HandsOut, MayEnter, claim_of};
 ghost use Rattle.firing_board.specs.Kept.{view_with};
 ghost use Rattle.firing_board.specs.OnCore.{ClaimsOn, KeepsKey, MayClaim, StarvesOn};
 ghost use Rattle.firing_board.specs.Wanting.{MayStarve};
 
 use crate::claim::{Claim, Ticket};
 use crate::finding::find;
+use crate::frame_rooms::FrameRooms;
 use crate::keeping::kept_for;
 use crate::laws::tables_suit;
 use crate::numbering::number_of;
 use crate::run::Run;
 use crate::state::Core;
+use crate::table::JobTable;
 use board_rules::{Item, boards_end, boards_keep, journals_grow};
 use graph_firing::{Handed, OpenJob};
 use job_compiler::{Compiled, Kept, Key};
@@ -51,23 +58,46 @@ fn enter(core: &mut Core, worker: u32, run: Run, item: Item) -> Ticket
     Ticket { worker, entry }
 }
 
-/// Hands out the frame of an item other than a compilation.
+/// What a job hands out, as a worker gets it.
+fn with_ticket(ticket: Ticket, handed: Handed) -> Claim
+    ensures { result ≡ claim_of ticket handed }
+{
+    match handed {
+        Handed::Configure(frame) => Claim::Configure(ticket, frame),
+        Handed::Fire(frame) => Claim::Fire(ticket, frame),
+        Handed::Copy(node, frame) => Claim::Copy(ticket, node, frame),
+    }
+}
+
+/// Claims an item other than a compilation. The frame of a node is made in the room of the worker, which leaves its slot.
+fn claim_item(table: &mut JobTable, rooms: &mut FrameRooms, worker: u32, run: Run) -> Handed
+    requires offered { HasJob (λ job. IsOfferedWork job run.item × (run.item ≢ compilation_of job)) table.old run.row }
+    requires slot { worker < length rooms.old.slots.items }
+    requires room { HasJob (λ job. HasRoomFor job.room (slot_at rooms.old.slots.items worker)) table.old run.row }
+    ensures handed { HasJob (λ job. IsHanded job run.item result) table.old run.row }
+    ensures claimed { MarksItem run.row run.item Busy table.old table.new }
+    ensures lent { LendsItem run.row run.item (Some (frame_of result).places) table.old table.new }
+    ensures asked { AsksAsBefore table.old table.new }
+    ensures fewer { free_items table.old ≡ free_items table.new + 1 }
+    ensures room { HasJob (λ job. TakesSlot (is_node job run.item) worker (frame_of result).places rooms.old rooms.new) table.old run.row }
+{
+    table.claim(run.row, run.item, &mut rooms.slots[worker as usize])
+}
+
+/// Hands out the frame of an item other than a compilation. That of a node is made in the room of the worker.
 fn hand_frame(core: &mut Core, worker: u32, run: Run, item: Item) -> Claim
     requires enter { MayEnter core.old worker run }
     requires room { HasRoom core.old }
     requires offered { HasJob (λ job. IsOfferedWork job run.item × (run.item ≢ compilation_of job)) core.old.table run.row }
     ensures handed { HandsFrame core.old worker run item core.new result }
     ensures room { HasRoom core.new }
+    ensures slots { length core.new.rooms.slots.items ≡ length core.old.rooms.slots.items }
 {
-    let handed = core.table.claim(run.row, run.item);
+    let handed = claim_item(&mut core.table, &mut core.rooms, worker, run);
     // The leases of the frame are now known to be those of the node's buffers.
     core.table.job(run.row).compiled();
     let ticket = enter(core, worker, run, item);
-    match handed {
-        Handed::Configure(frame) => Claim::Configure(ticket, frame),
-        Handed::Fire(frame) => Claim::Fire(ticket, frame),
-        Handed::Copy(node, frame) => Claim::Copy(ticket, node, frame),
-    }
+    with_ticket(ticket, handed)
 }
 
 /// Hands out a compilation, with one that is kept by its key where there is one.
@@ -87,6 +117,7 @@ fn hand_compilation(
     requires offered { HasJob IsOfferedCompilation core.old.table run.row }
     ensures handed { IfOk result (HandsCompilation core.old worker run core.new) }
     ensures room { OnOk result (HasRoom core.new) }
+    ensures rooms { core.new.rooms ≡ core.old.rooms }
     ensures refused { OnErr result (core.new ≡ core.old) }
 {
     let task = core.table.claim_compile(alloc, run.row, compiled)?;
@@ -107,11 +138,13 @@ fn hand_out(
     compiled: Option<Arc<Compiled>>,
 ) -> Result<Claim, AllocError>
     requires worker { worker < length core.old.running.items }
+    requires idle { slice_index_or core.old.running.items worker None ≡ None }
     requires numbered { (path : Seq ℕ) × IsNumbered core.old.numbers.items core.old.journal.paths run.row path }
     requires offered { HasJob (λ job. IsOfferedWork job run.item) core.old.table run.row }
     requires room { HasRoom core.old }
     ensures handed { IfOk result (HandsOut core.old worker run core.new) }
     ensures room { OnOk result (HasRoom core.new) }
+    ensures slots { length core.new.rooms.slots.items ≡ length core.old.rooms.slots.items }
     ensures compiles { OnErr result (HasJob (λ job. run.item ≡ compilation_of job) core.old.table run.row) }
     ensures refused { OnErr result (core.new ≡ core.old) }
 {

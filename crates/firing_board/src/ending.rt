@@ -5,6 +5,7 @@ ghost use Rattle.pisdf_meaning.specs.declared.refusal.Refusal.{Refusal};
 ghost use Rattle.firing_board.specs.Table.View.{NothingIsLent};
 ghost use Rattle.firing_board.specs.Beginning.{EndsWith};
 
+use crate::frame_rooms::end_rooms;
 use crate::state::Core;
 use board_journal::Journal;
 use job_preparing::JobGiven;
@@ -52,9 +53,11 @@ pub(crate) fn end_core(core: Core)
         running: _,
         numbers: _,
         journal: _,
+        rooms,
         end: _,
     } = core;
     table.end();
+    end_rooms(rooms);
 }
 
 /// How the board ends that has these open jobs.
@@ -72,9 +75,11 @@ pub(crate) fn outcome_of(alloc: Global, core: Core, starved: bool) -> Result<Boa
         running: _,
         numbers: _,
         journal,
+        rooms,
         end,
     } = core;
     table.end();
+    end_rooms(rooms);
     if starved {
         return Ok(BoardEnd::Starved);
     }

@@ -2,15 +2,17 @@
 ghost use Rattle.std.specs.Prelude.{◌≡◌, ◌<◌, ◌≤◌, IfOk, IsErr, IsOk, None, OnErr, OnOk, Some, false, true, length, slice_index_or, slice_set};
 ghost use Rattle.board_rules.specs.Keys.{Key};
 ghost use Rattle.firing_board.specs.Table.Closing.{ClosesLong, IsClosingFrom};
-ghost use Rattle.firing_board.specs.Table.View.{free_items};
+ghost use Rattle.firing_board.specs.Table.View.{free_items, room_in};
 ghost use Rattle.firing_board.specs.Closing.{ClosesOn, KeepsJournal};
-ghost use Rattle.firing_board.specs.Core.{HasRoom};
+ghost use Rattle.firing_board.specs.Core.{HasEntries, HasRoom};
+ghost use Rattle.firing_board.specs.FrameRooms.{FitsNeed};
 ghost use Rattle.firing_board.specs.Ends.{HasLongTraces};
 ghost use Rattle.firing_board.specs.Finishes.{MayComeBack, MayEnd};
 ghost use Rattle.firing_board.specs.Kept.{view_with};
 ghost use Rattle.firing_board.specs.OnCore.{FinishesOn, KeepsKey, MayLeave};
 ghost use Rattle.firing_board.specs.Returning.{Compiles, GivesUp, Leaves, MayCompile, MayReturn, Returns, RunsItem};
 
+use crate::frame_rooms::fit_rooms;
 use crate::laws::tables_suit;
 use crate::rooms::room_for_nodes;
 use crate::run::Run;
@@ -38,7 +40,7 @@ fn take_run(running: &mut Vec<Option<Run>>, worker: u32) -> Run
 fn leave(core: &mut Core, worker: u32) -> Run
     requires runs { (run : Run) × (slice_index_or core.old.running.items worker None ≡ Some run) }
     requires room { 0 < core.old.journal.room }
-    ensures { Leaves core.old worker result core.new × (core.new.table ≡ core.old.table) }
+    ensures { Leaves core.old worker result core.new × (core.new.table ≡ core.old.table) × (core.new.rooms ≡ core.old.rooms) }
 {
     core.journal.finish(worker);
     take_run(&mut core.running, worker)
@@ -48,11 +50,13 @@ fn leave(core: &mut Core, worker: u32) -> Run
 fn take_back(core: &mut Core, worker: u32, frame: Frame, answer: Result<(), KernelFault>) -> usize
     requires item { RunsItem (MayReturn frame (IsOk answer)) core.old worker }
     requires room { 0 < core.old.journal.room }
+    requires slot { worker < length core.old.rooms.slots.items }
     ensures returns { Returns frame answer core.old worker core.new result }
-    ensures room { HasRoom core.old → HasRoom core.new }
+    ensures room { HasEntries core.old → HasEntries core.new }
 {
     let run = leave(core, worker);
-    core.table.finish(run.row, run.item, frame, answer);
+    let slot = &mut core.rooms.slots[worker as usize];
+    core.table.finish(run.row, run.item, frame, answer, slot);
     run.row
 }
 
@@ -70,8 +74,9 @@ fn take_compilation(
     requires item { RunsItem (MayCompile end) core.old worker }
     requires room { 0 < core.old.journal.room }
     ensures compiled { IfOk result (Compiles end core.old worker core.new) }
-    ensures room { OnOk result (HasRoom core.old → HasRoom core.new) }
+    ensures room { OnOk result (HasEntries core.old → HasEntries core.new) }
     ensures refused { OnErr result (GivesUp core.old worker core.new) }
+    ensures rooms { core.new.rooms ≡ core.old.rooms }
 {
     let run = leave(core, worker);
     room_for_nodes(&mut core.journal, &end)?;
@@ -89,6 +94,7 @@ fn close(core: &mut Core, row: usize) -> Result<(), AllocError>
     ensures closed { IfOk result (λ done. ClosesOn core.old row core.new) }
     ensures kept { KeepsJournal core.old core.new }
     ensures fewer { free_items core.new.table ≤ free_items core.old.table }
+    ensures rooms { core.new.rooms ≡ core.old.rooms }
     ensures long { OnErr result ((c : IsClosingFrom core.old.table row) → ClosesLong c) }
 {
     boards_keep();
@@ -103,6 +109,24 @@ fn close(core: &mut Core, row: usize) -> Result<(), AllocError>
     Ok(())
 }
 
+/// Closes jobs from the row up of a job whose compilation was taken back, once the rooms of workers suffice for its nodes.
+///
+/// # Errors
+///
+/// Want of memory.
+fn settle(alloc: Global, core: &mut Core, row: usize) -> Result<(), AllocError>
+    requires { IsClosingFrom core.old.table row }
+    ensures closed { IfOk result (λ done. ClosesOn core.old row core.new) }
+    ensures kept { KeepsJournal core.old core.new }
+    ensures fewer { free_items core.new.table ≤ free_items core.old.table }
+    ensures fits { OnOk result (FitsNeed (room_in core.old.table row) core.old.rooms core.new.rooms) }
+    ensures many { length core.new.rooms.slots.items ≡ length core.old.rooms.slots.items }
+{
+    let need = core.table.job(row).room_size();
+    fit_rooms(alloc, &mut core.rooms, need)?;
+    close(core, row)
+}
+
 /// A worker finishes what it runs, whose frame comes back: whether memory was wanted, then or before.
 pub(crate) fn finish_frame(
     core: &mut Core,
@@ -111,7 +135,8 @@ pub(crate) fn finish_frame(
     frame: Frame,
     answer: Result<(), KernelFault>,
 ) -> bool
-    requires { (key : Key) × MayLeave key core.old starved worker (MayComeBack key frame answer (IsOk answer)) (Some frame.places) }
+    requires may { (key : Key) × MayLeave key core.old starved worker (MayComeBack key frame answer (IsOk answer)) (Some frame.places) }
+    requires slots { length core.old.rooms.slots.items ≡ length core.old.running.items }
     ensures finished { (key : Key) → MayLeave key core.old starved worker (MayComeBack key frame answer (IsOk answer)) (Some frame.places) → FinishesOn key core.old starved worker core.new result }
     ensures kept { KeepsKey core.old core.new }
     ensures room { HasRoom core.old → HasRoom core.new }
@@ -150,7 +175,7 @@ pub(crate) fn finish_compilation(
         return true;
     }
     match take_compilation(alloc, core, worker, end) {
-        Ok(row) => close(core, row).is_err(),
+        Ok(row) => settle(alloc, core, row).is_err(),
         Err(AllocError) => true,
     }
 }

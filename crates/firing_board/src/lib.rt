@@ -8,6 +8,7 @@ mod claiming;
 mod ending;
 mod finding;
 mod finishing;
+mod frame_rooms;
 mod keeping;
 mod laws;
 mod locked;

@@ -25,12 +25,12 @@ impl Model for BoardKey {
 pub struct FramePlaces;
 
 impl Model for FramePlaces {
-    ghost use Rattle.std.specs.Prelude.{[]};
     ghost use Rattle.kernel_gate.specs.Value.{Places};
+    ghost use Rattle.one_job.specs.Marks.{nowhere};
 
     ghost Value = { Places };
 
-    ghost view = { λ _. record { inputs = []; outputs = [] } };
+    ghost view = { λ _. nowhere };
 }
 
 impl Locked for Board {

@@ -1,18 +1,21 @@
 // The start of a board.
-ghost use Rattle.std.specs.Prelude.{◌≡◌, ◌≤◌, IfOk, None, length, replicate};
+ghost use Rattle.std.specs.Prelude.{◌≡◌, ◌≤◌, ◌+◌, ◌*◌, IfOk, None, OnOk, length, replicate};
 ghost use Rattle.std.specs.Arc.{arc_value};
 ghost use Rattle.board_journal.specs.View.{IsEmpty};
 ghost use Rattle.job_preparing.specs.View.{HasInherited};
 ghost use Rattle.job_rules.specs.Meant.{IsFit};
+ghost use Rattle.graph_firing.specs.View.{compilation_of};
 ghost use Rattle.pisdf_model.specs.Valid.{AreValid};
 ghost use Rattle.firing_board.specs.Beginning.{IsStartedOn};
 ghost use Rattle.firing_board.specs.Core.{HasRoom};
 
+use crate::frame_rooms::{FrameRooms, no_rooms};
 use crate::rooms::room_for;
 use crate::run::Run;
 use crate::state::Core;
 use crate::table::JobTable;
 use board_journal::Journal;
+use graph_firing::OpenJob;
 use job_compiler::Key;
 use pisdf_meaning::Firing;
 use pisdf_model::Graphs;
@@ -38,6 +41,21 @@ pub(crate) fn nothing_compiles(alloc: Global, workers: u32) -> Result<Vec<Option
     Ok(compiling)
 }
 
+/// Room for what the top job takes of the journal, and no room for frames yet.
+fn first_rooms(
+    alloc: Global,
+    journal: &mut Journal,
+    job: &OpenJob,
+    workers: u32,
+) -> Result<FrameRooms, AllocError>
+    ensures rooms { IfOk result (λ rooms. (rooms.slots.items ≡ replicate workers None) × (rooms.size ≡ None)) }
+    ensures taken { OnOk result (journal.new.room ≡ journal.old.room + 2 * (compilation_of job.now + 1)) }
+    ensures kept { OnOk result ((journal.new.paths ≡ journal.old.paths) × (journal.new.entries ≡ journal.old.entries)) }
+{
+    room_for(journal, job)?;
+    no_rooms(alloc, workers)
+}
+
 /// The open jobs, of which there is the top one alone, and no worker runs anything. Nothing was put into the journal.
 pub(crate) fn start_core(
     alloc: Global,
@@ -59,12 +77,13 @@ pub(crate) fn start_core(
     let _number = journal.add_path(path)?;
     let numbers = Vec::new(alloc);
     let table = JobTable::start(alloc, graphs, workers, firing)?;
-    match room_for(&mut journal, table.job(0)) {
-        Ok(()) => Ok(Core {
+    match first_rooms(alloc, &mut journal, table.job(0), workers) {
+        Ok(rooms) => Ok(Core {
             table,
             running,
             numbers,
             journal,
+            rooms,
             end: None,
         }),
         Err(error) => {

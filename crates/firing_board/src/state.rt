@@ -1,3 +1,4 @@
+use crate::frame_rooms::FrameRooms;
 use crate::run::Run;
 use crate::table::JobTable;
 use board_journal::Journal;
@@ -12,6 +13,8 @@ pub(crate) struct Core {
     /// For each row of the table the number of its path in the journal.
     pub(crate) numbers: Vec<usize>,
     pub(crate) journal: Journal,
+    /// For the frames of nodes.
+    pub(crate) rooms: FrameRooms,
     /// The end of the top job, once it is there.
     pub(crate) end: Option<Result<JobGiven, Refusal>>,
 }

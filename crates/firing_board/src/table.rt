@@ -3,13 +3,12 @@ ghost use Rattle.std.specs.Prelude.{◌≡◌, ◌≢◌, ◌+◌, ◌≤◌, �
 ghost use Rattle.std.specs.Arc.{arc_value};
 ghost use Rattle.std.specs.Option.{option_map};
 
-mod asking;
 mod begins;
 mod opening;
+mod pick;
 mod row;
 mod slots;
 
-pub(crate) use asking::Asked;
 pub(crate) use begins::Begins;
 use begins::begins_with;
 use board_rules::boards_keep;
@@ -17,8 +16,9 @@ use graph_firing::{Handed, OpenJob, open};
 use job_compiler::Compiled;
 use job_preparing::{CompileEnd, CompileTask, JobGiven};
 use job_rules::rules_are_lawful;
-use kernel_gate::{Frame, KernelFault};
+use kernel_gate::{Frame, KernelFault, Room};
 use opening::{child_place, child_steps, count_rows, end_rows, top_row, vacant_key};
+pub(crate) use pick::Asked;
 use pisdf_meaning::{Firing, Refusal};
 use pisdf_model::Graphs;
 use row::Row;
@@ -58,9 +58,10 @@ impl JobTable {
     ghost use Rattle.nested_jobs.specs.Rules.{Call};
     ghost use Rattle.pisdf_model.specs.Valid.{AreValid};
     ghost use Rattle.graph_firing.specs.Calls.{IsHanded, IsSoundFor, frame_of};
+    ghost use Rattle.graph_firing.specs.Rooms.{HasRoomFor, TakesRoom, is_node, slot_after};
     ghost use Rattle.graph_firing.specs.View.{IsOfferedCall, IsOfferedCompilation, IsOfferedWork, compilation_of, left_by, task};
     ghost use Rattle.firing_board.specs.Table.Asked.{IsAsked};
-    ghost use Rattle.firing_board.specs.Table.Calls.{BeginsWith, FinishesIn, IsStarted, LendsAsBefore, LendsItem, MarksItem, OpensChild, SpoilsItem};
+    ghost use Rattle.firing_board.specs.Table.Calls.{AsksAsBefore, BeginsWith, FinishesIn, IsStarted, LendsAsBefore, LendsItem, MarksItem, OpensChild, SpoilsItem};
     ghost use Rattle.firing_board.specs.Table.Closing.{Closes, ClosesLong, IsClosingFrom, RowsStay};
     ghost use Rattle.firing_board.specs.Table.View.{HasJob, NothingIsLent, free_items, keys_of, lent_in};
 
@@ -119,14 +120,14 @@ impl JobTable {
     pub(crate) fn first_work(&self, worker: u32) -> Option<Asked>
         ensures { IsAsked worker false self.now result }
     {
-        asking::first_work(self.rows.as_slice(), worker)
+        pick::first_work(self.rows.as_slice(), worker)
     }
 
     /// The call that goes first for a worker, of all that the jobs offer; none where none offers any.
     pub(crate) fn first_call(&self, worker: u32) -> Option<Asked>
         ensures { IsAsked worker true self.now result }
     {
-        asking::first_call(self.rows.as_slice(), worker)
+        pick::first_call(self.rows.as_slice(), worker)
     }
 
     /// What the first item of a job does of which nothing is claimed.
@@ -155,6 +156,7 @@ impl JobTable {
         ensures opened { IfOk result (λ child. OpensChild row item self.old child self.new) }
         ensures refused { OnErr result (SpoilsItem row item self.old self.new) }
         ensures lent { LendsAsBefore self.old self.new }
+        ensures asked { AsksAsBefore self.old self.new }
     {
         let key = vacant_key(&mut self.rows)?;
         let place = child_place(alloc, row_in(&self.rows[row]), item)?;
@@ -174,15 +176,19 @@ impl JobTable {
         Ok(key)
     }
 
-    /// Claims an item that has work of its own, other than the compilation. It takes no memory.
-    pub(crate) fn claim(&mut self, row: usize, item: usize) -> Handed
-        requires { HasJob (λ job. IsOfferedWork job item × (item ≢ compilation_of job)) self.old row }
+    /// Claims an item that has work of its own, other than the compilation. It takes no memory: the frame of a node is made in the
+    /// room that lies in the slot.
+    pub(crate) fn claim(&mut self, row: usize, item: usize, slot: &mut Option<Room>) -> Handed
+        requires offered { HasJob (λ job. IsOfferedWork job item × (item ≢ compilation_of job)) self.old row }
+        requires room { HasJob (λ job. HasRoomFor job.room slot.old) self.old row }
         ensures handed { HasJob (λ job. IsHanded job item result) self.old row }
         ensures claimed { MarksItem row item Busy self.old self.new }
         ensures lent { LendsItem row item (Some (frame_of result).places) self.old self.new }
+        ensures asked { AsksAsBefore self.old self.new }
+        ensures room { HasJob (λ job. TakesRoom (is_node job item) slot.old (frame_of result).places slot.new) self.old row }
         ensures fewer { free_items self.old ≡ free_items self.new + 1 }
     {
-        job_in(&mut self.rows[row]).claim(item)
+        job_in(&mut self.rows[row]).claim(item, slot)
     }
 
     /// Claims the compilation of a job, for which one may be at hand that is kept by its key.
@@ -202,27 +208,32 @@ impl JobTable {
         ensures fewer { OnOk result (free_items self.old ≡ free_items self.new + 1) }
         ensures refused { OnErr result (self.new ≡ self.old) }
         ensures lent { LendsAsBefore self.old self.new }
+        ensures asked { AsksAsBefore self.old self.new }
     {
         job_in(&mut self.rows[row]).claim_compile(alloc, kept)
     }
 
     /// Finishes an item whose frame is out: it comes back with what its kernel or its node wrote, or with the fault of the
-    /// kernel. It takes no memory, and closes no job.
+    /// kernel. It takes no memory, and closes no job. The room of a node's frame comes back to the slot. Where one lies there, it is
+    /// given up.
     pub(crate) fn finish(
         &mut self,
         row: usize,
         item: usize,
         frame: Frame,
         answer: Result<(), KernelFault>,
+        slot: &mut Option<Room>,
     )
         requires busy { HasJob (λ job. mark_at job.marks item ≡ Busy) self.old row }
         requires lent { lent_in self.old row item ≡ Some frame.places }
         requires sound { HasJob (λ job. IsSoundFor (task job item) (IsOk answer)) self.old row }
         ensures finished { HasJob (λ job. MarksItem row item (Done (answer_with (task job item) frame answer)) self.old self.new) self.old row }
         ensures lent { LendsItem row item None self.old self.new }
+        ensures asked { AsksAsBefore self.old self.new }
+        ensures room { HasJob (λ job. slot.new ≡ slot_after (is_node job item) slot.old frame.places) self.old row }
         ensures free { free_items self.new ≡ free_items self.old }
     {
-        job_in(&mut self.rows[row]).finish(item, frame, answer)
+        job_in(&mut self.rows[row]).finish(item, frame, answer, slot)
     }
 
     /// Finishes the compilation of a job. It closes no job.

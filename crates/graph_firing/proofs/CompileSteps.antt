@@ -113,7 +113,7 @@ module _ (c : ConfiguringView) (workers : ℕ) (stage : Stage) (keeps : KeepsWit
   pub claim_view : stage ≡ Waiting → view_with c workers Compiling ≡ with_mark v (compilation_of v) Busy
   claim_view same =
       let marks = put_seam c.marks (compile_mark Waiting) [] Busy k keeps.marks_many in
-      let first : view_with c workers Compiling ≡ with_mark (view_with c workers Waiting) k Busy = λ t. record { graphs = c.graphs; workers = workers; firing = c.firing; cells = None; marks = sym marks t; lent = c.lent ++ None ∷ [] } in
+      let first : view_with c workers Compiling ≡ with_mark (view_with c workers Waiting) k Busy = λ t. record { graphs = c.graphs; workers = workers; firing = c.firing; cells = None; room = None; marks = sym marks t; lent = c.lent ++ None ∷ [] } in
       first ∙ ap (λ (x : OpenView). with_mark x (compilation_of x) Busy) (ap (view_with c workers) (sym same) ∙ is)
 
   -- ---- its finish

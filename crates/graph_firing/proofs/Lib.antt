@@ -1,4 +1,5 @@
 pub mod Cut
+pub mod Rooms
 pub mod Rules
 pub mod Ends
 pub mod Early

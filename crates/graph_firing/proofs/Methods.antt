@@ -1,6 +1,6 @@
 -- What the calls of a job do to its view, stage by stage.
-use Rattle.std.proofs.Common.{◌≡◌, ◌≢◌, ℕ, ◌+◌, ◌<◌, Bool, true, ℤ, List, [], slice_get, Option, Some, None, is_some, unwrap_or, Result, Ok, Err, IfOk, OnErr, refl, sym, ap, ◌∙◌, subst, arith}
-use Rattle.std.proofs.lemmas.Bool.{lt-ltb}
+use Rattle.std.proofs.Common.{◌≡◌, ◌≢◌, ℕ, ◌+◌, ◌<◌, Bool, true, false, ℤ, List, [], slice_get, Option, Some, None, is_some, unwrap_or, Result, Ok, Err, IfOk, OnErr, refl, sym, ap, ◌∙◌, subst, arith}
+use Rattle.std.proofs.lemmas.Bool.{le-ltb, lt-ltb}
 use Rattle.std.specs.declared.alloc.AllocError.{AllocError}
 use Rattle.kernel_gate.specs.Value.{FrameView, Places}
 use Rattle.level_schedule.specs.declared.scheduling.LevelSchedule.{LevelSchedule}
@@ -28,10 +28,11 @@ use Rattle.job_preparing.specs.declared.handing.JobGiven.{JobGiven}
 use Rattle.graph_firing.specs.Nodes.Calls as calls
 use Rattle.graph_firing.specs.Nodes.View as running
 use Rattle.graph_firing.specs.Nodes.View.{RunningView}
-use Rattle.graph_firing.specs.View.{IsOfferedCall, IsOfferedWork, IsQuiet, OpenView, outcome_in, task}
+use Rattle.graph_firing.specs.View.{IsOfferedCall, IsOfferedWork, IsQuiet, OpenView, compilation_of, outcome_in, task}
 use Rattle.graph_firing.specs.Calls.{HasLongTrace, IsHanded, IsHandedFor, with_item, with_mark}
 use Rattle.graph_firing.specs.Offers.{IsPick}
 use Rattle.graph_firing.specs.Kept.{KeepsWith, node_lent, view_with}
+use Rattle.graph_firing.specs.Rooms.{is_node}
 use Rattle.graph_firing.specs.Running.{RunsFor}
 use Rattle.graph_firing.specs.Stages.{IsFirstCallWaiting, IsFirstNode, IsFirstWaiting}
 use Rattle.graph_firing.specs.declared.handed.Handed.TheVariants.{Configure}
@@ -232,6 +233,9 @@ module _ (c : ConfiguringView) (workers : ℕ) (stage : Stage) (keeps : KeepsWit
 
     pub actor_task : task v i ≡ preparing.task c i
     actor_task = ap (λ (x : OpenView). task x i) (sym is) ∙ early.task_before c workers stage keeps.marks_many i below
+
+    pub not_node : is_node v i ≡ false
+    not_node = le-ltb (compilation_of v) i (let e : compilation_of v ≡ compile_number (preparing.graph_in c) = ap compilation_of (sym is) in omega arith)
 
     pub actor_mark : mark_at v.marks i ≡ mark_at c.marks i
     actor_mark = ap (λ (x : OpenView). mark_at x.marks i) (sym is) ∙ early.mark_before c workers stage keeps.marks_many i below

@@ -1,8 +1,10 @@
 -- Steps of nodes by the numbers of items.
-use Rattle.std.proofs.Common.{◌≡◌, ◌≢◌, ◌⊎◌, inr, ℕ, ◌+◌, ◌-◌, ◌≤◌, List, Option, Some, None, Result, Ok, Err, IfOk, OnErr, sym, ap, ◌∙◌, subst, arith}
+use Rattle.std.proofs.Common.{◌≡◌, ◌≢◌, ◌⊎◌, ⊎_elim, inl, inr, ℕ, true, ◌+◌, ◌-◌, ◌≤◌, List, Option, Some, None, Result, Ok, Err, IfOk, OnErr, sym, ap, ◌∙◌, subst, arith}
+use Rattle.std.proofs.lemmas.Bool.{lt-ltb}
 use Rattle.std.specs.declared.alloc.AllocError.{AllocError}
 use Rattle.kernel_gate.specs.Value.{FrameView, Places}
 use Rattle.kernel_gate.specs.declared.fault.KernelFault.{KernelFault}
+use Rattle.kernel_gate.specs.declared.room.RoomSize.{RoomSize}
 use Rattle.nested_jobs.specs.Marks.{Busy, Open, Done}
 use Rattle.nested_jobs.specs.Rules.{Call}
 use Rattle.pisdf_meaning.specs.declared.firing.Configured.{Configured}
@@ -17,7 +19,8 @@ use Rattle.job_preparing.specs.declared.handing.JobGiven.{JobGiven}
 use Rattle.graph_firing.specs.View.{IsOfferedCall, IsOfferedWork, OpenView, compilation_of, task}
 use Rattle.graph_firing.specs.Calls.{IsHanded, IsSoundFor, frame_of, with_item, with_mark}
 use Rattle.graph_firing.specs.Kept.{KeepsWith, compile_mark, node_lent, view_with}
-use Rattle.graph_firing.specs.Stages.{CallsNode, ClaimsNode, FinishesCall, FinishesNode, HasNodes, MayAnswer, MayCall, MayClaim, MayFinish, NodesGoOn}
+use Rattle.graph_firing.specs.Stages.{CallsNode, ClaimsNode, FinishesCall, FinishesNode, HasNodes, HoldsFrames, MayAnswer, MayCall, MayClaim, MayFinish, NodesGoOn}
+use Rattle.graph_firing.specs.Rooms.{HasRoomFor, is_node}
 use Rattle.graph_firing.specs.declared.handed.Handed.{Handed}
 use Rattle.graph_firing.specs.declared.stage.Stage.{Stage}
 use Rattle.graph_firing.specs.declared.stage.Stage.TheVariants.{Waiting, Compiling, Refused, Nodes}
@@ -74,6 +77,13 @@ module _ (c : ConfiguringView) (workers : ℕ) (stage : Stage) (keeps : KeepsWit
     pub claim_ok : IsOfferedWork v item → HasNodes (MayClaim n) stage
     claim_ok work = let P : OpenView → Type 0 = λ x. IsOfferedWork x item in steps.may_claim c workers n item at stage keeps (subst P (sym is) work)
 
+    -- it is a node, for whose frame the slot has a room
+    pub node_is : is_node v item ≡ true
+    node_is = lt-ltb (compilation_of v) item (let e = at in let d = compilation_is in omega arith)
+
+    pub room_ok : IsOfferedWork v item → (slot : Option RoomSize) → HasRoomFor v.room slot → (room : RoomSize) × (slot ≡ Some room) × HasNodes (HoldsFrames room) stage
+    room_ok work slot has = let P : OpenView → Type 0 = λ x. HasRoomFor x.room slot in steps.has_room c workers n item at stage (claim_ok work) slot (subst P (sym is) has)
+
     pub call_ok : IsOfferedCall v item → HasNodes (MayCall n) stage
     call_ok call = let P : OpenView → Type 0 = λ x. IsOfferedCall x item in steps.may_call c workers n item at stage keeps (subst P (sym is) call)
 
@@ -115,7 +125,7 @@ module _ (c : ConfiguringView) (workers : ℕ) (stage : Stage) (keeps : KeepsWit
 
       pub called_keeps : (result : Result Firing AllocError) → NodesGoOn (CallsNode n result) stage new → KeepsWith c workers new
       called_keeps (Ok firing) went = (steps.opened c workers n item at firing stage new keeps went).0.keeps
-      called_keeps (Err error) went = (steps.unopened c workers n item at error stage new keeps went).keeps
+      called_keeps (Err error) went = ⊎_elim (λ same. subst (KeepsWith c workers) (sym same) keeps) (λ (marked : steps.MarkedSo c workers n item at stage new Busy). marked.keeps) (steps.unopened c workers n item at error stage new keeps went)
 
       pub called_firing : (result : Result Firing AllocError) → NodesGoOn (CallsNode n result) stage new → IfOk result (λ firing. task v item ≡ Some (Call firing))
       called_firing (Ok firing) went = ap (λ (x : OpenView). task x item) (sym is) ∙ (steps.opened c workers n item at firing stage new keeps went).1
@@ -131,4 +141,4 @@ module _ (c : ConfiguringView) (workers : ℕ) (stage : Stage) (keeps : KeepsWit
 
       pub uncalled_view : (result : Result Firing AllocError) → NodesGoOn (CallsNode n result) stage new → OnErr result ((view_with c workers new ≡ v) ⊎ (view_with c workers new ≡ with_mark v item Busy))
       uncalled_view (Ok firing) went = tt
-      uncalled_view (Err error) went = inr ((steps.unopened c workers n item at error stage new keeps went).view_is ∙ ap (λ (x : OpenView). with_mark x item Busy) is)
+      uncalled_view (Err error) went = ⊎_elim (λ same. inl (ap (view_with c workers) same ∙ is)) (λ (marked : steps.MarkedSo c workers n item at stage new Busy). inr (marked.view_is ∙ ap (λ (x : OpenView). with_mark x item Busy) is)) (steps.unopened c workers n item at error stage new keeps went)

@@ -1,9 +1,10 @@
 -- Steps of nodes, as steps of their job.
-use Rattle.std.proofs.Common.{◌≡◌, ℕ, ◌+◌, ◌<◌, ◌&&◌, nat_lt, ◌⊎◌, inl, inr, Bool, true, false, ℤ, List, length, Option, Some, None, Result, Ok, Err, if◌then◌else◌, refl, sym, ap, ◌∙◌, subst, arith, ltb-true}
+use Rattle.std.proofs.Common.{◌≡◌, ℕ, ◌+◌, ◌<◌, ◌&&◌, nat_lt, ◌⊎◌, ⊎_elim, inl, inr, Bool, true, false, ℤ, List, length, Option, Some, None, Result, Ok, Err, if◌then◌else◌, refl, sym, ap, ◌∙◌, subst, arith, ltb-true}
 use Rattle.std.proofs.lemmas.Bool.{and_parts, le-ltb}
 use Rattle.std.specs.declared.alloc.AllocError.{AllocError}
 use Rattle.kernel_gate.specs.Value.{FrameView, Places}
 use Rattle.kernel_gate.specs.declared.fault.KernelFault.{KernelFault}
+use Rattle.kernel_gate.specs.declared.room.RoomSize.{RoomSize}
 use Rattle.nested_jobs.specs.Marks.{Mark, Free, Busy, Open, Done}
 use Rattle.nested_jobs.specs.Rules.{Task, Call}
 use Rattle.pisdf_model.specs.declared.graph.Graph.{Graph}
@@ -27,8 +28,9 @@ use Rattle.graph_firing.specs.Nodes.View.{RunningView}
 use Rattle.graph_firing.specs.View.{IsOfferedCall, IsOfferedWork, OpenView, task}
 use Rattle.graph_firing.specs.Calls.{IsHanded, IsHandedFor, IsSoundFor, frame_of, with_item, with_mark}
 use Rattle.graph_firing.specs.Kept.{KeepsWith, node_lent, node_marks, view_with}
+use Rattle.graph_firing.specs.Rooms.{HasRoomFor}
 use Rattle.graph_firing.specs.Running.{RunsFor}
-use Rattle.graph_firing.specs.Stages.{CallsNode, ClaimsNode, FinishesCall, FinishesNode, HasNodes, MayAnswer, MayCall, MayClaim, MayFinish, NodesGoOn, with_node, with_node_mark}
+use Rattle.graph_firing.specs.Stages.{CallsNode, ClaimsNode, FinishesCall, FinishesNode, HasNodes, HoldsFrames, MayAnswer, MayCall, MayClaim, MayFinish, NodesGoOn, with_node, with_node_mark}
 use Rattle.graph_firing.specs.declared.handed.Handed.{Handed}
 use Rattle.graph_firing.specs.declared.stage.Stage.{Stage}
 use Rattle.graph_firing.specs.declared.stage.Stage.TheVariants.{Waiting, Compiling, Refused, Nodes}
@@ -87,6 +89,13 @@ module _ (c : ConfiguringView) (workers n item : ℕ) (at : item ≡ compile_num
   may_call (Nodes r) keeps is =
       let own = nodes.node_of_call c workers r keeps.marks_many keeps.stage_fits n (let P : ℕ → Type 0 = λ i. IsOfferedCall (v (Nodes r)) i in subst P at is) in
       record { inside = task_inside r n _ own.task_is; offered = own }
+
+  -- a node that may be claimed has a room, wherever the nodes' job has one
+  pub has_room : (stage : Stage) → HasNodes (MayClaim n) stage → (slot : Option RoomSize) → HasRoomFor (v stage).room slot → (room : RoomSize) × (slot ≡ Some room) × HasNodes (HoldsFrames room) stage
+  has_room Waiting may slot has = absurd may
+  has_room Compiling may slot has = absurd may
+  has_room (Refused refusal) may slot has = absurd may
+  has_room (Nodes r) may slot has = has r.room refl
 
   mark_of_item : (stage : Stage) → KeepsWith c workers stage → mark_at (v stage).marks item ≡ mark_at (node_marks stage) n
   mark_of_item stage keeps = ap (mark_at (v stage).marks) at ∙ early.mark_after c workers stage keeps.marks_many n
@@ -198,11 +207,11 @@ module _ (c : ConfiguringView) (workers n item : ℕ) (at : item ≡ compile_num
       let P : Graphs → Type 0 = λ graphs. HasInherited graphs.graphs firing in
       (marked_so r new (Open firing) keeps went.2, task_is r keeps ∙ went.0, subst P runs.graphs_are went.1)
 
-  pub unopened : (error : AllocError) (old new : Stage) → KeepsWith c workers old → NodesGoOn (CallsNode n (Err error)) old new → MarkedSo old new Busy
+  pub unopened : (error : AllocError) (old new : Stage) → KeepsWith c workers old → NodesGoOn (CallsNode n (Err error)) old new → (new ≡ old) ⊎ MarkedSo old new Busy
   unopened error Waiting new keeps went = absurd went
   unopened error Compiling new keeps went = absurd went
   unopened error (Refused refusal) new keeps went = absurd went
   unopened error (Nodes r) Waiting keeps went = absurd went
   unopened error (Nodes r) Compiling keeps went = absurd went
   unopened error (Nodes r) (Refused refusal) keeps went = absurd went
-  unopened error (Nodes r) (Nodes new) keeps went = marked_so r new Busy keeps went
+  unopened error (Nodes r) (Nodes new) keeps went = ⊎_elim (λ same. inl (ap Nodes same)) (λ marked. inr (marked_so r new Busy keeps marked)) went

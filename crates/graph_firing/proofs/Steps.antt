@@ -14,7 +14,7 @@ use Rattle.job_preparing.specs.View.{ConfiguringView}
 use Rattle.graph_firing.specs.Nodes.View.{RunningView}
 use Rattle.graph_firing.specs.View.{OpenView}
 use Rattle.graph_firing.specs.Calls.{with_item, with_mark}
-use Rattle.graph_firing.specs.Kept.{KeepsWith, StageFits, compile_mark, node_lent, node_marks, view_with, stage_cells}
+use Rattle.graph_firing.specs.Kept.{KeepsWith, StageFits, compile_mark, node_lent, node_marks, view_with, stage_cells, stage_room}
 use Rattle.graph_firing.specs.Running.{RunsFor}
 use Rattle.graph_firing.specs.Stages.{with_node, with_node_mark}
 use Rattle.graph_firing.specs.declared.stage.Stage.{Stage}
@@ -54,12 +54,12 @@ module _ (c : ConfiguringView) (workers : ℕ) (stage : Stage) (keeps : KeepsWit
   item_before m p =
       let marks = put_before c.marks (compile_mark stage) (node_marks stage) m i (let long = keeps.marks_many in omega arith) in
       let lent = put_before c.lent None (node_lent stage) p i (let long = keeps.lent_many in omega arith) in
-      λ t. record { graphs = c.graphs; workers = workers; firing = c.firing; cells = stage_cells stage; marks = sym marks t; lent = sym lent t }
+      λ t. record { graphs = c.graphs; workers = workers; firing = c.firing; cells = stage_cells stage; room = stage_room stage; marks = sym marks t; lent = sym lent t }
 
   pub mark_before : (m : Mark Firing Answer) → view_with (with_actor_mark m) workers stage ≡ with_mark v i m
   mark_before m =
       let marks = put_before c.marks (compile_mark stage) (node_marks stage) m i (let long = keeps.marks_many in omega arith) in
-      λ t. record { graphs = c.graphs; workers = workers; firing = c.firing; cells = stage_cells stage; marks = sym marks t; lent = v.lent }
+      λ t. record { graphs = c.graphs; workers = workers; firing = c.firing; cells = stage_cells stage; room = stage_room stage; marks = sym marks t; lent = v.lent }
 
   -- an actor that isn't finished waits for the compilation
   waits_for : (ready : preparing.IsReady c) → mark.answer_of (mark_at c.marks i) ≡ None → ⊥
@@ -116,12 +116,12 @@ module _ (c : ConfiguringView) (workers : ℕ) (r : RunningView) (keeps : KeepsW
   item_after m p =
       let marks = put_after c.marks (compile_mark (Nodes r)) r.marks m base n (let long = keeps.marks_many in omega arith) in
       let lent = put_after c.lent None r.lent p base n (let long = keeps.lent_many in omega arith) in
-      λ t. record { graphs = c.graphs; workers = workers; firing = c.firing; cells = Some r.cells; marks = sym marks t; lent = sym lent t }
+      λ t. record { graphs = c.graphs; workers = workers; firing = c.firing; cells = Some r.cells; room = Some r.room; marks = sym marks t; lent = sym lent t }
 
   pub mark_after : (m : Mark Firing Answer) → view_with c workers (Nodes (with_node_mark r n m)) ≡ with_mark x (base + n) m
   mark_after m =
       let marks = put_after c.marks (compile_mark (Nodes r)) r.marks m base n (let long = keeps.marks_many in omega arith) in
-      λ t. record { graphs = c.graphs; workers = workers; firing = c.firing; cells = Some r.cells; marks = sym marks t; lent = x.lent }
+      λ t. record { graphs = c.graphs; workers = workers; firing = c.firing; cells = Some r.cells; room = Some r.room; marks = sym marks t; lent = x.lent }
 
   pub keeps_node : (m : Mark Firing Answer) (p : Option Places) → KeepsWith c workers (Nodes (with_node r n m p))
   keeps_node m p =

@@ -5,6 +5,7 @@ use Rattle.level_schedule.specs.declared.scheduling.LevelSchedule.{LevelSchedule
 use Rattle.job_preparing.specs.View as preparing
 use Rattle.job_preparing.specs.View.{ConfiguringView}
 use Rattle.job_rules.specs.Items.{compile_number}
+use Rattle.kernel_gate.specs.declared.room.RoomSize.{RoomSize}
 use Rattle.job_rules.specs.Meant.{IsFit}
 use Rattle.job_rules.specs.Words.{Answer, Schedules, Refuses}
 use Rattle.nested_jobs.specs.Marks.{Mark, Free, Busy, Done}
@@ -43,6 +44,13 @@ stage_cells Compiling = None
 stage_cells (Refused refusal) = None
 stage_cells (Nodes running) = Some running.cells
 
+-- how much memory the frame of any node takes
+abbrev pub stage_room : Stage → Option RoomSize
+stage_room Waiting = None
+stage_room Compiling = None
+stage_room (Refused refusal) = None
+stage_room (Nodes running) = Some running.room
+
 -- configuration actors, the compilation, and nodes
 abbrev pub marks_with : ConfiguringView → Stage → ItemMarks
 marks_with c stage = c.marks ++ compile_mark stage ∷ node_marks stage
@@ -51,7 +59,7 @@ abbrev pub lent_with : ConfiguringView → Stage → Lent
 lent_with c stage = c.lent ++ None ∷ node_lent stage
 
 abbrev pub view_with : ConfiguringView → ℕ → Stage → OpenView
-view_with c workers stage = record { graphs = c.graphs; workers = workers; firing = c.firing; cells = stage_cells stage; marks = marks_with c stage; lent = lent_with c stage }
+view_with c workers stage = record { graphs = c.graphs; workers = workers; firing = c.firing; cells = stage_cells stage; room = stage_room stage; marks = marks_with c stage; lent = lent_with c stage }
 
 abbrev pub view_of : Inside → OpenView
 view_of i = view_with i.configuring i.workers i.stage

@@ -3,6 +3,7 @@ pub mod Places
 pub mod Paths
 pub mod Offers
 pub mod Calls
+pub mod Rooms
 pub mod Running
 pub mod Stages
 pub mod Kept

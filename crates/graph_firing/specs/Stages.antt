@@ -1,8 +1,10 @@
 -- What becomes of a job in each of its stages.
 use Rattle.std.specs.Prelude.{◌≡◌, ◌≢◌, ◌⊎◌, ℕ, ◌+◌, ◌<◌, ◌==◌, Bool, true, false, not, length, replicate, Option, Some, None, Result, Ok, Err, slice_index, slice_set}
 use Rattle.std.specs.declared.alloc.AllocError.{AllocError}
+use Rattle.kernel_gate.specs.Rooms.{Suffices}
 use Rattle.kernel_gate.specs.Value.{FrameView, Places}
 use Rattle.kernel_gate.specs.declared.fault.KernelFault.{KernelFault}
+use Rattle.kernel_gate.specs.declared.room.RoomSize.{RoomSize}
 use Rattle.job_preparing.specs.declared.compiling.CompileEnd.{CompileEnd}
 use Rattle.job_preparing.specs.Handing.{answer_with, end_of, lent_at, mark_at}
 use Rattle.job_preparing.specs.View as preparing
@@ -110,15 +112,19 @@ pub record ClaimsNode (n : ℕ) (handed : Handed) (old new : RunningView) : Type
   pub handed_so : IsHandedFor false (running.task old n) handed
   pub new_is : new ≡ with_node old n Busy (Some (frame_of handed).places)
 
--- a node is opened
+-- a node is opened, or memory was wanted
 abbrev pub CallsNode : ℕ → Result Firing AllocError → RunningView → RunningView → Type 0
 CallsNode n (Ok firing) old new = (running.task old n ≡ Some (Call firing)) × HasInherited old.graphs.graphs firing × (new ≡ with_node_mark old n (Open firing))
-CallsNode n (Err error) old new = new ≡ with_node_mark old n Busy
+CallsNode n (Err error) old new = (new ≡ old) ⊎ (new ≡ with_node_mark old n Busy)
 
 -- a node may be claimed
 pub record MayClaim (n : ℕ) (r : RunningView) : Type 0 where
   pub inside : n < length (running.nodes_of r)
   pub offered : running.IsOfferedWork r n
+
+-- the frame of each node can be made in this room
+abbrev pub HoldsFrames : RoomSize → RunningView → Type 0
+HoldsFrames room r = Suffices r.room room
 
 -- a node may be opened
 pub record MayCall (n : ℕ) (r : RunningView) : Type 0 where

@@ -2,6 +2,7 @@
 -- order, the compilation, and once that is there the nodes of the single-rate graph.
 use Rattle.std.specs.Prelude.{◌≡◌, ℕ, ◌+◌, ◌<◌, true, List, [], ◌∷◌, length, Option, Some, IsSome, unwrap_or}
 use Rattle.job_compiler.specs.declared.key.Key.{Key}
+use Rattle.kernel_gate.specs.declared.room.RoomSize.{RoomSize}
 use Rattle.job_preparing.specs.Handing.{ItemMarks, Lent, answers, mark_at}
 use Rattle.job_preparing.specs.View.{key_of}
 use Rattle.job_rules.specs.Items.{compile_number, count, graph_of, left_in, outcome, rule}
@@ -16,13 +17,14 @@ use Rattle.pisdf_model.specs.declared.graph.Graphs.{Graphs}
 use Rattle.pisdf_meaning.specs.declared.firing.Configured.{Configured}
 use Rattle.pisdf_meaning.specs.declared.firing.Firing.{Firing}
 
--- the graphs, how many workers the job is mapped on, the firing, where its cells lie once it is compiled, where each item stands
--- that is there, and where the leases of those lie whose frames are out
+-- the graphs, how many workers the job is mapped on, the firing, where its cells lie and how much memory the frame of any of its
+-- nodes takes once it is compiled, where each item stands that is there, and where the leases of those lie whose frames are out
 pub record OpenView : Type 0 where
   pub graphs : Graphs
   pub workers : ℕ
   pub firing : Firing
   pub cells : Option JobCells
+  pub room : Option RoomSize
   pub marks : ItemMarks
   pub lent : Lent
 

@@ -8,13 +8,14 @@ use crate::handed::Handed;
 use crate::offer::Offer;
 use crate::picking::{first_call, first_call_waiting, first_node, first_waiting};
 use crate::places::nth_configuration;
+use crate::slot::{put_room, take_room};
 use crate::stage::Stage;
 use crate::stage_nodes::{
     call_node, claim_node, finish_node, finish_node_call, node_number, node_step,
 };
 use job_compiler::{Compiled, Key};
 use job_preparing::{CompileEnd, CompileTask, Configuring, JobGiven};
-use kernel_gate::{Frame, KernelFault};
+use kernel_gate::{Frame, KernelFault, Room, RoomSize};
 use one_job::cells_have_one_owner;
 use pisdf_meaning::{Firing, Refusal};
 use std::alloc::{AllocError, Global};
@@ -60,6 +61,7 @@ impl OpenJob {
     ghost use Rattle.one_job.specs.Leased.{OneOwnerEach};
     ghost use Rattle.graph_firing.specs.Leases.{LendsItems};
     ghost use Rattle.graph_firing.specs.Paths.{IsCall, step_of};
+    ghost use Rattle.graph_firing.specs.Rooms.{HasRoomFor, TakesRoom, is_node, slot_after};
     ghost use Rattle.graph_firing.specs.Calls.{FinishesCompilation, HasLongTrace, IsHanded, IsSoundFor, PlacedIn, frame_of, with_item, with_mark};
 
     /// What the job was compiled to, once it is. In every state what is lent of its nodes are the leases of their buffers, in one
@@ -74,6 +76,18 @@ impl OpenJob {
         self.configuring.own_blocks();
         match &self.stage {
             Stage::Nodes(running) => Some(running.compiled()),
+            Stage::Waiting => None,
+            Stage::Compiling => None,
+            Stage::Refused(_) => None,
+        }
+    }
+
+    /// As much memory as the frame of any node takes, once the nodes are there.
+    pub fn room_size(&self) -> Option<RoomSize>
+        ensures { result ≡ self.now.room }
+    {
+        match &self.stage {
+            Stage::Nodes(running) => Some(running.room_size()),
             Stage::Waiting => None,
             Stage::Compiling => None,
             Stage::Refused(_) => None,
@@ -162,19 +176,23 @@ impl OpenJob {
         }
     }
 
-    /// Claims an item that has work of its own, other than the compilation. It takes no memory.
-    pub fn claim(&mut self, item: usize) -> Handed
+    /// Claims an item that has work of its own, other than the compilation. It takes no memory: the frame of a node is made in the
+    /// room that lies in the slot.
+    pub fn claim(&mut self, item: usize, slot: &mut Option<Room>) -> Handed
         requires offered { IsOfferedWork self.old item }
         requires framed { item ≢ compilation_of self.old }
+        requires room { HasRoomFor self.old.room slot.old }
         ensures there { HasItem self.old item }
         ensures handed { IsHanded self.old item result }
         ensures claimed { self.new ≡ with_item self.old item Busy (Some (frame_of result).places) }
+        ensures room { TakesRoom (is_node self.old item) slot.old (frame_of result).places slot.new }
     {
         let compilation = self.configuring.count() as usize;
         if item < compilation {
             Handed::Configure(self.configuring.claim(item as u32))
         } else {
-            claim_node(&mut self.stage, item - compilation - 1)
+            let room = take_room(slot);
+            claim_node(&mut self.stage, item - compilation - 1, room)
         }
     }
 
@@ -233,18 +251,26 @@ impl OpenJob {
     }
 
     /// Finishes an item whose frame is out: it comes back with what its kernel or its node wrote, or with the fault of the
-    /// kernel. It takes no memory.
-    pub fn finish(&mut self, item: usize, frame: Frame, answer: Result<(), KernelFault>)
+    /// kernel. It takes no memory. The room of a node's frame comes back to the slot. Where one lies there, it is given up.
+    pub fn finish(
+        &mut self,
+        item: usize,
+        frame: Frame,
+        answer: Result<(), KernelFault>,
+        slot: &mut Option<Room>,
+    )
         requires busy { mark_at self.old.marks item ≡ Busy }
         requires lent { lent_at self.old.lent item ≡ Some frame.places }
         requires sound { IsSoundFor (task self.old item) (IsOk answer) }
-        ensures { self.new ≡ with_item self.old item (Done (answer_with (task self.old item) frame answer)) None }
+        ensures finished { self.new ≡ with_item self.old item (Done (answer_with (task self.old item) frame answer)) None }
+        ensures room { slot.new ≡ slot_after (is_node self.old item) slot.old frame.places }
     {
         let compilation = self.configuring.count() as usize;
         if item < compilation {
             self.configuring.finish(item as u32, frame, answer);
         } else {
-            finish_node(&mut self.stage, item - compilation - 1, frame, answer);
+            let room = finish_node(&mut self.stage, item - compilation - 1, frame, answer);
+            put_room(slot, room);
         }
     }
 

@@ -11,6 +11,7 @@ mod offer;
 mod opening;
 mod picking;
 mod places;
+mod slot;
 mod stage;
 mod stage_nodes;
 

@@ -31,6 +31,7 @@ pub fn open(
     requires some { 1 ≤ workers }
     ensures given { IfOk result (λ j. (j.graphs ≡ arc_value graphs) × (j.workers ≡ workers) × (j.firing ≡ firing)) }
     ensures unplaced { IfOk result (λ j. j.cells ≡ None) }
+    ensures roomless { IfOk result (λ j. j.room ≡ None) }
     ensures free { IfOk result (λ j. j.marks ≡ replicate (compile_number (graph_of (arc_value graphs).graphs firing) + 1) Free) }
     ensures unlent { IfOk result (λ j. j.lent ≡ replicate (compile_number (graph_of (arc_value graphs).graphs firing) + 1) None) }
 {

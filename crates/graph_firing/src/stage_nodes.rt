@@ -1,13 +1,15 @@
 // The nodes of a job, by the stage that has them.
 ghost use Rattle.std.specs.Prelude.{◌≡◌, ◌<◌, length, IsOk};
+ghost use Rattle.graph_firing.specs.Calls.{frame_of};
+ghost use Rattle.graph_firing.specs.Nodes.Calls.{frame_of as node_frame};
 ghost use Rattle.graph_firing.specs.Nodes.View.{nodes_of};
-ghost use Rattle.graph_firing.specs.Stages.{CallsNode, ClaimsNode, FinishesCall, FinishesNode, HasNodes, IsNode, IsNodeStep, MayAnswer, MayCall, MayClaim, MayFinish, NodesGoOn, handed_as};
+ghost use Rattle.graph_firing.specs.Stages.{CallsNode, ClaimsNode, FinishesCall, FinishesNode, HasNodes, HoldsFrames, IsNode, IsNodeStep, MayAnswer, MayCall, MayClaim, MayFinish, NodesGoOn, handed_as};
 
 use crate::handed::Handed;
 use crate::nodes::Running;
 use crate::stage::Stage;
 use job_preparing::JobGiven;
-use kernel_gate::{Frame, KernelFault};
+use kernel_gate::{Frame, KernelFault, Room};
 use pisdf_meaning::{Firing, Refusal};
 use std::alloc::{AllocError, Global};
 
@@ -23,7 +25,8 @@ fn number_of(running: &Running, node: usize) -> u32
 
 /// What is handed out with a node.
 fn handed_node(handed: crate::nodes::Handed) -> Handed
-    ensures { result ≡ handed_as handed }
+    ensures same { result ≡ handed_as handed }
+    ensures frame { frame_of result ≡ node_frame handed }
 {
     match handed {
         crate::nodes::Handed::Fire(frame) => Handed::Fire(frame),
@@ -48,14 +51,16 @@ pub(crate) fn node_number(stage: &Stage, node: usize) -> u32
     number_of(stage.nodes(), node)
 }
 
-/// Claims a node.
-pub(crate) fn claim_node(stage: &mut Stage, node: usize) -> Handed
-    requires { HasNodes (MayClaim node) stage.old }
-    ensures { NodesGoOn (ClaimsNode node result) stage.old stage.new }
+/// Claims a node, whose frame is made in the room.
+pub(crate) fn claim_node(stage: &mut Stage, node: usize, room: Room) -> Handed
+    requires may { HasNodes (MayClaim node) stage.old }
+    requires room { HasNodes (HoldsFrames room) stage.old }
+    ensures claimed { NodesGoOn (ClaimsNode node result) stage.old stage.new }
+    ensures room { (frame_of result).places.room ≡ room }
 {
     let running = stage.nodes_mut();
     let n = number_of(running, node);
-    handed_node(running.claim(n))
+    handed_node(running.claim(n, room))
 }
 
 /// Opens a node that fires a graph.
@@ -68,15 +73,16 @@ pub(crate) fn call_node(stage: &mut Stage, alloc: Global, node: usize) -> Result
     running.call(alloc, n)
 }
 
-/// Finishes a node whose frame is out.
+/// Finishes a node whose frame is out, and gives back the room that the frame was made in.
 pub(crate) fn finish_node(
     stage: &mut Stage,
     node: usize,
     frame: Frame,
     answer: Result<(), KernelFault>,
-)
+) -> Room
     requires { HasNodes (MayFinish node frame (IsOk answer)) stage.old }
-    ensures { NodesGoOn (FinishesNode node frame answer) stage.old stage.new }
+    ensures finished { NodesGoOn (FinishesNode node frame answer) stage.old stage.new }
+    ensures room { result ≡ frame.places.room }
 {
     let running = stage.nodes_mut();
     let n = number_of(running, node);

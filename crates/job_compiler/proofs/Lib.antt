@@ -3,3 +3,11 @@ pub mod OneAnswer
 pub mod SoundParts
 pub mod OnlyOne
 pub mod KeptEntries
+pub mod RowParts
+pub mod RowStarts
+pub mod RowSteps
+pub mod EndRows
+pub mod WiredRows
+pub mod NoTokens
+pub mod JobWires
+pub mod StartWires

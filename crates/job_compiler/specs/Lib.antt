@@ -1,3 +1,6 @@
 pub mod Compilation
 pub mod Keys
 pub mod Entries
+pub mod Rows
+pub mod Ends
+pub mod Wired

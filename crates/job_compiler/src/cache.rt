@@ -5,7 +5,7 @@ use std::alloc::AllocError;
 use std::marker::Model;
 use std::sync::Arc;
 
-/// The compilations that were used last, at most `KEPT_LIMIT` of them. Contracts see them as a list of keys with their
+/// The compilations that were used last, at most 64 of them. Contracts see them as a list of keys with their
 /// compilations, the one used last first.
 #[derive(Drop)]
 pub struct Kept {

@@ -1,13 +1,14 @@
+use crate::wiring::Wiring;
 use placement::Placement;
 use sdf_level::{Level, List, SingleRate, Turn};
 use std::marker::Model;
 use worker_mapping::Mapping;
 
 /// A level, ready to be run as a job: how often each actor fires and in which order, its single-rate graph, where the buffers
-/// of that graph lie in one run of cells, and the priority and home of each of its nodes.
+/// of that graph lie in one run of cells, the priority and home of each of its nodes, and the edges at their ports.
 ///
 /// The type keeps that all of these are those of the level, and the homes those for the number of workers, so that two
-/// compilations of one level for as many workers are the same.
+/// compilations of one level for as many workers are the same. The edges at the ports are told by the level and its graph.
 #[derive(Debug, Drop)]
 pub struct Compiled {
     pub(crate) level: Level,
@@ -17,6 +18,7 @@ pub struct Compiled {
     pub(crate) graph: SingleRate,
     pub(crate) placement: Placement,
     pub(crate) mapping: Mapping,
+    pub(crate) wiring: Wiring,
 }
 
 impl Model for Compiled {
@@ -25,18 +27,22 @@ impl Model for Compiled {
     ghost Value = { Compilation };
 
     ghost use Rattle.job_compiler.specs.Compilation.{IsCompiled};
+    ghost use Rattle.job_compiler.specs.Wired.{IsWiring};
 
     ghost view = { λ c. record { level = c.level; workers = c.workers; counts = c.counts; order = c.order; graph = c.graph; placement = c.placement; mapping = c.mapping } };
 
-    ghost invariant = { λ c. IsCompiled record { level = c.level; workers = c.workers; counts = c.counts; order = c.order; graph = c.graph; placement = c.placement; mapping = c.mapping } };
+    ghost invariant = { λ c. IsCompiled record { level = c.level; workers = c.workers; counts = c.counts; order = c.order; graph = c.graph; placement = c.placement; mapping = c.mapping } × IsWiring c.level c.graph c.wiring };
 }
 
 impl Compiled {
-    ghost use Rattle.std.specs.Prelude.{◌≡◌};
+    ghost use Rattle.std.specs.Prelude.{◌≡◌, length, map};
     ghost use Rattle.sdf_level.specs.Repetition.{IsRepetition};
     ghost use Rattle.sdf_level.specs.Limits.{IsWithinLimits};
     ghost use Rattle.sdf_level.specs.Orders.{IsTurnOrder};
     ghost use Rattle.job_compiler.specs.Compilation.{IsCompiled, IsExpanded, IsPlaced, IsMapped};
+    ghost use Rattle.job_compiler.specs.Ends.{head_of, AreEndCounts};
+    ghost use Rattle.job_compiler.specs.Rows.{IsMost};
+    ghost use Rattle.job_compiler.specs.Wired.{entering, leaving, WireJobs};
 
     /// The level that was compiled.
     pub fn level(&self) -> &Level
@@ -92,5 +98,17 @@ impl Compiled {
         ensures mapped { IsMapped self.now.graph self.now.workers result.now }
     {
         &self.mapping
+    }
+
+    /// For each node of the graph the edges at its ports. They are wired whatever a job's sources give and its links hold.
+    pub fn wiring(&self) -> &Wiring
+        ensures entering { result.now.entering ≡ entering self.now.level self.now.graph }
+        ensures leaving { result.now.leaving ≡ leaving self.now.level self.now.graph }
+        ensures into { AreEndCounts (length self.now.graph.nodes) (map head_of self.now.graph.edges) result.now.into }
+        ensures inputs { IsMost result.now.entering result.now.inputs }
+        ensures outputs { IsMost result.now.leaving result.now.outputs }
+        ensures wired { WireJobs self.now.level self.now.graph result.now.entering result.now.leaving }
+    {
+        &self.wiring
     }
 }

@@ -4,6 +4,7 @@ ghost use Rattle.level_schedule.specs.Schedules.{IsUnscheduled};
 
 use crate::compiled::Compiled;
 use crate::parts::{copy_level, map_nodes, place_buffers};
+use crate::wiring::wire;
 use level_schedule::{LevelSchedule, Unscheduled, schedule};
 use sdf_level::Level;
 use single_rate::expand;
@@ -31,6 +32,7 @@ pub fn compile(alloc: Global, level: &Level, workers: u32) -> Result<Compiled, U
     let pairs = edge_pairs(alloc, graph.edges.items())?;
     let placement = place_buffers(alloc, &graph, &pairs)?;
     let mapping = map_nodes(alloc, &graph, &pairs, workers)?;
+    let wiring = wire(alloc, level, &graph)?;
     Ok(Compiled {
         level: copy_level(alloc, level)?,
         workers,
@@ -39,5 +41,6 @@ pub fn compile(alloc: Global, level: &Level, workers: u32) -> Result<Compiled, U
         graph,
         placement,
         mapping,
+        wiring,
     })
 }

@@ -6,7 +6,7 @@ use std::alloc::{AllocError, Global};
 use std::num::NonZeroUsize;
 
 /// The most compilations that are kept.
-pub const KEPT_LIMIT: usize = 64;
+const KEPT_LIMIT: usize = 64;
 
 /// No compilations, with room for `KEPT_LIMIT` of them.
 ///

@@ -1,19 +1,25 @@
 //! Everything that a job of one level needs before its first firing: how often each actor fires and in which order, the
-//! single-rate graph, where its buffers lie in reused cells, and which worker each node belongs to.
+//! single-rate graph, where its buffers lie in reused cells, which worker each node belongs to, and which edges are at its
+//! ports.
 #![tactic(auto)]
 
 mod cache;
 mod compiled;
 mod compiling;
+mod ends;
 mod keeping;
 mod key;
 mod laws;
 mod parts;
+mod rows;
+mod wiring;
 
 pub use cache::Kept;
 pub use compiled::Compiled;
 pub use compiling::compile;
-pub use keeping::{KEPT_LIMIT, kept};
+pub use keeping::kept;
 pub use key::Key;
 pub use laws::one_compilation;
 pub use level_schedule::{Unscheduled as CompileFault, What};
+pub use rows::{Port, Rows};
+pub use wiring::Wiring;

@@ -6,7 +6,6 @@ pub mod Leaving
 pub mod Slimmed
 pub mod Ends
 pub mod Asked
-pub mod Frames
 pub mod Seating
 pub mod Events
 pub mod Readied

@@ -20,7 +20,7 @@ ghost use Rattle.job_preparing.specs.Seated.{kernel_work};
 ghost use Rattle.job_preparing.specs.View.{HasInherited, task_of};
 
 use crate::stage::{Spare, Stage};
-use kernel_gate::{Frame, Lent};
+use kernel_gate::Frame;
 use param_expr::Name;
 use param_resolver::{Early, early, early_unfolds};
 use pisdf_meaning::{Firing, config_firing, copy_name, copy_tokens, fed_to, rates_at, tokens_at};
@@ -90,14 +90,8 @@ fn kernel_seat(
     };
     let args = copy_tokens(alloc, tokens_at(early.args.items(), number))?;
     let inputs = fed_to(alloc, graph, firing.inputs.items(), place, ins)?;
-    // Lent anew, since a lent frame tells how long its leases are.
-    let Lent {
-        args,
-        inputs,
-        outputs,
-        sets,
-    } = Frame::start(alloc, kernel, args, inputs, rates, sets)?.take_back();
-    let frame = Frame::lend(kernel, args, inputs, outputs, sets);
+    let frame = Frame::start(alloc, kernel, args, inputs, rates, sets)?;
+    frame.outputs_fill_leases();
     Ok(Seat {
         stage: Stage::Fires(spare),
         frame: Some(frame),

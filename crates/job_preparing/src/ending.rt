@@ -7,7 +7,7 @@ ghost use Rattle.job_preparing.specs.Ending.{IsKeptAs};
 
 use crate::handing::JobGiven;
 use crate::stage::Stage;
-use kernel_gate::{Frame, Lent};
+use kernel_gate::{Frame, Lent, spend};
 use pisdf_meaning::{Configured, TraceRow, lists_of_leases};
 use sdf_level::List;
 use std::alloc::Global;
@@ -22,20 +22,20 @@ pub(crate) fn kernel_given(alloc: Global, frame: Frame, lists: Vec<List<i64>>) -
     ensures given { result ≡ record { outs = frame.outputs; state = []; trace = []; exports = frame.sets } }
     ensures long { lengths frame.outputs ≡ map (λ p. p.len) frame.places.outputs }
 {
+    frame.outputs_fill_leases();
     let Lent {
-        args,
+        kind: _,
+        args: _,
         inputs,
         outputs,
         sets,
-    } = frame.take_back();
-    let no_outputs = List::new(Vec::new(alloc));
-    let no_sets = List::new(Vec::new(alloc));
-    Frame::lend(0, args, inputs, no_outputs, no_sets).end();
+    } = Box::into_inner(frame.take_back());
+    spend(inputs);
     JobGiven {
-        outs: lists_of_leases(outputs.into_items(), lists),
+        outs: lists_of_leases(outputs, lists),
         state: List::new(Vec::new(alloc)),
         trace: LinkedList::new(alloc),
-        exports: sets,
+        exports: List::new(sets),
     }
 }
 

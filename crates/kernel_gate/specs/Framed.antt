@@ -2,14 +2,16 @@
 use Rattle.std.specs.Prelude.{map}
 use Rattle.split_block.specs.View.{cells_of, lease_place}
 use Rattle.kernel_gate.specs.Value.{FrameView}
-use Rattle.kernel_gate.specs.declared.frame.Frame.TheInside.{Inside}
+use Rattle.kernel_gate.specs.Rooms.{size_of}
+use Rattle.kernel_gate.specs.declared.frame.Lent.{Lent}
 
-abbrev pub view_of : Inside → FrameView
-view_of f = record {
-  kind = f.kind;
-  args = f.args;
-  inputs = map cells_of f.inputs.items;
-  outputs = map cells_of f.outputs.items;
-  sets = f.sets.items;
-  places = record { inputs = map lease_place f.inputs.items; outputs = map lease_place f.outputs.items };
+-- the frame that is made of these lists
+abbrev pub frame_of : Lent → FrameView
+frame_of l = record {
+  kind = l.kind;
+  args = l.args.items;
+  inputs = map cells_of l.inputs.items;
+  outputs = map cells_of l.outputs.items;
+  sets = l.sets.items;
+  places = record { inputs = map lease_place l.inputs.items; outputs = map lease_place l.outputs.items; room = size_of l };
 }

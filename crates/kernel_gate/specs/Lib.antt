@@ -11,6 +11,7 @@ pub mod Counted
 pub mod Configured
 pub mod Table
 pub mod Leased
+pub mod Rooms
 pub mod Framed
 pub mod Lending
 pub mod Laws

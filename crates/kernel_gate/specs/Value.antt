@@ -2,6 +2,7 @@
 use Rattle.std.specs.Prelude.{◌≡◌, ℕ, ℤ, List, [], map, slice_set, slice_index_or, length, Result, Ok, Err}
 use Rattle.split_block.specs.View.{LeasePlace, refit}
 use Rattle.kernel_gate.specs.declared.fault.KernelFault.{KernelFault}
+use Rattle.kernel_gate.specs.declared.room.RoomSize.{RoomSize}
 
 -- what a firing gives: its outputs and its sets, or a code
 pub data Answer : Type 0 where
@@ -12,10 +13,11 @@ pub data Answer : Type 0 where
 abbrev pub Kernel : Type 0
 Kernel = List ℤ → List (List ℤ) → List ℕ → ℕ → Answer
 
--- where the cells of a frame's input and output ports lie
+-- where the cells of a frame's input and output ports lie, and for how many ports and arguments it has memory
 pub record Places : Type 0 where
   pub inputs : List LeasePlace
   pub outputs : List LeasePlace
+  pub room : RoomSize
 
 -- a frame as plain data
 pub record FrameView : Type 0 where

@@ -2,10 +2,12 @@
 ghost use Rattle.std.specs.Prelude.{◌≡◌, [], ℤ, ℕ, ◌^◌, ◌<◌, List, length, map, replicate, slice_set, slice_index_or, IfOk, pos};
 ghost use Rattle.std.specs.Borrow.{sem};
 ghost use Rattle.kernel_gate.specs.Value.{lengths, port, with_output};
-ghost use Rattle.kernel_gate.specs.Leased.{AreLeases, AreWhole};
+ghost use Rattle.kernel_gate.specs.Framed.{frame_of};
+ghost use Rattle.kernel_gate.specs.Leased.{AreWhole};
 ghost use Rattle.split_block.specs.View.{LeasePlace};
 
-use crate::leases::{leased, spend, zeros};
+use crate::leases::{put_lists, spend, zeros};
+use crate::room::{Room, RoomSize};
 use sdf_level::List;
 use split_block::Lease;
 use std::alloc::{AllocError, Global};
@@ -13,22 +15,19 @@ use std::marker::Model;
 
 /// What one firing reads and writes: the place of its kernel, the arguments, a lease of cells for the tokens of each
 /// input and each output port, and a value for each parameter that it sets. It is neither `Drop` nor `Clone`: who has
-/// it hands it on.
+/// it hands it on. It is one box, so that it moves cheaply.
 pub struct Frame {
-    kind: u32,
-    args: List<i64>,
-    inputs: Vec<Lease>,
-    outputs: Vec<Lease>,
-    sets: Vec<i64>,
+    lent: Box<Lent>,
 }
 
-/// What a frame was made of, with what it holds: the arguments, the leases of its input and output ports, and the
-/// values of the parameters that it sets. It must be spent, as its leases must.
+/// What a frame is made of, and what it holds: the place of the kernel, the arguments, the leases of its input and output
+/// ports, and the values of the parameters that it sets. It must be spent, as its leases must.
 pub struct Lent {
-    pub args: List<i64>,
-    pub inputs: List<Lease>,
-    pub outputs: List<Lease>,
-    pub sets: List<i64>,
+    pub kind: u32,
+    pub args: Vec<i64>,
+    pub inputs: Vec<Lease>,
+    pub outputs: Vec<Lease>,
+    pub sets: Vec<i64>,
 }
 
 impl Model for Frame {
@@ -36,9 +35,9 @@ impl Model for Frame {
 
     ghost Value = { FrameView };
 
-    ghost use Rattle.kernel_gate.specs.Framed.{view_of};
+    ghost use Rattle.kernel_gate.specs.Framed.{frame_of};
 
-    ghost view = { view_of };
+    ghost view = { λ f. frame_of f.lent.value };
 }
 
 impl Frame {
@@ -60,78 +59,49 @@ impl Frame {
     {
         let lists = zeros(alloc, outputs)?;
         let sets = vec![in alloc; 0i64; sets as usize]?;
-        // A `Vec` of leases must be spent, even where it is empty: from here on no `?` stands.
-        let given = Vec::with_capacity(alloc, inputs.items().len())?;
-        let written = match Vec::with_capacity(alloc, lists.len()) {
-            Ok(written) => written,
-            Err(error) => {
-                given.destroy_empty();
-                return Err(error);
-            }
+        let size = RoomSize {
+            inputs: inputs.items().len(),
+            outputs: lists.len(),
+            args: 0,
         };
-        Ok(Frame {
-            kind,
-            args,
-            inputs: leased(given, inputs.into_items()),
-            outputs: leased(written, lists),
-            sets,
-        })
+        let mut lent = Room::start(alloc, size)?.open();
+        let parts: &mut Lent = &mut lent;
+        parts.kind = kind;
+        parts.args = args.into_items();
+        parts.sets = sets;
+        put_lists(&mut parts.inputs, inputs.into_items());
+        put_lists(&mut parts.outputs, lists);
+        Ok(Frame { lent })
     }
 
-    /// A frame over these leases, with these arguments and sets. It takes no memory.
-    pub fn lend(
-        kind: u32,
-        args: List<i64>,
-        inputs: List<Lease>,
-        outputs: List<Lease>,
-        sets: List<i64>,
-    ) -> Frame
-        ensures given { (result.kind ≡ kind) × (result.args ≡ args) × (result.sets ≡ sets) }
-        ensures inputs { AreLeases result.inputs result.places.inputs inputs }
-        ensures outputs { AreLeases result.outputs result.places.outputs outputs }
+    /// The frame that is made of this. It takes no memory.
+    pub fn lend(lent: Box<Lent>) -> Frame
+        ensures { result ≡ frame_of lent.value }
     {
-        Frame {
-            kind,
-            args,
-            inputs: inputs.into_items(),
-            outputs: outputs.into_items(),
-            sets: sets.into_items(),
-        }
+        Frame { lent }
     }
 
-    /// The leases, each where it lay and with what the frame holds, the arguments and the sets. It takes no memory.
-    pub fn take_back(self) -> Lent
-        ensures given { (result.args ≡ self.args) × (result.sets ≡ self.sets) }
-        ensures inputs { AreLeases self.inputs self.places.inputs result.inputs }
-        ensures outputs { AreLeases self.outputs self.places.outputs result.outputs }
+    /// What the frame is made of: the leases, each where it lay and with what the frame holds, the arguments and the sets. It
+    /// takes no memory.
+    pub fn take_back(self) -> Box<Lent>
+        ensures { self ≡ frame_of result.value }
     {
-        let Frame {
-            kind: _,
-            args,
-            inputs,
-            outputs,
-            sets,
-        } = self;
-        Lent {
-            args,
-            inputs: List::new(inputs),
-            outputs: List::new(outputs),
-            sets: List::new(sets),
-        }
+        let Frame { lent } = self;
+        lent
     }
 
     /// The place of its kernel.
     pub fn kind(&self) -> u32
         ensures { result ≡ self.now.kind }
     {
-        self.kind
+        self.lent.kind
     }
 
     /// The arguments, in the order of the kernel's row.
     pub fn args(&self) -> &[i64]
         ensures { result.now ≡ self.now.args }
     {
-        self.args.items()
+        self.lent.args.as_slice()
     }
 
     /// The number of input ports.
@@ -139,7 +109,7 @@ impl Frame {
         requires { length self.now.inputs < 2 ^ 32 }
         ensures { result ≡ length self.now.inputs }
     {
-        self.inputs.len() as u32
+        self.lent.inputs.len() as u32
     }
 
     /// The tokens of an input port, the oldest first.
@@ -147,7 +117,7 @@ impl Frame {
         requires { port < length self.now.inputs }
         ensures { result.now ≡ slice_index_or self.now.inputs port [] }
     {
-        self.inputs[port as usize].as_slice()
+        self.lent.inputs[port as usize].as_slice()
     }
 
     /// The number of output ports.
@@ -155,7 +125,7 @@ impl Frame {
         requires { length self.now.outputs < 2 ^ 32 }
         ensures { result ≡ length self.now.outputs }
     {
-        self.outputs.len() as u32
+        self.lent.outputs.len() as u32
     }
 
     /// The number of tokens of an output port.
@@ -163,7 +133,7 @@ impl Frame {
         requires { port < length self.now.outputs }
         ensures { result ≡ length (slice_index_or self.now.outputs port []) }
     {
-        self.outputs[port as usize].as_slice().len()
+        self.lent.outputs[port as usize].as_slice().len()
     }
 
     /// The tokens of an output port, to be written. Its length never changes.
@@ -172,7 +142,8 @@ impl Frame {
         ensures* writes_back { sem 𝓛 (LendsOutput self.entry port result) }
         ensures value { result.now ≡ slice_index_or self.old.outputs port [] }
     {
-        self.outputs[port as usize].as_mut_slice()
+        let lent: &mut Lent = &mut self.lent;
+        lent.outputs[port as usize].as_mut_slice()
     }
 
     /// The arguments, the tokens of an input port, and the tokens of an output port, to be written, at once.
@@ -184,10 +155,11 @@ impl Frame {
         ensures input { result.1.now ≡ slice_index_or self.old.inputs from [] }
         ensures output { result.2.now ≡ slice_index_or self.old.outputs to [] }
     {
+        let lent: &mut Lent = &mut self.lent;
         (
-            self.args.items(),
-            self.inputs[from as usize].as_slice(),
-            self.outputs[to as usize].as_mut_slice(),
+            lent.args.as_slice(),
+            lent.inputs[from as usize].as_slice(),
+            lent.outputs[to as usize].as_mut_slice(),
         )
     }
 
@@ -206,11 +178,12 @@ impl Frame {
         ensures second { result.1.now ≡ slice_index_or self.old.inputs second [] }
         ensures output { result.2.now ≡ slice_index_or self.old.outputs to [] }
     {
-        let inputs = &self.inputs;
+        let lent: &mut Lent = &mut self.lent;
+        let inputs = &lent.inputs;
         (
             inputs[first as usize].as_slice(),
             inputs[second as usize].as_slice(),
-            self.outputs[to as usize].as_mut_slice(),
+            lent.outputs[to as usize].as_mut_slice(),
         )
     }
 
@@ -219,14 +192,14 @@ impl Frame {
         ensures { lengths self.now.outputs ≡ map (λ (p : LeasePlace). p.len) self.now.places.outputs }
     {
         // What is read shows the proof what the frame is made of.
-        let _kind = self.kind;
+        let _kind = self.lent.kind;
     }
 
     /// The values of the parameters that it sets.
     pub fn sets(&self) -> &[i64]
         ensures { result.now ≡ self.now.sets }
     {
-        self.sets.as_slice()
+        self.lent.sets.as_slice()
     }
 
     /// Sets the parameter at a place to a value.
@@ -234,20 +207,21 @@ impl Frame {
         requires { place < length self.old.sets }
         ensures { self.new ≡ record self.old { sets = slice_set self.old.sets place value } }
     {
-        self.sets[place as usize] = value;
+        self.lent.sets[place as usize] = value;
     }
 
     /// Gives up the frame.
     pub fn end(self)
         requires whole { AreWhole self.places }
     {
-        let Frame {
+        let Frame { lent } = self;
+        let Lent {
             kind: _,
             args: _,
             inputs,
             outputs,
             sets: _,
-        } = self;
+        } = Box::into_inner(lent);
         spend(inputs);
         spend(outputs);
     }

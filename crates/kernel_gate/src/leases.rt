@@ -18,20 +18,19 @@ pub(crate) fn zeros(alloc: Global, lens: &[u32]) -> Result<Vec<List<i64>>, Alloc
     Ok(lists)
 }
 
-/// Each list as a lease, in a `Vec` with room for them.
-pub(crate) fn leased(mut leases: Vec<Lease>, lists: Vec<List<i64>>) -> Vec<Lease>
-    requires { (leases.items ≡ []) × (length lists.items ≤ vec_capacity leases) }
-    ensures cells { map cells_of result.items ≡ lists.items }
-    ensures whole { AllWhole (map lease_place result.items) }
+/// Puts each list as a lease into an empty `Vec` with room for them.
+pub(crate) fn put_lists(leases: &mut Vec<Lease>, lists: Vec<List<i64>>)
+    requires { (leases.old.items ≡ []) × (length lists.items ≤ vec_capacity leases.old) }
+    ensures cells { map cells_of leases.new.items ≡ lists.items }
+    ensures whole { AllWhole (map lease_place leases.new.items) }
 {
     for cells in lists {
         leases.push_reserved(Lease::from_vec(cells.into_items()));
     }
-    leases
 }
 
 /// Gives up leases that are whole blocks.
-pub(crate) fn spend(mut leases: Vec<Lease>)
+pub fn spend(mut leases: Vec<Lease>)
     requires { AllWhole (map lease_place leases.items) }
 {
     while let Some(lease) = leases.pop() {

@@ -7,6 +7,7 @@ mod gate;
 mod laws;
 mod leases;
 mod limits;
+mod room;
 mod signature;
 mod told;
 
@@ -14,6 +15,8 @@ pub use fault::KernelFault;
 pub use frame::{Frame, Lent};
 pub use gate::Gate;
 pub use laws::lengths_given;
+pub use leases::spend;
 pub use limits::{MAX_MEDIAN_TOKENS, MAX_MOVING_WIDTH};
+pub use room::{Room, RoomSize};
 pub use signature::Signature;
 pub use told::{Told, told_of};

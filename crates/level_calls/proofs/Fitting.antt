@@ -1,5 +1,5 @@
 -- Frames that fit the kernels' signatures.
-use Rattle.std.proofs.Common.{◌≡◌, ℕ, length, ap, sym, ◌∙◌}
+use Rattle.std.proofs.Common.{◌≡◌, ℕ, length, ap, ◌∙◌}
 use Rattle.std.specs.Prelude.{slice_get}
 use Rattle.kernel_gate.specs.Signed.{IsFrameOf, unnamed}
 use Rattle.kernel_gate.specs.Table.{the_signatures}

@@ -28,10 +28,10 @@ fn cells_of(alloc: Global, leases: &[Lease]) -> Result<Value, Trouble> {
 /// What the parts of a frame hold.
 pub fn parts_of(alloc: Global, lent: &Lent) -> Result<FrameParts, Trouble> {
     Ok(FrameParts {
-        args: answer_of(alloc, lent.args.items())?,
-        inputs: cells_of(alloc, lent.inputs.items())?,
-        outputs: cells_of(alloc, lent.outputs.items())?,
-        sets: answer_of(alloc, lent.sets.items())?,
+        args: answer_of(alloc, lent.args.as_slice())?,
+        inputs: cells_of(alloc, lent.inputs.as_slice())?,
+        outputs: cells_of(alloc, lent.outputs.as_slice())?,
+        sets: answer_of(alloc, lent.sets.as_slice())?,
     })
 }
 
@@ -39,15 +39,8 @@ pub fn parts_of(alloc: Global, lent: &Lent) -> Result<FrameParts, Trouble> {
 pub fn given_up(alloc: Global, frame: Frame) -> Result<FrameParts, Trouble>
     requires { AreWhole frame.places }
 {
-    let kind = frame.kind();
     let lent = frame.take_back();
     let parts = parts_of(alloc, &lent);
-    let Lent {
-        args,
-        inputs,
-        outputs,
-        sets,
-    } = lent;
-    Frame::lend(kind, args, inputs, outputs, sets).end();
+    Frame::lend(lent).end();
     parts
 }

@@ -1,16 +1,17 @@
 // Leases of blocks: cut and joined, lent to a frame and taken back, and of a pool.
-ghost use Rattle.std.specs.Prelude.{◌≡◌, ◌+◌, ◌<◌, ◌≤◌, ◌⊎◌, ◌^◌, [], ◌∷◌, length, vec_capacity};
+ghost use Rattle.std.specs.Prelude.{◌≡◌, ◌+◌, ◌<◌, ◌≤◌, ◌⊎◌, ◌^◌, [], ◌∷◌, length};
 ghost use Rattle.std.specs.Bool.{OnTrue};
 ghost use Rattle.kernel_gate.specs.Signed.{IsFrameOf, unnamed};
 ghost use Rattle.kernel_gate.specs.Table.{the_signatures};
 ghost use Rattle.kernel_gate.specs.Value.{SameFrame};
+ghost use Rattle.split_block.specs.View.{lease_place};
 ghost use Rattle.level_calls.specs.Signatures.{HasKernel};
 
 use crate::frame_parts::{FrameParts, parts_of};
 use crate::kernels::{has_kernel, place_of, word_of};
 use case_rows::{Trouble, answer_of, numbers, small, smalls, word};
 use cell_pool::Pool;
-use kernel_gate::{Frame, Gate, KernelFault, Lent};
+use kernel_gate::{Frame, Gate, KernelFault, Lent, Room, RoomSize};
 use kernel_library::Library;
 use sdf_level::List;
 use serde_json::Value;
@@ -120,21 +121,36 @@ pub fn pooled(alloc: Global, row: &Value) -> Result<Value, Trouble> {
     two_leases(alloc, height, first, second)
 }
 
-/// A list of one lease, in a `Vec` with room for it.
-fn list_of_one(mut room: Vec<Lease>, lease: Lease) -> List<Lease>
-    requires { (room.items ≡ []) × (1 ≤ vec_capacity room) }
-    ensures { result ≡ lease ∷ [] }
+/// The frame that fires a kernel over two leases, the first its input and the second its output. It is made in the room.
+fn frame_over(
+    room: Room,
+    kind: u32,
+    args: List<i64>,
+    sets: List<i64>,
+    input: Lease,
+    output: Lease,
+) -> Frame
+    requires room { (1 ≤ room.inputs) × (1 ≤ room.outputs) }
+    ensures given { (result.kind ≡ kind) × (result.args ≡ args) × (result.sets ≡ sets) }
+    ensures cells { (result.inputs ≡ input.cells ∷ []) × (result.outputs ≡ output.cells ∷ []) }
+    ensures inputs { result.places.inputs ≡ lease_place input ∷ [] }
+    ensures outputs { result.places.outputs ≡ lease_place output ∷ [] }
 {
-    room.push_reserved(lease);
-    List::new(room)
+    let mut lent = room.open();
+    let parts: &mut Lent = &mut lent;
+    parts.kind = kind;
+    parts.args = args.into_items();
+    parts.sets = sets.into_items();
+    parts.inputs.push_reserved(input);
+    parts.outputs.push_reserved(output);
+    Frame::lend(lent)
 }
 
 /// The one lease of a list.
-fn only(leases: List<Lease>) -> Lease
-    requires { length leases ≡ 1 }
-    ensures { leases ≡ result ∷ [] }
+fn only(mut leases: Vec<Lease>) -> Lease
+    requires { length leases.items ≡ 1 }
+    ensures { leases.items ≡ result ∷ [] }
 {
-    let mut leases = leases.into_items();
     match leases.pop() {
         Some(lease) => {
             leases.destroy_empty();
@@ -192,27 +208,24 @@ fn lend_both(
     requires kernel { HasKernel kind (length args) 1 1 (length sets) }
     requires at { at ≤ length cells.items }
 {
-    let inputs = Vec::with_capacity(alloc, 1)?;
-    let outputs = match Vec::with_capacity(alloc, 1) {
-        Ok(outputs) => outputs,
-        Err(_) => {
-            inputs.destroy_empty();
-            return Err(Trouble::Memory);
-        }
+    let size = RoomSize {
+        inputs: 1,
+        outputs: 1,
+        args: 0,
     };
+    let room = Room::start(alloc, size)?;
     let (left, right) = Lease::from_vec(cells).split(at);
-    let inputs = list_of_one(inputs, left);
-    let outputs = list_of_one(outputs, right);
-    let mut frame = Frame::lend(kind, args, inputs, outputs, sets);
+    let mut frame = frame_over(room, kind, args, sets, left, right);
     let fired = fire_if(fires, &mut frame);
     let lent = frame.take_back();
     let parts = parts_of(alloc, &lent);
     let Lent {
+        kind: _,
         args: _,
         inputs,
         outputs,
         sets: _,
-    } = lent;
+    } = Box::into_inner(lent);
     let cells = only(inputs).join(only(outputs)).into_vec();
     answer_of_lent(alloc, fired, parts?, cells.as_slice())
 }

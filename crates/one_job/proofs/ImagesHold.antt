@@ -7,7 +7,7 @@ use Rattle.sdf_level.specs.declared.single_rate.Edge.{Edge}
 use Rattle.split_block.specs.Places.{Place, Apart, window, write}
 use Rattle.job_compiler.specs.Compilation.{Compilation, IsCompiled}
 use Rattle.job_flow.specs.Frames.{given, on_edge}
-use Rattle.one_job.specs.Marks.{Mark, Free, Claimed, Finished, Failed, mark_at, IsFree, IsClaimed, IsFinished, IsFailed, phase, phase_of, values, value_of}
+use Rattle.one_job.specs.Marks.{Mark, Free, Claimed, Finished, Failed, mark_at, IsFree, IsClaimed, IsFinished, IsFailed, nowhere, phase, phase_of, values, value_of}
 use Rattle.one_job.specs.Places.{edge_at, buffer_at}
 use Rattle.one_job.specs.Live.{InOrder, IsLive, IsFull, HoldFull}
 use Rattle.one_job.specs.Images.{Event, Claim, Finish, mark_with, marks_after, out_at, written, written_by, image, FitsEdges, AreEvents}
@@ -121,9 +121,9 @@ module _ (c : Compilation) (is : IsCompiled c) (marks : List Mark) (cells : List
   same_on : (m : Mark) (e : ℕ) → (edge_at edges e).tail ≢ n → on_edge (values marks) (edge_at edges e) ≡ on_edge (values (set marks n m)) (edge_at edges e)
   same_on m e differs = ap (λ (k : Mark). Rattle.std.specs.Prelude.slice_index_or (given (value_of k)) (edge_at edges e).tail_port []) (sym (mark_elsewhere marks n (edge_at edges e).tail m differs))
 
-  pub claim_holds : n < length c.graph.nodes → phase marks n ≡ IsFree → ((e : ℕ) → e < length edges → (edge_at edges e).head ≡ n → phase marks (edge_at edges e).tail ≡ IsFinished) → Holds c (set marks n (Claimed record { inputs = []; outputs = [] })) cells
+  pub claim_holds : n < length c.graph.nodes → phase marks n ≡ IsFree → ((e : ℕ) → e < length edges → (edge_at edges e).head ≡ n → phase marks (edge_at edges e).tail ≡ IsFinished) → Holds c (set marks n (Claimed nowhere)) cells
   claim_holds inside free before =
-      let m : Mark = Claimed record { inputs = []; outputs = [] } in
+      let m : Mark = Claimed nowhere in
       let there : n < length marks = (let l = holds.marks_long in omega arith) in
       record {
         marks_long = length-set marks n m ∙ holds.marks_long;

@@ -1,9 +1,8 @@
 -- The claim of a node of a job.
 use Rattle.std.proofs.Common.{◌≡◌, ℕ, ℤ, ◌+◌, ◌<◌, ◌≤◌, ⊎_elim, Bool, true, false, List, [], ◌∷◌, ◌++◌, length, map, set, get_or, refl, sym, ap, ap₂, ◌∙◌, subst, arith}
-use Rattle.std.specs.Prelude.{◌≢◌, Option, Some, None, slice_index_or, slice_get, if◌then◌else◌}
+use Rattle.std.specs.Prelude.{◌≢◌, Option, Some, None, slice_index, slice_index_or, slice_get, if◌then◌else◌}
 use Rattle.std.proofs.lemmas.Bool.{cases_eq, false≢true}
 use Rattle.std.proofs.lemmas.List.{length-set, length-map, map-append, get_or-set_other}
-use Rattle.std.proofs.lemmas.List.Elements.{All-set}
 use Rattle.sdf_level.specs.declared.link.Link.{Link}
 use Rattle.sdf_level.specs.declared.node.Node.{Node}
 use Rattle.sdf_level.specs.declared.single_rate.Edge.{Edge}
@@ -13,19 +12,19 @@ use Rattle.split_block.specs.Places.{window}
 use Rattle.cell_pool.specs.View.{PoolView}
 use Rattle.kernel_gate.specs.Value.{Places, lengths}
 use Rattle.kernel_gate.specs.Leased.{AllWhole}
+use Rattle.kernel_gate.specs.declared.room.RoomSize.{RoomSize}
 use Rattle.job_flow.specs.Graphs.{node_at}
 use Rattle.job_flow.specs.Frames.{Values, given as flow_given, inputs, lens, on_edge, ports_in}
 use Rattle.job_flow.specs.Outcomes.{put_out, sunk, left_over}
 use Rattle.single_rate.specs.Expanded.{place_of}
-use Rattle.one_job.specs.Marks.{Mark, Claimed, mark_at, IsFree, IsClaimed, phase, phase_of, values, value_of}
+use Rattle.one_job.specs.Marks.{Mark, Claimed, mark_at, IsFree, IsClaimed, nowhere, phase, phase_of, values, value_of}
 use Rattle.one_job.specs.Places.{edge_at, buffer_at}
 use Rattle.one_job.specs.Ports.{reads_stored, writes_stored, row_of, EachLies, LieBehind, port_size}
-use Rattle.one_job.specs.Frames.{HasBlocks}
+use Rattle.one_job.specs.Stock.{IsStock}
 use Rattle.one_job.specs.Taking.{Layout, taken, CanTake, IsStored, TakesBehind}
 use Rattle.one_job.specs.View.{JobView, IsEnabled, graph_of}
 use Rattle.one_job.specs.Calls.{LieAtBuffers}
-use Rattle.one_job.specs.Kept.{Parts, HasParts, LieRight, Keeps, stored_at}
-use Rattle.one_job.specs.declared.frames.FrameParts.{FrameParts}
+use Rattle.one_job.specs.Kept.{Parts, HasStock, LieRight, Keeps, stored_at}
 use Rattle.one_job.proofs.Phases.{mark_there, mark_elsewhere, phase_there}
 use Rattle.one_job.proofs.Order.{CanClaim, IsLaid, buffer_within, claim_keeps_order}
 use Rattle.one_job.proofs.Lending.{EachEdge, EachEdge-weaker}
@@ -93,6 +92,17 @@ length-both : (leases : List LeaseView) → lengths (map cells_of leases) ≡ ma
 length-both [] = refl
 length-both (lease ∷ leases) = ap (λ l. length lease.cells ∷ l) (length-both leases)
 
+-- the leases that stand before those of a node's ports
+pub record HasBegun (j : JobView) (n : ℕ) (first_in first_out : List LeaseView) : Type 0 where
+  pub read : IsStored (reads_stored (node_at j.compilation.graph.nodes n)) (stored_at j (node_at j.compilation.graph.nodes n)) first_in
+  pub cells : List ℤ
+  pub kept : IsStored (writes_stored (node_at j.compilation.graph.nodes n)) cells first_out
+  pub long : writes_stored (node_at j.compilation.graph.nodes n) ≡ true → length cells ≡ slice_index (lens (graph_of j) n) 0
+
+stored_as : (b : Bool) (tokens others : List ℤ) (first : List LeaseView) → (b ≡ true → tokens ≡ others) → IsStored b tokens first → IsStored b others first
+stored_as true tokens others first same is = subst (λ t. IsStored true t first) (same refl) is
+stored_as false tokens others first same is = is
+
 -- ---- the claim
 
 module _ (j : JobView) (p : Parts) (pool : PoolView) (outs left : List (List ℤ)) (keeps : Keeps j p pool outs left) (n : ℕ) (enabled : IsEnabled j n) where
@@ -133,7 +143,7 @@ module _ (j : JobView) (p : Parts) (pool : PoolView) (outs left : List (List ℤ
   facts places = claims j.compilation.graph.edges j.compilation.placement.offsets j.compilation.placement.height laid j.marks keeps.order n can places row_in row_out ports pool.most few pool.out keeps.out
 
   abbrev no_places : Places
-  no_places = record { inputs = []; outputs = [] }
+  no_places = nowhere
 
   -- what the two takes ask
   pub record CanTakeBoth : Type 0 where
@@ -146,12 +156,19 @@ module _ (j : JobView) (p : Parts) (pool : PoolView) (outs left : List (List ℤ
     outs_can = subst (λ h. CanTake place count h pool.most row_out (taken place row_in pool.out)) (sym height_is) (facts no_places).outs_can;
   }
 
-  -- what the node's frame is made of
-  pub parts_here : (f : FrameParts) → get_or p.frames n f ≡ f → HasParts j p n f
-  parts_here f at = keeps.free n f inside can.free at
+  -- what lay ready for the node
+  pub begun_here : (first_in first_out : List LeaseView) → IsStored (reads_stored which) (get_or p.stock n []) first_in → IsStored (writes_stored which) (get_or p.stock n []) first_out → HasBegun j n first_in first_out
+  begun_here first_in first_out read kept =
+      let lay = keeps.free n inside can.free in
+      record {
+        read = stored_as (reads_stored which) (get_or p.stock n []) (stored_at j which) first_in lay.read_are read;
+        cells = get_or p.stock n [];
+        kept = kept;
+        long = lay.long;
+      }
 
   -- what was taken behind that
-  module _ (f : FrameParts) (here : HasParts j p n f) (in_leases out_leases : List LeaseView) (ins : TakesBehind place pool row_in f.inputs.items in_leases) (outs_taken : TakesBehind place (record pool { out = taken place row_in pool.out }) row_out f.outputs.items out_leases) where
+  module _ (first_in first_out : List LeaseView) (here : HasBegun j n first_in first_out) (room : RoomSize) (in_leases out_leases : List LeaseView) (ins : TakesBehind place pool row_in first_in in_leases) (outs_taken : TakesBehind place (record pool { out = taken place row_in pool.out }) row_out first_out out_leases) where
     within_row : (P : ℕ → Type 0) → ((e : ℕ) → e < count → P e) → (EachEdge P row_in) × (EachEdge P row_out)
     within_row P each = (
       EachEdge-weaker (Enters j.compilation.graph.edges n) P (λ e is. each e is.0) row_in (enters_each j.compilation.graph.edges n 0 row_in ports.enters),
@@ -168,17 +185,17 @@ module _ (j : JobView) (p : Parts) (pool : PoolView) (outs left : List (List ℤ
     outs_lie = taken_lie j.compilation.graph.edges j.compilation.placement.offsets (record pool { out = taken place row_in pool.out }) row_out outs_taken.more outs_taken.each (within_row (λ e. (place e).start + (place e).len ≤ length pool.cells) fitting).1
 
     abbrev places : Places
-    places = record { inputs = map lease_place in_leases; outputs = map lease_place out_leases }
+    places = record { inputs = map lease_place in_leases; outputs = map lease_place out_leases; room = room }
 
     pub lie_right : LieRight j p n places
     lie_right = record {
-      inputs = subst (λ b. LieBehind place b (reads_stored which) row_in (map lease_place in_leases)) keeps.cells.block (TakesBehind-lie place pool pool.block row_in (reads_stored which) (stored_at j which) f.inputs.items in_leases ins here.inputs.own ins_lie);
-      outputs = subst (λ b. LieBehind place b (writes_stored which) row_out (map lease_place out_leases)) keeps.cells.block (TakesBehind-lie place (record pool { out = taken place row_in pool.out }) pool.block row_out (writes_stored which) here.cells f.outputs.items out_leases outs_taken here.outputs.own outs_lie);
+      inputs = subst (λ b. LieBehind place b (reads_stored which) row_in (map lease_place in_leases)) keeps.cells.block (TakesBehind-lie place pool pool.block row_in (reads_stored which) (stored_at j which) first_in in_leases ins here.read ins_lie);
+      outputs = subst (λ b. LieBehind place b (writes_stored which) row_out (map lease_place out_leases)) keeps.cells.block (TakesBehind-lie place (record pool { out = taken place row_in pool.out }) pool.block row_out (writes_stored which) here.cells first_out out_leases outs_taken here.kept outs_lie);
     }
 
     pub inputs_hold : map cells_of in_leases ≡ inputs (graph_of j) (values j.marks) n
     inputs_hold =
-        TakesBehind-cells place pool row_in (reads_stored which) (stored_at j which) f.inputs.items in_leases ins here.inputs.own
+        TakesBehind-cells place pool row_in (reads_stored which) (stored_at j which) first_in in_leases ins here.read
         ∙ ap (λ rest. stored_part (reads_stored which) (stored_at j which) ++ rest)
         (taken_cells j.compilation.graph.edges j.compilation.placement.offsets pool (values j.marks) row_in ins.more ins.each
         (EachEdge-weaker (Enters j.compilation.graph.edges n) (λ e. window (place e).start (place e).len pool.cells ≡ on_edge (values j.marks) (edge_at j.compilation.graph.edges e))
@@ -189,11 +206,11 @@ module _ (j : JobView) (p : Parts) (pool : PoolView) (outs left : List (List ℤ
     lengths_by_kind true is =
         let row : map (port_size j.compilation.graph.edges) row_out ≡ [] = keeps.wired.outs n inside ∙ ap (λ b. if b then [] else lens (graph_of j) n) is in
         let more : lengths (map cells_of outs_taken.more) ≡ [] = length-both outs_taken.more ∙ (EachLies-lengths j.compilation.graph.edges j.compilation.placement.offsets pool.block row_out outs_taken.more outs_lie ∙ row) in
-        ap lengths (TakesBehind-cells place (record pool { out = taken place row_in pool.out }) row_out (writes_stored which) here.cells f.outputs.items out_leases outs_taken here.outputs.own)
+        ap lengths (TakesBehind-cells place (record pool { out = taken place row_in pool.out }) row_out (writes_stored which) here.cells first_out out_leases outs_taken here.kept)
         ∙ (ap (λ b. lengths (stored_part b here.cells ++ map cells_of outs_taken.more)) is ∙ (ap (λ l. length here.cells ∷ l) more ∙ (ap (λ k. k ∷ []) (here.long is) ∙ sym (written_at_one (graph_of j) n is))))
     lengths_by_kind false is =
         let row : map (port_size j.compilation.graph.edges) row_out ≡ lens (graph_of j) n = keeps.wired.outs n inside ∙ ap (λ b. if b then [] else lens (graph_of j) n) is in
-        ap lengths (TakesBehind-cells place (record pool { out = taken place row_in pool.out }) row_out (writes_stored which) here.cells f.outputs.items out_leases outs_taken here.outputs.own)
+        ap lengths (TakesBehind-cells place (record pool { out = taken place row_in pool.out }) row_out (writes_stored which) here.cells first_out out_leases outs_taken here.kept)
         ∙ (ap (λ b. lengths (stored_part b here.cells ++ map cells_of outs_taken.more)) is ∙ (length-both outs_taken.more ∙ (EachLies-lengths j.compilation.graph.edges j.compilation.placement.offsets pool.block row_out outs_taken.more outs_lie ∙ row)))
 
     pub outputs_fit : lengths (map cells_of out_leases) ≡ lens (graph_of j) n
@@ -219,20 +236,21 @@ module _ (j : JobView) (p : Parts) (pool : PoolView) (outs left : List (List ℤ
         (λ (differs : m ≡ n → ⊥). ap (λ (k : Mark). flow_given (value_of k)) (sym (mark_elsewhere j.marks n m (Claimed places) differs)))
         (cases_eq m n)
 
-    -- what stays of the node while its frame is out
-    module _ (rest : FrameParts) (blocks : HasBlocks rest) where
+    -- what stays of what lay ready for the node
+    module _ (rest : List ℤ) where
       abbrev later_parts : Parts
-      later_parts = record p { frames = set p.frames n rest }
+      later_parts = record p { stock = set p.stock n rest }
 
       abbrev later_job : JobView
       later_job = record j { marks = set j.marks n (Claimed places) }
 
-      others_free : (m : ℕ) (g : FrameParts) → m < length j.compilation.graph.nodes → phase later_job.marks m ≡ IsFree → get_or later_parts.frames m g ≡ g → HasParts later_job later_parts m g
-      others_free m g m_in free at =
+      others_free : (m : ℕ) → m < length j.compilation.graph.nodes → phase later_job.marks m ≡ IsFree → HasStock later_job later_parts m
+      others_free m m_in free =
           let differs : m ≢ n = λ same.
           let claimed : phase later_job.marks m ≡ IsClaimed = subst (λ v. phase later_job.marks v ≡ IsClaimed) (sym same) (phase_there j.marks n (Claimed places) can.there) in
           let bad : IsClaimed ≡ IsFree = sym claimed ∙ free in absurd (cc) in
-          keeps.free m g m_in (ap phase_of (sym (mark_elsewhere j.marks n m (Claimed places) differs)) ∙ free) (sym (get_or-set_other p.frames n m rest g differs) ∙ at)
+          subst (IsStock (node_at j.compilation.graph.nodes m) (stored_at j (node_at j.compilation.graph.nodes m)) (slice_index (lens (graph_of j) m) 0)) (sym (get_or-set_other p.stock n m rest [] differs))
+          (keeps.free m m_in (ap phase_of (sym (mark_elsewhere j.marks n m (Claimed places) differs)) ∙ free))
 
       others_lie : (m : ℕ) (where_they_lie : Places) → mark_at later_job.marks m ≡ Claimed where_they_lie → LieRight later_job later_parts m where_they_lie
       others_lie m where_they_lie is = ⊎_elim
@@ -253,11 +271,9 @@ module _ (j : JobView) (p : Parts) (pool : PoolView) (outs left : List (List ℤ
         cells = record { block = keeps.cells.block; pooled = keeps.cells.pooled; len = keeps.cells.len; long = keeps.cells.long; most = keeps.cells.most; small = keeps.cells.small };
         out = (facts places).after;
         full = claim_keeps_full j.compilation.graph.edges j.compilation.placement.offsets j.compilation.placement.height laid j.marks keeps.order n can places row_in row_out ports pool.cells keeps.full;
-        parts = record {
-          one_each = length-set p.frames n rest ∙ keeps.parts.one_each;
-          blocks = All-set HasBlocks p.frames n rest blocks keeps.parts.blocks;
-        };
+        stocked = length-set p.stock n rest ∙ keeps.stocked;
         free = others_free;
+        rooms = λ m m_in. keeps.rooms m m_in;
         claimed = others_lie;
         outs_are = keeps.outs_are ∙ sunk_same j.compilation.graph.nodes (values j.marks) (values later_job.marks) still_given 0 j.compilation.level.sinks;
         left_are = keeps.left_are ∙ left_same j.compilation.graph.nodes (values j.marks) (values later_job.marks) still_given 0 j.compilation.level.links;
@@ -292,29 +308,29 @@ module _ (j : JobView) (p : Parts) (pool : PoolView) (outs left : List (List ℤ
         (sym (λ i. (read.edges_are i, (read.offsets_are i, read.ins_are i))))
         (subst (λ r. CanTake (buffer_at j.compilation.graph.edges j.compilation.placement.offsets) (length j.compilation.graph.edges) pool.block.len pool.most r (taken (buffer_at j.compilation.graph.edges j.compilation.placement.offsets) (row_of p.entering n) pool.out)) (sym read.outs_are) both.outs_can))
 
-    pub record HasTaken (f : FrameParts) (in_leases out_leases : List LeaseView) (middle last : PoolView) : Type 0 where
-      pub took_in : TakesBehind (buffer_at edges offsets) pool ins f.inputs.items in_leases
+    pub record HasTaken (first_in first_out in_leases out_leases : List LeaseView) (middle last : PoolView) : Type 0 where
+      pub took_in : TakesBehind (buffer_at edges offsets) pool ins first_in in_leases
       pub middle_is : middle ≡ record pool { out = taken (buffer_at edges offsets) ins pool.out }
-      pub took_out : TakesBehind (buffer_at edges offsets) middle outs_row f.outputs.items out_leases
+      pub took_out : TakesBehind (buffer_at edges offsets) middle outs_row first_out out_leases
       pub last_is : last ≡ record middle { out = taken (buffer_at edges offsets) outs_row middle.out }
 
-    module _ (f : FrameParts) (in_leases out_leases : List LeaseView) (middle last : PoolView) (took : HasTaken f in_leases out_leases middle last) where
+    module _ (first_in first_out in_leases out_leases : List LeaseView) (middle last : PoolView) (took : HasTaken first_in first_out in_leases out_leases middle last) where
       abbrev where_placed : Layout
       where_placed = buffer_at j.compilation.graph.edges j.compilation.placement.offsets
 
-      pub ins_taken : TakesBehind where_placed pool (row_of p.entering n) f.inputs.items in_leases
+      pub ins_taken : TakesBehind where_placed pool (row_of p.entering n) first_in in_leases
       ins_taken =
-          subst (λ (x : Read). TakesBehind (buffer_at x.0 x.1.0) pool x.1.1 f.inputs.items in_leases)
+          subst (λ (x : Read). TakesBehind (buffer_at x.0 x.1.0) pool x.1.1 first_in in_leases)
           (λ i. (read.edges_are i, (read.offsets_are i, read.ins_are i)))
           took.took_in
 
       middle_canonical : middle ≡ record pool { out = taken where_placed (row_of p.entering n) pool.out }
       middle_canonical = took.middle_is ∙ λ i. record pool { out = taken (buffer_at (read.edges_are i) (read.offsets_are i)) (read.ins_are i) pool.out }
 
-      pub outs_also_taken : TakesBehind where_placed (record pool { out = taken where_placed (row_of p.entering n) pool.out }) (row_of p.leaving n) f.outputs.items out_leases
+      pub outs_also_taken : TakesBehind where_placed (record pool { out = taken where_placed (row_of p.entering n) pool.out }) (row_of p.leaving n) first_out out_leases
       outs_also_taken =
-          subst (λ m. TakesBehind where_placed m (row_of p.leaving n) f.outputs.items out_leases) middle_canonical
-          (subst (λ (x : Read). TakesBehind (buffer_at x.0 x.1.0) middle x.1.1 f.outputs.items out_leases)
+          subst (λ m. TakesBehind where_placed m (row_of p.leaving n) first_out out_leases) middle_canonical
+          (subst (λ (x : Read). TakesBehind (buffer_at x.0 x.1.0) middle x.1.1 first_out out_leases)
           (λ i. (read.edges_are i, (read.offsets_are i, read.outs_are i)))
           took.took_out)
 

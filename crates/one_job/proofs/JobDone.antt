@@ -1,10 +1,9 @@
 -- What the finish of a node of a job keeps.
-use Rattle.std.proofs.Common.{◌≡◌, ℕ, ℤ, ◌<◌, ◌⊎◌, ⊎_elim, Bool, true, false, List, [], ◌∷◌, ◌++◌, length, map, set, get_or, take, drop, refl, sym, ap, ◌∙◌, subst, arith}
+use Rattle.std.proofs.Common.{◌≡◌, ℕ, ℤ, ◌<◌, ◌⊎◌, ⊎_elim, Bool, true, false, List, [], ◌∷◌, ◌++◌, length, map, set, take, drop, refl, sym, ap, ◌∙◌, subst, arith}
 use Rattle.std.specs.Prelude.{◌≢◌, Option, slice_index_or, if◌then◌else◌, Result, Ok, Err, IsOk, Vec}
 use Rattle.std.specs.Global.{Global}
 use Rattle.std.proofs.lemmas.Bool.{false≢true}
-use Rattle.std.proofs.lemmas.List.{length-set, length-map, append-nil, take-append-le, take_all, get_or-set_other}
-use Rattle.std.proofs.lemmas.List.Elements.{All-set}
+use Rattle.std.proofs.lemmas.List.{length-set, length-map, append-nil, take-append-le, take_all}
 use Rattle.sdf_level.specs.declared.node.Node.{Node}
 use Rattle.sdf_level.specs.declared.node.Node.TheVariants as node
 use Rattle.single_rate.specs.Expanded.{place_of}
@@ -21,9 +20,7 @@ use Rattle.one_job.specs.Ports.{reads_stored, writes_stored, with_left, with_out
 use Rattle.one_job.specs.Taking.{Layout, AreDue, IsOne, with_leases}
 use Rattle.one_job.specs.View.{JobView, graph_of, IsFiring}
 use Rattle.one_job.specs.Calls.{finished_with}
-use Rattle.one_job.specs.Frames.{HasBlocks}
-use Rattle.one_job.specs.Kept.{Parts, HasParts, LieRight, Keeps}
-use Rattle.one_job.specs.declared.frames.FrameParts.{FrameParts}
+use Rattle.one_job.specs.Kept.{Parts, HasStock, LieRight, Keeps}
 use Rattle.one_job.specs.Staged.{mark_of, stage_with}
 use Rattle.kernel_gate.specs.declared.told.Told.{Told}
 use Rattle.one_job.proofs.Phases.{mark_elsewhere, phase_there, inside_of, claimed_not_free}
@@ -197,12 +194,9 @@ module _ (j : JobView) (p : Parts) (pool : PoolView) (outs left : List (List ℤ
     outs_due = λ is. due_part (writes_stored which) out_leases middle is facts.outs_due;
   }
 
-  module _ (sound : IsFiring which ⊎ IsOk answer) (once : place_of j.compilation.graph.nodes which ≡ n) (kept : List ℤ) (told : (tokens : List ℤ) → writes_stored which ≡ true → map cells_of out_leases ≡ tokens ∷ [] → kept ≡ tokens) (parts : FrameParts) (blocks : HasBlocks parts) where
+  module _ (sound : IsFiring which ⊎ IsOk answer) (once : place_of j.compilation.graph.nodes which ≡ n) (kept : List ℤ) (told : (tokens : List ℤ) → writes_stored which ≡ true → map cells_of out_leases ≡ tokens ∷ [] → kept ≡ tokens) where
     abbrev later_job : JobView
     later_job = record j { marks = set j.marks n end_mark }
-
-    abbrev later_parts : Parts
-    later_parts = record p { frames = set p.frames n parts }
 
     kept_is : writes_stored which ≡ true → kept ≡ slice_index_or (flow_given (value_of end_mark)) 0 []
     kept_is is = kept_tokens f answer out_leases kept (⊎_elim (λ (firing : IsFiring which). absurd (writes_no_firing which is firing)) (λ (ok : IsOk answer). ok) sound) outputs_are (can_give_both.outs_one is) (λ tokens. told tokens is)
@@ -214,18 +208,18 @@ module _ (j : JobView) (p : Parts) (pool : PoolView) (outs left : List (List ℤ
     before_none : flow_given (value_of (mark_at j.marks n)) ≡ []
     before_none = ap (λ (k : Mark). flow_given (value_of k)) claimed
 
-    others_free : (m : ℕ) (g : FrameParts) → m < length j.compilation.graph.nodes → phase later_job.marks m ≡ IsFree → get_or later_parts.frames m g ≡ g → HasParts later_job later_parts m g
-    others_free m g m_in free at =
+    others_free : (m : ℕ) → m < length j.compilation.graph.nodes → phase later_job.marks m ≡ IsFree → HasStock later_job p m
+    others_free m m_in free =
         let differs : m ≢ n = λ same. (ends f answer).not_free (sym (phase_there j.marks n end_mark marked) ∙ subst (λ v. phase later_job.marks v ≡ IsFree) same free) in
-        keeps.free m g m_in (ap phase_of (sym (mark_elsewhere j.marks n m end_mark differs)) ∙ free) (sym (get_or-set_other p.frames n m parts g differs) ∙ at)
+        keeps.free m m_in (ap phase_of (sym (mark_elsewhere j.marks n m end_mark differs)) ∙ free)
 
-    others_lie : (m : ℕ) (where_they_lie : Places) → mark_at later_job.marks m ≡ Claimed where_they_lie → LieRight later_job later_parts m where_they_lie
+    others_lie : (m : ℕ) (where_they_lie : Places) → mark_at later_job.marks m ≡ Claimed where_they_lie → LieRight later_job p m where_they_lie
     others_lie m where_they_lie is =
         let differs : m ≢ n = λ same. (ends f answer).not_claimed (sym (phase_there j.marks n end_mark marked) ∙ ap phase_of (subst (λ v. mark_at later_job.marks v ≡ Claimed where_they_lie) same is)) in
         let old = keeps.claimed m where_they_lie (sym (mark_elsewhere j.marks n m end_mark differs) ∙ is) in
         record { inputs = old.inputs; outputs = old.outputs }
 
-    pub finish_keeps : Keeps later_job later_parts last (with_out which kept outs) (with_left which kept left)
+    pub finish_keeps : Keeps later_job p last (with_out which kept outs) (with_left which kept left)
     finish_keeps = record {
       compiled = keeps.compiled;
       given = record { kinds = keeps.given.kinds; args = keeps.given.args; sources = keeps.given.sources; stored = keeps.given.stored };
@@ -246,11 +240,9 @@ module _ (j : JobView) (p : Parts) (pool : PoolView) (outs left : List (List ℤ
           (λ tokens is e e_in here.
           ap (λ l. slice_index_or l (edge_at j.compilation.graph.edges e).tail_port []) (tokens_of f answer tokens is ∙ outputs_are)
           ∙ part_at (writes_stored which) (port_alone (writes_stored which) (length (lens (graph_of j) n)) row_out (edge_at j.compilation.graph.edges e).tail_port e long_out (ports.tails_at e e_in here)) (edge_at j.compilation.graph.edges e).tail_port);
-      parts = record {
-        one_each = length-set p.frames n parts ∙ keeps.parts.one_each;
-        blocks = All-set HasBlocks p.frames n parts blocks keeps.parts.blocks;
-      };
+      stocked = keeps.stocked;
       free = others_free;
+      rooms = λ m m_in. keeps.rooms m m_in;
       claimed = others_lie;
       outs_are = with_out-same which kept (slice_index_or (flow_given (value_of end_mark)) 0 []) outs kept_is
           ∙ (ap (with_out which (slice_index_or (flow_given (value_of end_mark)) 0 [])) keeps.outs_are

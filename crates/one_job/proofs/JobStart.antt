@@ -17,13 +17,10 @@ use Rattle.job_flow.specs.Laws.{HavePorts, EdgesHavePorts}
 use Rattle.one_job.specs.Marks.{Mark, Free, Claimed, mark_at, IsFree, IsFinished, phase, phase_of, values, value_of}
 use Rattle.one_job.specs.Places.{edge_at, buffer_at}
 use Rattle.one_job.specs.Live.{IsLent, AreOut}
-use Rattle.one_job.specs.Ports.{reads_stored, writes_stored, row_of, AreWired, port_size}
-use Rattle.one_job.specs.Opening.{stored_in, AreMade}
-use Rattle.one_job.specs.Frames.{IsRoom}
-use Rattle.one_job.specs.declared.frames.FrameParts.{FrameParts}
-use Rattle.one_job.specs.declared.opening.Given.{Given}
-use Rattle.one_job.specs.View.{JobView, graph_of, HasGiven, args_at}
-use Rattle.one_job.specs.Kept.{Parts, AreParts, HasParts, IsPoolOf, Keeps}
+use Rattle.one_job.specs.Ports.{writes_stored, row_of, AreWired, port_size}
+use Rattle.one_job.specs.Opening.{AreMade}
+use Rattle.one_job.specs.View.{JobView, graph_of, HasGiven}
+use Rattle.one_job.specs.Kept.{Parts, HasRoom, HasStock, IsPoolOf, Keeps}
 use Rattle.one_job.proofs.Wires.{enters_at, writes_one}
 
 -- the edge at the first port of a node is there
@@ -91,16 +88,11 @@ module _ (j : JobView) (p : Parts) (compiled : IsCompiled j.compilation) (has_gi
   is_graph = record { level_kept = compiled.level_kept; repetition = compiled.repetition; order = compiled.order_is; nodes_are = compiled.expanded.nodes_are; edges_are = compiled.expanded.edges_are; sources_fit = has_given.sources; delays_fit = has_given.stored }
 
   -- what was made for a node is what it has
-  pub parts_of_free : EdgesHavePorts ℤ → (given : Given) → given.args ≡ j.args → given.sources ≡ j.sources → given.stored ≡ j.stored
-      → AreMade nodes j.compilation.graph.edges p.entering p.leaving given p.frames
-      → (n : ℕ) (f : FrameParts) → n < length nodes → get_or p.frames n f ≡ f → HasParts j p n f
-  parts_of_free law given args sources stored made n f inside at =
-      let one = made.each n f inside at in
+  pub stock_of_free : EdgesHavePorts ℤ → AreMade nodes j.compilation.graph.edges p.entering j.sources j.stored p.stock → (n : ℕ) → n < length nodes → HasStock j p n
+  stock_of_free law made n inside =
+      let one = made.each n inside in
       record {
-        args_are = one.args_are ∙ ap (λ lists. args_at lists (node_at nodes n)) args;
-        inputs = subst (λ (tokens : List ℤ). IsRoom (reads_stored (node_at nodes n)) tokens (length (row_of p.entering n)) f.inputs) (ap₂ (λ a b. stored_in a b (node_at nodes n)) sources stored) one.inputs;
-        cells = one.cells;
-        outputs = one.outputs;
+        read_are = one.read_are;
         long = λ is.
             one.long is
             ∙ sym (ap (λ sizes. slice_index sizes 0) (writes_one (graph_of j) (node_at nodes n) n is)
@@ -108,10 +100,10 @@ module _ (j : JobView) (p : Parts) (compiled : IsCompiled j.compilation) (has_gi
       }
 
   pub keeps_at_start : (pool : PoolView) (outs left : List (List ℤ)) → j.marks ≡ replicate (length nodes) Free
-      → IsPoolOf j pool → pool.out ≡ [] → AreParts (length nodes) p → ((n : ℕ) (f : FrameParts) → n < length nodes → get_or p.frames n f ≡ f → HasParts j p n f)
+      → IsPoolOf j pool → pool.out ≡ [] → length p.stock ≡ length nodes → ((n : ℕ) → n < length nodes → HasStock j p n) → ((n : ℕ) → n < length nodes → HasRoom j p n)
       → outs ≡ replicate (length j.compilation.level.sinks) [] → left ≡ replicate (length j.compilation.level.links) []
       → Keeps j p pool outs left
-  keeps_at_start pool outs left all_free cells none_out parts free outs_are left_are =
+  keeps_at_start pool outs left all_free cells none_out stocked free rooms outs_are left_are =
       let free_at : (n : ℕ) → mark_at j.marks n ≡ Free = λ n. ap (λ marks. mark_at marks n) all_free ∙ mark_free (length nodes) n in
       let none_at : (n : ℕ) → values j.marks n ≡ None = λ n. ap value_of (free_at n) in
       let not_yet : (n : ℕ) → phase j.marks n ≡ IsFree = λ n. ap phase_of (free_at n) in
@@ -131,8 +123,9 @@ module _ (j : JobView) (p : Parts) (compiled : IsCompiled j.compilation) (has_gi
           apart = tt;
         };
         full = λ e inside is. absurd (not_finished (phase j.marks (edge_at j.compilation.graph.edges e).tail) (not_yet (edge_at j.compilation.graph.edges e).tail) is.given);
-        parts = parts;
-        free = λ n f inside is at. free n f inside at;
+        stocked = stocked;
+        free = λ n inside is. free n inside;
+        rooms = rooms;
         claimed = λ n places is. let bad : Free ≡ Claimed places = sym (free_at n) ∙ is in absurd (cc);
         outs_are = outs_are ∙ sym (sunk_free nodes (values j.marks) 0 j.compilation.level.sinks none_at);
         left_are = left_are ∙ sym (left_free nodes (values j.marks) 0 j.compilation.level.links none_at);

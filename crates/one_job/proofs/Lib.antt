@@ -2,7 +2,6 @@ pub mod TakingSteps
 pub mod Phases
 pub mod Order
 pub mod Cells
-pub mod Blocks
 pub mod Outs
 pub mod Lending
 pub mod Claiming
@@ -13,12 +12,8 @@ pub mod JobFinish
 pub mod JobDone
 pub mod JobEnds
 pub mod FirstFault
-pub mod RowParts
-pub mod RowStarts
-pub mod RowSteps
-pub mod JobWires
-pub mod StartWires
 pub mod JobStart
+pub mod RoomSteps
 pub mod Firsts
 pub mod Releasing
 pub mod Heads

@@ -1,14 +1,13 @@
 -- No cell of a job has two owners.
 use Rattle.std.proofs.Common.{◌≡◌, ◌⊎◌, inl, inr, ⊎_elim, ℕ, zero, suc, ◌+◌, ◌<◌, ◌≤◌, Bool, true, false, List, length, refl, sym, ap, ◌∙◌, subst, arith}
-use Rattle.std.specs.Prelude.{◌≢◌, Option, Some, slice_get, slice_index}
+use Rattle.std.specs.Prelude.{Option, Some, slice_get, slice_index}
 use Rattle.std.proofs.lemmas.Bool.{cases_eq}
 use Rattle.sdf_level.specs.declared.single_rate.Edge.{Edge}
-use Rattle.split_block.specs.Places.{Apart}
 use Rattle.split_block.specs.View.{LeasePlace, IsWholePlace}
 use Rattle.kernel_gate.specs.Value.{Places}
 use Rattle.job_flow.specs.Graphs.{node_at}
-use Rattle.one_job.specs.Marks.{Mark, IsFree, IsClaimed, IsFinished, phase}
-use Rattle.one_job.specs.Places.{edge_at, buffer_at}
+use Rattle.one_job.specs.Marks.{Mark, IsClaimed, phase}
+use Rattle.one_job.specs.Places.{edge_at}
 use Rattle.one_job.specs.Live.{IsLent}
 use Rattle.one_job.specs.Leased.{AreLeases, HasCell, JobCells, LendsBuffers, Port, Input, Output, buffer_lease}
 use Rattle.one_job.specs.Ports.{reads_stored, writes_stored}

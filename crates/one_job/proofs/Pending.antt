@@ -5,7 +5,7 @@ use Rattle.std.proofs.lemmas.Bool.{cases_eq, cases_lt, eq-eqb, ne_eqb}
 use Rattle.sdf_level.specs.declared.single_rate.Edge.{Edge}
 use Rattle.one_job.specs.Places.{edge_at}
 use Rattle.one_job.specs.Ready.{bit, marked_into, heads_at, heads_in}
-use Rattle.one_job.specs.Wiring.{head_of, ends_at}
+use Rattle.job_compiler.specs.Ends.{head_of, ends_at}
 use Rattle.one_job.proofs.Lending.{In, NotIn, Fresh, EachEdge}
 
 and_no : (b : Bool) → (b && false) ≡ false

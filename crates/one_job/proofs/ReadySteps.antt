@@ -13,7 +13,7 @@ use Rattle.one_job.specs.Marks.{Mark, Free, Claimed, mark_at, Phase, IsFree, IsC
 use Rattle.one_job.specs.Places.{no_edge, edge_at}
 use Rattle.one_job.specs.Live.{InOrder}
 use Rattle.one_job.specs.Ports.{EachLeaves}
-use Rattle.one_job.specs.Wiring.{head_of, AreEndCounts}
+use Rattle.job_compiler.specs.Ends.{head_of, AreEndCounts}
 use Rattle.one_job.specs.View.{JobView, IsEnabled, graph_of}
 use Rattle.one_job.specs.Ready.{bit, is_unfinished, is_pending, marked_into, waits_for, is_claimed, claims, AreGroups, AreKeys, KeepsReady, AreStarted, heads_in, heads_at, Releases, CanRelease}
 use Rattle.one_job.proofs.Phases.{inside_of, phase_there, phase_elsewhere, claimed_not_free, claimed_not_finished, free_not_finished, free_not_claimed}

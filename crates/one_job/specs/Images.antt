@@ -3,7 +3,7 @@ use Rattle.std.specs.Prelude.{◌≡◌, ℕ, ℤ, pos, zero, suc, ◌<◌, ◌=
 use Rattle.sdf_level.specs.declared.single_rate.Edge.{Edge}
 use Rattle.split_block.specs.Places.{write}
 use Rattle.job_compiler.specs.Compilation.{Compilation, IsCompiled}
-use Rattle.one_job.specs.Marks.{Mark, Free, Claimed, Finished, Failed, IsFree, IsClaimed, IsFinished, phase}
+use Rattle.one_job.specs.Marks.{Mark, Free, Claimed, Finished, Failed, IsFree, IsClaimed, IsFinished, phase, nowhere}
 use Rattle.one_job.specs.Places.{edge_at}
 use Rattle.one_job.specs.Live.{HoldFull}
 
@@ -19,7 +19,7 @@ mark_with (Err code) = Failed code
 -- the marks that events leave, the last event first
 abbrev pub marks_after : ℕ → List Event → List Mark
 marks_after nodes [] = replicate nodes Free
-marks_after nodes (Claim n ∷ before) = slice_set (marks_after nodes before) n (Claimed record { inputs = []; outputs = [] })
+marks_after nodes (Claim n ∷ before) = slice_set (marks_after nodes before) n (Claimed nowhere)
 marks_after nodes (Finish n answer ∷ before) = slice_set (marks_after nodes before) n (mark_with answer)
 
 -- what a node gave at this edge

@@ -1,10 +1,11 @@
 -- The fields of a job.
-use Rattle.std.specs.Prelude.{◌≡◌, ℕ, ℤ, ◌<◌, ◌≤◌, true, All, List, length, map, slice_index, slice_index_or, Option}
+use Rattle.std.specs.Prelude.{◌≡◌, ℕ, ℤ, ◌<◌, ◌≤◌, true, [], List, length, map, slice_index, slice_index_or, Option}
 use Rattle.std.specs.Arc.{arc_value}
 use Rattle.cell_pool.specs.View.{PoolView}
 use Rattle.kernel_gate.specs.Value.{Places}
 use Rattle.sdf_level.specs.declared.node.Node.{Node}
 use Rattle.job_compiler.specs.Compilation.{IsCompiled}
+use Rattle.job_compiler.specs.Wired as at_ports
 use Rattle.job_flow.specs.Graphs.{node_at}
 use Rattle.job_flow.specs.Frames.{lens}
 use Rattle.job_flow.specs.Outcomes.{ended}
@@ -13,51 +14,50 @@ use Rattle.one_job.specs.Places.{buffer_at}
 use Rattle.one_job.specs.Live.{InOrder, IsLent, AreOut, HoldFull}
 use Rattle.one_job.specs.Ports.{reads_stored, writes_stored, row_of, AreWired, LieBehind}
 use Rattle.one_job.specs.Opening.{stored_in}
-use Rattle.one_job.specs.Frames.{HasBlocks, IsMadeOf}
+use Rattle.one_job.specs.Stock.{IsStock}
+use Rattle.one_job.specs.Rooms.{IsRoomFor}
 use Rattle.one_job.specs.View.{JobView, graph_of, HasGiven, args_of}
 use Rattle.one_job.specs.Staged.{mark_of}
 use Rattle.one_job.specs.Ready.{KeepsReady}
-use Rattle.one_job.specs.declared.frames.FrameParts.{FrameParts}
 use Rattle.one_job.specs.declared.job.Job.TheInside.{Inside}
 
 abbrev pub view_of : Inside → JobView
 view_of i = record {
   compilation = arc_value i.compiled;
   kinds = i.kinds;
-  args = i.args_given.value;
+  args = i.args;
   sources = i.sources.value;
   stored = i.stored.value;
   block = i.pool.block;
   marks = map mark_of i.stages.items;
+  room = i.size;
 }
 
--- by the node's number, the edges at its ports and what its frame is made of
+-- by the node's number, the edges at its ports and what lies ready for it
 pub record Parts : Type 0 where
   pub entering : List (List (Option ℕ))
   pub leaving : List (List (Option ℕ))
-  pub frames : List FrameParts
+  pub stock : List (List ℤ)
 
 abbrev pub parts_of : Inside → Parts
 parts_of i = record {
-  entering = i.entering;
-  leaving = i.leaving;
-  frames = i.frames.items;
+  entering = at_ports.entering (arc_value i.compiled).level (arc_value i.compiled).graph;
+  leaving = at_ports.leaving (arc_value i.compiled).level (arc_value i.compiled).graph;
+  stock = i.stock.items;
 }
 
 -- the tokens that a Source or an Init reads
 abbrev pub stored_at : JobView → Node → List ℤ
 stored_at j which = stored_in j.sources j.stored which
 
--- one for each node; there is no lease of the pool in them
-pub record AreParts (count : ℕ) (p : Parts) : Type 0 where
-  pub one_each : length p.frames ≡ count
-  pub blocks : All HasBlocks p.frames
+-- what lies ready for a node: where what the node writes is stored, there are as many cells as it writes tokens
+abbrev pub HasStock : JobView → Parts → ℕ → Type 0
+HasStock j p n =
+    IsStock (node_at j.compilation.graph.nodes n) (stored_at j (node_at j.compilation.graph.nodes n)) (slice_index (lens (graph_of j) n) 0) (slice_index_or p.stock n [])
 
--- what the frame of a free node is made of: where what the node writes is stored, there are as many cells as it writes tokens
-abbrev pub HasParts : JobView → Parts → ℕ → FrameParts → Type 0
-HasParts j p n f =
-    IsMadeOf (node_at j.compilation.graph.nodes n) (args_of j n) (stored_at j (node_at j.compilation.graph.nodes n)) (slice_index (lens (graph_of j) n) 0)
-    (length (row_of p.entering n)) (length (row_of p.leaving n)) f
+-- the frame of a node takes at most as much memory as the job says
+abbrev pub HasRoom : JobView → Parts → ℕ → Type 0
+HasRoom j p n = IsRoomFor (node_at j.compilation.graph.nodes n) (args_of j n) (length (row_of p.entering n)) (length (row_of p.leaving n)) j.room
 
 -- the leases of a claimed node
 pub record LieRight (j : JobView) (p : Parts) (n : ℕ) (places : Places) : Type 0 where
@@ -82,8 +82,9 @@ pub record Keeps (j : JobView) (p : Parts) (pool : PoolView) (outs left : List (
   pub cells : IsPoolOf j pool
   pub out : AreOut (buffer_at j.compilation.graph.edges j.compilation.placement.offsets) (length j.compilation.graph.edges) (IsLent j.compilation.graph.edges j.marks) pool.out
   pub full : HoldFull j.compilation.graph.edges j.compilation.placement.offsets j.marks pool.cells
-  pub parts : AreParts (length j.compilation.graph.nodes) p
-  pub free : (n : ℕ) (f : FrameParts) → n < length j.compilation.graph.nodes → phase j.marks n ≡ IsFree → slice_index_or p.frames n f ≡ f → HasParts j p n f
+  pub stocked : length p.stock ≡ length j.compilation.graph.nodes
+  pub free : (n : ℕ) → n < length j.compilation.graph.nodes → phase j.marks n ≡ IsFree → HasStock j p n
+  pub rooms : (n : ℕ) → n < length j.compilation.graph.nodes → HasRoom j p n
   pub claimed : (n : ℕ) (places : Places) → mark_at j.marks n ≡ Claimed places → LieRight j p n places
   pub outs_are : outs ≡ (ended (graph_of j) (values j.marks)).outs
   pub left_are : left ≡ (ended (graph_of j) (values j.marks)).left

@@ -4,7 +4,6 @@ pub mod Taking
 pub mod Live
 pub mod Ports
 pub mod Staged
-pub mod Wiring
 pub mod Opening
 pub mod Faults
 pub mod View
@@ -14,6 +13,6 @@ pub mod Calls
 pub mod Leased
 pub mod LiveLaws
 pub mod Images
-pub mod Frames
-pub mod Rows
+pub mod Stock
+pub mod Rooms
 pub mod Kept

@@ -1,5 +1,5 @@
 -- How far the nodes of a job are.
-use Rattle.std.specs.Prelude.{ℕ, ℤ, List, slice_index_or, Option, Some, None, Result, Ok, Err}
+use Rattle.std.specs.Prelude.{ℕ, ℤ, List, [], slice_index_or, Option, Some, None, Result, Ok, Err}
 use Rattle.kernel_gate.specs.Value.{Places}
 use Rattle.job_flow.specs.Frames.{Values}
 
@@ -10,6 +10,10 @@ pub data Mark : Type 0 where
   Claimed : (places : Places) → Mark
   Finished : (outs : List (List ℤ)) → Mark
   Failed : (code : ℕ) → Mark
+
+-- leases of no ports
+abbrev pub nowhere : Places
+nowhere = record { inputs = []; outputs = []; room = record { inputs = 0; outputs = 0; args = 0 } }
 
 abbrev pub mark_at : List Mark → ℕ → Mark
 mark_at marks n = slice_index_or marks n Free

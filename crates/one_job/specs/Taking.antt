@@ -73,3 +73,7 @@ IsOne leases = (lease : LeaseView) × (leases ≡ lease ∷ []) × IsWhole lease
 abbrev pub IsStored : Bool → List ℤ → List LeaseView → Type 0
 IsStored true tokens own = (lease : LeaseView) × (own ≡ lease ∷ []) × IsWhole lease × (lease.cells ≡ tokens)
 IsStored false tokens own = own ≡ []
+
+-- as many leases
+abbrev pub own : Bool → ℕ
+own stored = if stored then 1 else 0

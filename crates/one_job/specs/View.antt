@@ -1,6 +1,7 @@
 -- A job as plain data, and which of its nodes may be claimed.
 use Rattle.std.specs.Prelude.{◌≡◌, ℕ, ℤ, List, [], length, map, Option, None, unwrap_or, slice_index_or}
 use Rattle.split_block.specs.View.{Block}
+use Rattle.kernel_gate.specs.declared.room.RoomSize.{RoomSize}
 use Rattle.sdf_level.specs.LevelRun.{HaveDelays}
 use Rattle.sdf_level.specs.declared.node.Node.{Node}
 use Rattle.sdf_level.specs.declared.node.Node.TheVariants as node
@@ -20,6 +21,8 @@ pub record JobView : Type 0 where
   pub stored : List (List ℤ)
   pub block : Block
   pub marks : List Mark
+  -- as much memory as the frame of any node takes
+  pub room : RoomSize
 
 -- the graph of a compilation, with what its sources give and its links hold
 abbrev pub job_graph : Compilation → List (List ℤ) → List (List ℤ) → JobGraph ℤ

@@ -1,6 +1,7 @@
 // A job and its events.
 ghost use Rattle.std.specs.Prelude.{◌≡◌, ◌≢◌, ◌⊎◌, ◌↔◌, ◌<◌, ℕ, [], length, map, slice_index, slice_set, true, false, IsTrue, IsOk};
 ghost use Rattle.split_block.specs.Places.{Apart, AllApart, has, window};
+ghost use Rattle.kernel_gate.specs.Rooms.{Suffices};
 ghost use Rattle.kernel_gate.specs.Value.{lengths};
 ghost use Rattle.job_flow.specs.Graphs.{node_at};
 ghost use Rattle.job_flow.specs.Frames.{inputs, lens, on_edge};
@@ -8,21 +9,19 @@ ghost use Rattle.job_flow.specs.Events.{IsQuiet};
 ghost use Rattle.job_flow.specs.Outcomes.{ended};
 
 use crate::choosing::first_head;
-use crate::frames::{FrameParts, no_parts, spend_frames, spend_parts};
 use crate::leases::{give_inputs, give_outputs, take_ports};
 use crate::nodes::{is_child, keep_tokens, kind_of, reads_stored, writes_stored};
 use crate::ready::{is_quiet, release, released};
-use crate::rows::Rows;
 use crate::stage::{Stage, ended_stage, first_fault};
+use crate::stock::begin;
 use cell_pool::Pool;
 use job_compiler::Compiled;
-use kernel_gate::{Frame, KernelFault, Lent, told_of};
+use kernel_gate::{Frame, KernelFault, Lent, Room, RoomSize, told_of};
 use ready_heap::GroupedHeaps;
 use sdf_level::{List, Node};
 use single_rate::graphs_numbered;
 use std::alloc::Global;
 use std::marker::Model;
-use std::mem;
 use std::snapshot::Snapshot;
 use std::sync::Arc;
 
@@ -31,7 +30,7 @@ use std::sync::Arc;
 pub struct Job {
     pub(crate) compiled: Arc<Compiled>,
     pub(crate) kinds: List<Option<u32>>,
-    pub(crate) args_given: Snapshot<List<List<i64>>>,
+    pub(crate) args: List<List<i64>>,
     pub(crate) sources: Snapshot<List<List<i64>>>,
     pub(crate) stored: Snapshot<List<List<i64>>>,
     pub(crate) stages: Vec<Stage>,
@@ -41,11 +40,10 @@ pub struct Job {
     pub(crate) ready: GroupedHeaps,
     /// How many nodes are claimed.
     pub(crate) claimed: usize,
-    /// For each node the edges that enter and leave it, port by port.
-    pub(crate) entering: Rows,
-    pub(crate) leaving: Rows,
-    /// For each node what its frame is made of, until it is claimed and once it is finished.
-    pub(crate) frames: Vec<FrameParts>,
+    /// For each node the stored tokens that it reads, or cells for those that it keeps, until it is claimed.
+    pub(crate) stock: Vec<List<i64>>,
+    /// As much memory as the frame of any node takes.
+    pub(crate) size: RoomSize,
     pub(crate) pool: Pool,
     pub(crate) outs: Vec<List<i64>>,
     pub(crate) left: Vec<List<i64>>,
@@ -152,48 +150,57 @@ impl Job {
         &self.compiled
     }
 
+    /// As much memory as the frame of any node takes.
+    pub fn room_size(&self) -> RoomSize
+        ensures { result ≡ self.now.room }
+    {
+        self.size
+    }
+
     /// Claims a node. Its frame has the node's kind, or 0, the arguments of its actor, or none, no sets, and for each port a
-    /// lease: the inputs hold the tokens that the node reads, and the outputs any tokens. It takes no memory.
-    pub fn claim(&mut self, node: u32) -> Frame
-        requires { IsEnabled self.old node }
+    /// lease: the inputs hold the tokens that the node reads, and the outputs any tokens. It is made in the room, and takes no
+    /// memory.
+    pub fn claim(&mut self, node: u32, room: Room) -> Frame
+        requires enabled { IsEnabled self.old node }
+        requires room { Suffices self.old.room room }
         ensures kind { (result.kind ≡ kind_of self.old node) × (result.args ≡ args_of self.old node) × (result.sets ≡ []) }
         ensures inputs { result.inputs ≡ inputs (graph_of self.old) (values self.old.marks) node }
         ensures outputs { lengths result.outputs ≡ lens (graph_of self.old) node }
         ensures leases { LieAtBuffers self.old node result.places }
+        ensures room { result.places.room ≡ room }
         ensures claimed { self.new ≡ record self.old { marks = slice_set self.old.marks node (Claimed result.places) } }
     {
         let n = node as usize;
         let kind = self.compiled.graph().nodes.items()[n];
         let edges = self.compiled.graph().edges.items();
         let offsets = self.compiled.placement().offsets.items();
-        let FrameParts {
-            inputs,
-            outputs,
-            args,
-        } = mem::replace(&mut self.frames[n], no_parts(self.alloc));
-        let inputs = take_ports(
+        let mut lent = room.open();
+        let parts: &mut Lent = &mut lent;
+        begin(
+            parts,
+            kind,
+            self.kinds.items(),
+            self.args.items(),
+            &mut self.stock[n],
+            self.alloc,
+        );
+        take_ports(
             &mut self.pool,
             edges,
             offsets,
-            self.entering.row(n),
-            inputs,
+            self.compiled.wiring().entering.row(n),
+            &mut parts.inputs,
             self.alloc,
         );
-        let outputs = take_ports(
+        take_ports(
             &mut self.pool,
             edges,
             offsets,
-            self.leaving.row(n),
-            outputs,
+            self.compiled.wiring().leaving.row(n),
+            &mut parts.outputs,
             self.alloc,
         );
-        let frame = Frame::lend(
-            kind_of(kind, self.kinds.items()),
-            args,
-            List::new(inputs),
-            List::new(outputs),
-            List::new(Vec::new(self.alloc)),
-        );
+        let frame = Frame::lend(lent);
         self.stages[n] = Stage::Claimed(told_of(&frame));
         self.ready.remove(node);
         self.claimed += 1;
@@ -201,52 +208,45 @@ impl Job {
     }
 
     /// Finishes a claimed node: its frame comes back with what it wrote, or with the code of its kernel. A job of its own
-    /// that was refused is finished with code 0. It takes no memory. What the frame was made of goes back to the job, but for the
-    /// stored tokens that the node has read, which are given up.
-    pub fn finish(&mut self, node: u32, frame: Frame, answer: Result<(), KernelFault>)
+    /// that was refused is finished with code 0. The stored tokens that the node has read are given up. It takes no memory, and
+    /// gives back the room that the frame was made in.
+    pub fn finish(&mut self, node: u32, frame: Frame, answer: Result<(), KernelFault>) -> Room
         requires claimed { mark_at self.old.marks node ≡ Claimed frame.places }
         requires sound { IsFiring (node_at self.old.compilation.graph.nodes node) ⊎ IsOk answer }
-        ensures { self.new ≡ record self.old { marks = slice_set self.old.marks node (finished_with frame answer) } }
+        ensures finished { self.new ≡ record self.old { marks = slice_set self.old.marks node (finished_with frame answer) } }
+        ensures room { result ≡ frame.places.room }
     {
         graphs_numbered();
         let n = node as usize;
         let is_done = answer.is_ok();
         let stage = ended_stage(told_of(&frame), answer);
-        let Lent {
-            args,
-            inputs,
-            outputs,
-            sets: _,
-        } = frame.take_back();
+        let mut lent = frame.take_back();
+        let parts: &mut Lent = &mut lent;
         let kind = self.compiled.graph().nodes.items()[n];
-        let inputs = give_inputs(
+        give_inputs(
             &mut self.pool,
             reads_stored(kind),
-            inputs.into_items(),
+            &mut parts.inputs,
             self.alloc,
         );
-        let (outputs, kept) = give_outputs(
+        let kept = give_outputs(
             &mut self.pool,
             writes_stored(kind),
-            outputs.into_items(),
+            &mut parts.outputs,
             self.alloc,
         );
+        parts.args.clear();
+        parts.sets.clear();
         keep_tokens(kind, kept, &mut self.left, &mut self.outs);
-        let parts = FrameParts {
-            inputs,
-            outputs,
-            args,
-        };
-        // While the frame was out, its record was empty: no list is freed here.
-        spend_parts(mem::replace(&mut self.frames[n], parts));
         self.stages[n] = stage;
         self.claimed -= 1;
         release(
             self.compiled.graph().edges.items(),
-            released(is_done, self.leaving.row(n)),
+            released(is_done, self.compiled.wiring().leaving.row(n)),
             &mut self.waiting,
             &mut self.ready,
         );
+        Room::close(lent)
     }
 
     /// Whether there is nothing left to do: no node may be claimed, and none is claimed.
@@ -290,23 +290,21 @@ impl Job {
         let Job {
             compiled: _,
             kinds: _,
-            args_given: _,
+            args: _,
             sources: _,
             stored: _,
             stages: _,
             waiting: _,
             ready: _,
             claimed: _,
-            entering: _,
-            leaving: _,
-            frames,
+            stock: _,
+            size: _,
             pool,
             outs,
             left,
             alloc: _,
         } = self;
         drop(pool.close());
-        spend_frames(frames);
         (outs, left)
     }
 }

@@ -5,8 +5,8 @@ ghost use Rattle.split_block.specs.Places.{window};
 ghost use Rattle.one_job.specs.Places.{buffer_at};
 ghost use Rattle.one_job.specs.Taking.{taken, IsOpen, CanTake, TakesBehind, IsDue, AreDue, IsOne, with_lease, with_leases};
 
-use crate::rows::Port;
 use cell_pool::Pool;
+use job_compiler::Port;
 use sdf_level::{Edge, List};
 use split_block::Lease;
 use std::alloc::Global;
@@ -29,13 +29,14 @@ pub(crate) fn take_ports(
     edges: &[Edge],
     offsets: &[u32],
     ports: &[Port],
-    mut leases: Vec<Lease>,
+    leases: &mut Vec<Lease>,
     alloc: Global,
-) -> Vec<Lease>
+)
     requires placed { length offsets.now ≡ length edges.now }
     requires can { CanTake (buffer_at edges.now offsets.now) (length edges.now) pool.old.block.len pool.old.most ports.now pool.old.out }
-    requires room { length leases.items + length ports.now ≤ vec_capacity leases }
-    ensures leases { TakesBehind (buffer_at edges.now offsets.now) pool.old ports.now leases.items result.items }
+    requires room { length leases.old.items + length ports.now ≤ vec_capacity leases.old }
+    ensures leases { TakesBehind (buffer_at edges.now offsets.now) pool.old ports.now leases.old.items leases.new.items }
+    ensures capacity { vec_capacity leases.new ≡ vec_capacity leases.old }
     ensures pool { pool.new ≡ record pool.old { out = taken (buffer_at edges.now offsets.now) ports.now pool.old.out } }
 {
     for port in ports {
@@ -45,7 +46,6 @@ pub(crate) fn take_ports(
         };
         leases.push_reserved(lease);
     }
-    leases
 }
 
 /// Takes one lease back.
@@ -61,61 +61,58 @@ fn give_one(pool: &mut Pool, lease: Lease)
 }
 
 /// Takes leases back, which empties their list.
-fn give_all(pool: &mut Pool, mut leases: Vec<Lease>) -> Vec<Lease>
-    requires { AreDue leases.items pool.old }
-    ensures pool { pool.new ≡ with_leases leases.items pool.old }
-    ensures empty { result.items ≡ [] }
+fn give_all(pool: &mut Pool, leases: &mut Vec<Lease>)
+    requires { AreDue leases.old.items pool.old }
+    ensures pool { pool.new ≡ with_leases leases.old.items pool.old }
+    ensures empty { leases.new.items ≡ [] }
+    ensures capacity { vec_capacity leases.new ≡ vec_capacity leases.old }
 {
     while let Some(lease) = leases.pop() {
         give_one(pool, lease);
     }
-    leases
 }
 
-/// The list without its one lease, which is a block of its own, and the tokens in that.
-fn take_tokens(mut leases: Vec<Lease>, alloc: Global) -> (Vec<Lease>, Vec<i64>)
-    requires { IsOne leases.items }
-    ensures empty { result.0.items ≡ [] }
-    ensures tokens { (tokens : Seq ℤ) → map (λ l. l.cells) leases.items ≡ tokens ∷ [] → result.1.items ≡ tokens }
+/// Takes its one lease, which is a block of its own, from a list, and gives the tokens in it.
+fn take_tokens(leases: &mut Vec<Lease>, alloc: Global) -> Vec<i64>
+    requires { IsOne leases.old.items }
+    ensures tokens { (tokens : Seq ℤ) → map (λ l. l.cells) leases.old.items ≡ tokens ∷ [] → result.items ≡ tokens }
+    ensures empty { leases.new.items ≡ [] }
+    ensures capacity { vec_capacity leases.new ≡ vec_capacity leases.old }
 {
-    let tokens = match leases.pop() {
+    match leases.pop() {
         Some(lease) => lease.into_vec(),
         None => Vec::new(alloc),
-    };
-    (leases, tokens)
+    }
 }
 
-/// Takes back the leases of a node's outputs, which empties their list. Tokens that are stored come back beside it.
+/// Takes back the leases of a node's outputs, which empties their list, and gives the tokens that are stored.
 pub(crate) fn give_outputs(
     pool: &mut Pool,
     stored: bool,
-    leases: Vec<Lease>,
+    leases: &mut Vec<Lease>,
     alloc: Global,
-) -> (Vec<Lease>, Vec<i64>)
-    requires one { stored ≡ true → IsOne leases.items }
-    requires due { stored ≡ false → AreDue leases.items pool.old }
-    ensures pool { pool.new ≡ (if stored then pool.old else with_leases leases.items pool.old) }
-    ensures empty { result.0.items ≡ [] }
-    ensures tokens { (tokens : Seq ℤ) → stored ≡ true → map (λ l. l.cells) leases.items ≡ tokens ∷ [] → result.1.items ≡ tokens }
+) -> Vec<i64>
+    requires one { stored ≡ true → IsOne leases.old.items }
+    requires due { stored ≡ false → AreDue leases.old.items pool.old }
+    ensures pool { pool.new ≡ (if stored then pool.old else with_leases leases.old.items pool.old) }
+    ensures empty { leases.new.items ≡ [] }
+    ensures capacity { vec_capacity leases.new ≡ vec_capacity leases.old }
+    ensures tokens { (tokens : Seq ℤ) → stored ≡ true → map (λ l. l.cells) leases.old.items ≡ tokens ∷ [] → result.items ≡ tokens }
 {
     if stored {
         return take_tokens(leases, alloc);
     }
-    (give_all(pool, leases), Vec::new(alloc))
+    give_all(pool, leases);
+    Vec::new(alloc)
 }
 
 /// Takes back the leases of a node's inputs, which empties their list. Tokens that were stored are given up.
-pub(crate) fn give_inputs(
-    pool: &mut Pool,
-    stored: bool,
-    leases: Vec<Lease>,
-    alloc: Global,
-) -> Vec<Lease>
-    requires one { stored ≡ true → IsOne leases.items }
-    requires due { stored ≡ false → AreDue leases.items pool.old }
-    ensures pool { pool.new ≡ (if stored then pool.old else with_leases leases.items pool.old) }
-    ensures empty { result.items ≡ [] }
+pub(crate) fn give_inputs(pool: &mut Pool, stored: bool, leases: &mut Vec<Lease>, alloc: Global)
+    requires one { stored ≡ true → IsOne leases.old.items }
+    requires due { stored ≡ false → AreDue leases.old.items pool.old }
+    ensures pool { pool.new ≡ (if stored then pool.old else with_leases leases.old.items pool.old) }
+    ensures empty { leases.new.items ≡ [] }
+    ensures capacity { vec_capacity leases.new ≡ vec_capacity leases.old }
 {
-    let (leases, _read) = give_outputs(pool, stored, leases, alloc);
-    leases
+    let _read = give_outputs(pool, stored, leases, alloc);
 }

@@ -3,17 +3,16 @@
 #![tactic(auto)]
 
 mod choosing;
-mod frames;
 mod job;
 mod laws;
 mod leases;
 mod nodes;
 mod opening;
 mod ready;
-mod rows;
+mod rooms;
 mod stage;
 mod starting;
-mod wiring;
+mod stock;
 
 pub use job::{Job, JobEnd};
 pub use laws::{cells_have_one_owner, full_buffers_hold_tokens, live_buffers_are_apart};

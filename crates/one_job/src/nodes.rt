@@ -1,7 +1,7 @@
 // What the kinds of nodes are.
 ghost use Rattle.std.specs.Prelude.{◌≡◌, slice_set};
 ghost use Rattle.one_job.specs.Ports.{reads_stored as is_read, writes_stored as is_written, with_left, with_out};
-ghost use Rattle.one_job.specs.View.{kind_at};
+ghost use Rattle.one_job.specs.View.{args_at, kind_at};
 ghost use Rattle.one_job.specs.Pick.{is_child_in};
 
 use sdf_level::{List, Node};
@@ -38,6 +38,19 @@ pub(crate) fn kind_of(node: Node, kinds: &[Option<u32>]) -> u32
             _ => 0,
         },
         _ => 0,
+    }
+}
+
+/// The arguments of its actor where it is a firing, else none.
+pub(crate) fn args_of<'a>(node: Node, args: &'a [List<i64>]) -> &'a [i64]
+    ensures { result.now ≡ args_at args.now node }
+{
+    match node {
+        Node::Firing { actor, turn: _ } => match args.get(actor as usize) {
+            Some(list) => list.items(),
+            None => &[],
+        },
+        _ => &[],
     }
 }
 

@@ -1,25 +1,14 @@
 // What a job takes at its start.
-ghost use Rattle.std.specs.Prelude.{ℤ, List as Seq, ◌≡◌, ◌<◌, [], Some, None, true, ℕ, length, map, replicate, slice_index_or, IfOk};
+ghost use Rattle.std.specs.Prelude.{ℤ, List as Seq, ◌≡◌, ◌<◌, [], Some, None, ℕ, length, map, replicate, slice_index_or, IfOk};
 ghost use Rattle.one_job.specs.Marks.{Free};
-ghost use Rattle.one_job.specs.Ports.{writes_stored as is_written, port_size};
+ghost use Rattle.one_job.specs.Ports.{port_size};
 ghost use Rattle.one_job.specs.Staged.{mark_of};
 ghost use Rattle.one_job.specs.Opening.{stored_in};
-ghost use Rattle.one_job.specs.View.{args_at};
 
-use crate::nodes::writes_stored;
-use crate::rows::Port;
 use crate::stage::Stage;
+use job_compiler::Port;
 use sdf_level::{Edge, List, Node};
 use std::alloc::{AllocError, Global};
-
-/// What a job is given beside its graph: the arguments of each actor, the tokens of each source, and those that each link
-/// holds at the start.
-#[derive(Drop)]
-pub(crate) struct Given {
-    pub args: List<List<i64>>,
-    pub sources: List<List<i64>>,
-    pub stored: List<List<i64>>,
-}
 
 /// A copy of the list at a place, empty where there is none.
 fn copy_of(alloc: Global, lists: &[List<i64>], at: u32) -> Result<Vec<i64>, AllocError>
@@ -28,16 +17,6 @@ fn copy_of(alloc: Global, lists: &[List<i64>], at: u32) -> Result<Vec<i64>, Allo
     match lists.get(at as usize) {
         Some(list) => list.items().to_vec(alloc),
         None => Ok(Vec::new(alloc)),
-    }
-}
-
-/// The arguments of a node's frame.
-pub(crate) fn args_of(alloc: Global, node: Node, args: &[List<i64>]) -> Result<Vec<i64>, AllocError>
-    ensures { IfOk result (λ v. v.items ≡ args_at args.now node) }
-{
-    match node {
-        Node::Firing { actor, turn: _ } => copy_of(alloc, args, actor),
-        _ => Ok(Vec::new(alloc)),
     }
 }
 
@@ -71,22 +50,16 @@ fn first_size(edges: &[Edge], ports: &[Port]) -> u32
     }
 }
 
-/// Cells for the tokens that the node writes, if it is an End or a Sink.
+/// Cells for the tokens that an End or a Sink with these ports writes.
 pub(crate) fn written_by(
     alloc: Global,
-    node: Node,
     edges: &[Edge],
     ports: &[Port],
 ) -> Result<Vec<i64>, AllocError>
     requires { (e : ℕ) → slice_index_or ports.now 0 None ≡ Some e → e < length edges.now }
-    ensures { IfOk result (λ v. is_written node ≡ true → length v.items ≡ port_size edges.now (slice_index_or ports.now 0 None)) }
+    ensures { IfOk result (λ v. length v.items ≡ port_size edges.now (slice_index_or ports.now 0 None)) }
 {
-    let size = if writes_stored(node) {
-        first_size(edges, ports)
-    } else {
-        0
-    };
-    vec![in alloc; 0i64; size as usize]
+    vec![in alloc; 0i64; first_size(edges, ports) as usize]
 }
 
 /// So many free nodes.

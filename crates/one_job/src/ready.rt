@@ -6,7 +6,7 @@ ghost use Rattle.one_job.specs.Pick.{is_child_in};
 ghost use Rattle.one_job.specs.Ready.{bit, group_of, AreKeys, AreGroups, Releases, CanRelease, AreStarted};
 
 use crate::nodes::is_child;
-use crate::rows::Port;
+use job_compiler::Port;
 use ready_heap::GroupedHeaps;
 use sdf_level::{Edge, Node};
 use std::alloc::{AllocError, Global};

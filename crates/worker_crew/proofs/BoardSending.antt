@@ -19,6 +19,7 @@ use Rattle.job_compiler.proofs.key.Key.TheSendSync as key
 use Rattle.job_preparing.proofs.handing.JobGiven.TheSendSync as given
 use Rattle.board_journal.proofs.kept.Entries.TheSendSync as entries
 use Rattle.board_journal.proofs.told.Past.TheLaws.TheKnot as past
+use Rattle.firing_board.proofs.frame_rooms.FrameRooms.TheSendSync as frame_rooms
 use Rattle.firing_board.proofs.run.Run.TheSendSync as run
 use Rattle.param_resolver.specs.contracts.known.Early as Early
 use Rattle.param_resolver.specs.contracts.level_set.LevelSet as LevelSet
@@ -31,6 +32,7 @@ use Rattle.firing_board.specs.contracts.table.JobTable as JobTable
 use Rattle.board_journal.specs.contracts.told.Told as JournalTold
 use Rattle.board_journal.specs.contracts.journal.Journal as Journal
 use Rattle.firing_board.specs.contracts.board.Board as Board
+use Rattle.firing_board.specs.contracts.state.Core as Core
 use Rattle.firing_board.specs.contracts.told.ToldSignatures as ToldSignatures
 use Rattle.sdf_level.proofs.list.List.TheSendSync as list
 use Rattle.kernel_gate.specs.contracts.told.Told as Told
@@ -105,5 +107,8 @@ journal_send = search (journal_told_send, entries.the_send, crosses, sendable) d
 told_signatures_send : IsSend ToldSignatures.the_row
 told_signatures_send = search sendable depth 20
 
+core_field_send : IsSend Core.the_field.row
+core_field_send = search (table_send, frame_rooms.the_field_send, run.the_send, journal_send, given.the_send, refusal.the_send, crosses, sendable) depth 60 fits 20000
+
 pub board_send : IsSend Board.the_row
-board_send = search (table_send, told_signatures_send, run.the_send, journal_send, given.the_send, refusal.the_send, kept.the_send, key.the_send, crosses, sendable) depth 60 fits 20000
+board_send = search (core_field_send, told_signatures_send, kept.the_send, key.the_send, crosses, sendable) depth 60 fits 20000

@@ -4,7 +4,7 @@ use Rattle.std.proofs.lemmas.Bool.{cases_eq, cases_lt}
 use Rattle.board_rules.proofs.Ordering.{standings_ordered}
 use Rattle.graph_firing.specs.declared.offer.Offer.{Offer}
 use Rattle.firing_board.specs.Table.AskedRows.{Follows, GivesWayTo, IsBest, IsBestOf, IsFirstOf, better, first_of_two, goes_before_in, row_in, standing_of, stands_before}
-use Rattle.firing_board.specs.declared.table.asking.Asked.{Asked}
+use Rattle.firing_board.specs.declared.table.pick.Asked.{Asked}
 use Rattle.firing_board.specs.declared.table.row.Row.{Row}
 
 -- ---- the order

@@ -16,7 +16,7 @@ use Rattle.firing_board.specs.Table.Asked.{IsAskedOf, IsFirstOffer, PathsDiffer,
 use Rattle.firing_board.specs.Table.AskedRows.{Follows, GivesWayTo, IsBestOf, IsFirstOf, goes_before_in, standing_of}
 use Rattle.firing_board.specs.Table.Suits.{Suits}
 use Rattle.firing_board.specs.Table.View.{TableView, job_row, row_at, table_of}
-use Rattle.firing_board.specs.declared.table.asking.Asked.{Asked}
+use Rattle.firing_board.specs.declared.table.pick.Asked.{Asked}
 use Rattle.firing_board.specs.declared.table.row.Row.{Row}
 use Rattle.firing_board.proofs.OfTable.AskedOffers.{first_offered, none_offered}
 

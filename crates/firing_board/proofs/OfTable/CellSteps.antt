@@ -42,7 +42,7 @@ told_end (Ok outs) = one.Finished outs
 told_end (Err refusal) = one.Failed 0
 
 abbrev taken_mark : one.Mark
-taken_mark = one.Claimed record { inputs = []; outputs = [] }
+taken_mark = one.Claimed one.nowhere
 
 abbrev told_mark : Bool → Mark Firing Answer → one.Mark
 told_mark keeps mark.Free = one.Free

@@ -87,7 +87,7 @@ pub rows_same : (v : TableView) → RowsStay v v
 rows_same v = record {
   graphs_are = refl;
   workers_are = refl;
-  rows = λ j after now. (after, now, stays_same after, refl);
+  rows = λ j after now. (after, now, stays_same after, refl, refl);
   busy = λ j i before here is. (before, here, stays_same before, λ n still. still, λ n a told. told);
 }
 
@@ -97,7 +97,7 @@ rows_less old new k graphs workers rows inside idle = record {
   workers_are = workers;
   rows = λ j after now. ⊎_elim
       (λ (e : j ≡ k). let no : None ≡ Some after = sym (gone old new k rows inside) ∙ (ap (row_at new) (sym e) ∙ now) in absurd (cc))
-      (λ apart. (after, sym (left old new k rows j apart) ∙ now, stays_same after, refl))
+      (λ apart. (after, sym (left old new k rows j apart) ∙ now, stays_same after, refl, refl))
       (cases_eq j k);
   busy = λ j i before here is. ⊎_elim
       (λ (e : j ≡ k). absurd (idle before (ap (row_at old) (sym e) ∙ here) i is))
@@ -123,7 +123,7 @@ rows_through one two three a b = record {
   rows = λ j after now.
       let t = b.rows j after now in
       let u = a.rows j t.0 t.1 in
-      (u.0, u.1, stays_through u.0 t.0 after u.2 t.2, t.3 ∙ u.3);
+      (u.0, u.1, stays_through u.0 t.0 after u.2 t.2, t.3 ∙ u.3, t.4 ∙ u.4);
   busy = λ j i before here is.
       let t = a.busy j i before here is in
       let u = b.busy j i t.0 t.1 (t.3 i is) in
@@ -335,10 +335,10 @@ module _ (lawful : AllLawful) (v : TableView) (k : ℕ) (c : IsClosingFrom v k) 
           rows = λ j after now. ⊎_elim
               (λ (e : j ≡ l).
               let same : now_up ≡ after = the_same (row_at mid l) now_up after mid_up (ap (row_at mid) (sym e) ∙ now) in
-              (up, ap (row_at v) e ∙ above, subst (StaysAs up) same up_stays, ap (λ (r : Row). r.job.lent) (sym same)))
+              (up, ap (row_at v) e ∙ above, subst (StaysAs up) same up_stays, ap (λ (r : Row). r.job.lent) (sym same), ap (λ (r : Row). r.job.room) (sym same)))
               (λ apart. ⊎_elim
               (λ (e : j ≡ k). let no : None ≡ Some after = sym mid_gone ∙ (ap (row_at mid) (sym e) ∙ now) in absurd (cc))
-              (λ other_key. (after, sym (left v rest k less j other_key) ∙ (sym (mid_other j apart) ∙ now), stays_same after, refl))
+              (λ other_key. (after, sym (left v rest k less j other_key) ∙ (sym (mid_other j apart) ∙ now), stays_same after, refl, refl))
               (cases_eq j k))
               (cases_eq j l);
           busy = λ j i before at is. ⊎_elim

@@ -11,13 +11,13 @@ use Rattle.nested_jobs.specs.Marks.{Busy, Done, Mark}
 use Rattle.graph_firing.specs.Calls.{with_item, with_mark}
 use Rattle.graph_firing.specs.View.{OpenView, compilation_of, free_in, free_one}
 use Rattle.pisdf_meaning.specs.declared.firing.Firing.{Firing}
-use Rattle.firing_board.specs.Table.Calls.{FinishesIn, LendsAsBefore, LendsItem, MarksItem}
+use Rattle.firing_board.specs.Table.Calls.{AsksAsBefore, FinishesIn, LendsAsBefore, LendsItem, MarksItem}
 use Rattle.firing_board.specs.Table.Slots.{CompilesSlot, InSlot, IsUnlent, change_row}
 use Rattle.firing_board.specs.Table.View.{HasJob, NothingIsLent, TableView, free_by, free_items, lent_by, lent_in, row_at, with_job}
 use Rattle.firing_board.specs.declared.table.row.Row.{Row}
 use Rattle.firing_board.proofs.OfTable.Freeing.{marks_freed, row_freed}
 use Rattle.firing_board.proofs.OfTable.Rows.{inside_of}
-use Rattle.firing_board.proofs.OfTable.Writes.{in_slot, lends_item, lends_same, lent_inside, mark_inside, marks_item, marks_set, slot_row}
+use Rattle.firing_board.proofs.OfTable.Writes.{in_slot, lends_item, lends_same, lent_inside, mark_inside, marks_item, marks_set, rooms_same, slot_row}
 
 -- a table, as it is and as it is seen, and what stands at a key of it
 module _ (v now : TableView) (e : v ≡ now) (k : ℕ) (slot : Option Row) (read : slot ≡ get_or v.rows k slot) where
@@ -64,6 +64,11 @@ module _ (v now : TableView) (e : v ≡ now) (k : ℕ) (slot : Option Row) (read
         subst (λ (x : TableView). LendsAsBefore x (with_slot slot')) e
         (lends_same v (set v.rows k slot') k row job here_v (ap (set v.rows k) is) same)
 
+    pub room_still : (job : OpenView) (slot' : Option Row) → slot' ≡ Some (with_job row job) → job.room ≡ row.job.room → AsksAsBefore now (with_slot slot')
+    room_still job slot' is same =
+        subst (λ (x : TableView). AsksAsBefore x (with_slot slot')) e
+        (rooms_same v (set v.rows k slot') k row job here_v (ap (set v.rows k) is) same)
+
     -- how many items are free then
     pub job_freed : (job : OpenView) (slot' : Option Row) → slot' ≡ Some (with_job row job) → free_items (with_slot slot') + free_in row.job.marks ≡ free_items now + free_in job.marks
     job_freed job slot' is =
@@ -103,6 +108,10 @@ module _ (v now : TableView) (e : v ≡ now) (k : ℕ) (slot : Option Row) (read
     pub busy_lent : {T : Type 0} (r : Result T AllocError) (item : ℕ) (slot' : Option Row) → OnOk r (slot' ≡ Some (with_job row (with_mark row.job item Busy))) → OnErr r (slot' ≡ slot) → LendsAsBefore now (with_slot slot')
     busy_lent (Ok x) item slot' ok err = lent_still (with_mark row.job item Busy) slot' ok (λ i. refl)
     busy_lent (Err error) item slot' ok err = lent_still row.job slot' (err ∙ slot_is) (λ i. refl)
+
+    pub busy_room : {T : Type 0} (r : Result T AllocError) (item : ℕ) (slot' : Option Row) → OnOk r (slot' ≡ Some (with_job row (with_mark row.job item Busy))) → OnErr r (slot' ≡ slot) → AsksAsBefore now (with_slot slot')
+    busy_room (Ok x) item slot' ok err = room_still (with_mark row.job item Busy) slot' ok refl
+    busy_room (Err error) item slot' ok err = room_still row.job slot' (err ∙ slot_is) refl
 
     pub busy_inside : (item : ℕ) → mark_at row.job.marks item ≡ Busy → item < length row.job.marks
     busy_inside item busy = mark_inside row.job.marks item Busy busy (λ no. cc)

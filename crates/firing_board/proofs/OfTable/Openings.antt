@@ -12,9 +12,9 @@ use Rattle.graph_firing.specs.Paths.{step_of}
 use Rattle.graph_firing.specs.View.{HasItem, OpenView, compilation_of, free_in, free_one, task, total}
 use Rattle.pisdf_meaning.specs.declared.firing.Firing.{Firing}
 use Rattle.pisdf_model.specs.declared.graph.Graphs.{Graphs}
-use Rattle.firing_board.specs.Table.Calls.{IsFresh, IsStarted, LendsAsBefore, OpensChild, SpoilsItem, StaysAs}
+use Rattle.firing_board.specs.Table.Calls.{AsksAsBefore, IsFresh, IsStarted, LendsAsBefore, OpensChild, SpoilsItem, StaysAs}
 use Rattle.firing_board.specs.Table.Slots.{CallsIn, CallsItem, InSlot, IsVacant, SameRows}
-use Rattle.firing_board.specs.Table.View.{TableView, free_by, free_items, lent_by, lent_in, row_at, with_job}
+use Rattle.firing_board.specs.Table.View.{TableView, free_by, free_items, lent_by, lent_in, room_by, room_in, row_at, with_job}
 use Rattle.firing_board.specs.declared.table.row.Row.{Row}
 use Rattle.firing_board.proofs.OfTable.Freeing.{marks_freed, row_freed, same_free}
 use Rattle.firing_board.proofs.OfTable.Rows.{inside_of, stays_same, the_same}
@@ -27,13 +27,14 @@ repeated zero i d = refl
 repeated (suc n) zero d = refl
 repeated (suc n) (suc i) d = repeated n i d
 
-pub is_fresh : (graphs : Graphs) (workers : ℕ) (firing : Firing) (job : OpenView) (n : ℕ) → job.graphs ≡ graphs → job.workers ≡ workers → job.firing ≡ firing → job.cells ≡ None → job.marks ≡ replicate n Free → job.lent ≡ replicate n None
+pub is_fresh : (graphs : Graphs) (workers : ℕ) (firing : Firing) (job : OpenView) (n : ℕ) → job.graphs ≡ graphs → job.workers ≡ workers → job.firing ≡ firing → job.cells ≡ None → job.room ≡ None → job.marks ≡ replicate n Free → job.lent ≡ replicate n None
     → free_in job.marks ≡ compilation_of job + 1 → IsFresh graphs workers firing job
-is_fresh graphs workers firing job n graphs_are workers_are firing_is unplaced marks lent many = record {
+is_fresh graphs workers firing job n graphs_are workers_are firing_is unplaced roomless marks lent many = record {
   graphs_are = graphs_are;
   workers_are = workers_are;
   firing_is = firing_is;
   unplaced = unplaced;
+  roomless = roomless;
   free = λ i. ap (λ (l : ItemMarks). mark_at l i) marks ∙ repeated n i Free;
   many = many;
   unlent = record { each = λ i. ap (λ (l : Lent). lent_at l i) lent ∙ repeated n i None };
@@ -85,7 +86,7 @@ module _ (v now : TableView) (e : v ≡ now) (rows : List (Option Row)) (same : 
     mid_other : (j : ℕ) → j ≢ k → row_at mid j ≡ row_at now j
     mid_other j apart = get_or-set_other rows k j slot' None apart ∙ at_key j
 
-    module _ (stays : StaysAs row after) (lent : after.job.lent ≡ row.job.lent) where
+    module _ (stays : StaysAs row after) (lent : after.job.lent ≡ row.job.lent) (asks : after.job.room ≡ row.job.room) where
       mid_lent : LendsAsBefore now mid
       mid_lent = λ j i. ⊎_elim
           (λ (t : j ≡ k).
@@ -94,7 +95,13 @@ module _ (v now : TableView) (e : v ≡ now) (rows : List (Option Row)) (same : 
           (λ apart. ap (λ (r : Option Row). lent_by r i) (mid_other j apart))
           (cases_eq j k)
 
-      pub spoils : answer_of (mark_at after.job.marks item) ≡ None → ((i : ℕ) → i ≢ item → mark_at after.job.marks i ≡ mark_at row.job.marks i) → SpoilsItem k item now mid × LendsAsBefore now mid
+      mid_asks : AsksAsBefore now mid
+      mid_asks = λ j. ⊎_elim
+          (λ (t : j ≡ k). ap (room_in mid) t ∙ (ap room_by mid_here ∙ (asks ∙ (sym (ap room_by here) ∙ ap (room_in now) (sym t)))))
+          (λ apart. ap room_by (mid_other j apart))
+          (cases_eq j k)
+
+      pub spoils : answer_of (mark_at after.job.marks item) ≡ None → ((i : ℕ) → i ≢ item → mark_at after.job.marks i ≡ mark_at row.job.marks i) → SpoilsItem k item now mid × LendsAsBefore now mid × AsksAsBefore now mid
       spoils unanswered unmarked = (
         record {
           graphs_are = ap (λ (x : TableView). x.graphs) e;
@@ -109,6 +116,7 @@ module _ (v now : TableView) (e : v ≡ now) (rows : List (Option Row)) (same : 
           others = λ j apart again. mid_other j apart;
         },
         mid_lent,
+        mid_asks,
       )
 
       -- and with a new row at a vacant key
@@ -177,6 +185,12 @@ module _ (v now : TableView) (e : v ≡ now) (rows : List (Option Row)) (same : 
               (λ apart. ap (λ (r : Option Row). lent_by r i) (new_other j apart) ∙ mid_lent j i)
               (cases_eq j l)
 
+          pub opens_asks : child.job.room ≡ None → AsksAsBefore now (new child')
+          opens_asks roomless = λ j. ⊎_elim
+              (λ (t : j ≡ l). ap (room_in (new child')) t ∙ (ap room_by new_here ∙ (roomless ∙ (sym (ap room_by (sym (at_key l) ∙ vacant.none)) ∙ ap (room_in now) (sym t)))))
+              (λ apart. ap room_by (new_other j apart) ∙ mid_asks j)
+              (cases_eq j l)
+
   -- ---- the item that is opened
 
   pub call_of : (firing : Firing) (slot' : Option Row) → CallsIn item (Ok firing) slot slot' → CallsItem item firing row.job slot' row
@@ -196,15 +210,15 @@ module _ (v now : TableView) (e : v ≡ now) (rows : List (Option Row)) (same : 
 
   -- and no more, where memory is wanted then
   pub call_spoils : (result : Result Firing AllocError) (slot' : Option Row) → CallsIn item result slot slot' → item < length row.job.marks → mark_at row.job.marks item ≡ Free
-      → SpoilsItem k item now record { graphs = v.graphs; workers = v.workers; rows = set rows k slot' } × LendsAsBefore now record { graphs = v.graphs; workers = v.workers; rows = set rows k slot' }
+      → SpoilsItem k item now record { graphs = v.graphs; workers = v.workers; rows = set rows k slot' } × LendsAsBefore now record { graphs = v.graphs; workers = v.workers; rows = set rows k slot' } × AsksAsBefore now record { graphs = v.graphs; workers = v.workers; rows = set rows k slot' }
   call_spoils (Ok firing) slot' calls inside free =
       let t = call_of firing slot' calls in
-      spoils slot' (with_job row (with_mark row.job item (Open firing))) t.new_is (opened_stays (Open firing)) refl (ap answer_of (opened_mark (Open firing) inside)) (opened_others (Open firing))
+      spoils slot' (with_job row (with_mark row.job item (Open firing))) t.new_is (opened_stays (Open firing)) refl refl (ap answer_of (opened_mark (Open firing) inside)) (opened_others (Open firing))
   call_spoils (Err error) slot' calls inside free =
       let t : (slot' ≡ Some row) ⊎ (slot' ≡ Some (with_job row (with_mark row.job item Busy))) = subst (λ (s : Option Row). CallsIn item (Err error) s slot') row_slot calls in
       ⊎_elim
-      (λ is. spoils slot' row is (stays_same row) refl (ap answer_of free) (λ i apart. refl))
-      (λ is. spoils slot' (with_job row (with_mark row.job item Busy)) is (opened_stays Busy) refl (ap answer_of (opened_mark Busy inside)) (opened_others Busy))
+      (λ is. spoils slot' row is (stays_same row) refl refl (ap answer_of free) (λ i apart. refl))
+      (λ is. spoils slot' (with_job row (with_mark row.job item Busy)) is (opened_stays Busy) refl refl (ap answer_of (opened_mark Busy inside)) (opened_others Busy))
       t
 
   pub item_there : InSlot (λ (job : OpenView). HasItem job item) slot → item < length row.job.marks

@@ -9,9 +9,9 @@ use Rattle.nested_jobs.specs.Marks.{Free, Mark}
 use Rattle.graph_firing.specs.Leases.{CellsStay}
 use Rattle.graph_firing.specs.View.{OpenView}
 use Rattle.pisdf_meaning.specs.declared.firing.Firing.{Firing}
-use Rattle.firing_board.specs.Table.Calls.{LendsAsBefore, LendsItem, MarksItem}
+use Rattle.firing_board.specs.Table.Calls.{AsksAsBefore, LendsAsBefore, LendsItem, MarksItem}
 use Rattle.firing_board.specs.Table.Slots.{InSlot}
-use Rattle.firing_board.specs.Table.View.{HasJob, TableView, lent_by, lent_in, row_at, with_job}
+use Rattle.firing_board.specs.Table.View.{HasJob, TableView, lent_by, lent_in, room_by, room_in, row_at, with_job}
 use Rattle.firing_board.specs.declared.table.row.Row.{Row}
 use Rattle.firing_board.proofs.OfTable.Rows.{inside_of}
 
@@ -84,6 +84,12 @@ module _ (old : TableView) (rows : List (Option Row)) (k : ℕ) (row : Row) (job
   lends_same same = λ j i. ⊎_elim
       (λ (e : j ≡ k). ap (λ n. lent_in new n i) e ∙ (lent_here i ∙ (same i ∙ (sym (lent_was i) ∙ ap (λ n. lent_in old n i) (sym e)))))
       (λ apart. lent_other j i apart)
+      (cases_eq j k)
+
+  pub rooms_same : job.room ≡ row.job.room → AsksAsBefore old new
+  rooms_same same = λ j. ⊎_elim
+      (λ (e : j ≡ k). ap (room_in new) e ∙ (ap room_by now ∙ (same ∙ (sym (ap room_by here) ∙ ap (room_in old) (sym e)))))
+      (λ apart. ap room_by (others j apart))
       (cases_eq j k)
 
 -- one mark of the job

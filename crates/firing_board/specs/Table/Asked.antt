@@ -11,7 +11,7 @@ use Rattle.graph_firing.specs.declared.offer.Offer.{Offer}
 use Rattle.pisdf_meaning.specs.declared.firing.Firing.{Firing}
 use Rattle.firing_board.specs.Table.Suits.{Suits}
 use Rattle.firing_board.specs.Table.View.{TableView, table_of}
-use Rattle.firing_board.specs.declared.table.asking.Asked.{Asked}
+use Rattle.firing_board.specs.declared.table.pick.Asked.{Asked}
 use Rattle.firing_board.specs.declared.table.row.Row.{Row}
 
 -- an offer as the rules of boards have it

@@ -6,7 +6,7 @@ use Rattle.board_rules.specs.Picks.{Standing, goes_before}
 use Rattle.graph_firing.specs.Offers.{IsPick}
 use Rattle.graph_firing.specs.View.{IsOfferedCall, IsOfferedWork, OpenView}
 use Rattle.graph_firing.specs.declared.offer.Offer.{Offer}
-use Rattle.firing_board.specs.declared.table.asking.Asked.{Asked}
+use Rattle.firing_board.specs.declared.table.pick.Asked.{Asked}
 use Rattle.firing_board.specs.declared.table.row.Row.{Row}
 
 -- how two stand, of which the first goes before the second, or the second before the first

@@ -14,7 +14,7 @@ use Rattle.graph_firing.specs.View.{OpenView, compilation_of, free_in, left_by, 
 use Rattle.pisdf_model.specs.declared.graph.Graphs.{Graphs}
 use Rattle.pisdf_meaning.specs.declared.firing.Firing.{Firing}
 use Rattle.graph_firing.specs.Paths.{step_of}
-use Rattle.firing_board.specs.Table.View.{TableView, free_items, lent_in, row_at}
+use Rattle.firing_board.specs.Table.View.{TableView, free_items, lent_in, room_in, row_at}
 use Rattle.firing_board.specs.declared.table.begins.Begins.{Begins}
 use Rattle.firing_board.specs.declared.table.begins.Begins.TheVariants as begins
 use Rattle.firing_board.specs.declared.table.row.Row.{Row}
@@ -27,6 +27,7 @@ pub record IsFresh (graphs : Graphs) (workers : ℕ) (firing : Firing) (job : Op
   pub workers_are : job.workers ≡ workers
   pub firing_is : job.firing ≡ firing
   pub unplaced : job.cells ≡ None
+  pub roomless : job.room ≡ None
   pub free : (i : ℕ) → mark_at job.marks i ≡ Free
   pub many : free_in job.marks ≡ compilation_of job + 1
   pub unlent : IsNothingLent job.lent
@@ -85,6 +86,10 @@ pub record LendsItem (k item : ℕ) (places : Option Places) (old new : TableVie
 -- what is lent is as before
 abbrev pub LendsAsBefore : (old new : TableView) → Type 0
 LendsAsBefore old new = (k i : ℕ) → lent_in new k i ≡ lent_in old k i
+
+-- the frames of nodes take what they took
+abbrev pub AsksAsBefore : (old new : TableView) → Type 0
+AsksAsBefore old new = (k : ℕ) → room_in new k ≡ room_in old k
 
 -- ---- openings
 

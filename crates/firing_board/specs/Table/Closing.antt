@@ -63,5 +63,5 @@ pub record ClosesLong {v : TableView} {k : ℕ} (c : IsClosingFrom v k) : Type 0
 pub record RowsStay (old new : TableView) : Type 0 where
   pub graphs_are : new.graphs ≡ old.graphs
   pub workers_are : new.workers ≡ old.workers
-  pub rows : (k : ℕ) (after : Row) → row_at new k ≡ Some after → (before : Row) × (row_at old k ≡ Some before) × StaysAs before after × (after.job.lent ≡ before.job.lent)
+  pub rows : (k : ℕ) (after : Row) → row_at new k ≡ Some after → (before : Row) × (row_at old k ≡ Some before) × StaysAs before after × (after.job.lent ≡ before.job.lent) × (after.job.room ≡ before.job.room)
   pub busy : (k i : ℕ) (before : Row) → row_at old k ≡ Some before → mark_at before.job.marks i ≡ Busy → (after : Row) × (row_at new k ≡ Some after) × StaysAs before after × ((j : ℕ) → mark_at before.job.marks j ≡ Busy → mark_at after.job.marks j ≡ Busy) × Within (answers before.job.marks) (answers after.job.marks)

@@ -5,6 +5,7 @@ use Rattle.board_rules.specs.Asking.{JobRow}
 use Rattle.board_rules.specs.Board.{OpenJobs}
 use Rattle.job_preparing.specs.Handing.{lent_at, mark_at}
 use Rattle.kernel_gate.specs.Value.{Places}
+use Rattle.kernel_gate.specs.declared.room.RoomSize.{RoomSize}
 use Rattle.nested_jobs.specs.Rules.{Place}
 use Rattle.one_job.specs.Leased.{JobCells}
 use Rattle.pisdf_model.specs.declared.graph.Graphs.{Graphs}
@@ -36,6 +37,14 @@ lent_by (Some row) i = lent_at row.job.lent i
 
 abbrev pub lent_in : TableView → ℕ → ℕ → Option Places
 lent_in v k i = lent_by (row_at v k) i
+
+-- how much memory the frame of any node takes of the job in a row
+abbrev pub room_by : Option Row → Option RoomSize
+room_by None = None
+room_by (Some row) = row.job.room
+
+abbrev pub room_in : TableView → ℕ → Option RoomSize
+room_in v k = room_by (row_at v k)
 
 -- no frame is out
 abbrev pub NothingIsLent : TableView → Type 0

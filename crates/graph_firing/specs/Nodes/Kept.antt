@@ -15,6 +15,7 @@ fixed_of i = record {
   left = i.preparing.left;
   compilation = arc_value i.compiled;
   block = i.cells.block;
+  room = i.room;
   set = i.set;
   place = i.place;
   path = i.path;
@@ -34,6 +35,7 @@ view_with f stages = record {
   prepared = prepared_of f;
   mapping = f.compilation.mapping;
   cells = record { compilation = f.compilation; block = f.block };
+  room = f.room;
   marks = marks_of f.firing.path (acting (fired f)) (job_in f).nodes stages;
   lent = lents_of stages;
 }

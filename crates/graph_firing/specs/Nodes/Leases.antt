@@ -17,8 +17,8 @@ answer_as_node (words.Refuses refusal) = one.Failed 0
 
 abbrev pub as_node : Mark Firing Answer → one.Mark
 as_node Free = one.Free
-as_node Busy = one.Claimed record { inputs = []; outputs = [] }
-as_node (Open job) = one.Claimed record { inputs = []; outputs = [] }
+as_node Busy = one.Claimed one.nowhere
+as_node (Open job) = one.Claimed one.nowhere
 as_node (Done answer) = answer_as_node answer
 
 abbrev pub as_nodes : ItemMarks → List one.Mark

@@ -8,6 +8,7 @@ use Rattle.sdf_level.specs.declared.node.Node.TheVariants as node
 use Rattle.job_compiler.specs.Compilation.{Compilation, IsCompiled}
 use Rattle.level_schedule.specs.declared.scheduling.LevelSchedule.{LevelSchedule}
 use Rattle.kernel_gate.specs.Value.{FrameView, Places}
+use Rattle.kernel_gate.specs.declared.room.RoomSize.{RoomSize}
 use Rattle.split_block.specs.View.{Block}
 use Rattle.param_resolver.specs.LevelOf.{level_args, level_faults}
 use Rattle.param_resolver.specs.Numbering.{acting, has_state}
@@ -48,9 +49,10 @@ pub record Start : Type 0 where
   pub sources : List (List ℤ)
   pub stored : List (List ℤ)
   pub block : Block
+  pub room : RoomSize
 
 abbrev pub start_of : leased.JobView → Start
-start_of j = record { compilation = j.compilation; kinds = j.kinds; args = j.args; sources = j.sources; stored = j.stored; block = j.block }
+start_of j = record { compilation = j.compilation; kinds = j.kinds; args = j.args; sources = j.sources; stored = j.stored; block = j.block; room = j.room }
 
 abbrev pub kernel_in : Body → Option ℕ
 kernel_in (Kernel kernel args ins outs) = Some kernel
@@ -75,6 +77,8 @@ pub record Fixed : Type 0 where
   -- and where its cells lie
   pub compilation : Compilation
   pub block : Block
+  -- as much memory as the frame of any node takes
+  pub room : RoomSize
   -- its level, and with what its actors fire
   pub set : LevelSet
   pub place : ℕ
@@ -111,6 +115,7 @@ pub record IsSetUp (f : Fixed) (s : Start) : Type 0 where
   pub compiled : IsCompiled f.compilation
   pub compilation_is : s.compilation ≡ f.compilation
   pub block_is : s.block ≡ f.block
+  pub room_is : s.room ≡ f.room
   pub graph_is : leased.job_graph s.compilation s.sources s.stored ≡ job_in f
   pub is_job : IsJobGraph f.compilation.counts f.compilation.order (job_in f)
   pub kinds : s.kinds ≡ map kind_of_actor (acting (fired f))

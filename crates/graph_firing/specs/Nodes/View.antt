@@ -1,6 +1,7 @@
 -- The nodes of one compiled firing as plain data, and what they are to do.
 use Rattle.std.specs.Prelude.{◌≡◌, ℕ, ℤ, Bool, List, length, Option, Some, None, Ok, Err}
 use Rattle.std.specs.Option.{option_map}
+use Rattle.kernel_gate.specs.declared.room.RoomSize.{RoomSize}
 use Rattle.nested_jobs.specs.Marks.{Free}
 use Rattle.nested_jobs.specs.Rules.{Task, Work, Call}
 use Rattle.nested_jobs.specs.Steps.{all_below, is_settled}
@@ -23,8 +24,8 @@ use Rattle.job_rules.specs.Items.{Prepared, actor_of, first_refusal, graph_of, j
 use Rattle.job_rules.specs.Words as words
 use Rattle.job_preparing.specs.Handing.{ItemMarks, Lent, answers, mark_at}
 
--- the firing, what its configuration actors left and its schedule, where its cells lie, the homes and priorities of its nodes,
--- and where each node stands, by its number
+-- the firing, what its configuration actors left and its schedule, where its cells lie, as much memory as the frame of any node
+-- takes, the homes and priorities of its nodes, and where each node stands, by its number
 pub record RunningView : Type 0 where
   pub graphs : Graphs
   pub workers : ℕ
@@ -32,6 +33,7 @@ pub record RunningView : Type 0 where
   pub prepared : Prepared
   pub mapping : Mapping
   pub cells : JobCells
+  pub room : RoomSize
   pub marks : ItemMarks
   pub lent : Lent
 

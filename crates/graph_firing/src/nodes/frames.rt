@@ -115,7 +115,7 @@ pub(crate) fn end_frames(mut job: Job, mut all: Vec<Held>) -> Job
         match waiting_frame(held) {
             Some(frame) => {
                 let node = all.len() as u32;
-                job.finish(node, frame, Ok(()));
+                job.finish(node, frame, Ok(())).end();
             }
             None => {}
         }

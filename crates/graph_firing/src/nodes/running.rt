@@ -1,6 +1,7 @@
 // The nodes of one compiled firing, and their events.
 ghost use Rattle.std.specs.Prelude.{◌≡◌, ◌⊎◌, ◌<◌, ◌==◌, true, length, slice_index, slice_set, Some, None, Ok, IsOk, IfOk, OnErr};
 ghost use Rattle.nested_jobs.specs.Marks.{Busy, Open, Done};
+ghost use Rattle.kernel_gate.specs.Rooms.{Suffices};
 ghost use Rattle.nested_jobs.specs.Rules.{Call};
 ghost use Rattle.job_flow.specs.Graphs.{node_at};
 ghost use Rattle.job_rules.specs.Words.{answer_of};
@@ -21,7 +22,7 @@ use crate::nodes::writing::write_child;
 use job_compiler::Compiled;
 use job_flow::{faults_renamed, ready_stays};
 use job_preparing::{JobGiven, Left};
-use kernel_gate::{Frame, KernelFault, told_of};
+use kernel_gate::{Frame, KernelFault, Room, RoomSize, told_of};
 use one_job::{Job, JobEnd};
 use param_expr::Name;
 use param_resolver::{LevelSet, level_by_actor};
@@ -61,6 +62,8 @@ pub(crate) struct Running {
     // Of each actor that fires graphs a trace for each firing, of another none.
     pub(crate) traces: Vec<Vec<LinkedList<TraceRow>>>,
     pub(crate) job: Job,
+    // As much memory as the frame of any node takes.
+    pub(crate) room: RoomSize,
     pub(crate) alloc: Global,
 }
 
@@ -159,53 +162,70 @@ impl Running {
         }
     }
 
-    /// Claims a node that has work of its own. Its frame has what the work says. It takes no memory.
-    pub(crate) fn claim(&mut self, node: u32) -> Handed
-        requires { IsOfferedWork self.old node }
+    /// As much memory as the frame of any node takes.
+    pub(crate) fn room_size(&self) -> RoomSize
+        ensures { result ≡ self.now.room }
+    {
+        self.room
+    }
+
+    /// Claims a node that has work of its own. Its frame has what the work says. It is made in the room, and takes no memory.
+    pub(crate) fn claim(&mut self, node: u32, room: Room) -> Handed
+        requires offered { IsOfferedWork self.old node }
+        requires room { Suffices self.old.room room }
         ensures handed { IsHanded (task self.old node) result }
+        ensures room { (frame_of result).places.room ≡ room }
         ensures claimed { self.new ≡ record self.old { marks = slice_set self.old.marks node Busy; lent = slice_set self.old.lent node (Some (frame_of result).places) } }
     {
         faults_renamed::<i64, u8, Refusal>();
         ready_stays::<i64, u8, ()>();
         let which = self.job.node(node);
-        let frame = self.job.claim(node);
+        let frame = self.job.claim(node, room);
         frame.outputs_fill_leases();
         self.stages.put(node, Stage::Busy(told_of(&frame)));
         hand_out(which, frame)
     }
 
-    /// Finishes a claimed node: its frame comes back with what it wrote, or with the code of its kernel. It takes no memory.
-    pub(crate) fn finish(&mut self, node: u32, frame: Frame, answer: Result<(), KernelFault>)
+    /// Finishes a claimed node: its frame comes back with what it wrote, or with the code of its kernel. It takes no memory, and
+    /// gives back the room that the frame was made in.
+    pub(crate) fn finish(
+        &mut self,
+        node: u32,
+        frame: Frame,
+        answer: Result<(), KernelFault>,
+    ) -> Room
         requires busy { mark_at self.old.marks node ≡ Busy }
         requires lent { lent_at self.old.lent node ≡ Some frame.places }
         requires sound { IsFiring (node_at (nodes_of self.old) node) ⊎ IsOk answer }
-        ensures { self.new ≡ record self.old { marks = slice_set self.old.marks node (Done (answer_with (task self.old node) frame answer)); lent = slice_set self.old.lent node None } }
+        ensures finished { self.new ≡ record self.old { marks = slice_set self.old.marks node (Done (answer_with (task self.old node) frame answer)); lent = slice_set self.old.lent node None } }
+        ensures room { result ≡ frame.places.room }
     {
         faults_renamed::<i64, u8, Refusal>();
         ready_stays::<i64, u8, ()>();
         frame.outputs_fill_leases();
         self.stages.put(node, ended(&frame, &answer));
-        self.job.finish(node, frame, answer);
+        self.job.finish(node, frame, answer)
     }
 
     /// Calls the firing of a graph that a node asks for.
     ///
     /// # Errors
     ///
-    /// Want of memory. The node is busy then, and nothing of it is lent.
+    /// Want of memory. All is as before, or the node is busy then, and nothing of it is lent.
     pub(crate) fn call(&mut self, alloc: Global, node: u32) -> Result<Firing, AllocError>
         requires { IsOfferedCall self.old node }
         ensures called { IfOk result (λ d. task self.old node ≡ Some (Call d)) }
         ensures inherited { IfOk result (HasInherited self.old.graphs.graphs) }
         ensures ok { IfOk result (λ d. self.new ≡ record self.old { marks = slice_set self.old.marks node (Open d) }) }
-        ensures err { OnErr result (self.new ≡ record self.old { marks = slice_set self.old.marks node Busy }) }
+        ensures err { OnErr result ((self.new ≡ self.old) ⊎ (self.new ≡ record self.old { marks = slice_set self.old.marks node Busy })) }
     {
         level_by_actor();
         faults_renamed::<i64, u8, Refusal>();
         ready_stays::<i64, u8, ()>();
+        let room = Room::start(alloc, self.room)?;
         let which = self.job.node(node);
         let (actor, turn) = firing_of(which);
-        let frame = self.job.claim(node);
+        let frame = self.job.claim(node, room);
         let caller = caller_of(
             self.graphs.graphs.items(),
             self.place,
@@ -242,13 +262,15 @@ impl Running {
                 let keeps = self.keeps[actor as usize];
                 write_child(&mut frame, keeps, outs.items(), state.items());
                 put_trace(&mut self.traces, actor, turn, trace);
-                self.job.finish(node, frame, Ok(()));
+                self.job.finish(node, frame, Ok(())).end();
             }
             Err(refusal) => {
                 self.stages
                     .put(node, Stage::Refused(Snapshot::of(&refusal)));
                 let frame = take_frame(&mut self.held, node as usize, Held::Refuses(refusal));
-                self.job.finish(node, frame, Err(KernelFault { code: 0 }));
+                self.job
+                    .finish(node, frame, Err(KernelFault { code: 0 }))
+                    .end();
             }
         }
     }
@@ -296,6 +318,7 @@ impl Running {
             held,
             traces,
             job,
+            room: _,
             alloc,
         } = self;
         match job.outcome() {
@@ -344,6 +367,7 @@ impl Running {
             held,
             traces: _,
             job,
+            room: _,
             alloc: _,
         } = self;
         end_frames(job, held).end();

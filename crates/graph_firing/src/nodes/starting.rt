@@ -346,6 +346,7 @@ pub(crate) fn run(
     let place = firing.graph;
     let shared = Arc::try_clone(&compiled)?;
     let Started { job, held } = start_job(alloc, compiled, lists)?;
+    let room = job.room_size();
     Ok(Running {
         graphs,
         compiled: shared,
@@ -364,6 +365,7 @@ pub(crate) fn run(
         held,
         traces,
         job,
+        room,
         alloc,
     })
 }

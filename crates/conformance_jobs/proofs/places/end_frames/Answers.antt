@@ -17,7 +17,7 @@ loop-place-preserved-in-Some-place c =
     let rest = c.pop.new.self.items in
     let held = subst (HoldClaimed c.loop-place.job.marks) c.in-Some.ensures.items c.loop-place.invariant.held in
     let e : c.len-node.result ≡ length rest = search rules in
-    let marks_are = ap (λ (j : JobView). j.marks) c.finish.ensures ∙ ap (λ i. set c.loop-place.job.marks i (Finished c.in-Some-place.frame.outputs)) e in
+    let marks_are = ap (λ (j : JobView). j.marks) c.finish.ensures.finished ∙ ap (λ i. set c.loop-place.job.marks i (Finished c.in-Some-place.frame.outputs)) e in
     record {
       held = subst (λ marks. HoldClaimed marks rest) (sym marks_are) (some_last c.loop-place.job.marks rest c.in-Some.place held c.in-Some-place.frame c.in-Some-place.is);
       few = search rules;

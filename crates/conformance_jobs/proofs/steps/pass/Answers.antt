@@ -22,7 +22,7 @@ returns c =
     let n = c.args.node in
     let outs = c.copy_through-copied.new.frame.outputs in
     let places = c.claim.result.places in
-    let now_is = c.finish.ensures ∙ ap (λ (v : JobView). record v { marks = set v.marks n (Finished outs) }) c.claim.ensures.claimed in
+    let now_is = c.finish.ensures.finished ∙ ap (λ (v : JobView). record v { marks = set v.marks n (Finished outs) }) c.claim.ensures.claimed in
     subst (KeepsHeld j) (sym now_is) record {
       same = refl;
       kept = passed_kept j.marks n c.requires.enabled.unclaimed places outs;

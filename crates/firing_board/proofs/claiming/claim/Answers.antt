@@ -1,4 +1,4 @@
-use Rattle.std.proofs.Common.{◌≡◌, ◌∙◌, inl, false, Option, None, sym, ap, subst, arith}
+use Rattle.std.proofs.Common.{◌≡◌, ◌∙◌, inl, false, get_or, Option, None, sym, ap, subst, arith}
 use Rattle.std.specs.List.{All}
 use Rattle.board_rules.specs.Keys.{Key}
 use Rattle.graph_firing.specs.View.{OpenView, compilation_of}
@@ -138,3 +138,6 @@ returns-else-is_idle-clause-claimed c = λ key may.
     let no = c.if-is_idle.false in
     absurd (cc) in
     subst (λ (x : Core). ClaimsOn key old c.args.worker x claim.Wait) (sym found.0) (waits key old c.args.worker may found.1 not)
+
+pub hand_out-requires-clause-idle : goal.hand_out-requires-clause-idle
+hand_out-requires-clause-idle c = ap (λ rs. get_or rs.items c.args.worker None) c.in_ok-run.ensures.kept.running_is ∙ c.requires.may.1.idle

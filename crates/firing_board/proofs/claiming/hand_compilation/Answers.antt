@@ -10,8 +10,9 @@ use Rattle.firing_board.specs.declared.table.row.Row.{Row}
 use Rattle.board_rules.specs.declared.entry.Item.TheVariants as items
 use Rattle.firing_board.specs.declared.claim.Claim.TheVariants as claim
 use Rattle.firing_board.specs.declared.state.Core.{Core}
+use Rattle.firing_board.proofs.FrameSteps.{rooms_kept}
 use Rattle.firing_board.proofs.RoomSteps.{entered_room}
-use Rattle.firing_board.proofs.Rows.{the_same}
+use Rattle.firing_board.proofs.Rows.{last_go_on, marks_rows, the_same}
 use Rattle.firing_board.proofs.claiming.hand_compilation.Goals as goal
 
 pub returns-clause-handed : goal.returns-clause-handed
@@ -24,7 +25,7 @@ returns-clause-handed c =
       row = task.0;
       here = task.1;
       kept = option_map arc_value c.args.compiled;
-      claimed = record { table = c.claim_compile.new.self; running = old.running; numbers = old.numbers; journal = old.journal; end = old.end };
+      claimed = record old { table = c.claim_compile.new.self };
       marks = subst (λ (r : Row). MarksItem k (compilation_of r.job) Busy old.table c.claim_compile.new.self) (the_same (row_at old.table k) marks.0 task.0 marks.1 task.1) marks.2;
       lends = c.in_ok-task.ensures.lent;
       running_is = refl;
@@ -37,10 +38,15 @@ returns-clause-handed c =
     }
 
 pub enter-ticket-requires-clause-room : goal.enter-ticket-requires-clause-room
-enter-ticket-requires-clause-room c = let has = c.requires.room in let fewer = c.in_ok-task.ensures.fewer in omega (arith, has, fewer)
+enter-ticket-requires-clause-room c = let has = c.requires.room.entries in let fewer = c.in_ok-task.ensures.fewer in omega (arith, has, fewer)
 
 pub returns-clause-room : goal.returns-clause-room
 returns-clause-room c =
     let old = c.args.core.now in
-    let mid : Core = record { table = c.claim_compile.new.self; running = old.running; numbers = old.numbers; journal = old.journal; end = old.end } in
-    entered_room old mid c.enter-ticket.new.core c.args.worker c.args.run items.Compile c.enter-ticket.result c.requires.room refl refl c.in_ok-task.ensures.fewer c.enter-ticket.ensures
+    let mid : Core = record old { table = c.claim_compile.new.self } in
+    let marks = c.in_ok-task.ensures.claimed in
+    record {
+      entries = entered_room old mid c.enter-ticket.new.core c.args.worker c.args.run items.Compile c.enter-ticket.result c.requires.room.entries refl refl c.in_ok-task.ensures.fewer c.enter-ticket.ensures;
+      rooms = rooms_kept old mid c.enter-ticket.new.core c.args.worker c.args.run items.Compile c.enter-ticket.result c.requires.room.rooms c.requires.enter.is_worker c.requires.enter.idle refl
+          (last_go_on old.table mid.table (marks_rows c.args.run.row (compilation_of marks.0.job) Busy old.table mid.table marks.2)) c.in_ok-task.ensures.lent c.in_ok-task.ensures.asked refl c.enter-ticket.ensures;
+    }

@@ -1,4 +1,4 @@
-use Rattle.std.proofs.Common.{◌≡◌, ◌∙◌, inl, inr, ap, subst}
+use Rattle.std.proofs.Common.{◌≡◌, ◌∙◌, length, inl, inr, ap, subst}
 use Rattle.board_rules.specs.Entries.{item_of}
 use Rattle.board_rules.specs.declared.entry.Item.{Item}
 use Rattle.graph_firing.proofs.OfferedCompilation.{may_compile}
@@ -7,6 +7,7 @@ use Rattle.firing_board.specs.Table.View.{HasJob, row_at}
 use Rattle.firing_board.specs.declared.table.row.Row.{Row}
 use Rattle.firing_board.specs.Handing.{HandsCompilation, HandsFrame, HandsOut}
 use Rattle.firing_board.specs.declared.claim.Claim.{Claim}
+use Rattle.firing_board.specs.declared.frame_rooms.FrameRooms.{FrameRooms}
 use Rattle.firing_board.proofs.Openings.{if_ok, on_err_by}
 use Rattle.firing_board.proofs.Rows.{the_same}
 use Rattle.firing_board.proofs.claiming.hand_out.Goals as goal
@@ -48,3 +49,6 @@ returns-else-run-compilation-clause-handed c =
       here = o.1;
       handed = inl (subst (λ (i : Item). HandsFrame old c.args.worker c.args.run i c.hand_frame.new.core c.hand_frame.result) named c.hand_frame.ensures.handed);
     }
+
+pub returns-then-run-compilation-clause-slots : goal.returns-then-run-compilation-clause-slots
+returns-then-run-compilation-clause-slots c = ap (λ (r : FrameRooms). length r.slots.items) c.hand_compilation.ensures.rooms

@@ -9,6 +9,7 @@ use Rattle.board_journal.specs.View.{JournalView}
 use Rattle.firing_board.specs.Table.View.{row_at}
 use Rattle.firing_board.specs.declared.table.row.Row.{Row}
 use Rattle.firing_board.proofs.Rows.{opens_lasts, opens_rows, spoils_lasts, spoils_rows, the_same}
+use Rattle.firing_board.proofs.FrameSteps.{rooms_opened}
 use Rattle.firing_board.proofs.Openings.{numbered_so}
 use Rattle.firing_board.proofs.finding.open.Goals as goal
 
@@ -40,6 +41,8 @@ returns-in_err-child-clause-kept c =
       lasts = spoils_lasts c.args.at.row c.args.at.item c.args.core.now.table c.open_child.new.self s (ap (λ (r : Row). mark_at r.job.marks c.args.at.item) same ∙ calls.offered.free);
       rows = spoils_rows c.args.at.row c.args.at.item c.args.core.now.table c.open_child.new.self s;
       lent = c.in_err-child.ensures.lent;
+      rooms_are = refl;
+      asked = c.in_err-child.ensures.asked;
     }
 
 pub returns-in_err-room_for-clause-kept : goal.returns-in_err-room_for-clause-kept
@@ -51,6 +54,8 @@ returns-in_err-room_for-clause-kept c = record {
   lasts = opens_lasts c.args.at.row c.args.at.item c.in_ok-child.child c.args.core.now.table c.open_child.new.self c.in_ok-child.ensures.opened;
   rows = opens_rows c.args.at.row c.args.at.item c.in_ok-child.child c.args.core.now.table c.open_child.new.self c.in_ok-child.ensures.opened;
   lent = c.in_ok-child.ensures.lent;
+  rooms_are = refl;
+  asked = c.in_ok-child.ensures.asked;
 }
 
 pub returns-in_err-path-clause-kept : goal.returns-in_err-path-clause-kept
@@ -62,6 +67,8 @@ returns-in_err-path-clause-kept c = record {
   lasts = opens_lasts c.args.at.row c.args.at.item c.in_ok-child.child c.args.core.now.table c.open_child.new.self c.in_ok-child.ensures.opened;
   rows = opens_rows c.args.at.row c.args.at.item c.in_ok-child.child c.args.core.now.table c.open_child.new.self c.in_ok-child.ensures.opened;
   lent = c.in_ok-child.ensures.lent;
+  rooms_are = refl;
+  asked = c.in_ok-child.ensures.asked;
 }
 
 pub returns-in_err-number-clause-kept : goal.returns-in_err-number-clause-kept
@@ -73,6 +80,8 @@ returns-in_err-number-clause-kept c = record {
   lasts = opens_lasts c.args.at.row c.args.at.item c.in_ok-child.child c.args.core.now.table c.open_child.new.self c.in_ok-child.ensures.opened;
   rows = opens_rows c.args.at.row c.args.at.item c.in_ok-child.child c.args.core.now.table c.open_child.new.self c.in_ok-child.ensures.opened;
   lent = c.in_ok-child.ensures.lent;
+  rooms_are = refl;
+  asked = c.in_ok-child.ensures.asked;
 }
 
 pub returns-in_err-number_row-clause-kept : goal.returns-in_err-number_row-clause-kept
@@ -84,6 +93,8 @@ returns-in_err-number_row-clause-kept c = record {
   lasts = opens_lasts c.args.at.row c.args.at.item c.in_ok-child.child c.args.core.now.table c.open_child.new.self c.in_ok-child.ensures.opened;
   rows = opens_rows c.args.at.row c.args.at.item c.in_ok-child.child c.args.core.now.table c.open_child.new.self c.in_ok-child.ensures.opened;
   lent = c.in_ok-child.ensures.lent;
+  rooms_are = refl;
+  asked = c.in_ok-child.ensures.asked;
 }
 
 pub returns-clause-opened : goal.returns-clause-opened
@@ -101,16 +112,6 @@ returns-clause-opened c =
           c.in_ok-number_row.ensures.others;
     }
 
-pub returns-clause-room : goal.returns-clause-room
-returns-clause-room c = λ has.
-    let o = c.in_ok-child.ensures.opened in
-    let same : compilation_of c.job.result.now ≡ compilation_of o.child.job =
-    ap compilation_of (c.job.ensures.2 ∙ ap (λ (r : Row). r.job) (the_same (row_at c.open_child.new.self c.in_ok-child.child) c.job.ensures.0 o.child c.job.ensures.1 o.added)) in
-    let many = o.many in
-    let taken = c.in_ok-room_for.ensures.taken in
-    let room = ap (λ (j : JournalView). j.room) c.in_ok-number.ensures.added in
-    omega (arith, has, same, many, taken, room)
-
 pub returns-clause-kept : goal.returns-clause-kept
 returns-clause-kept c = record {
   running_is = refl;
@@ -120,4 +121,17 @@ returns-clause-kept c = record {
   lasts = opens_lasts c.args.at.row c.args.at.item c.in_ok-child.child c.args.core.now.table c.open_child.new.self c.in_ok-child.ensures.opened;
   rows = opens_rows c.args.at.row c.args.at.item c.in_ok-child.child c.args.core.now.table c.open_child.new.self c.in_ok-child.ensures.opened;
   lent = c.in_ok-child.ensures.lent;
+  rooms_are = refl;
+  asked = c.in_ok-child.ensures.asked;
 }
+
+pub returns-clause-room : goal.returns-clause-room
+returns-clause-room c = λ had.
+    let has = had.entries in
+    let o = c.in_ok-child.ensures.opened in
+    let same : compilation_of c.job.result.now ≡ compilation_of o.child.job =
+    ap compilation_of (c.job.ensures.2 ∙ ap (λ (r : Row). r.job) (the_same (row_at c.open_child.new.self c.in_ok-child.child) c.job.ensures.0 o.child c.job.ensures.1 o.added)) in
+    let many = o.many in
+    let taken = c.in_ok-room_for.ensures.taken in
+    let room = ap (λ (j : JournalView). j.room) c.in_ok-number.ensures.added in
+    record { entries = omega (arith, has, same, many, taken, room); rooms = rooms_opened c.args.core.now _ (returns-clause-kept c) had.rooms }

@@ -1,6 +1,10 @@
-use Rattle.std.proofs.Common.{◌≡◌, ◌∙◌, ℕ, Bool, true, false, [], ◌∷◌, ◌++◌, Some, refl, sym, subst}
+use Rattle.std.proofs.Common.{◌≡◌, ◌∙◌, ℕ, Bool, true, false, [], ◌∷◌, ◌++◌, Some, refl, sym, ap, subst, arith}
 use Rattle.std.specs.Prelude.{IsOk, is_err}
+use Rattle.nested_jobs.specs.Marks.{Done}
 use Rattle.nested_jobs.specs.Rules.{Work}
+use Rattle.graph_firing.specs.View.{task}
+use Rattle.firing_board.specs.View.{BoardView}
+use Rattle.firing_board.specs.declared.frame_rooms.FrameRooms.{FrameRooms}
 use Rattle.job_preparing.specs.Handing.{answer_with}
 use Rattle.board_rules.specs.Legal.{state_after}
 use Rattle.nested_jobs.specs.Journals as steps
@@ -11,13 +15,16 @@ use Rattle.firing_board.specs.OnCore.{FinishesOn, MayLeave}
 use Rattle.firing_board.proofs.Framed.{FinishLaws, by_result, closes_finishes, closing_from, has_room, is_back, long_closing, may_return, runs_at, starved_finishes, starves_new, wanted_finishes, when_err}
 use Rattle.firing_board.proofs.Leaving.{mine}
 use Rattle.firing_board.proofs.Openings.{if_ok}
+use Rattle.firing_board.proofs.FrameSteps.{asks_still, lent_run, rooms_back}
 use Rattle.firing_board.proofs.RoomSteps.{closed_room}
+use Rattle.firing_board.proofs.Rows.{last_go_on, marks_rows, rows_close}
+use Rattle.firing_board.proofs.Runners.{inside_of}
 use Rattle.firing_board.proofs.finishing.finish_frame.Goals as goal
 
 pub take_back-row-requires-clause-item : goal.take_back-row-requires-clause-item
 take_back-row-requires-clause-item c =
-    let key = c.requires.0 in
-    let may = c.requires.1 in
+    let key = c.requires.may.0 in
+    let may = c.requires.may.1 in
     let old = c.args.core.now in
     let w = c.args.worker in
     let lawful = c.rules_are_lawful.ensures key.graphs may.keeps.is_key.valid.valid in
@@ -26,8 +33,8 @@ take_back-row-requires-clause-item c =
 
 pub take_back-row-requires-clause-room : goal.take_back-row-requires-clause-room
 take_back-row-requires-clause-room c =
-    let key = c.requires.0 in
-    let may = c.requires.1 in
+    let key = c.requires.may.0 in
+    let may = c.requires.may.1 in
     let old = c.args.core.now in
     let w = c.args.worker in
     let lawful = c.rules_are_lawful.ensures key.graphs may.keeps.is_key.valid.valid in
@@ -36,10 +43,10 @@ take_back-row-requires-clause-room c =
 
 pub close-requires : goal.close-requires
 close-requires c =
-    let key = c.requires.0 in
+    let key = c.requires.may.0 in
     let old = c.args.core.now in
     let w = c.args.worker in
-    let may = subst (λ (b : Bool). MayLeave key old b w (MayComeBack key c.args.frame c.args.answer (IsOk c.args.answer)) (Some c.args.frame.places)) c.if-starved.false c.requires.1 in
+    let may = subst (λ (b : Bool). MayLeave key old b w (MayComeBack key c.args.frame c.args.answer (IsOk c.args.answer)) (Some c.args.frame.places)) c.if-starved.false c.requires.may.1 in
     let laws : FinishLaws key = record {
       held = c.boards_keep.ensures.held;
       begin = c.boards_keep.ensures.finish;
@@ -107,11 +114,56 @@ returns-else-starved-clause-finished c = λ key was.
     subst (λ (s : Bool). FinishesOn key old s w new c.is_err.result) (sym c.if-starved.false)
     (subst (λ after. FinishesOn key old false w new after) (sym c.is_err.ensures.value) either)
 
+pub take_back-row-requires-clause-slot : goal.take_back-row-requires-clause-slot
+take_back-row-requires-clause-slot c =
+    let key = c.requires.may.0 in
+    let may = c.requires.may.1 in
+    let old = c.args.core.now in
+    let lt = may.runs.is_worker in
+    let one = may.keeps.one_each in
+    let each = c.requires.slots in
+    omega arith
+
 pub returns-then-starved-clause-room : goal.returns-then-starved-clause-room
-returns-then-starved-clause-room c = λ has. c.take_back-row.ensures.room has
+returns-then-starved-clause-room c = λ has.
+    let key = c.requires.may.0 in
+    let may = c.requires.may.1 in
+    let old = c.args.core.now in
+    let w = c.args.worker in
+    let new = c.take_back-row.new.core in
+    let r = c.take_back-row.ensures.returns in
+    let ended : FinishesOn key old c.args.starved w new c.args.starved = returns-then-starved-clause-finished c key may in
+    record {
+      entries = c.take_back-row.ensures.room has.entries;
+      rooms = rooms_back old new w r.run r.row c.args.frame.places has.rooms r.leaves.ran (inside_of old.running.items w r.run r.leaves.ran) r.here
+          (lent_run old w r.run c.args.frame.places r.leaves.ran may.lent)
+          r.leaves.running_are
+          (last_go_on old.table new.table (marks_rows r.run.row r.run.item (Done (answer_with (task r.row.job r.run.item) c.args.frame c.args.answer)) old.table new.table r.marks))
+          (ap (λ (b : BoardView). b.lent) ended.finishes.new_is)
+          (λ k need asks. sym (r.asked k) ∙ asks) r.size_is r.slots_are;
+    }
 
 pub returns-else-starved-clause-room : goal.returns-else-starved-clause-room
-returns-else-starved-clause-room c = λ has. closed_room c.take_back-row.new.core c.close.new.core c.close.ensures.kept c.close.ensures.fewer (c.take_back-row.ensures.room has)
+returns-else-starved-clause-room c = λ has.
+    let key = c.requires.may.0 in
+    let may = c.requires.may.1 in
+    let old = c.args.core.now in
+    let w = c.args.worker in
+    let mid = c.take_back-row.new.core in
+    let new = c.close.new.core in
+    let r = c.take_back-row.ensures.returns in
+    let ended : FinishesOn key old c.args.starved w new c.is_err.result = returns-else-starved-clause-finished c key may in
+    record {
+      entries = closed_room mid new c.close.ensures.kept c.close.ensures.fewer (c.take_back-row.ensures.room has.entries);
+      rooms = rooms_back old new w r.run r.row c.args.frame.places has.rooms r.leaves.ran (inside_of old.running.items w r.run r.leaves.ran) r.here
+          (lent_run old w r.run c.args.frame.places r.leaves.ran may.lent)
+          (ap (λ rs. rs.items) c.close.ensures.kept.running_is ∙ r.leaves.running_are)
+          (rows_close old.table mid.table new.table (marks_rows r.run.row r.run.item (Done (answer_with (task r.row.job r.run.item) c.args.frame c.args.answer)) old.table mid.table r.marks) c.close.ensures.kept.stay)
+          (ap (λ (b : BoardView). b.lent) ended.finishes.new_is)
+          (λ k need asks. sym (r.asked k) ∙ asks_still mid.table new.table c.close.ensures.kept.stay k need asks)
+          (ap (λ (x : FrameRooms). x.size) c.close.ensures.rooms ∙ r.size_is)
+          (ap (λ (x : FrameRooms). x.slots.items) c.close.ensures.rooms ∙ r.slots_are);
+    }
 
 pub returns-then-starved-clause-live : goal.returns-then-starved-clause-live
 returns-then-starved-clause-live c = λ live after key was. let starves = c.if-starved.true in absurd (cc)

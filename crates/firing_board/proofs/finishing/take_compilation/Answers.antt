@@ -14,7 +14,7 @@ returns-clause-compiled c =
     let run = c.leave-run.result in
     let same = c.leave-run.ensures.1 in
     let kept = c.in_ok-room_for_nodes.ensures.kept in
-    let new : Core = record { table = c.finish_compile.new.self; running = mid.running; numbers = mid.numbers; journal = c.room_for_nodes.new.journal; end = mid.end } in
+    let new : Core = record mid { table = c.finish_compile.new.self; journal = c.room_for_nodes.new.journal } in
     let h = c.in_ok-finish_compile.ensures.compiled in
     record {
       run = run;
@@ -40,7 +40,7 @@ returns-in_err-room_for_nodes-clause-refused c =
     let old = c.args.core.now in
     let mid = c.leave-run.new.core in
     let kept = c.in_err-room_for_nodes.ensures.kept in
-    let new : Core = record { table = mid.table; running = mid.running; numbers = mid.numbers; journal = c.room_for_nodes.new.journal; end = mid.end } in
+    let new : Core = record mid { journal = c.room_for_nodes.new.journal } in
     on_err_by c.from_residual.result (GivesUp old c.args.worker new) record {
       run = c.leave-run.result;
       leaves = leaves_more old mid new c.args.worker c.leave-run.result c.leave-run.ensures.0 refl refl refl kept.0 kept.1 kept.2;
@@ -52,7 +52,7 @@ returns-in_err-finish_compile-clause-refused c =
     let old = c.args.core.now in
     let mid = c.leave-run.new.core in
     let kept = c.in_ok-room_for_nodes.ensures.kept in
-    let new : Core = record { table = c.finish_compile.new.self; running = mid.running; numbers = mid.numbers; journal = c.room_for_nodes.new.journal; end = mid.end } in
+    let new : Core = record mid { table = c.finish_compile.new.self; journal = c.room_for_nodes.new.journal } in
     on_err_by c.from_residual-in_err-finish_compile.result (GivesUp old c.args.worker new) record {
       run = c.leave-run.result;
       leaves = leaves_more old mid new c.args.worker c.leave-run.result c.leave-run.ensures.0 refl refl refl kept.0 kept.1 kept.2;

@@ -1,11 +1,14 @@
-use Rattle.std.proofs.Common.{◌≡◌, ℕ, Some, ap, ◌∙◌, subst, arith}
+use Rattle.std.proofs.Common.{◌≡◌, ℕ, List, length, replicate, Option, Some, None, sym, ap, ◌∙◌, subst, arith}
+use Rattle.std.proofs.lemmas.List.{length-replicate}
+use Rattle.kernel_gate.specs.declared.room.RoomSize.{RoomSize}
 use Rattle.std.specs.Arc.{arc_value}
 use Rattle.graph_firing.specs.View.{compilation_of}
 use Rattle.firing_board.specs.Table.View.{row_at}
 use Rattle.firing_board.specs.declared.table.row.Row.{Row}
 use Rattle.firing_board.specs.Core.{runners}
 use Rattle.firing_board.proofs.Rows.{the_same}
-use Rattle.firing_board.proofs.Started.{none_run, started_unlent}
+use Rattle.firing_board.specs.declared.run.Run.{Run}
+use Rattle.firing_board.proofs.Started.{none_run, started_roomless, started_unlent}
 use Rattle.firing_board.proofs.starting.start_core.Goals as goal
 
 pub job-requires : goal.job-requires
@@ -25,4 +28,13 @@ returns-in-Ok-clause-room c =
     let none : runners c.in_ok-running.running.items ≡ 0 = ap runners c.in_ok-running.ensures ∙ none_run c.args.workers in
     let many = s.many in
     let taken = c.in-Ok.ensures.taken in
-    omega (arith, same, none, many, taken)
+    let runs : c.in_ok-running.running.items ≡ replicate c.args.workers None = c.in_ok-running.ensures in
+    let rooms = c.in-Ok.ensures.rooms in
+    record {
+      entries = omega (arith, same, none, many, taken);
+      rooms = record {
+        one_each = ap (λ (l : List (Option RoomSize)). length l) rooms.0 ∙ (length-replicate c.args.workers None ∙ sym (ap (λ (l : List (Option Run)). length l) runs ∙ length-replicate c.args.workers None));
+        needs = λ k need asks. absurd (let no = started_roomless (arc_value c.args.graphs) c.args.workers c.args.firing c.in_ok-table.table s k in cc);
+        each = λ w size lt is. absurd (let no = rooms.1 in cc);
+      };
+    }

@@ -20,3 +20,15 @@ returns-clause-kept c = search rules
 
 pub returns-clause-only_compilation : goal.returns-clause-only_compilation
 returns-clause-only_compilation c = compilation_is c.args.level.now c.args.workers _ _ _ refl (returns-clause-kept c) c.in_ok-copy_level.ensures refl
+
+pub wire-requires : goal.wire-requires
+wire-requires c = record {
+  counts = c.in_ok-counts.field-0.counts;
+  order = c.in_ok-counts.field-0.order;
+  repetition = search rules;
+  order_is = search rules;
+  expanded = search rules;
+}
+
+pub returns-in_err-copy_level-clause-only_compilation : goal.returns-in_err-copy_level-clause-only_compilation
+returns-in_err-copy_level-clause-only_compilation c = λ other is level workers. inr (search rules)

@@ -7,7 +7,6 @@ use Rattle.param_resolver.specs.EarlyView.{EarlyView}
 use Rattle.pisdf_meaning.proofs.KernelFrames.{lengths_of_zeros}
 use Rattle.pisdf_meaning.specs.Configuring.{config_args, config_rates, fed_to}
 use Rattle.pisdf_meaning.specs.States.{tokens_at}
-use Rattle.job_preparing.proofs.Frames.{leases_long}
 use Rattle.job_preparing.proofs.asking.kernel_seat.Goals as goal
 
 pub returns-clause-waits : goal.returns-clause-waits
@@ -16,8 +15,8 @@ returns-clause-waits c = λ rates one trace.
     c.rates_at-rates.ensures ∙ ap (λ (l : List (List ℕ)). get_or l c.args.number []) (c.items.ensures ∙ ap (λ (e : EarlyView). e.outs) (c.early.view_is ∙ c.requires)) in
     let args_are : c.in_ok-args.args ≡ config_args c.args.graphs.now c.args.firing.now c.args.number =
     c.in_ok-args.ensures ∙ c.tokens_at.ensures ∙ ap (λ (l : List (List ℤ)). tokens_at l c.args.number) (c.items-2.ensures ∙ ap (λ (e : EarlyView). e.args) (c.early.view_is ∙ c.requires)) in
-    let outputs_are : lengths c.lend-frame.result.outputs ≡ config_rates c.args.graphs.now c.args.firing.now c.args.number =
-    ap lengths (c.lend-frame.ensures.outputs.cells ∙ sym c.take_back-args.ensures.outputs.cells ∙ c.in_ok-start.ensures.zeros.0) ∙ lengths_of_zeros c.rates_at-rates.result.now ∙ rates_are in
+    let outputs_are : lengths c.in_ok-frame.frame.outputs ≡ config_rates c.args.graphs.now c.args.firing.now c.args.number =
+    ap lengths c.in_ok-frame.ensures.zeros.0 ∙ lengths_of_zeros c.rates_at-rates.result.now ∙ rates_are in
     record {
       has = record {
         spot = record { path = c.args.firing.now.path; name = c.args.name.now; turn = 0 };
@@ -32,14 +31,14 @@ returns-clause-waits c = λ rates one trace.
             let many = ap (λ (l : List ℕ). length l) rates_are in
             omega arith;
       };
-      frame = c.lend-frame.result;
+      frame = c.in_ok-frame.frame;
       frame_is = refl;
       asks = record {
-        kind = c.lend-frame.ensures.given.0;
-        args = c.lend-frame.ensures.given.1 ∙ c.take_back-args.ensures.given.0 ∙ c.in_ok-start.ensures.given.1 ∙ args_are;
-        inputs = c.lend-frame.ensures.inputs.cells ∙ sym c.take_back-args.ensures.inputs.cells ∙ c.in_ok-start.ensures.given.2 ∙ c.in_ok-inputs.ensures ∙ ap (λ (l : List (List ℤ)). fed_to c.args.graph.now l c.args.place c.args.ins) c.items-3.ensures;
+        kind = c.in_ok-frame.ensures.given.0;
+        args = c.in_ok-frame.ensures.given.1 ∙ args_are;
+        inputs = c.in_ok-frame.ensures.given.2 ∙ c.in_ok-inputs.ensures ∙ ap (λ (l : List (List ℤ)). fed_to c.args.graph.now l c.args.place c.args.ins) c.items-3.ensures;
         outputs = outputs_are;
-        sets = ap (λ (l : List ℤ). length l) (c.lend-frame.ensures.given.2 ∙ c.take_back-args.ensures.given.1 ∙ c.in_ok-start.ensures.zeros.1) ∙ length-replicate c.args.sets (pos 0);
+        sets = ap (λ (l : List ℤ). length l) c.in_ok-frame.ensures.zeros.1 ∙ length-replicate c.args.sets (pos 0);
       };
-      outputs = sym (leases_long c.lend-frame.result.outputs c.lend-frame.result.places.outputs c.take_back-args.result.outputs c.lend-frame.ensures.outputs) ∙ outputs_are;
+      outputs = sym c.outputs_fill_leases.ensures ∙ outputs_are;
     }

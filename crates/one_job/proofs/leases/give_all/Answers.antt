@@ -16,4 +16,5 @@ loop-lease-preserved c =
     let steps = c.in-Some.ensures.items in record {
       whole = ap (with_leases left) c.give_one.ensures ∙ (sym (with_leases-snoc left lease pool) ∙ (ap (λ l. with_leases l pool) (sym steps) ∙ c.loop-lease.invariant.whole));
       due = subst (AreDue left) (sym c.give_one.ensures) (AreDue-snoc left lease pool (subst (λ l. AreDue l pool) steps c.loop-lease.invariant.due)).0;
+      capacity = c.pop.ensures.capacity ∙ c.loop-lease.invariant.capacity;
     }

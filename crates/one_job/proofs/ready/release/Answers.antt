@@ -3,7 +3,7 @@ use Rattle.std.specs.Prelude.{Option, Some, None}
 use Rattle.std.proofs.lemmas.List.{drop_more}
 use Rattle.sdf_level.specs.declared.single_rate.Edge.{Edge}
 use Rattle.one_job.specs.Ready.{heads_at, heads_in, Releases}
-use Rattle.one_job.proofs.RowStarts.{port_is}
+use Rattle.job_compiler.proofs.RowStarts.{port_is}
 use Rattle.one_job.proofs.Releasing.{releases_same, releases_step, not_in, waits_one}
 use Rattle.one_job.proofs.ready.release.Goals as goal
 use Rattle.one_job.proofs.ready.release.Goals.{in-Some, in_default}

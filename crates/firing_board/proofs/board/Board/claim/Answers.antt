@@ -30,6 +30,7 @@ invariant_of-self c =
       subst (λ (k : Key). Keeps k new i.starved) (sym same) (subst (λ (b : Bool). Keeps key new b) (sym live) (c.in-Ok.ensures.claimed key may).keeps),
       c.claim-claimed.ensures.kept.1 ∙ (c.self.invariant.1 ∙ sym c.claim-claimed.ensures.kept.0.one_each),
       subst (λ (b : Bool). HasRoomUnless b new) (sym live) c.in-Ok.ensures.room,
+      c.claim-claimed.ensures.kept.0.slots_each ∙ (c.self.invariant.3 ∙ sym c.claim-claimed.ensures.kept.0.one_each),
     )
 
 pub invariant_of-self-in-Err : goal.invariant_of-self-in-Err
@@ -42,6 +43,7 @@ invariant_of-self-in-Err c =
       subst (λ (k : Key). Keeps k new true) (sym same) (c.in-Err.ensures.refused key may).keeps,
       c.claim-claimed.ensures.kept.1 ∙ (c.self.invariant.1 ∙ sym c.claim-claimed.ensures.kept.0.one_each),
       tt,
+      c.claim-claimed.ensures.kept.0.slots_each ∙ (c.self.invariant.3 ∙ sym c.claim-claimed.ensures.kept.0.one_each),
     )
 
 pub returns-then-self-clause-licensed : goal.returns-then-self-clause-licensed

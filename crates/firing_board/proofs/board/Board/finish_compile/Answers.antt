@@ -40,6 +40,7 @@ invariant_of-self c =
       subst (λ (k : Key). Keeps k new c.finish_compilation-self-inside.result) (sym same) f.keeps,
       c.take_key-key.ensures ∙ (c.self.invariant.1 ∙ sym kept.one_each),
       room_unless i.starved c.finish_compilation-self-inside.result i.core new f.stays c.self.invariant.2 c.finish_compilation-self-inside.ensures.room,
+      kept.slots_each ∙ (c.self.invariant.3 ∙ sym kept.one_each),
     )
 
 pub returns-clause-finishes : goal.returns-clause-finishes

@@ -14,8 +14,8 @@ use Rattle.firing_board.proofs.KeptViews.{finishes_as, keeping, long_as, runs_as
 use Rattle.firing_board.proofs.RoomSteps.{room_unless}
 use Rattle.firing_board.proofs.board.Board.finish_fire.Goals as goal
 
-pub finish_frame-self-inside-requires : goal.finish_frame-self-inside-requires
-finish_frame-self-inside-requires c =
+pub finish_frame-self-inside-requires-clause-may : goal.finish_frame-self-inside-requires-clause-may
+finish_frame-self-inside-requires-clause-may c =
     let i = c.self.inside in
     let key = key_of i in
     let w = c.args.ticket.worker in (
@@ -41,7 +41,7 @@ invariant_of-self c =
       lent = ap (λ (b : BoardView). lent_to b w) c.self.view_is ∙ c.requires.lent;
     } in
     let same = key_same i.signatures.counts i.top.value i.core new kept in
-    (subst (λ (k : Key). Keeps k new after) (sym same) f.keeps, c.self.invariant.1 ∙ sym kept.one_each, room_unless i.starved after i.core new f.stays c.self.invariant.2 (λ live has. c.finish_frame-self-inside.ensures.room has))
+    (subst (λ (k : Key). Keeps k new after) (sym same) f.keeps, c.self.invariant.1 ∙ sym kept.one_each, room_unless i.starved after i.core new f.stays c.self.invariant.2 (λ live has. c.finish_frame-self-inside.ensures.room has), kept.slots_each ∙ (c.self.invariant.3 ∙ sym kept.one_each))
 
 pub returns-clause-finishes : goal.returns-clause-finishes
 returns-clause-finishes c =

@@ -9,7 +9,7 @@ use Rattle.job_preparing.specs.CompileTasks.{CompileView}
 use Rattle.job_preparing.specs.Handing.{mark_at}
 use Rattle.firing_board.specs.Table.Slots.{change_row}
 use Rattle.firing_board.proofs.OfTable.LentJobs.{job_had, job_has, job_same, job_written, left_with}
-use Rattle.firing_board.proofs.OfTable.Methods.{busy_lent, changed, in_row, item_freed, mark_marked, on_err_weaker, slot_has, slot_same}
+use Rattle.firing_board.proofs.OfTable.Methods.{busy_lent, busy_room, changed, in_row, item_freed, mark_marked, on_err_weaker, slot_has, slot_same}
 use Rattle.firing_board.proofs.table.JobTable.claim_compile.Goals as goal
 
 pub returns-clause-task : goal.returns-clause-task
@@ -72,6 +72,19 @@ returns-clause-lent c =
     let row = c.requires.0 in
     let new = c.claim_compile.new.self in
     busy_lent _ c.args.self.now c.self.view_is c.args.row slot read row c.requires.1 c.claim_compile.result (compilation_of row.job) (left_with new slot)
+    (on_ok_weaker c.claim_compile.result
+    (λ is. changed _ c.args.self.now c.self.view_is c.args.row slot read row c.requires.1 (λ (job : OpenView). with_mark job (compilation_of job) Busy) (left_with new slot)
+    (job_written slot c.job_in.result.now new (λ (job : OpenView). with_mark job (compilation_of job) Busy) c.job_in.ensures.value is))
+    c.claim_compile.ensures.claimed)
+    (on_err_weaker c.claim_compile.result (new ≡ c.job_in.result.now) (left_with new slot ≡ slot) (λ is. job_same slot c.job_in.result.now new c.job_in.ensures.value is) c.claim_compile.ensures.refused)
+
+pub returns-clause-asked : goal.returns-clause-asked
+returns-clause-asked c =
+    let slot = c.index_mut.result.now in
+    let read = c.index_mut.ensures.value in
+    let row = c.requires.0 in
+    let new = c.claim_compile.new.self in
+    busy_room _ c.args.self.now c.self.view_is c.args.row slot read row c.requires.1 c.claim_compile.result (compilation_of row.job) (left_with new slot)
     (on_ok_weaker c.claim_compile.result
     (λ is. changed _ c.args.self.now c.self.view_is c.args.row slot read row c.requires.1 (λ (job : OpenView). with_mark job (compilation_of job) Busy) (left_with new slot)
     (job_written slot c.job_in.result.now new (λ (job : OpenView). with_mark job (compilation_of job) Busy) c.job_in.ensures.value is))

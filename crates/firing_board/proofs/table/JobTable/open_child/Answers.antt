@@ -15,7 +15,7 @@ use Rattle.firing_board.specs.Table.Slots.{CallsIn, InSlot}
 use Rattle.firing_board.specs.Table.View.{TableView, row_at, with_job}
 use Rattle.firing_board.specs.declared.table.row.Row.{Row}
 use Rattle.firing_board.proofs.OfTable.LentJobs.{job_called, job_had, job_has, left_with}
-use Rattle.firing_board.proofs.OfTable.Openings.{call_of, call_spoils, err_with, is_fresh, item_there, opened_free, opened_mark, opened_others, opened_stays, opens, opens_lent, read_row, row_slot, vacant_slot}
+use Rattle.firing_board.proofs.OfTable.Openings.{call_of, call_spoils, err_with, is_fresh, item_there, opened_free, opened_mark, opened_others, opened_stays, opens, opens_asks, opens_lent, read_row, row_slot, vacant_slot}
 use Rattle.firing_board.proofs.OfTable.Freeing.{fresh_many}
 use Rattle.firing_board.proofs.OfTable.Rows.{the_same}
 use Rattle.firing_board.proofs.table.JobTable.open_child.Goals as goal
@@ -154,7 +154,7 @@ put_row-requires c =
     let here = c.requires.offered.1 in
     let firing = c.in_ok-firing.firing in
     let called = call_of v now e rows same k item slot read row here firing (left_with c.call.new.self slot) (subst (λ (r : Result Firing AllocError). CallsIn item r slot (left_with c.call.new.self slot)) c.in_ok-firing.was (job_called slot c.job_in.result.now c.call.new.self item c.call.result c.job_in.ensures.value c.call.ensures.firing c.call.ensures.inherited c.call.ensures.opened c.call.ensures.refused)) in
-    vacant_slot v now e rows same k item slot read row here (left_with c.call.new.self slot) (with_job row (with_mark row.job item (Open firing))) called.new_is (opened_stays v now e rows same k item slot read row here (Open firing)) refl c.in_ok-key.key c.in_ok-key.ensures.vacant c.index_mut-2.result.now c.index_mut-2.ensures.value
+    vacant_slot v now e rows same k item slot read row here (left_with c.call.new.self slot) (with_job row (with_mark row.job item (Open firing))) called.new_is (opened_stays v now e rows same k item slot read row here (Open firing)) refl refl c.in_ok-key.key c.in_ok-key.ensures.vacant c.index_mut-2.result.now c.index_mut-2.ensures.value
 
 pub returns-clause-opened : goal.returns-clause-opened
 returns-clause-opened c =
@@ -174,12 +174,12 @@ returns-clause-opened c =
     let called = call_of v now e rows same k item slot read row here firing (left_with c.call.new.self slot) (subst (λ (r : Result Firing AllocError). CallsIn item r slot (left_with c.call.new.self slot)) c.in_ok-firing.was (job_called slot c.job_in.result.now c.call.new.self item c.call.result c.job_in.ensures.value c.call.ensures.firing c.call.ensures.inherited c.call.ensures.opened c.call.ensures.refused)) in
     let own : arc_value c.in_ok-graphs.graphs ≡ arc_value s.graphs = c.in_ok-graphs.ensures in
     let graphs : row.job.graphs ≡ arc_value c.in_ok-graphs.graphs = c.requires.offered.2.0 ∙ (ap (λ (x : TableView). x.graphs) (sym e) ∙ sym own) in
-    let fresh = is_fresh v.graphs v.workers firing c.in_ok-job.job (compile_number (graph_of (arc_value c.in_ok-graphs.graphs).graphs firing) + 1) (c.in_ok-job.ensures.given.0 ∙ own) c.in_ok-job.ensures.given.1 c.in_ok-job.ensures.given.2 c.in_ok-job.ensures.unplaced c.in_ok-job.ensures.free c.in_ok-job.ensures.unlent
+    let fresh = is_fresh v.graphs v.workers firing c.in_ok-job.job (compile_number (graph_of (arc_value c.in_ok-graphs.graphs).graphs firing) + 1) (c.in_ok-job.ensures.given.0 ∙ own) c.in_ok-job.ensures.given.1 c.in_ok-job.ensures.given.2 c.in_ok-job.ensures.unplaced c.in_ok-job.ensures.roomless c.in_ok-job.ensures.free c.in_ok-job.ensures.unlent
     (fresh_many (arc_value c.in_ok-graphs.graphs) firing c.in_ok-job.job c.in_ok-job.ensures.given.0 c.in_ok-job.ensures.given.2 c.in_ok-job.ensures.free) in
     let child : Row = record { job = c.in_ok-job.job; upper = Some k; place = c.in_ok-place.place; steps = c.in_ok-steps.steps } in
     let first = read_row v now e rows same k item c.index.result.now c.index.ensures row here c.row_in.result.now c.row_in.ensures in
     let second = read_row v now e rows same k item c.index-2.result.now c.index-2.ensures row here c.row_in-2.result.now c.row_in-2.ensures in
-    opens v now e rows same k item slot read row here (left_with c.call.new.self slot) (with_job row (with_mark row.job item (Open firing))) called.new_is (opened_stays v now e rows same k item slot read row here (Open firing)) refl c.in_ok-key.key c.in_ok-key.ensures.vacant child c.put_row.new.slot c.put_row.ensures firing called.task_is c.requires.offered.2.1.free
+    opens v now e rows same k item slot read row here (left_with c.call.new.self slot) (with_job row (with_mark row.job item (Open firing))) called.new_is (opened_stays v now e rows same k item slot read row here (Open firing)) refl refl c.in_ok-key.key c.in_ok-key.ensures.vacant child c.put_row.new.slot c.put_row.ensures firing called.task_is c.requires.offered.2.1.free
     (opened_free v now e rows same k item slot read row here firing (item_there v now e rows same k item slot read row here (job_had slot c.job_in.result.now (λ (job : OpenView). HasItem job item) c.job_in.ensures.value c.call.ensures.there)) c.requires.offered.2.1.free)
     (opened_mark v now e rows same k item slot read row here (Open firing) (item_there v now e rows same k item slot read row here (job_had slot c.job_in.result.now (λ (job : OpenView). HasItem job item) c.job_in.ensures.value c.call.ensures.there))) (opened_others v now e rows same k item slot read row here (Open firing)) fresh
     (c.in_ok-place.ensures ∙ ap (λ (r : Row). item ∷ r.place) first) refl (c.in_ok-steps.ensures ∙ ap (λ (r : Row). r.steps ++ step_of r.job item ∷ []) second)
@@ -202,7 +202,62 @@ returns-clause-lent c =
     let called = call_of v now e rows same k item slot read row here firing (left_with c.call.new.self slot) (subst (λ (r : Result Firing AllocError). CallsIn item r slot (left_with c.call.new.self slot)) c.in_ok-firing.was (job_called slot c.job_in.result.now c.call.new.self item c.call.result c.job_in.ensures.value c.call.ensures.firing c.call.ensures.inherited c.call.ensures.opened c.call.ensures.refused)) in
     let own : arc_value c.in_ok-graphs.graphs ≡ arc_value s.graphs = c.in_ok-graphs.ensures in
     let graphs : row.job.graphs ≡ arc_value c.in_ok-graphs.graphs = c.requires.offered.2.0 ∙ (ap (λ (x : TableView). x.graphs) (sym e) ∙ sym own) in
-    let fresh = is_fresh v.graphs v.workers firing c.in_ok-job.job (compile_number (graph_of (arc_value c.in_ok-graphs.graphs).graphs firing) + 1) (c.in_ok-job.ensures.given.0 ∙ own) c.in_ok-job.ensures.given.1 c.in_ok-job.ensures.given.2 c.in_ok-job.ensures.unplaced c.in_ok-job.ensures.free c.in_ok-job.ensures.unlent
+    let fresh = is_fresh v.graphs v.workers firing c.in_ok-job.job (compile_number (graph_of (arc_value c.in_ok-graphs.graphs).graphs firing) + 1) (c.in_ok-job.ensures.given.0 ∙ own) c.in_ok-job.ensures.given.1 c.in_ok-job.ensures.given.2 c.in_ok-job.ensures.unplaced c.in_ok-job.ensures.roomless c.in_ok-job.ensures.free c.in_ok-job.ensures.unlent
     (fresh_many (arc_value c.in_ok-graphs.graphs) firing c.in_ok-job.job c.in_ok-job.ensures.given.0 c.in_ok-job.ensures.given.2 c.in_ok-job.ensures.free) in
     let child : Row = record { job = c.in_ok-job.job; upper = Some k; place = c.in_ok-place.place; steps = c.in_ok-steps.steps } in
-    opens_lent v now e rows same k item slot read row here (left_with c.call.new.self slot) (with_job row (with_mark row.job item (Open firing))) called.new_is (opened_stays v now e rows same k item slot read row here (Open firing)) refl c.in_ok-key.key c.in_ok-key.ensures.vacant child c.put_row.new.slot c.put_row.ensures fresh.unlent
+    opens_lent v now e rows same k item slot read row here (left_with c.call.new.self slot) (with_job row (with_mark row.job item (Open firing))) called.new_is (opened_stays v now e rows same k item slot read row here (Open firing)) refl refl c.in_ok-key.key c.in_ok-key.ensures.vacant child c.put_row.new.slot c.put_row.ensures fresh.unlent
+
+pub returns-in_err-firing-clause-asked : goal.returns-in_err-firing-clause-asked
+returns-in_err-firing-clause-asked c =
+    let s = c.self.inside in
+    let v : TableView = record { graphs = arc_value s.graphs; workers = s.workers; rows = s.rows.items } in
+    let now = c.args.self.now in
+    let e = c.self.view_is in
+    let rows = c.vacant_key.new.rows.items in
+    let same = c.vacant_key.ensures.same in
+    let k = c.args.row in
+    let item = c.args.item in
+    let slot = c.index_mut.result.now in
+    let read = c.index_mut.ensures.value in
+    let row = c.requires.offered.0 in
+    let here = c.requires.offered.1 in
+    (call_spoils v now e rows same k item slot read row here c.call.result (left_with c.call.new.self slot) (job_called slot c.job_in.result.now c.call.new.self item c.call.result c.job_in.ensures.value c.call.ensures.firing c.call.ensures.inherited c.call.ensures.opened c.call.ensures.refused) (item_there v now e rows same k item slot read row here (job_had slot c.job_in.result.now (λ (job : OpenView). HasItem job item) c.job_in.ensures.value c.call.ensures.there)) c.requires.offered.2.1.free).2
+
+pub returns-in_err-job-clause-asked : goal.returns-in_err-job-clause-asked
+returns-in_err-job-clause-asked c =
+    let s = c.self.inside in
+    let v : TableView = record { graphs = arc_value s.graphs; workers = s.workers; rows = s.rows.items } in
+    let now = c.args.self.now in
+    let e = c.self.view_is in
+    let rows = c.vacant_key.new.rows.items in
+    let same = c.vacant_key.ensures.same in
+    let k = c.args.row in
+    let item = c.args.item in
+    let slot = c.index_mut.result.now in
+    let read = c.index_mut.ensures.value in
+    let row = c.requires.offered.0 in
+    let here = c.requires.offered.1 in
+    (call_spoils v now e rows same k item slot read row here c.call.result (left_with c.call.new.self slot) (job_called slot c.job_in.result.now c.call.new.self item c.call.result c.job_in.ensures.value c.call.ensures.firing c.call.ensures.inherited c.call.ensures.opened c.call.ensures.refused) (item_there v now e rows same k item slot read row here (job_had slot c.job_in.result.now (λ (job : OpenView). HasItem job item) c.job_in.ensures.value c.call.ensures.there)) c.requires.offered.2.1.free).2
+
+pub returns-clause-asked : goal.returns-clause-asked
+returns-clause-asked c =
+    let s = c.self.inside in
+    let v : TableView = record { graphs = arc_value s.graphs; workers = s.workers; rows = s.rows.items } in
+    let now = c.args.self.now in
+    let e = c.self.view_is in
+    let rows = c.vacant_key.new.rows.items in
+    let same = c.vacant_key.ensures.same in
+    let k = c.args.row in
+    let item = c.args.item in
+    let slot = c.index_mut.result.now in
+    let read = c.index_mut.ensures.value in
+    let row = c.requires.offered.0 in
+    let here = c.requires.offered.1 in
+    let firing = c.in_ok-firing.firing in
+    let called = call_of v now e rows same k item slot read row here firing (left_with c.call.new.self slot) (subst (λ (r : Result Firing AllocError). CallsIn item r slot (left_with c.call.new.self slot)) c.in_ok-firing.was (job_called slot c.job_in.result.now c.call.new.self item c.call.result c.job_in.ensures.value c.call.ensures.firing c.call.ensures.inherited c.call.ensures.opened c.call.ensures.refused)) in
+    let own : arc_value c.in_ok-graphs.graphs ≡ arc_value s.graphs = c.in_ok-graphs.ensures in
+    let graphs : row.job.graphs ≡ arc_value c.in_ok-graphs.graphs = c.requires.offered.2.0 ∙ (ap (λ (x : TableView). x.graphs) (sym e) ∙ sym own) in
+    let fresh = is_fresh v.graphs v.workers firing c.in_ok-job.job (compile_number (graph_of (arc_value c.in_ok-graphs.graphs).graphs firing) + 1) (c.in_ok-job.ensures.given.0 ∙ own) c.in_ok-job.ensures.given.1 c.in_ok-job.ensures.given.2 c.in_ok-job.ensures.unplaced c.in_ok-job.ensures.roomless c.in_ok-job.ensures.free c.in_ok-job.ensures.unlent
+    (fresh_many (arc_value c.in_ok-graphs.graphs) firing c.in_ok-job.job c.in_ok-job.ensures.given.0 c.in_ok-job.ensures.given.2 c.in_ok-job.ensures.free) in
+    let child : Row = record { job = c.in_ok-job.job; upper = Some k; place = c.in_ok-place.place; steps = c.in_ok-steps.steps } in
+    opens_asks v now e rows same k item slot read row here (left_with c.call.new.self slot) (with_job row (with_mark row.job item (Open firing))) called.new_is (opened_stays v now e rows same k item slot read row here (Open firing)) refl refl c.in_ok-key.key c.in_ok-key.ensures.vacant child c.put_row.new.slot c.put_row.ensures fresh.roomless

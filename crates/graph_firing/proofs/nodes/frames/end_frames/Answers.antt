@@ -17,7 +17,7 @@ loop-held-preserved-in-Some-waiting_frame c =
     let rest = c.pop.new.self.items in
     let held = subst (HoldClaimed c.loop-held.job.marks) c.in-Some.ensures.items c.loop-held.invariant.held in
     let e : c.len-node.result ≡ length rest = search rules in
-    let marks_are = ap (λ (j : JobView). j.marks) c.finish.ensures ∙ ap (λ i. set c.loop-held.job.marks i (Finished c.in-Some-waiting_frame.frame.outputs)) e in
+    let marks_are = ap (λ (j : JobView). j.marks) c.finish.ensures.finished ∙ ap (λ i. set c.loop-held.job.marks i (Finished c.in-Some-waiting_frame.frame.outputs)) e in
     record {
       held = subst (λ marks. HoldClaimed marks rest) (sym marks_are) (some_last c.loop-held.job.marks rest c.in-Some.held held c.in-Some-waiting_frame.frame (waits_in c.in-Some.held c.in-Some-waiting_frame.frame (sym c.waiting_frame.ensures ∙ c.in-Some-waiting_frame.is)));
       few = search rules;

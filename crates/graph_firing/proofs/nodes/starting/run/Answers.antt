@@ -4,8 +4,10 @@ use Rattle.std.specs.Arc.{arc_value}
 use Rattle.job_rules.specs.Items.{graph_of}
 use Rattle.job_compiler.specs.Compilation.{Compilation}
 use Rattle.split_block.specs.View.{Block}
+use Rattle.kernel_gate.specs.declared.room.RoomSize.{RoomSize}
 use Rattle.job_preparing.specs.View.{left_by}
 use Rattle.nested_jobs.specs.Marks as mark
+use Rattle.one_job.specs.Marks.{nowhere}
 use Rattle.param_resolver.specs.Numbering.{acting, has_state}
 use Rattle.pisdf_meaning.specs.Running.{chosen_rows, value_at}
 use Rattle.pisdf_meaning.specs.declared.firing.Configured.{Configured}
@@ -31,8 +33,8 @@ start_job-requires-clause-sources c =
     let all_is : c.items-all.result.now ≡ gs.graphs = c.items-all.ensures ∙ ap (λ (x : Graphs). x.graphs) c.deref.ensures in
     let here : c.index-all-firing.result ≡ graph_of gs.graphs firing = graph_is gs.graphs firing c.requires.fit c.items-all.result.now all_is c.firing-firing.result.now.graph (ap (λ (d : Firing). d.graph) c.firing-firing.ensures) c.index-all-firing.result c.index-all-firing.is in
     let given = given_here gs c.args.preparing.now.graphs c.requires.graphs firing left c.firing-firing.result.now c.items-all.result.now c.index-all-firing.result c.left.result.now c.in_ok-lists.lists.sources c.in_ok-lists.lists.stored c.firing-firing.ensures all_is here c.left.ensures.sources c.left.ensures.rates c.in_ok-lists.ensures.sources c.in_ok-lists.ensures.stored in
-    let made_with : Firing → List Configured → Compilation → Block → Fixed = λ d before compilation block. record { graphs = gs; firing = d; left = before; compilation = compilation; block = block; set = c.args.set; place = c.firing-firing.result.now.graph; path = c.in_ok-own.own.path; keeps = c.in_ok-parts.parts.keeps.items; names = c.in_ok-parts.parts.names.items; rows = c.in_ok-own.own.rows; exports = c.in_ok-own.own.exports; state = c.in_ok-parts.parts.state } in
-    let f = made_with firing left (arc_value c.args.compiled) no_block in
+    let made_with : Firing → List Configured → Compilation → Block → RoomSize → Fixed = λ d before compilation block room. record { graphs = gs; firing = d; left = before; compilation = compilation; block = block; room = room; set = c.args.set; place = c.firing-firing.result.now.graph; path = c.in_ok-own.own.path; keeps = c.in_ok-parts.parts.keeps.items; names = c.in_ok-parts.parts.names.items; rows = c.in_ok-own.own.rows; exports = c.in_ok-own.own.exports; state = c.in_ok-parts.parts.state } in
+    let f = made_with firing left (arc_value c.args.compiled) no_block nowhere.room in
     let suits = suits_here gs c.args.preparing.now.graphs c.requires.graphs firing left c.requires.suits in
     sources_asked f (arc_value c.args.compiled).workers c.args.values c.requires.valid c.requires.fit suits c.requires.compiled c.in_ok-lists.lists.sources c.in_ok-lists.lists.stored given
 
@@ -44,8 +46,8 @@ start_job-requires-clause-stored c =
     let all_is : c.items-all.result.now ≡ gs.graphs = c.items-all.ensures ∙ ap (λ (x : Graphs). x.graphs) c.deref.ensures in
     let here : c.index-all-firing.result ≡ graph_of gs.graphs firing = graph_is gs.graphs firing c.requires.fit c.items-all.result.now all_is c.firing-firing.result.now.graph (ap (λ (d : Firing). d.graph) c.firing-firing.ensures) c.index-all-firing.result c.index-all-firing.is in
     let given = given_here gs c.args.preparing.now.graphs c.requires.graphs firing left c.firing-firing.result.now c.items-all.result.now c.index-all-firing.result c.left.result.now c.in_ok-lists.lists.sources c.in_ok-lists.lists.stored c.firing-firing.ensures all_is here c.left.ensures.sources c.left.ensures.rates c.in_ok-lists.ensures.sources c.in_ok-lists.ensures.stored in
-    let made_with : Firing → List Configured → Compilation → Block → Fixed = λ d before compilation block. record { graphs = gs; firing = d; left = before; compilation = compilation; block = block; set = c.args.set; place = c.firing-firing.result.now.graph; path = c.in_ok-own.own.path; keeps = c.in_ok-parts.parts.keeps.items; names = c.in_ok-parts.parts.names.items; rows = c.in_ok-own.own.rows; exports = c.in_ok-own.own.exports; state = c.in_ok-parts.parts.state } in
-    let f = made_with firing left (arc_value c.args.compiled) no_block in
+    let made_with : Firing → List Configured → Compilation → Block → RoomSize → Fixed = λ d before compilation block room. record { graphs = gs; firing = d; left = before; compilation = compilation; block = block; room = room; set = c.args.set; place = c.firing-firing.result.now.graph; path = c.in_ok-own.own.path; keeps = c.in_ok-parts.parts.keeps.items; names = c.in_ok-parts.parts.names.items; rows = c.in_ok-own.own.rows; exports = c.in_ok-own.own.exports; state = c.in_ok-parts.parts.state } in
+    let f = made_with firing left (arc_value c.args.compiled) no_block nowhere.room in
     let suits = suits_here gs c.args.preparing.now.graphs c.requires.graphs firing left c.requires.suits in
     stored_asked f (arc_value c.args.compiled).workers c.args.values c.requires.valid c.requires.fit suits c.requires.compiled c.in_ok-lists.lists.sources c.in_ok-lists.lists.stored given
 
@@ -57,11 +59,11 @@ invariant_of-result c =
     let all_is : c.items-all.result.now ≡ gs.graphs = c.items-all.ensures ∙ ap (λ (x : Graphs). x.graphs) c.deref.ensures in
     let here : c.index-all-firing.result ≡ graph_of gs.graphs firing = graph_is gs.graphs firing c.requires.fit c.items-all.result.now all_is c.firing-firing.result.now.graph (ap (λ (d : Firing). d.graph) c.firing-firing.ensures) c.index-all-firing.result c.index-all-firing.is in
     let given = given_here gs c.args.preparing.now.graphs c.requires.graphs firing left c.firing-firing.result.now c.items-all.result.now c.index-all-firing.result c.left.result.now c.in_ok-lists.lists.sources c.in_ok-lists.lists.stored c.firing-firing.ensures all_is here c.left.ensures.sources c.left.ensures.rates c.in_ok-lists.ensures.sources c.in_ok-lists.ensures.stored in
-    let made_with : Firing → List Configured → Compilation → Block → Fixed = λ d before compilation block. record { graphs = gs; firing = d; left = before; compilation = compilation; block = block; set = c.args.set; place = c.firing-firing.result.now.graph; path = c.in_ok-own.own.path; keeps = c.in_ok-parts.parts.keeps.items; names = c.in_ok-parts.parts.names.items; rows = c.in_ok-own.own.rows; exports = c.in_ok-own.own.exports; state = c.in_ok-parts.parts.state } in
-    let f = made_with firing left (arc_value c.args.compiled) c.in_ok-job.field-0.job.block in
+    let made_with : Firing → List Configured → Compilation → Block → RoomSize → Fixed = λ d before compilation block room. record { graphs = gs; firing = d; left = before; compilation = compilation; block = block; room = room; set = c.args.set; place = c.firing-firing.result.now.graph; path = c.in_ok-own.own.path; keeps = c.in_ok-parts.parts.keeps.items; names = c.in_ok-parts.parts.names.items; rows = c.in_ok-own.own.rows; exports = c.in_ok-own.own.exports; state = c.in_ok-parts.parts.state } in
+    let f = made_with firing left (arc_value c.args.compiled) c.in_ok-job.field-0.job.block c.in_ok-job.field-0.job.room in
     let suits = suits_here gs c.args.preparing.now.graphs c.requires.graphs firing left c.requires.suits in
     let told_is : firing ≡ c.of-told.result.value = sym (c.of-told.ensures ∙ c.firing-firing.ensures) in
-    let same : f ≡ made_with c.of-told.result.value c.told_before.result.left (arc_value c.in_ok-shared.shared) c.told_block.result.block = λ k. made_with (told_is k) (sym c.told_before.ensures k) (sym c.in_ok-shared.ensures k) (sym c.told_block.ensures k) in
+    let same : f ≡ made_with c.of-told.result.value c.told_before.result.left (arc_value c.in_ok-shared.shared) c.told_block.result.block c.room_size-room.result = λ k. made_with (told_is k) (sym c.told_before.ensures k) (sym c.in_ok-shared.ensures k) (sym c.told_block.ensures k) (sym c.room_size-room.ensures k) in
     let nodes_are : c.items-4.result.now ≡ (arc_value c.args.compiled).graph.nodes = c.items-4.ensures ∙ ap (λ (x : SingleRate). x.nodes) (c.graph.ensures.value ∙ ap (λ (x : Compilation). x.graph) c.deref-3.ensures) in
     let stages_are : c.free-stages.result ≡ replicate (length (arc_value c.args.compiled).graph.nodes) Free = c.free-stages.ensures ∙ ap (λ (l : List Node). replicate (length l) Free) nodes_are in
     let kinds_are : c.in_ok-lists.lists.kinds ≡ map kind_of_actor (acting (graph_of gs.graphs firing)) = c.in_ok-lists.ensures.kinds ∙ (λ k. map kind_of_actor (acting (here k))) in
@@ -78,8 +80,8 @@ invariant_of-result c =
       none = c.in_ok-parts.ensures.empty.1;
       room = subst (λ (x : Graph). length x.fifos + length x.actors ≤ vec_capacity c.in_ok-parts.parts.state) here c.in_ok-parts.ensures.room;
     } in
-    let started : start_of c.in_ok-job.field-0.job ≡ record { compilation = arc_value c.args.compiled; kinds = c.in_ok-lists.lists.kinds; args = c.in_ok-lists.lists.args; sources = c.in_ok-lists.lists.sources; stored = c.in_ok-lists.lists.stored; block = c.in_ok-job.field-0.job.block } =
-    λ k. record { compilation = c.in_ok-job.ensures.compilation k; kinds = c.in_ok-job.ensures.given.0 k; args = c.in_ok-job.ensures.given.1 k; sources = c.in_ok-job.ensures.given.2 k; stored = c.in_ok-job.ensures.given.3 k; block = c.in_ok-job.field-0.job.block } in
+    let started : start_of c.in_ok-job.field-0.job ≡ record { compilation = arc_value c.args.compiled; kinds = c.in_ok-lists.lists.kinds; args = c.in_ok-lists.lists.args; sources = c.in_ok-lists.lists.sources; stored = c.in_ok-lists.lists.stored; block = c.in_ok-job.field-0.job.block; room = c.in_ok-job.field-0.job.room } =
+    λ k. record { compilation = c.in_ok-job.ensures.compilation k; kinds = c.in_ok-job.ensures.given.0 k; args = c.in_ok-job.ensures.given.1 k; sources = c.in_ok-job.ensures.given.2 k; stored = c.in_ok-job.ensures.given.3 k; block = c.in_ok-job.field-0.job.block; room = c.in_ok-job.field-0.job.room } in
     let kinds_same : c.items-3.result.now ≡ c.in_ok-job.field-0.job.kinds = c.items-3.ensures ∙ sym c.in_ok-job.ensures.given.0 in
     let counts_are : c.counts.result.now ≡ (arc_value c.args.compiled).counts = c.counts.ensures.value ∙ ap (λ (x : Compilation). x.counts) c.deref-2.ensures in
     let rows_are : (a : ℕ) → row_at c.in_ok-traces.traces.items a ≡ replicate (call_count c.in_ok-job.field-0.job.kinds (arc_value c.args.compiled).counts a) [] =
@@ -93,11 +95,11 @@ returns-clause-free c =
     let gs = arc_value c.args.graphs in
     let firing = c.args.preparing.now.firing in
     let left = left_by c.args.preparing.now in
-    let made_with : Firing → List Configured → Compilation → Block → Fixed = λ d before compilation block. record { graphs = gs; firing = d; left = before; compilation = compilation; block = block; set = c.args.set; place = c.firing-firing.result.now.graph; path = c.in_ok-own.own.path; keeps = c.in_ok-parts.parts.keeps.items; names = c.in_ok-parts.parts.names.items; rows = c.in_ok-own.own.rows; exports = c.in_ok-own.own.exports; state = c.in_ok-parts.parts.state } in
-    let f = made_with firing left (arc_value c.args.compiled) c.in_ok-job.field-0.job.block in
+    let made_with : Firing → List Configured → Compilation → Block → RoomSize → Fixed = λ d before compilation block room. record { graphs = gs; firing = d; left = before; compilation = compilation; block = block; room = room; set = c.args.set; place = c.firing-firing.result.now.graph; path = c.in_ok-own.own.path; keeps = c.in_ok-parts.parts.keeps.items; names = c.in_ok-parts.parts.names.items; rows = c.in_ok-own.own.rows; exports = c.in_ok-own.own.exports; state = c.in_ok-parts.parts.state } in
+    let f = made_with firing left (arc_value c.args.compiled) c.in_ok-job.field-0.job.block c.in_ok-job.field-0.job.room in
     let suits = suits_here gs c.args.preparing.now.graphs c.requires.graphs firing left c.requires.suits in
     let told_is : firing ≡ c.of-told.result.value = sym (c.of-told.ensures ∙ c.firing-firing.ensures) in
-    let same : f ≡ made_with c.of-told.result.value c.told_before.result.left (arc_value c.in_ok-shared.shared) c.told_block.result.block = λ k. made_with (told_is k) (sym c.told_before.ensures k) (sym c.in_ok-shared.ensures k) (sym c.told_block.ensures k) in
+    let same : f ≡ made_with c.of-told.result.value c.told_before.result.left (arc_value c.in_ok-shared.shared) c.told_block.result.block c.room_size-room.result = λ k. made_with (told_is k) (sym c.told_before.ensures k) (sym c.in_ok-shared.ensures k) (sym c.told_block.ensures k) (sym c.room_size-room.ensures k) in
     let nodes_are : c.items-4.result.now ≡ (arc_value c.args.compiled).graph.nodes = c.items-4.ensures ∙ ap (λ (x : SingleRate). x.nodes) (c.graph.ensures.value ∙ ap (λ (x : Compilation). x.graph) c.deref-3.ensures) in
     let stages_are : c.free-stages.result ≡ replicate (length (arc_value c.args.compiled).graph.nodes) Free = c.free-stages.ensures ∙ ap (λ (l : List Node). replicate (length l) Free) nodes_are in
     subst (λ (x : Fixed). (view_with x c.free-stages.result).marks ≡ replicate (length (nodes_of (view_with x c.free-stages.result))) mark.Free) same
@@ -108,11 +110,11 @@ returns-clause-nothing c =
     let gs = arc_value c.args.graphs in
     let firing = c.args.preparing.now.firing in
     let left = left_by c.args.preparing.now in
-    let made_with : Firing → List Configured → Compilation → Block → Fixed = λ d before compilation block. record { graphs = gs; firing = d; left = before; compilation = compilation; block = block; set = c.args.set; place = c.firing-firing.result.now.graph; path = c.in_ok-own.own.path; keeps = c.in_ok-parts.parts.keeps.items; names = c.in_ok-parts.parts.names.items; rows = c.in_ok-own.own.rows; exports = c.in_ok-own.own.exports; state = c.in_ok-parts.parts.state } in
-    let f = made_with firing left (arc_value c.args.compiled) c.in_ok-job.field-0.job.block in
+    let made_with : Firing → List Configured → Compilation → Block → RoomSize → Fixed = λ d before compilation block room. record { graphs = gs; firing = d; left = before; compilation = compilation; block = block; room = room; set = c.args.set; place = c.firing-firing.result.now.graph; path = c.in_ok-own.own.path; keeps = c.in_ok-parts.parts.keeps.items; names = c.in_ok-parts.parts.names.items; rows = c.in_ok-own.own.rows; exports = c.in_ok-own.own.exports; state = c.in_ok-parts.parts.state } in
+    let f = made_with firing left (arc_value c.args.compiled) c.in_ok-job.field-0.job.block c.in_ok-job.field-0.job.room in
     let suits = suits_here gs c.args.preparing.now.graphs c.requires.graphs firing left c.requires.suits in
     let told_is : firing ≡ c.of-told.result.value = sym (c.of-told.ensures ∙ c.firing-firing.ensures) in
-    let same : f ≡ made_with c.of-told.result.value c.told_before.result.left (arc_value c.in_ok-shared.shared) c.told_block.result.block = λ k. made_with (told_is k) (sym c.told_before.ensures k) (sym c.in_ok-shared.ensures k) (sym c.told_block.ensures k) in
+    let same : f ≡ made_with c.of-told.result.value c.told_before.result.left (arc_value c.in_ok-shared.shared) c.told_block.result.block c.room_size-room.result = λ k. made_with (told_is k) (sym c.told_before.ensures k) (sym c.in_ok-shared.ensures k) (sym c.told_block.ensures k) (sym c.room_size-room.ensures k) in
     let nodes_are : c.items-4.result.now ≡ (arc_value c.args.compiled).graph.nodes = c.items-4.ensures ∙ ap (λ (x : SingleRate). x.nodes) (c.graph.ensures.value ∙ ap (λ (x : Compilation). x.graph) c.deref-3.ensures) in
     let stages_are : c.free-stages.result ≡ replicate (length (arc_value c.args.compiled).graph.nodes) Free = c.free-stages.ensures ∙ ap (λ (l : List Node). replicate (length l) Free) nodes_are in
     subst (λ (x : Fixed). (view_with x c.free-stages.result).lent ≡ replicate (length (nodes_of (view_with x c.free-stages.result))) None) same

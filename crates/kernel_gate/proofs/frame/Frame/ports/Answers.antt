@@ -1,23 +1,25 @@
 use Rattle.std.proofs.Common.{refl, ap, ◌∙◌}
+use Rattle.kernel_gate.specs.Framed.{frame_of}
 use Rattle.kernel_gate.proofs.Lists.{list_at, write_at, stays_at}
 use Rattle.kernel_gate.proofs.frame.Frame.ports.Goals as goal
 
 pub returns : goal.returns
 returns c =
-    let outputs = ap (λ f. f.outputs) c.self.view_is in
-    let inputs = ap (λ f. f.inputs) c.self.view_is in
+    let is = ap frame_of c.deref_mut-lent.ensures.value ∙ c.self.view_is in
+    let outputs = ap (λ f. f.outputs) is in
+    let inputs = ap (λ f. f.inputs) is in
     let at = c.index_mut.ensures.value in (
       (
         refl,
-        λ w i. record (c.self.view_is i) {
+        λ w i. record (is i) {
           outputs = write_at _ _ _ w _ outputs c.requires.to at i;
-          places = record (c.self.view_is i).places { outputs = (stays_at _ _ _ w _ outputs c.requires.to at ∙ ap (λ f. f.places.outputs) c.self.view_is) i };
+          places = record (is i).places { outputs = (stays_at _ _ _ w _ outputs c.requires.to at ∙ ap (λ f. f.places.outputs) is) i };
         },
       ),
       record {
         writes_back = tt;
-        args = c.items.ensures ∙ ap (λ f. f.args) c.self.view_is;
-        input = c.as_slice.ensures ∙ list_at _ _ _ _ inputs c.requires.from c.index.ensures;
+        args = c.as_slice.ensures.value ∙ ap (λ f. f.args) is;
+        input = c.as_slice-2.ensures ∙ list_at _ _ _ _ inputs c.requires.from c.index.ensures;
         output = c.as_mut_slice.ensures.value ∙ list_at _ _ _ _ outputs c.requires.to at;
       },
     )

@@ -10,13 +10,14 @@ use Rattle.graph_firing.specs.Nodes.View.{IsOfferedCall, RunningView}
 use Rattle.graph_firing.proofs.OfNodes.CalledNodes.{args_inside, called_ok, caller_so, calls, calls_graph, child_known, few_read, inside_held, inherits_of, inside_of, keeps_inside, keeps_waiting, numbers, places_are, set_inside, task_of, view_err, view_ok}
 use Rattle.graph_firing.proofs.OfNodes.ClaimedNodes.{nothing_held}
 use Rattle.graph_firing.proofs.OfNodes.NodeTasks.{enabled}
+use Rattle.graph_firing.proofs.Rooms.{on_err_right, suffices_same}
 use Rattle.graph_firing.specs.declared.nodes.frames.Held.{Held}
 use Rattle.graph_firing.specs.declared.nodes.frames.Held.TheVariants.{Waits}
 use Rattle.graph_firing.specs.declared.nodes.stage.Stage.{Stage}
 use Rattle.graph_firing.proofs.nodes.running.Running.call.Goals as goal
 
-pub claim-frame-requires : goal.claim-frame-requires
-claim-frame-requires c =
+pub claim-frame-requires-clause-enabled : goal.claim-frame-requires-clause-enabled
+claim-frame-requires-clause-enabled c =
     let i = c.self.inside in
     let offered = subst (λ (v : RunningView). IsOfferedCall v c.args.node) (sym c.self.view_is) c.requires in
     enabled (fixed_of i) i.stages i.held.items i.traces.items i.job c.self.invariant c.faults_renamed.ensures.ready c.faults_renamed.ensures.inputs c.args.node (Call offered.job) offered.free offered.task_is
@@ -141,5 +142,11 @@ pub returns-clause-err : goal.returns-clause-err
 returns-clause-err c =
     let i = c.self.inside in
     let offered = subst (λ (v : RunningView). IsOfferedCall v c.args.node) (sym c.self.view_is) c.requires in
-    subst (λ (s : List Stage). OnErr c.called-result.result (view_with (fixed_of i) s ≡ record c.args.self.now { marks = set c.args.self.now.marks c.args.node Busy })) (sym c.put.ensures)
-    (view_err (fixed_of i) i.stages i.held.items i.traces.items i.job c.self.invariant c.args.node c.faults_renamed.ensures.ready c.faults_renamed.ensures.inputs c.ready_stays.ensures.ready offered c.called-result.result c.args.self.now c.self.view_is c.claim-frame.result c.waiting.result c.waiting.ensures)
+    on_err_right c.called-result.result (view_with (fixed_of i) c.put.new.self ≡ c.args.self.now) (view_with (fixed_of i) c.put.new.self ≡ record c.args.self.now { marks = set c.args.self.now.marks c.args.node Busy })
+    (subst (λ (s : List Stage). OnErr c.called-result.result (view_with (fixed_of i) s ≡ record c.args.self.now { marks = set c.args.self.now.marks c.args.node Busy })) (sym c.put.ensures)
+    (view_err (fixed_of i) i.stages i.held.items i.traces.items i.job c.self.invariant c.args.node c.faults_renamed.ensures.ready c.faults_renamed.ensures.inputs c.ready_stays.ensures.ready offered c.called-result.result c.args.self.now c.self.view_is c.claim-frame.result c.waiting.result c.waiting.ensures))
+
+pub claim-frame-requires-clause-room : goal.claim-frame-requires-clause-room
+claim-frame-requires-clause-room c =
+    let i = c.self.inside in
+    suffices_same i.job.room c.in_ok-room.room (c.in_ok-room.ensures ∙ sym c.self.invariant.set_up.room_is)

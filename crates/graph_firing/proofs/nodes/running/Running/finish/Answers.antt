@@ -24,11 +24,11 @@ invariant_of-self c =
     let lent = subst (λ (v : RunningView). lent_at v.lent c.args.node ≡ Some c.args.frame.places) (sym c.self.view_is) c.requires.lent in
     let sound = subst (λ (v : RunningView). IsFiring (node_at (nodes_of v) c.args.node) ⊎ IsOk c.args.answer) (sym c.self.view_is) c.requires.sound in
     subst (λ (s : List Stage). KeepsAll (fixed_of i) s i.held.items i.traces.items c.finish.new.self) (sym c.put.ensures)
-    (subst (λ (j : leased.JobView). KeepsAll (fixed_of i) (set i.stages c.args.node c.ended.result) i.held.items i.traces.items j) (sym c.finish.ensures)
+    (subst (λ (j : leased.JobView). KeepsAll (fixed_of i) (set i.stages c.args.node c.ended.result) i.held.items i.traces.items j) (sym c.finish.ensures.finished)
     (keeps_finished (fixed_of i) i.stages i.held.items i.traces.items i.job c.self.invariant c.args.node c.args.frame lent c.faults_renamed.ensures.ready c.faults_renamed.ensures.inputs c.ready_stays.ensures.ready c.args.answer c.ended.result c.ended.ensures sound c.outputs_fill_leases.ensures))
 
-pub returns : goal.returns
-returns c =
+pub returns-clause-finished : goal.returns-clause-finished
+returns-clause-finished c =
     let i = c.self.inside in
     let lent = subst (λ (v : RunningView). lent_at v.lent c.args.node ≡ Some c.args.frame.places) (sym c.self.view_is) c.requires.lent in
     let sound = subst (λ (v : RunningView). IsFiring (node_at (nodes_of v) c.args.node) ⊎ IsOk c.args.answer) (sym c.self.view_is) c.requires.sound in

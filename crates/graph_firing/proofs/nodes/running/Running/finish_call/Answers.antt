@@ -131,7 +131,7 @@ invariant_of-self c =
     subst (λ (s : List Stage). KeepsAll (fixed_of i) s (take i.held.len (c.take_frame-frame.new.all ++ drop (length c.take_frame-frame.new.all) i.held.items)) (take i.traces.len (c.put_trace.new.rows ++ drop (length c.put_trace.new.rows) i.traces.items)) c.finish.new.self) (sym c.put.ensures)
     (subst (λ (l : List Held). KeepsAll (fixed_of i) (set i.stages c.args.node (stage.Gave c.of.result)) l (take i.traces.len (c.put_trace.new.rows ++ drop (length c.put_trace.new.rows) i.traces.items)) c.finish.new.self) (sym held_are)
     (subst (λ (l : List (Vec (List TraceRow) Global)). KeepsAll (fixed_of i) (set i.stages c.args.node (stage.Gave c.of.result)) (set i.held.items c.args.node Nothing) l c.finish.new.self) (sym rows_are)
-    (subst (λ (j : leased.JobView). KeepsAll (fixed_of i) (set i.stages c.args.node (stage.Gave c.of.result)) (set i.held.items c.args.node Nothing) c.put_trace.new.rows j) (sym c.finish.ensures)
+    (subst (λ (j : leased.JobView). KeepsAll (fixed_of i) (set i.stages c.args.node (stage.Gave c.of.result)) (set i.held.items c.args.node Nothing) c.put_trace.new.rows j) (sym c.finish.ensures.finished)
     (keeps_gave (fixed_of i) i.stages i.held.items i.traces.items i.job c.self.invariant c.args.node r.job r.open_is c.graphs_numbered.ensures.all c.graphs_numbered.ensures.in_order c.graphs_numbered.ensures.once c.ready_stays.ensures.ready c.firing_of-actor.result.0 c.firing_of-actor.result.1 c.of.result c.in-Ok.given c.write_child.new.frame c.put_trace.new.rows at c.of.ensures suits written put))))
 
 pub finish-requires-in-Err-clause-claimed : goal.finish-requires-in-Err-clause-claimed
@@ -155,7 +155,7 @@ invariant_of-self-in-Err c =
     let held_are = with_items_is i.held c.take_frame-frame-in-Err.new.all (c.take_frame-frame-in-Err.auto.all ∙ (ap length c.deref_mut-in-Err.ensures.value ∙ sym i.held.ok.0)) ∙ c.take_frame-frame-in-Err.ensures.rest ∙ ap (λ (l : List Held). set l c.args.node (Refuses c.in-Err.refusal)) c.deref_mut-in-Err.ensures.value in
     subst (λ (s : List Stage). KeepsAll (fixed_of i) s (take i.held.len (c.take_frame-frame-in-Err.new.all ++ drop (length c.take_frame-frame-in-Err.new.all) i.held.items)) i.traces.items c.finish-in-Err.new.self) (sym c.put-in-Err.ensures)
     (subst (λ (l : List Held). KeepsAll (fixed_of i) (set i.stages c.args.node (stage.Refused c.of-in-Err.result)) l i.traces.items c.finish-in-Err.new.self) (sym held_are)
-    (subst (λ (j : leased.JobView). KeepsAll (fixed_of i) (set i.stages c.args.node (stage.Refused c.of-in-Err.result)) (set i.held.items c.args.node (Refuses c.in-Err.refusal)) i.traces.items j) (sym c.finish-in-Err.ensures)
+    (subst (λ (j : leased.JobView). KeepsAll (fixed_of i) (set i.stages c.args.node (stage.Refused c.of-in-Err.result)) (set i.held.items c.args.node (Refuses c.in-Err.refusal)) i.traces.items j) (sym c.finish-in-Err.ensures.finished)
     (keeps_refused (fixed_of i) i.stages i.held.items i.traces.items i.job c.self.invariant c.args.node r.job r.open_is c.graphs_numbered.ensures.all c.graphs_numbered.ensures.in_order c.graphs_numbered.ensures.once c.ready_stays.ensures.ready c.of-in-Err.result c.in-Err.refusal c.of-in-Err.ensures)))
 
 pub returns-in-Ok : goal.returns-in-Ok

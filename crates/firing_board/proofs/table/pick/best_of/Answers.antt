@@ -1,0 +1,11 @@
+use Rattle.std.proofs.Common.{◌+◌, Option, sym, subst}
+use Rattle.firing_board.specs.Table.AskedRows.{IsBestOf}
+use Rattle.firing_board.specs.declared.table.pick.Asked.{Asked}
+use Rattle.firing_board.proofs.OfTable.AskedBest.{goes_on}
+use Rattle.firing_board.proofs.table.pick.best_of.Goals as goal
+
+pub loop-key-preserved : goal.loop-key-preserved
+loop-key-preserved c =
+    let rows = c.args.rows.now in
+    let P : Option Asked → Type 0 = λ best. IsBestOf c.args.worker c.args.calls rows (c.loop-key.key + 1) best in
+    subst P (sym c.better-best.ensures) (goes_on rows c.args.worker c.args.calls c.loop-key.key c.loop-key.best c.asked_at.result c.loop-key.invariant c.asked_at.ensures)

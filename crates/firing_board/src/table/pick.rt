@@ -1,0 +1,151 @@
+// What the rows of a table offer a worker first. Six rules say it, and the first that tells two items apart decides. The
+// board asks for work before it asks for calls, which is rule 1. `goes_before` has rules 2 to 6.
+ghost use Rattle.std.specs.Prelude.{◌≡◌, ◌<◌, false, true, length, IfSome, IsSome};
+ghost use Rattle.board_rules.specs.Picks.{goes_before};
+ghost use Rattle.nested_jobs.specs.Pick.{is_more_urgent};
+ghost use Rattle.graph_firing.specs.Offers.{IsPick};
+ghost use Rattle.firing_board.specs.Table.Asked.{IsAskedOf};
+ghost use Rattle.firing_board.specs.Table.AskedRows.{IsBestOf, IsFirstOf, IsOfferedAs, ordering_by, row_in, standing_of};
+ghost use Rattle.firing_board.specs.Table.AskedRows as rows_asked;
+
+use crate::table::row::Row;
+use graph_firing::{Offer, OpenJob};
+use std::cmp::Ordering;
+
+/// What a table offers a worker first.
+#[derive(Debug, Clone, Copy)]
+pub(crate) struct Asked {
+    /// The key of the row of the job that offers it.
+    pub row: usize,
+    /// The item, and where it stands.
+    pub offer: Offer,
+}
+
+// ---- rule 1
+
+/// The first of the work that the rows offer. By rule 1 it goes before each call.
+pub(crate) fn first_work(rows: &[Option<Row>], worker: u32) -> Option<Asked>
+    ensures { IsAskedOf worker false rows.now result }
+{
+    best_of(rows, worker, false)
+}
+
+/// The first of the calls that the rows offer. By rule 1 it is asked for where none offers work.
+pub(crate) fn first_call(rows: &[Option<Row>], worker: u32) -> Option<Asked>
+    ensures { IsAskedOf worker true rows.now result }
+{
+    best_of(rows, worker, true)
+}
+
+// ---- rules 2 to 6
+
+/// Whether what a job offers goes before what another offers: the deeper job first, then the item at home, then the more
+/// urgent, then the lesser path, then the lesser number.
+fn goes_before(job: &Row, offer: &Offer, other: &Row, rest: &Offer) -> bool
+    ensures { result ≡ goes_before (standing_of job.now offer.now) (standing_of other.now rest.now) }
+{
+    let depth = job.place.items().len();
+    let other_depth = other.place.items().len();
+    // Rule 2: the deeper job.
+    let order = other_depth
+        .cmp(&depth)
+        // Rule 3: the item at home.
+        .then(offer.away.cmp(&rest.away))
+        // Rule 4: the more urgent item.
+        .then(compare_urgency(offer.urgency, rest.urgency))
+        // Rule 5: the lesser path.
+        .then(job.steps.items().cmp(other.steps.items()))
+        // Rule 6: the lesser number.
+        .then(offer.item.cmp(&rest.item));
+    order.is_lt()
+}
+
+/// `Less` where the first is the more urgent: a configuration actor or a compilation beside a node, and of two nodes the one of
+/// the greater priority.
+fn compare_urgency(one: Option<u64>, other: Option<u64>) -> Ordering
+    ensures { result ≡ ordering_by (is_more_urgent one other) (is_more_urgent other one) }
+{
+    match (one, other) {
+        (None, None) => Ordering::Equal,
+        (None, Some(_)) => Ordering::Less,
+        (Some(_), None) => Ordering::Greater,
+        (Some(priority), Some(other)) => other.cmp(&priority),
+    }
+}
+
+// ---- the first of all
+
+/// The row at a key.
+fn row_at(rows: &[Option<Row>], key: usize) -> &Row
+    requires { IsSome (row_in rows.now key) }
+    ensures { row_in rows.now key ≡ Some result.now }
+{
+    match &rows[key] {
+        Some(row) => row,
+        None => unreachable!(),
+    }
+}
+
+/// The first of two offers: the one that was found before, unless the next goes before it.
+fn first_of_two(rows: &[Option<Row>], best: Asked, next: Asked) -> Asked
+    requires best { IsSome (row_in rows.now best.row) }
+    requires next { IsSome (row_in rows.now next.row) }
+    ensures { result ≡ rows_asked.first_of_two rows.now best next }
+{
+    let before = goes_before(
+        row_at(rows, next.row),
+        &next.offer,
+        row_at(rows, best.row),
+        &best.offer,
+    );
+    if before { next } else { best }
+}
+
+/// The first of what was found before and of what the next row offers, if any.
+fn better(rows: &[Option<Row>], best: Option<Asked>, next: Option<Asked>) -> Option<Asked>
+    requires best { IfSome best (λ asked. IsSome (row_in rows.now asked.row)) }
+    requires next { IfSome next (λ asked. IsSome (row_in rows.now asked.row)) }
+    ensures { result ≡ rows_asked.better rows.now best next }
+{
+    match (best, next) {
+        (Some(best), Some(next)) => Some(first_of_two(rows, best, next)),
+        (None, next) => next,
+        (Some(best), None) => Some(best),
+    }
+}
+
+/// What a job offers first: of its calls, or of the items that have work of their own.
+fn first_offer(job: &OpenJob, worker: u32, calls: bool) -> Option<Offer>
+    ensures { IsPick (IsOfferedAs calls job.now) job.now worker result }
+{
+    if calls {
+        job.pick_call(worker)
+    } else {
+        job.pick(worker)
+    }
+}
+
+/// What the row at a key offers first.
+fn asked_at(rows: &[Option<Row>], key: usize, worker: u32, calls: bool) -> Option<Asked>
+    requires { key < length rows.now }
+    ensures { IsFirstOf worker calls key (row_in rows.now key) result }
+{
+    match &rows[key] {
+        Some(row) => match first_offer(&row.job, worker, calls) {
+            Some(offer) => Some(Asked { row: key, offer }),
+            None => None,
+        },
+        None => None,
+    }
+}
+
+/// What the rows offer first.
+fn best_of(rows: &[Option<Row>], worker: u32, calls: bool) -> Option<Asked>
+    ensures { IsBestOf worker calls rows.now (length rows.now) result }
+{
+    let mut best: Option<Asked> = None;
+    for key in 0..rows.len() {
+        best = better(rows, best, asked_at(rows, key, worker, calls));
+    }
+    best
+}

@@ -1,0 +1,10 @@
+use Rattle.std.proofs.Common.{◌≡◌, ℕ, ◌+◌, ◌<◌, ◌≤◌, drop, length, slice_index}
+use Rattle.sdf_level.specs.Kept.{how_many}
+use Rattle.single_rate.specs.Names.{is_from_actor}
+use Rattle.job_compiler.proofs.ends.links_by_tail.Given as goal
+
+abbrev pub invariant-loop-link : goal.invariant-loop-link
+invariant-loop-link l = record {
+  each : (a : ℕ) → a < length l.counts.items → slice_index l.counts.items a + how_many (is_from_actor a) (drop l.link-index l.links) ≡ how_many (is_from_actor a) l.links;
+  few : (a : ℕ) → slice_index l.counts.items a ≤ l.link-index;
+}
