@@ -32,7 +32,7 @@ pub record AreGrown (need : RoomSize) (old new : FrameRooms) : Type 0 where
   pub enough : Suffices need size
   pub more : (s : RoomSize) → old.size ≡ Some s → Suffices s size
 
--- rooms are as they were where they suffice for what is asked for, and else they are larger
+-- rooms are as they were, where they suffice for what is asked for, or all are new and suffice for it
 abbrev pub FitsNeed : Option RoomSize → FrameRooms → FrameRooms → Type 0
 FitsNeed None old new = new ≡ old
 FitsNeed (Some need) old new = ((new ≡ old) × IsWithin need old.size) ⊎ AreGrown need old new
