@@ -28,7 +28,7 @@ use Rattle.pisdf_model.specs.declared.graph.Graph.{Graph}
 use Rattle.pisdf_model.specs.declared.graph.Graphs.{Graphs}
 use Rattle.sdf_level.specs.declared.node.Node.{Node}
 use Rattle.sdf_level.specs.declared.node.Node.TheVariants as node
-use Rattle.audit_job.proofs.ActingPlaces.{EachPlaced}
+use Rattle.job_preparing.proofs.ActingPlaces.{EachPlaced}
 use Rattle.audit_job.proofs.ConfigItems.{graph_inside}
 use Rattle.audit_job.proofs.NodeWork.{actor_there, called, calls_fire, is_child}
 

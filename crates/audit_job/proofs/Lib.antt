@@ -10,7 +10,6 @@ pub mod PortReads
 pub mod Results
 pub mod Frames
 pub mod Leaving
-pub mod ActingPlaces
 pub mod KindTasks
 pub mod Refusals
 pub mod Compiled

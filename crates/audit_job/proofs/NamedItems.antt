@@ -23,7 +23,7 @@ use Rattle.audit_job.specs.Marks.{answers}
 use Rattle.audit_job.specs.Naming.{IsValidJob}
 use Rattle.audit_job.specs.declared.job.Job.{Job}
 use Rattle.audit_job.specs.declared.job.Nodes.{Nodes}
-use Rattle.audit_job.proofs.ActingPlaces.{OneEach}
+use Rattle.job_preparing.proofs.ActingPlaces.{OneEach}
 use Rattle.audit_job.proofs.Answered.{unprepared}
 use Rattle.audit_job.proofs.ConfigItems as config
 use Rattle.audit_job.proofs.ItemRules.{count_before, count_is, item_there, rule_at}

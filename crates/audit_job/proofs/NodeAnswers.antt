@@ -27,7 +27,7 @@ use Rattle.single_rate.specs.Nodes.{kind}
 use Rattle.special_actors.specs.Fitting.{HasLengths}
 use Rattle.audit_job.specs.Answering.{FitsWork, IsAnswer}
 use Rattle.audit_job.specs.Working.{IsEnd}
-use Rattle.audit_job.proofs.ActingPlaces.{EachPlaced}
+use Rattle.job_preparing.proofs.ActingPlaces.{EachPlaced}
 use Rattle.audit_job.proofs.KindTasks.{IsCopier, copies_task}
 use Rattle.audit_job.proofs.NodeWork.{IsKernel, args_are, asks, called, keeps_is, outs_are}
 

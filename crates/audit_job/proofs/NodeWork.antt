@@ -24,7 +24,7 @@ use Rattle.sdf_level.specs.declared.node.Node.TheVariants as node
 use Rattle.job_rules.specs.Items.{actor_task, firing_task, node_task}
 use Rattle.job_rules.specs.Words as words
 use Rattle.audit_job.specs.Working.{IsKernelActor}
-use Rattle.audit_job.proofs.ActingPlaces.{EachPlaced}
+use Rattle.job_preparing.proofs.ActingPlaces.{EachPlaced}
 
 -- ---- bodies
 

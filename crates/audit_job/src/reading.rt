@@ -13,6 +13,7 @@ ghost use Rattle.audit_job.specs.Rows.{HasRows};
 
 use crate::answer::{Answer, Mark};
 use crate::job::Nodes;
+use crate::rows::empty_lists;
 use crate::wires::{edges_into, keeps_state, links_into};
 use pisdf_meaning::{Given, copy_tokens, tokens_at};
 use sdf_level::{Edge, List, Node};
@@ -64,18 +65,6 @@ pub(crate) fn push_written(
         Mark::Busy => Ok(()),
         Mark::Open(_) => Ok(()),
     }
-}
-
-/// So many empty lists.
-fn empty_lines(alloc: Global, count: usize) -> Result<Vec<Vec<i64>>, AllocError>
-    ensures many { IfOk result (λ lines. length lines.items ≡ count) }
-    ensures empty { IfOk result (λ lines. (port : ℕ) → slice_index_or (lists_of lines.items) port [] ≡ []) }
-{
-    let mut lines = Vec::with_capacity(alloc, count)?;
-    for port in 0..count {
-        lines.push(Vec::new(alloc))?;
-    }
-    Ok(lines)
 }
 
 /// Adds what stands on an edge to the list of the port to which it leads, if it leads to this node.
@@ -130,7 +119,7 @@ fn arriving(
     requires marks { length nodes.now ≤ length marks.now }
     ensures { IfOk result (λ lists. lists ≡ flow.arriving_below edges.now (flow.on (results_of nodes.now keeps.now (answers marks.now)) edges.now) node ports) }
 {
-    let mut lines = empty_lines(alloc, ports)?;
+    let mut lines = empty_lists(alloc, ports)?;
     for edge in edges {
         arrive(nodes, marks, keeps, edge, node, &mut lines)?;
     }

@@ -25,15 +25,15 @@ fn end_of(edge: &Edge, side: Side) -> u32
 }
 
 /// So many empty lists.
-fn empty_rows(alloc: Global, count: usize) -> Result<Vec<Vec<Edge>>, AllocError>
-    ensures many { IfOk result (λ rows. length rows.items ≡ count) }
-    ensures empty { IfOk result (λ rows. (n : ℕ) → slice_index_or (lists_of rows.items) n [] ≡ []) }
+pub(crate) fn empty_lists<T: Drop>(alloc: Global, count: usize) -> Result<Vec<Vec<T>>, AllocError>
+    ensures many { IfOk result (λ lists. length lists.items ≡ count) }
+    ensures empty { IfOk result (λ lists. (n : ℕ) → slice_index_or (lists_of lists.items) n [] ≡ []) }
 {
-    let mut rows = Vec::with_capacity(alloc, count)?;
-    for row in 0..count {
-        rows.push(Vec::new(alloc))?;
+    let mut lists = Vec::with_capacity(alloc, count)?;
+    for n in 0..count {
+        lists.push(Vec::new(alloc))?;
     }
-    Ok(rows)
+    Ok(lists)
 }
 
 /// For each of so many nodes the edges that have it at this end, in their order.
@@ -46,7 +46,7 @@ pub(crate) fn edges_by(
     requires { All (λ (e : EdgeView). end_of side e < nodes) edges.now }
     ensures { IfOk result (λ rows. AreRows side nodes edges.now (lists_of rows.items)) }
 {
-    let mut rows = empty_rows(alloc, nodes)?;
+    let mut rows = empty_lists(alloc, nodes)?;
     for edge in edges {
         rows[end_of(edge, side) as usize].push(*edge)?;
     }

@@ -23,7 +23,7 @@ pub record EntriesView : Type 0 where
   pub room : ℕ
 
 -- the paths and the entries
-pub record ToldView : Type 0 where
+pub record HistoryView : Type 0 where
   pub paths : List (List ℕ)
   pub entries : List Entry
 

@@ -1,9 +1,9 @@
 ghost use Rattle.std.specs.Prelude.{◌≡◌, ◌+◌, ◌-◌, ◌*◌, ◌<◌, ◌≤◌, [], ◌∷◌, ◌++◌, true, false, length, slice_get, Some, OnErr, OnOk, IfOk, IfSome};
 
 use crate::entry_at::EntryAt;
+use crate::history::History;
 use crate::keeping::{keep_claim, keep_finish, keep_path, keep_room};
 use crate::kept::Entries;
-use crate::told::Told;
 use board_rules::Item;
 use pisdf_meaning::Path;
 use std::alloc::{AllocError, Global};
@@ -14,7 +14,7 @@ use std::snapshot::Snapshot;
 /// room was taken, and whether its entries can be read.
 #[derive(Drop)]
 pub struct Journal {
-    told: Told,
+    history: History,
     /// The same, where its entries can be read.
     kept: Option<Entries>,
     /// How many paths there are.
@@ -54,7 +54,7 @@ impl Journal {
         ensures { result ≡ record { paths = []; entries = []; room = 0; readable = true } }
     {
         Journal {
-            told: Told::new(),
+            history: History::new(),
             kept: Some(Entries::new(alloc)),
             paths: 0,
             entries: 0,
@@ -68,7 +68,7 @@ impl Journal {
         ensures { result ≡ record { paths = []; entries = []; room = 0; readable = false } }
     {
         Journal {
-            told: Told::new(),
+            history: History::new(),
             kept: None,
             paths: 0,
             entries: 0,
@@ -99,7 +99,7 @@ impl Journal {
         };
         let shown = Snapshot::of(&path);
         keep_path(&mut self.kept, path)?;
-        self.told.add_path(shown);
+        self.history.add_path(shown);
         self.paths = paths;
         Ok(number)
     }
@@ -133,7 +133,7 @@ impl Journal {
         ensures { self.new ≡ record self.old { entries = self.old.entries ++ entry.Claim worker (path_at self.old.paths path) item ∷ []; room = self.old.room - 1 } }
     {
         keep_claim(&mut self.kept, worker, path, item);
-        self.told.claim(worker, path, item);
+        self.history.claim(worker, path, item);
         self.entries += 1;
         self.room -= 1;
     }
@@ -144,7 +144,7 @@ impl Journal {
         ensures { self.new ≡ record self.old { entries = self.old.entries ++ entry.Finish worker ∷ []; room = self.old.room - 1 } }
     {
         keep_finish(&mut self.kept, worker);
-        self.told.finish(worker);
+        self.history.finish(worker);
         self.entries += 1;
         self.room -= 1;
     }

@@ -4,11 +4,11 @@
 #![tactic(auto)]
 
 mod entry_at;
+mod history;
 mod journal;
 mod keeping;
 mod kept;
 mod line;
-mod told;
 
 pub use entry_at::EntryAt;
 pub use journal::Journal;

@@ -1,5 +1,4 @@
 -- Lemmas of the nodes of a compiled firing.
-pub mod ActingPlaces
 pub mod HeldFrames
 pub mod WrittenOuts
 pub mod NodeMarks

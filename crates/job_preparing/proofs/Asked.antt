@@ -33,7 +33,7 @@ use Rattle.job_rules.specs.Meant.{IsFit}
 use Rattle.job_rules.specs.Words as words
 use Rattle.job_rules.specs.Words.{Asked, Spot}
 use Rattle.job_rules.proofs.Sources.{Found, found}
-use Rattle.job_preparing.specs.Seated.{kernel_work}
+use Rattle.job_preparing.specs.Unclaimed.{kernel_work}
 use Rattle.job_preparing.specs.View.{task_of}
 
 -- ---- the graph of a firing

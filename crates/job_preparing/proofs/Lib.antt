@@ -1,3 +1,4 @@
+pub mod ActingPlaces
 pub mod Reading
 pub mod Writing
 pub mod Places
@@ -6,7 +7,7 @@ pub mod Leaving
 pub mod Slimmed
 pub mod Ends
 pub mod Asked
-pub mod Seating
+pub mod UnclaimedActors
 pub mod Events
 pub mod Readied
 pub mod Started

@@ -6,7 +6,7 @@ pub mod Standing
 pub mod Kept
 pub mod Slim
 pub mod Tasked
-pub mod Seated
+pub mod Unclaimed
 pub mod Ending
 pub mod Unscheduled
 pub mod Making

@@ -16,7 +16,7 @@ ghost use Rattle.pisdf_meaning.specs.declared.firing.Configured.{Configured};
 ghost use Rattle.pisdf_meaning.specs.declared.outcome.TraceRow.{TraceRow};
 ghost use Rattle.job_preparing.specs.Stages.{lent_of, mark_of};
 ghost use Rattle.job_preparing.specs.Standing.{ArePlaces, IsCall, IsOwn, StandsRight};
-ghost use Rattle.job_preparing.specs.Seated.{kernel_work};
+ghost use Rattle.job_preparing.specs.Unclaimed.{kernel_work};
 ghost use Rattle.job_preparing.specs.View.{HasInherited, task_of};
 
 use crate::stage::{Spare, Stage};
@@ -57,13 +57,13 @@ pub(crate) fn config_places(alloc: Global, graph: &Graph) -> Result<Vec<usize>, 
 }
 
 /// A configuration actor that nobody claimed, with the frame of its kernel, if it fires one.
-pub(crate) struct Seat {
+pub(crate) struct Unclaimed {
     pub(crate) stage: Stage,
     pub(crate) frame: Option<Frame>,
 }
 
 /// A kernel configuration actor with its number, which stands at a place of its graph.
-fn kernel_seat(
+fn unclaimed_kernel(
     alloc: Global,
     graphs: &[Graph],
     graph: &Graph,
@@ -75,7 +75,7 @@ fn kernel_seat(
     kernel: u32,
     ins: usize,
     sets: u32,
-) -> Result<Seat, AllocError>
+) -> Result<Unclaimed, AllocError>
     requires { early.now ≡ early_in graphs.now firing.now }
     ensures own { IfOk result (λ s. IsOwn s.frame) }
     ensures free { IfOk result (λ s. mark_of s.stage ≡ Free) }
@@ -92,14 +92,14 @@ fn kernel_seat(
     let inputs = fed_to(alloc, graph, firing.inputs.items(), place, ins)?;
     let frame = Frame::start(alloc, kernel, args, inputs, rates, sets)?;
     frame.outputs_fill_leases();
-    Ok(Seat {
+    Ok(Unclaimed {
         stage: Stage::Fires(spare),
         frame: Some(frame),
     })
 }
 
 /// The configuration actor with this number, which stands at a place of its graph.
-pub(crate) fn make_seat(
+pub(crate) fn unclaimed_actor(
     alloc: Global,
     graphs: &Graphs,
     graph: &Graph,
@@ -107,7 +107,7 @@ pub(crate) fn make_seat(
     firing: &Firing,
     number: usize,
     place: usize,
-) -> Result<Seat, AllocError>
+) -> Result<Unclaimed, AllocError>
     requires valid { AreValid graphs.now }
     requires here { slice_get graphs.now.graphs firing.now.graph ≡ Some graph.now }
     requires early { early.now ≡ early_in graphs.now.graphs firing.now }
@@ -125,7 +125,7 @@ pub(crate) fn make_seat(
             ins,
             sets,
             ..
-        } => kernel_seat(
+        } => unclaimed_kernel(
             alloc,
             graphs.graphs.items(),
             graph,
@@ -138,7 +138,7 @@ pub(crate) fn make_seat(
             ins.items().len(),
             sets.items().len() as u32,
         ),
-        Body::ConfigChild { .. } => Ok(Seat {
+        Body::ConfigChild { .. } => Ok(Unclaimed {
             stage: Stage::Calls,
             frame: None,
         }),

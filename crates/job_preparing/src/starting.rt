@@ -6,11 +6,11 @@ ghost use Rattle.pisdf_model.specs.Valid.{AreValid};
 ghost use Rattle.pisdf_meaning.specs.Configuring.{early_in};
 ghost use Rattle.job_rules.specs.Items.{compile_number, graph_of};
 ghost use Rattle.job_rules.specs.Meant.{IsFit};
-ghost use Rattle.job_preparing.specs.Seated.{AreSeated};
+ghost use Rattle.job_preparing.specs.Unclaimed.{AreUnclaimed};
 ghost use Rattle.job_preparing.specs.Standing.{ArePlaces, IsOwn, nothing};
 ghost use Rattle.job_preparing.specs.View.{HasInherited};
 
-use crate::asking::{Seat, config_places, known, make_seat};
+use crate::asking::{Unclaimed, config_places, known, unclaimed_actor};
 use crate::configuring::Configuring;
 use crate::stage::Stage;
 use kernel_gate::Frame;
@@ -63,32 +63,32 @@ fn no_traces(alloc: Global, count: usize) -> Result<Vec<LinkedList<TraceRow>>, A
 }
 
 /// The configuration actors of a firing, which nobody claimed.
-struct Seats {
+struct UnclaimedActors {
     stages: Vec<Stage>,
     frames: Vec<Option<Frame>>,
 }
 
 /// The configuration actors at these places.
-fn make_seats(
+fn unclaimed_actors(
     alloc: Global,
     graphs: &Graphs,
     graph: &Graph,
     early: &Early,
     firing: &Firing,
     places: &[usize],
-) -> Result<Seats, AllocError>
+) -> Result<UnclaimedActors, AllocError>
     requires valid { AreValid graphs.now }
     requires here { slice_get graphs.now.graphs firing.now.graph ≡ Some graph.now }
     requires early { early.now ≡ early_in graphs.now.graphs firing.now }
     requires places { ArePlaces graph.now places.now }
-    ensures { IfOk result (λ s. AreSeated graphs.now.graphs graph.now firing.now (length places.now) s.stages.items s.frames.items) }
+    ensures { IfOk result (λ s. AreUnclaimed graphs.now.graphs graph.now firing.now (length places.now) s.stages.items s.frames.items) }
 {
     let mut stages = Vec::with_capacity(alloc, places.len())?;
     // Frames must be spent: from here on no `?` stands.
     let mut frames = Vec::with_capacity(alloc, places.len())?;
     for number in 0..places.len() {
-        match make_seat(alloc, graphs, graph, early, firing, number, places[number]) {
-            Ok(Seat { stage, frame }) => {
+        match unclaimed_actor(alloc, graphs, graph, early, firing, number, places[number]) {
+            Ok(Unclaimed { stage, frame }) => {
                 stages.push_reserved(stage);
                 frames.push_reserved(frame);
             }
@@ -98,7 +98,7 @@ fn make_seats(
             }
         }
     }
-    Ok(Seats { stages, frames })
+    Ok(UnclaimedActors { stages, frames })
 }
 
 /// The configuration actors of a firing of a graph, none of which is claimed. All memory that their kernels need beside the
@@ -126,7 +126,9 @@ pub fn configure(
     let left = nothing_left(alloc, places.len())?;
     let traces = no_traces(alloc, places.len())?;
     let shared = Arc::new(alloc, early)?;
-    let Seats { stages, frames } = make_seats(alloc, &graphs, graph, &shared, &firing, &places)?;
+    let UnclaimedActors { stages, frames } = unclaimed_actors(
+        alloc, &graphs, graph, &shared, &firing, &places,
+    )?;
     Ok(Configuring {
         graphs,
         firing,

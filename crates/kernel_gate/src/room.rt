@@ -68,17 +68,6 @@ impl Room {
         }
     }
 
-    /// For how much there is memory.
-    pub fn size(&self) -> RoomSize
-        ensures { result ≡ self.now }
-    {
-        RoomSize {
-            inputs: self.lent.inputs.capacity(),
-            outputs: self.lent.outputs.capacity(),
-            args: self.lent.args.capacity(),
-        }
-    }
-
     /// The lists of a frame, with nothing in them. It takes no memory.
     pub fn open(self) -> Box<Lent>
         ensures empty { IsEmptied result.value }

@@ -57,7 +57,7 @@ module _ {T : Type 0} (level : LevelView) (q : List ℕ) (made : Made T) (f : �
       (λ (n : y ≡ s → ⊥). absurd (let m = rw (ne_eqb y s n) at into in cc))
       (cases_eq y s)
 
-  written_long : (s : ℕ) (links : List Link) (starts : List (List T)) → HaveDelays links starts → 0 < how_many (is_into_sink s) links → ((a j : ℕ) → j < slice_index q a → HaveRates a (made a j) links) → AllByRecursion (λ link. TouchesActor link.tail link.head) links → EachOuter (Reaches q) level links →
+  pub written_long : (s : ℕ) (links : List Link) (starts : List (List T)) → HaveDelays links starts → 0 < how_many (is_into_sink s) links → ((a j : ℕ) → j < slice_index q a → HaveRates a (made a j) links) → AllByRecursion (λ link. TouchesActor link.tail link.head) links → EachOuter (Reaches q) level links →
       slice_index level.sinks s ≤ length (written s links (lines_of made f links starts))
   written_long s [] starts at some rated touches reaches = absurd (omega arith)
   written_long s (link ∷ links) [] at some rated touches reaches = absurd at
@@ -69,7 +69,7 @@ module _ {T : Type 0} (level : LevelView) (q : List ℕ) (made : Made T) (f : �
   last_long : (r : ℕ) (line : List T) → r ≤ length line → length (last r line) ≡ r
   last_long r line h = rw length-drop (omega arith)
 
-  kept_long : (s : ℕ) (sinks : List ℕ) (lines : List (List T)) → ((i : ℕ) → i < length sinks → slice_index sinks i ≤ length (written (s + i) level.links lines)) → map length (kept_at s sinks level.links lines) ≡ sinks
+  pub kept_long : (s : ℕ) (sinks : List ℕ) (lines : List (List T)) → ((i : ℕ) → i < length sinks → slice_index sinks i ≤ length (written (s + i) level.links lines)) → map length (kept_at s sinks level.links lines) ≡ sinks
   kept_long s [] lines enough = refl
   kept_long s (r ∷ sinks) lines enough =
       let e : s + 0 ≡ s = omega arith in

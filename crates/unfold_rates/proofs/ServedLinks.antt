@@ -13,7 +13,7 @@ use Rattle.sdf_level.specs.declared.link.Tail.{Tail}
 use Rattle.sdf_level.specs.declared.link.Head.{Head}
 use Rattle.sdf_level.specs.declared.link.Tail.TheVariants as tail
 use Rattle.sdf_level.specs.declared.link.Head.TheVariants as head
-use Rattle.unfold_rates.specs.Groups.{IsOfGroup}
+use Rattle.unfold_rates.specs.Components.{IsOfComponent}
 
 module _ (P : Outer → Type 0) (level : LevelView) where
   each_snoc : (links : List Link) (link : Link) → EachOuter P level links → OfOuter P level link.tail link.head → EachOuter P level (links ++ link ∷ [])
@@ -69,15 +69,15 @@ module _ (P Q : Outer → Type 0) (level : LevelView) (turn : (link : Outer) →
     | inr more ↦ inr (some_turned links tails.1 heads.1 more)
   ]
 
--- ---- groups
+-- ---- components
 
-module _ (level : LevelView) (is_level : IsLevel level) (group : List ℕ) (grouped : AreGrouped level.actors level.links group) (a : ℕ) (inside : a < level.actors) where
-  pub served_by : SomeOuter (IsOfGroup group (slice_index group a)) level level.links → IsServed level a
-  served_by some = some_turned (IsOfGroup group (slice_index group a)) (Serves level.links a) level
+module _ (level : LevelView) (is_level : IsLevel level) (component : List ℕ) (grouped : AreGrouped level.actors level.links component) (a : ℕ) (inside : a < level.actors) where
+  pub served_by : SomeOuter (IsOfComponent component (slice_index component a)) level level.links → IsServed level a
+  served_by some = some_turned (IsOfComponent component (slice_index component a)) (Serves level.links a) level
       (λ link there one. record { rate = one.rate; connected = (grouped.same a link.actor inside there).0 (sym one.here) })
       level.links is_level.tails_there is_level.heads_there some
 
-  pub group_of : IsServed level a → SomeOuter (IsOfGroup group (slice_index group a)) level level.links
-  group_of served = some_turned (Serves level.links a) (IsOfGroup group (slice_index group a)) level
+  pub component_of : IsServed level a → SomeOuter (IsOfComponent component (slice_index component a)) level level.links
+  component_of served = some_turned (Serves level.links a) (IsOfComponent component (slice_index component a)) level
       (λ link there one. record { rate = one.rate; here = sym ((grouped.same a link.actor inside there).1 one.connected) })
       level.links is_level.tails_there is_level.heads_there served

@@ -1,7 +1,7 @@
 pub mod Multiplied
 pub mod Exact
 pub mod Fits
-pub mod Groups
+pub mod Components
 pub mod Cut
 pub mod InTurn
 pub mod Spans

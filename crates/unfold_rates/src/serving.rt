@@ -5,7 +5,7 @@ ghost use Rattle.interface_rules.specs.Connections.{AreGrouped};
 ghost use Rattle.interface_rules.specs.Served.{IsSound};
 ghost use Rattle.sdf_level.specs.Links.{EachOuter, OfOuter};
 ghost use Rattle.level_laws.specs.Unfolded.{IsMetExactly, IsOuterWith, IsServed, SomeOuter};
-ghost use Rattle.unfold_rates.specs.Groups.{IsOfGroup};
+ghost use Rattle.unfold_rates.specs.Components.{IsOfComponent};
 
 use interface_rules::components;
 use sdf_level::{Head, Level, Link, Tail};
@@ -55,28 +55,28 @@ pub(crate) fn are_met(level: &Level, counts: &[u32]) -> bool
     true
 }
 
-/// Whether a rate is positive, at an actor whose group has this number.
-fn is_of_group(group: u32, number: u32, rate: u32) -> bool
-    ensures { IsTrue result ↔ ((0 < rate) × (group ≡ number)) }
+/// Whether a rate is positive, at an actor whose component has this number.
+fn is_of_component(component: u32, number: u32, rate: u32) -> bool
+    ensures { IsTrue result ↔ ((0 < rate) × (component ≡ number)) }
 {
     if rate == 0 {
         return false;
     }
-    group == number
+    component == number
 }
 
-/// Whether the link has a source or sink, and a positive rate at an actor of the group with this number.
-fn serves(level: &Level, link: &Link, group: &[u32], number: u32) -> bool
+/// Whether the link has a source or sink, and a positive rate at an actor of the component with this number.
+fn serves(level: &Level, link: &Link, component: &[u32], number: u32) -> bool
     requires link { IsSound level.now link.now }
-    requires one_each { length group.now ≡ level.now.actors }
-    ensures { IsTrue result ↔ IsOuterWith (IsOfGroup group.now number) level.now link.now.tail link.now.head }
+    requires one_each { length component.now ≡ level.now.actors }
+    ensures { IsTrue result ↔ IsOuterWith (IsOfComponent component.now number) level.now link.now.tail link.now.head }
 {
     match (link.tail, link.head) {
         (Tail::Source(_), Head::Port { actor, rate, .. }) => {
-            is_of_group(group[actor as usize], number, rate)
+            is_of_component(component[actor as usize], number, rate)
         }
         (Tail::Port { actor, rate, .. }, Head::Sink(_)) => {
-            is_of_group(group[actor as usize], number, rate)
+            is_of_component(component[actor as usize], number, rate)
         }
         (Tail::Source(_), Head::Sink(_)) => false,
         (Tail::Port { .. }, Head::Port { .. }) => false,
@@ -84,12 +84,12 @@ fn serves(level: &Level, link: &Link, group: &[u32], number: u32) -> bool
 }
 
 /// Whether some link is such a one.
-fn is_served(level: &Level, group: &[u32], number: u32) -> bool
-    requires { length group.now ≡ level.now.actors }
-    ensures { IsTrue result ↔ SomeOuter (IsOfGroup group.now number) level.now level.now.links }
+fn is_served(level: &Level, component: &[u32], number: u32) -> bool
+    requires { length component.now ≡ level.now.actors }
+    ensures { IsTrue result ↔ SomeOuter (IsOfComponent component.now number) level.now level.now.links }
 {
     for link in level.links.items() {
-        if serves(level, link, group, number) {
+        if serves(level, link, component, number) {
             return true;
         }
     }
@@ -97,12 +97,12 @@ fn is_served(level: &Level, group: &[u32], number: u32) -> bool
 }
 
 /// Whether the component of each actor has a source or sink of positive rate, where these are the numbers of the components.
-fn each_is_served(level: &Level, group: &[u32]) -> bool
-    requires { AreGrouped level.now.actors level.now.links group.now }
+fn each_is_served(level: &Level, component: &[u32]) -> bool
+    requires { AreGrouped level.now.actors level.now.links component.now }
     ensures { IsTrue result ↔ ((a : ℕ) → a < level.now.actors → IsServed level.now a) }
 {
     for actor in 0..level.actors as usize {
-        if !is_served(level, group, group[actor]) {
+        if !is_served(level, component, component[actor]) {
             return false;
         }
     }
@@ -113,6 +113,6 @@ fn each_is_served(level: &Level, group: &[u32]) -> bool
 pub(crate) fn are_served(alloc: Global, level: &Level) -> Result<bool, AllocError>
     ensures { IfOk result (λ served. IsTrue served ↔ ((a : ℕ) → a < level.now.actors → IsServed level.now a)) }
 {
-    let group = components(alloc, level)?;
-    Ok(each_is_served(level, &group))
+    let component = components(alloc, level)?;
+    Ok(each_is_served(level, &component))
 }

@@ -7,7 +7,6 @@ use Rattle.param_expr.proofs.name.Name.TheSendSync as name
 use Rattle.param_resolver.proofs.known.Early.TheLaws.TheKnot as early
 use Rattle.cell_pool.proofs.pool.Pool.TheSendSync as pool
 use Rattle.kernel_gate.proofs.frame.Frame.TheSendSync as frame
-use Rattle.split_block.proofs.lease.Lease.TheSendSync as lease
 use Rattle.pisdf_meaning.proofs.firing.Configured.TheSendSync as configured
 use Rattle.pisdf_meaning.proofs.firing.Firing.TheSendSync as firing
 use Rattle.pisdf_meaning.proofs.outcome.TraceRow.TheSendSync as row
@@ -18,7 +17,7 @@ use Rattle.job_compiler.proofs.compiled.Compiled.TheSendSync as compiled
 use Rattle.job_compiler.proofs.key.Key.TheSendSync as key
 use Rattle.job_preparing.proofs.handing.JobGiven.TheSendSync as given
 use Rattle.board_journal.proofs.kept.Entries.TheSendSync as entries
-use Rattle.board_journal.proofs.told.Past.TheLaws.TheKnot as past
+use Rattle.board_journal.proofs.history.Past.TheLaws.TheKnot as past
 use Rattle.firing_board.proofs.frame_rooms.FrameRooms.TheSendSync as frame_rooms
 use Rattle.firing_board.proofs.run.Run.TheSendSync as run
 use Rattle.param_resolver.specs.contracts.known.Early as Early
@@ -29,7 +28,7 @@ use Rattle.one_job.specs.contracts.job.Job as Job
 use Rattle.graph_firing.specs.contracts.nodes.running.Running as Running
 use Rattle.graph_firing.specs.contracts.job.OpenJob as OpenJob
 use Rattle.firing_board.specs.contracts.table.JobTable as JobTable
-use Rattle.board_journal.specs.contracts.told.Told as JournalTold
+use Rattle.board_journal.specs.contracts.history.History as History
 use Rattle.board_journal.specs.contracts.journal.Journal as Journal
 use Rattle.firing_board.specs.contracts.board.Board as Board
 use Rattle.firing_board.specs.contracts.state.Core as Core
@@ -41,7 +40,6 @@ use Rattle.job_preparing.specs.contracts.stage.Stage as PreparingStage
 use Rattle.job_preparing.proofs.stage.Spare.TheSendSync as spare
 use Rattle.graph_firing.specs.contracts.nodes.told.ToldBefore as ToldBefore
 use Rattle.graph_firing.specs.contracts.nodes.told.ToldBlock as ToldBlock
-use Rattle.graph_firing.specs.contracts.nodes.stage.Stage as RunningStage
 use Rattle.graph_firing.specs.contracts.nodes.stages.Stages as RunningStages
 use Rattle.graph_firing.proofs.nodes.stages.Past.TheLaws.TheKnot as stages_past
 use Rattle.graph_firing.specs.contracts.nodes.frames.Held as RunningHeld
@@ -66,7 +64,7 @@ heaps_send : IsSend GroupedHeaps.the_row
 heaps_send = search (crosses, sendable) depth 30 fits 4000
 
 job_send : IsSend Job.the_row
-job_send = search (job_stage_send, compiled.the_send, compiled.the_sync, lease.the_send, pool.the_send, heaps_send, list.the_send, option.the_send, crosses, sendable) depth 30 fits 4000
+job_send = search (job_stage_send, compiled.the_send, compiled.the_sync, pool.the_send, heaps_send, list.the_send, option.the_send, crosses, sendable) depth 30 fits 4000
 
 preparing_stage_send : IsSend PreparingStage.the_row
 preparing_stage_send = search (told_send, spare.the_field_send, refusal.the_field_send, crosses, sendable) depth 20
@@ -80,11 +78,8 @@ told_before_send = search sendable depth 20
 told_block_send : IsSend ToldBlock.the_row
 told_block_send = search sendable depth 20
 
-running_stage_send : IsSend RunningStage.the_row
-running_stage_send = search (told_send, sendable) depth 20
-
 running_stages_send : IsSend RunningStages.the_row
-running_stages_send = search (stages_past.crosses, running_stage_send, crosses, sendable) depth 60 fits 20000
+running_stages_send = search (stages_past.crosses, crosses, sendable) depth 60 fits 20000
 
 running_held_send : IsSend RunningHeld.the_row
 running_held_send = search (frame.the_send, refusal.the_field_send, crosses, sendable) depth 20
@@ -98,11 +93,11 @@ open_send = search (configuring_send, running_send, crosses, sendable) depth 60 
 table_send : IsSend JobTable.the_row
 table_send = search (open_send, graphs_send, graphs_sync, crosses, sendable) depth 60 fits 20000
 
-journal_told_send : IsSend JournalTold.the_row
-journal_told_send = search (past.crosses, crosses, sendable) depth 60 fits 20000
+history_send : IsSend History.the_row
+history_send = search (past.crosses, crosses, sendable) depth 60 fits 20000
 
 journal_send : IsSend Journal.the_row
-journal_send = search (journal_told_send, entries.the_send, crosses, sendable) depth 60 fits 20000
+journal_send = search (history_send, entries.the_send, crosses, sendable) depth 60 fits 20000
 
 told_signatures_send : IsSend ToldSignatures.the_row
 told_signatures_send = search sendable depth 20

@@ -64,7 +64,7 @@ use Rattle.job_preparing.specs.View.{HasInherited}
 use Rattle.graph_firing.specs.Nodes.Sizes.{call_lens, child_outs}
 use Rattle.graph_firing.specs.Nodes.Stages.{IsLost, IsOpened, IsWaiting}
 use Rattle.graph_firing.specs.Nodes.View.{IsOfferedCall}
-use Rattle.graph_firing.proofs.OfNodes.ActingPlaces.{EachPlaced, OneEach}
+use Rattle.job_preparing.proofs.ActingPlaces.{EachPlaced, OneEach}
 use Rattle.graph_firing.proofs.OfNodes.ClaimedNodes.{Fires, is_call, keeps_on, no_trace, no_value, spot, state_kept, view_step, was_free, was_ready}
 use Rattle.graph_firing.proofs.OfNodes.NodeMarks.{lost_stage, opened_stage}
 use Rattle.graph_firing.proofs.OfNodes.NodeTasks.{here, lens_written}

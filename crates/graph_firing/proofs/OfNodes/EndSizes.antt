@@ -1,31 +1,19 @@
 -- What a running firing gives is as long as the early check of its graph says.
-use Rattle.std.proofs.Common.{◌≡◌, ℕ, zero, suc, ◌+◌, ◌*◌, ◌<◌, ◌≤◌, ⊎_elim, ℤ, true, false, List, [], ◌∷◌, ◌++◌, length, map, slice_index, slice_index_or, Option, Some, None, Result, Ok, Err, refl, sym, ap, ap₂, ◌∙◌, arith}
+use Rattle.std.proofs.Common.{◌≡◌, ℕ, zero, suc, ◌+◌, ◌<◌, ◌≤◌, ⊎_elim, ℤ, true, false, List, [], ◌∷◌, ◌++◌, length, map, slice_index, slice_index_or, Option, Some, None, Result, Ok, Err, refl, sym, ap, ap₂, ◌∙◌, arith}
 use Rattle.std.specs.List.{AllByRecursion}
-use Rattle.std.proofs.Math.Nat.{mul_comm}
-use Rattle.std.proofs.lemmas.Bool.{cases_Bool, cases_eq, cases_lt, ne_eqb}
-use Rattle.std.proofs.lemmas.List.{length-append, length-drop}
+use Rattle.std.proofs.lemmas.Bool.{cases_Bool, cases_lt}
 use Rattle.kernel_gate.specs.Value.{lengths}
-use Rattle.sdf_level.specs.View.{LevelView}
 use Rattle.sdf_level.specs.Firings.{actors_of, firings}
-use Rattle.sdf_level.specs.Interfaces.{last}
-use Rattle.sdf_level.specs.Kept.{TouchesActor, how_many, is_into_sink}
-use Rattle.sdf_level.specs.Laws.{Reaches}
-use Rattle.sdf_level.specs.LevelRun.{Ended, HasRate, HaveDelays, HaveRates, end_of as level_end, kept_at, left_of, written}
-use Rattle.sdf_level.specs.Links.{EachOuter, OfOuter}
-use Rattle.sdf_level.specs.Told.{Made, line_of, lines_of}
+use Rattle.sdf_level.specs.LevelRun.{Ended, HaveDelays, end_of as level_end, left_of, written}
+use Rattle.sdf_level.specs.Told.{lines_of}
 use Rattle.sdf_level.specs.declared.link.Link.{Link}
-use Rattle.sdf_level.specs.declared.link.Tail.{Tail}
-use Rattle.sdf_level.specs.declared.link.Head.{Head}
-use Rattle.sdf_level.specs.declared.link.Tail.TheVariants as tail
-use Rattle.sdf_level.specs.declared.link.Head.TheVariants as head
 use Rattle.sdf_level.specs.declared.node.Node.{Node}
 use Rattle.sdf_level.specs.declared.node.Node.TheVariants as node
 use Rattle.sdf_level.specs.declared.single_rate.Edge.{Edge}
 use Rattle.sdf_level.specs.declared.token_name.TokenName.{TokenName}
 use Rattle.sdf_level.specs.declared.turn.Turn.{Turn}
 use Rattle.sdf_level.proofs.Balanced.{repetition_balanced, repetition_reaches}
-use Rattle.sdf_level.proofs.KeptLengths.{left_long}
-use Rattle.sdf_level.proofs.Windows.{length-sent}
+use Rattle.sdf_level.proofs.KeptLengths.{kept_long, left_long, written_long}
 use Rattle.single_rate.specs.declared.wire.Wire.{Wire}
 use Rattle.single_rate.specs.Delivers.{arrivals, at_ends, at_sinks}
 use Rattle.single_rate.specs.Expanded.{by_nodes, place_of}
@@ -55,42 +43,6 @@ use Rattle.pisdf_meaning.specs.declared.firing.Configured.{Configured}
 use Rattle.pisdf_meaning.proofs.LinkSizes.{no_delay}
 use Rattle.pisdf_meaning.proofs.StateSizes as sizes
 use Rattle.pisdf_meaning.proofs.StateSizes.{StatesLong, actor_size, fifo_size}
-
--- ---- what the sinks keep of lines (as in sdf_level)
-
-module _ {T : Type 0} (level : LevelView) (q : List ℕ) (made : Made T) (f : ℕ → ℕ) (counts : (a : ℕ) → f a ≡ slice_index q a) where
-  one_written : (s : ℕ) (t : Tail) (h : Head) (d : ℕ) (start : List T) → is_into_sink s record { tail = t; head = h; delay = d } ≡ true → ((a j : ℕ) → j < slice_index q a → HasRate a (made a j) t) → TouchesActor t h → OfOuter (Reaches q) level t h →
-      slice_index level.sinks s ≤ length (line_of made f t start)
-  one_written s t (head.Port b j c) d start into rated touches reaches = absurd (cc)
-  one_written s (tail.Source x) (head.Sink y) d start into rated touches reaches = absurd touches
-  one_written s (tail.Port a p r) (head.Sink y) d start into rated touches reaches = ⊎_elim
-      (λ (e : y ≡ s).
-      let put = length-sent (made a) p r (slice_index q a) (λ i h. rated a i h refl) in
-      let turned : r * slice_index q a ≡ slice_index q a * r = mul_comm r (slice_index q a) in
-      let enough : slice_index level.sinks s ≤ slice_index q a * r = rw e at reaches in
-      rw (counts a, length-append, put) (omega arith))
-      (λ (n : y ≡ s → ⊥). absurd (let m = rw (ne_eqb y s n) at into in cc))
-      (cases_eq y s)
-
-  written_long : (s : ℕ) (links : List Link) (starts : List (List T)) → HaveDelays links starts → 0 < how_many (is_into_sink s) links → ((a j : ℕ) → j < slice_index q a → HaveRates a (made a j) links) → AllByRecursion (λ link. TouchesActor link.tail link.head) links → EachOuter (Reaches q) level links →
-      slice_index level.sinks s ≤ length (written s links (lines_of made f links starts))
-  written_long s [] starts at some rated touches reaches = absurd (omega arith)
-  written_long s (link ∷ links) [] at some rated touches reaches = absurd at
-  written_long s (link ∷ links) (start ∷ starts) at some rated touches reaches = ⊎_elim
-      (λ (e : is_into_sink s link ≡ true). rw e (one_written s link.tail link.head link.delay start e (λ a j h. (rated a j h).0) touches.0 reaches.0))
-      (λ (e : is_into_sink s link ≡ false). rw e (written_long s links starts at.1 (let m = rw e at some in omega arith) (λ a j h. (rated a j h).1) touches.1 reaches.1))
-      (cases_Bool (is_into_sink s link))
-
-  last_long : (r : ℕ) (line : List T) → r ≤ length line → length (last r line) ≡ r
-  last_long r line h = rw length-drop (omega arith)
-
-  kept_long : (s : ℕ) (sinks : List ℕ) (lines : List (List T)) → ((i : ℕ) → i < length sinks → slice_index sinks i ≤ length (written (s + i) level.links lines)) → map length (kept_at s sinks level.links lines) ≡ sinks
-  kept_long s [] lines enough = refl
-  kept_long s (r ∷ sinks) lines enough =
-      let e : s + 0 ≡ s = omega arith in
-      let here : r ≤ length (written s level.links lines) = let h = enough 0 (omega arith) in rw e at h in
-      let later = kept_long (s + 1) sinks lines (λ i h. let f : s + suc i ≡ (s + 1) + i = omega arith in let g = enough (suc i) (omega arith) in rw f at g) in
-      rw (last_long r (written s level.links lines) here, later) refl
 
 -- ---- lists of the same lengths
 

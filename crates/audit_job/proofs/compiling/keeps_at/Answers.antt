@@ -1,7 +1,7 @@
 use Rattle.std.proofs.Common.{◌++◌, ◌∷◌, [], ap, ◌∙◌, arith}
 use Rattle.param_resolver.specs.Numbering.{acting}
 use Rattle.param_resolver.specs.Numbering.{has_state}
-use Rattle.audit_job.proofs.ActingPlaces.{one_more, all_more, told_here}
+use Rattle.job_preparing.proofs.ActingPlaces.{one_more, all_more, told_here}
 use Rattle.audit_job.proofs.compiling.keeps_at.Goals as goal
 
 pub loop-n-preserved : goal.loop-n-preserved

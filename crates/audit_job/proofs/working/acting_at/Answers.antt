@@ -1,4 +1,4 @@
-use Rattle.audit_job.proofs.ActingPlaces.{actor_inside, actor_there, level_inside}
+use Rattle.job_preparing.proofs.ActingPlaces.{actor_inside, actor_there, level_inside}
 use Rattle.audit_job.proofs.working.acting_at.Goals as goal
 
 pub bounds-items-places : goal.bounds-items-places

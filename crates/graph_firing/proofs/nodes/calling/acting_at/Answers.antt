@@ -1,4 +1,4 @@
-use Rattle.graph_firing.proofs.OfNodes.ActingPlaces.{actor_inside, actor_there}
+use Rattle.job_preparing.proofs.ActingPlaces.{actor_inside, actor_there}
 use Rattle.graph_firing.proofs.nodes.calling.acting_at.Goals as goal
 
 pub bounds-items-places : goal.bounds-items-places

@@ -1,7 +1,7 @@
 use Rattle.std.proofs.Common.{◌++◌, ◌∷◌, [], ap, ◌∙◌, arith}
 use Rattle.param_resolver.specs.Numbering.{acting}
 use Rattle.param_resolver.specs.Numbering.{has_state}
-use Rattle.graph_firing.proofs.OfNodes.ActingPlaces.{level_inside, one_more, all_more, told_here}
+use Rattle.job_preparing.proofs.ActingPlaces.{level_inside, one_more, all_more, told_here}
 use Rattle.graph_firing.proofs.nodes.starting.keeps_at.Goals as goal
 
 pub acting_at-requires-clause-inside : goal.acting_at-requires-clause-inside

@@ -1,7 +1,7 @@
 use Rattle.std.proofs.Common.{◌++◌, ◌∷◌, [], ap, ◌∙◌, arith}
 use Rattle.param_resolver.specs.Numbering.{acting}
 use Rattle.graph_firing.specs.Nodes.Parts.{kind_of_actor}
-use Rattle.graph_firing.proofs.OfNodes.ActingPlaces.{level_inside, one_more, all_more}
+use Rattle.job_preparing.proofs.ActingPlaces.{level_inside, one_more, all_more}
 use Rattle.graph_firing.proofs.nodes.starting.kinds_at.Goals as goal
 
 pub acting_at-requires-clause-inside : goal.acting_at-requires-clause-inside

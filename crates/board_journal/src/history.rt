@@ -23,29 +23,29 @@ pub(crate) enum Past {
 
 /// The paths and the entries of a journal, which no code can read.
 #[derive(Drop)]
-pub(crate) struct Told {
+pub(crate) struct History {
     past: Past,
 }
 
-impl Model for Told {
-    ghost use Rattle.board_journal.specs.View.{ToldView};
+impl Model for History {
+    ghost use Rattle.board_journal.specs.View.{HistoryView};
 
-    ghost Value = { ToldView };
+    ghost Value = { HistoryView };
 
-    ghost use Rattle.board_journal.specs.Told.{told_by};
+    ghost use Rattle.board_journal.specs.History.{history_by};
 
-    ghost view = { λ t. told_by t.past };
+    ghost view = { λ t. history_by t.past };
 }
 
-impl Told {
+impl History {
     ghost use Rattle.board_rules.specs.declared.entry.Entry.TheVariants as entry;
     ghost use Rattle.board_journal.specs.View.{path_at};
 
     /// Nothing was put in.
-    pub(crate) fn new() -> Told
+    pub(crate) fn new() -> History
         ensures { result ≡ record { paths = []; entries = [] } }
     {
-        Told { past: Past::Start }
+        History { past: Past::Start }
     }
 
     /// Puts in the path of a job.

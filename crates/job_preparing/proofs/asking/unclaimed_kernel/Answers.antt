@@ -7,7 +7,7 @@ use Rattle.param_resolver.specs.EarlyView.{EarlyView}
 use Rattle.pisdf_meaning.proofs.KernelFrames.{lengths_of_zeros}
 use Rattle.pisdf_meaning.specs.Configuring.{config_args, config_rates, fed_to}
 use Rattle.pisdf_meaning.specs.States.{tokens_at}
-use Rattle.job_preparing.proofs.asking.kernel_seat.Goals as goal
+use Rattle.job_preparing.proofs.asking.unclaimed_kernel.Goals as goal
 
 pub returns-clause-waits : goal.returns-clause-waits
 returns-clause-waits c = λ rates one trace.

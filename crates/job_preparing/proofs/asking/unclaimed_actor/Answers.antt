@@ -10,13 +10,13 @@ use Rattle.pisdf_meaning.specs.declared.firing.Configured.{Configured}
 use Rattle.pisdf_meaning.specs.declared.firing.Firing.{Firing}
 use Rattle.pisdf_meaning.specs.declared.outcome.TraceRow.{TraceRow}
 use Rattle.job_rules.specs.Words as words
-use Rattle.job_preparing.specs.Seated.{kernel_work}
+use Rattle.job_preparing.specs.Unclaimed.{kernel_work}
 use Rattle.job_preparing.specs.Standing.{StandsRight}
 use Rattle.job_preparing.specs.View.{task_of}
-use Rattle.job_preparing.specs.declared.asking.Seat.{Seat}
+use Rattle.job_preparing.specs.declared.asking.Unclaimed.{Unclaimed}
 use Rattle.job_preparing.proofs.Asked.{kernel_task, sets_few}
 use Rattle.job_preparing.proofs.Reading.{ok_more}
-use Rattle.job_preparing.proofs.asking.make_seat.Goals as goal
+use Rattle.job_preparing.proofs.asking.unclaimed_actor.Goals as goal
 
 actor_is : (g : Graph) (items : List Actor) (place : ℕ) (x : Actor) → items ≡ g.actors → place < length g.actors → x ≡ get_or items place x → actor_at g place ≡ x
 actor_is g items place x e inside is = sym (get_or_read items place x (subst (λ (l : List Actor). place < length l) (sym e) inside) is no_actor ∙ ap (λ (l : List Actor). get_or l place no_actor) e)
@@ -44,10 +44,10 @@ returns-in-Config-clause-stands c =
     ∙ ap (λ (x : Actor). Some (Work (kernel_work G g firing c.args.number c.args.place x.name c.in-Config.kernel (length c.in-Config.ins) (length c.in-Config.sets)))) own
     ∙ ap (λ (n : ℕ). Some (Work (kernel_work G g firing c.args.number c.args.place c.index-items-place.result.name c.in-Config.kernel n (length c.in-Config.sets)))) (sym ins)
     ∙ ap (λ (n : ℕ). Some (Work (kernel_work G g firing c.args.number c.args.place c.index-items-place.result.name c.in-Config.kernel (length c.items-in-Config-2.result.now) n))) (sym sets) in
-    let Q : Seat → Type 0 = λ s. (one : Configured) (trace : List TraceRow) → StandsRight G (T (slice_get (configurations g) c.args.number)) (config_rates G firing c.args.number) s.stage s.frame one trace in
-    ok_more _ Q c.kernel_seat.result
+    let Q : Unclaimed → Type 0 = λ s. (one : Configured) (trace : List TraceRow) → StandsRight G (T (slice_get (configurations g) c.args.number)) (config_rates G firing c.args.number) s.stage s.frame one trace in
+    ok_more _ Q c.unclaimed_kernel.result
     (λ s stands. λ one trace.
     let P : Option (Task Firing words.Work) → Type 0 = λ t. StandsRight G t (config_rates G firing c.args.number) s.stage s.frame one trace in
     let R : List Graph → Type 0 = λ gs. StandsRight gs (Some (Work (kernel_work gs g firing c.args.number c.args.place c.index-items-place.result.name c.in-Config.kernel (length c.items-in-Config-2.result.now) (length c.items-in-Config-3.result.now)))) (config_rates G firing c.args.number) s.stage s.frame one trace in
     subst P (sym task) (subst R c.items-in-Config.ensures (stands (config_rates G firing c.args.number) one trace)))
-    c.kernel_seat.ensures.waits
+    c.unclaimed_kernel.ensures.waits

@@ -10,7 +10,7 @@ use Rattle.pisdf_meaning.specs.Configuring.{configurations, config_rates}
 use Rattle.pisdf_meaning.specs.declared.firing.Configured.{Configured}
 use Rattle.pisdf_meaning.specs.declared.firing.Firing.{Firing}
 use Rattle.pisdf_meaning.specs.declared.outcome.TraceRow.{TraceRow}
-use Rattle.job_preparing.specs.Seated.{AreSeated}
+use Rattle.job_preparing.specs.Unclaimed.{AreUnclaimed}
 use Rattle.job_preparing.specs.Stages.{lent_of, mark_of}
 use Rattle.job_preparing.specs.Standing.{IsOwn, StandsRight}
 use Rattle.job_preparing.specs.View.{task_of}
@@ -60,8 +60,8 @@ module _ (graphs : List Graph) (g : Graph) (firing : Firing) where
   abbrev StandsAt : ℕ → Stage → Option FrameView → Type 0
   StandsAt c stage frame = (one : Configured) (trace : List TraceRow) → StandsRight graphs (task_of graphs g firing (slice_get (configurations g) c)) (config_rates graphs firing c) stage frame one trace
 
-  pub none_seated : AreSeated graphs g firing 0 [] []
-  none_seated = record {
+  pub none_unclaimed : AreUnclaimed graphs g firing 0 [] []
+  none_unclaimed = record {
     one_stage = refl;
     one_frame = refl;
     own = λ k d inside. absurd (omega arith);
@@ -70,23 +70,23 @@ module _ (graphs : List Graph) (g : Graph) (firing : Firing) where
     right = λ c s is. absurd (cc);
   }
 
-  pub one_seated : (n : ℕ) (stages : List Stage) (frames : List (Option FrameView)) (stage : Stage) (frame : Option FrameView) → AreSeated graphs g firing n stages frames → IsOwn frame → mark_of stage ≡ Free → lent_of stage ≡ None → StandsAt n stage frame →
-      AreSeated graphs g firing (n + 1) (stages ++ stage ∷ []) (frames ++ frame ∷ [])
-  one_seated n stages frames stage frame seated own free lent stands =
-      let s = seated.one_stage in
-      let f = seated.one_frame in
+  pub one_unclaimed : (n : ℕ) (stages : List Stage) (frames : List (Option FrameView)) (stage : Stage) (frame : Option FrameView) → AreUnclaimed graphs g firing n stages frames → IsOwn frame → mark_of stage ≡ Free → lent_of stage ≡ None → StandsAt n stage frame →
+      AreUnclaimed graphs g firing (n + 1) (stages ++ stage ∷ []) (frames ++ frame ∷ [])
+  one_unclaimed n stages frames stage frame unclaimed own free lent stands =
+      let s = unclaimed.one_stage in
+      let f = unclaimed.one_frame in
       let ls = length-append stages (stage ∷ []) in
       let lf = length-append frames (frame ∷ []) in
       record {
         one_stage = omega arith;
         one_frame = omega arith;
-        own = all_more IsOwn frames frame seated.own own;
-        free = map-append mark_of stages (stage ∷ []) ∙ ap (λ l. l ++ mark_of stage ∷ []) seated.free ∙ ap (λ m. replicate n Free ++ m ∷ []) free ∙ sym (replicated n Free);
-        lent = map-append lent_of stages (stage ∷ []) ∙ ap (λ l. l ++ lent_of stage ∷ []) seated.lent ∙ ap (λ m. replicate n None ++ m ∷ []) lent ∙ sym (replicated n None);
+        own = all_more IsOwn frames frame unclaimed.own own;
+        free = map-append mark_of stages (stage ∷ []) ∙ ap (λ l. l ++ mark_of stage ∷ []) unclaimed.free ∙ ap (λ m. replicate n Free ++ m ∷ []) free ∙ sym (replicated n Free);
+        lent = map-append lent_of stages (stage ∷ []) ∙ ap (λ l. l ++ lent_of stage ∷ []) unclaimed.lent ∙ ap (λ m. replicate n None ++ m ∷ []) lent ∙ sym (replicated n None);
         right = λ c x is. ⊎_elim
             (λ (old : slice_get stages c ≡ Some x).
             let P : Option FrameView → Type 0 = λ y. StandsAt c x y in
-            subst P (sym (old_at frames frame c None (let w = within stages c x old in omega arith))) (seated.right c x old))
+            subst P (sym (old_at frames frame c None (let w = within stages c x old in omega arith))) (unclaimed.right c x old))
             (λ (new : (c ≡ length stages) × (x ≡ stage)).
             let P : Option FrameView → Type 0 = λ y. StandsAt n stage y in
             let Q : Stage → Type 0 = λ y. StandsAt n y (get_or (frames ++ frame ∷ []) n None) in

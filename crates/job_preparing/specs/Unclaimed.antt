@@ -15,7 +15,7 @@ use Rattle.job_preparing.specs.View.{task_of}
 use Rattle.job_preparing.specs.declared.stage.Stage.{Stage}
 
 -- the first of them, so many, stand at their start, with the frames of those that fire kernels
-pub record AreSeated (graphs : List Graph) (g : Graph) (firing : Firing) (count : ℕ) (stages : List Stage) (frames : List (Option FrameView)) : Type 0 where
+pub record AreUnclaimed (graphs : List Graph) (g : Graph) (firing : Firing) (count : ℕ) (stages : List Stage) (frames : List (Option FrameView)) : Type 0 where
   pub one_stage : length stages ≡ count
   pub one_frame : length frames ≡ count
   pub own : All IsOwn frames
