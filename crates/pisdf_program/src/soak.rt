@@ -28,7 +28,7 @@ use kernel_gate::{Gate, Signature};
 use outer_world::{Sink, put_text};
 use pisdf_meaning::{Delays, Iteration, first_delays};
 use pisdf_model::Graphs;
-use quiescent_driver::{Load, Stop, run_iteration_by};
+use quiescent_driver::{Stop, Workload, run_iteration_by};
 use std::alloc::Global;
 use std::sync::{Arc, Wait};
 use std::thread::Threads;
@@ -63,7 +63,7 @@ fn soak_iteration<K: Gate + Sync, R: Threads + Wait + Sync>(
     iteration: u32,
     workers: u32,
     kept: &mut Option<Kept>,
-    load: &mut Load,
+    workload: &mut Workload,
     delays: &mut Delays,
     gate: &K,
 ) -> Result<Iteration, Stop>
@@ -92,7 +92,7 @@ fn soak_iteration<K: Gate + Sync, R: Threads + Wait + Sync>(
         ins.as_slice(),
         workers,
         kept,
-        load,
+        workload,
         gate,
         Journal::unreadable(),
     ) {
@@ -124,7 +124,7 @@ fn run_soak<K: Gate + Sync, R: Threads + Wait + Sync>(
     let Ok(mut delays) = first_delays(alloc, graphs) else {
         return Err(Stop::Memory);
     };
-    let mut load = Load::new();
+    let mut workload = Workload::new();
     let mut total = Total { count: 0, sum: 0 };
     for place in 0..soak_iterations(number) {
         let iteration = match soak_iteration(
@@ -135,7 +135,7 @@ fn run_soak<K: Gate + Sync, R: Threads + Wait + Sync>(
             place,
             workers,
             kept,
-            &mut load,
+            &mut workload,
             &mut delays,
             gate,
         ) {

@@ -1,5 +1,5 @@
 use job_compiler::Kept;
-use worker_crew::Load;
+use worker_crew::Workload;
 
 /// What a run by workers takes from one iteration to the next, beside the state of its delays.
 #[derive(Drop)]
@@ -7,7 +7,7 @@ pub(crate) struct Carried {
     /// The compilations that are kept.
     pub(crate) kept: Option<Kept>,
     /// What the iterations have shown of the work that workers can share.
-    pub(crate) load: Load,
+    pub(crate) workload: Workload,
 }
 
 impl Carried {
@@ -15,7 +15,7 @@ impl Carried {
     pub(crate) fn new(kept: Kept) -> Carried {
         Carried {
             kept: Some(kept),
-            load: Load::new(),
+            workload: Workload::new(),
         }
     }
 }

@@ -12,7 +12,7 @@ use std::alloc::{AllocError, Global};
 use std::mem;
 use std::sync::Wait;
 use std::thread::Threads;
-use worker_crew::{Load, run_crew_by};
+use worker_crew::{Workload, run_crew_by};
 
 /// Moves the compilations that are kept, if any are, into the board.
 fn lend_kept(board: &mut Board, kept: &mut Option<Kept>)
@@ -27,7 +27,7 @@ fn lend_kept(board: &mut Board, kept: &mut Option<Kept>)
 }
 
 /// Runs a board of which no worker runs anything to its end. It uses the compilations that are kept, and keeps those that it
-/// makes, and as many threads as the load asks for.
+/// makes, and as many threads as the workload asks for.
 ///
 /// # Errors
 ///
@@ -38,7 +38,7 @@ pub(crate) fn drive<K: Gate + Sync, R: Threads + Wait + Sync>(
     mut board: Board,
     workers: u32,
     kept: &mut Option<Kept>,
-    load: &mut Load,
+    workload: &mut Workload,
     gate: &K,
 ) -> Result<BoardEnd, AllocError>
     requires workers { workers ≡ board.key.workers }
@@ -47,7 +47,7 @@ pub(crate) fn drive<K: Gate + Sync, R: Threads + Wait + Sync>(
     ensures { IfOk result (EndsWith board.key) }
 {
     lend_kept(&mut board, kept);
-    match run_crew_by(rt, alloc, board, workers, gate, load) {
+    match run_crew_by(rt, alloc, board, workers, gate, workload) {
         Ok(mut board) => {
             *kept = board.take_kept();
             board.outcome(alloc)

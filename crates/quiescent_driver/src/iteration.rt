@@ -25,7 +25,7 @@ use sdf_level::List;
 use std::alloc::{AllocError, Global};
 use std::sync::{Arc, Wait};
 use std::thread::Threads;
-use worker_crew::Load;
+use worker_crew::Workload;
 
 /// The board of an iteration, in which nothing is claimed. Nothing was put into the journal.
 fn start_board<K: Gate>(
@@ -83,7 +83,7 @@ fn iterate<K: Gate + Sync, R: Threads + Wait + Sync>(
     ins: &[List<i64>],
     workers: u32,
     kept: &mut Option<Kept>,
-    load: &mut Load,
+    workload: &mut Workload,
     gate: &K,
     journal: Journal,
 ) -> Result<(Iteration, Journal), IterationFault>
@@ -102,7 +102,7 @@ fn iterate<K: Gate + Sync, R: Threads + Wait + Sync>(
 {
     let readable = journal.is_readable();
     let board = start_board(alloc, graphs, delays, ins, workers, gate, journal)?;
-    match drive(rt, alloc, board, workers, kept, load, gate)? {
+    match drive(rt, alloc, board, workers, kept, workload, gate)? {
         BoardEnd::Done {
             iteration,
             delays: left,
@@ -120,7 +120,7 @@ fn iterate<K: Gate + Sync, R: Threads + Wait + Sync>(
     }
 }
 
-/// As `run_iteration`, with as many threads as `load` asks for by what the run's iterations before it have shown, at most one for
+/// As `run_iteration`, with as many threads as `workload` asks for by what the run's iterations before it have shown, at most one for
 /// each worker. Nothing was put into the journal, into which the workers' steps are entered: where it can't be read, they take no
 /// memory.
 ///
@@ -138,7 +138,7 @@ pub fn run_iteration_by<K: Gate + Sync, R: Threads + Wait + Sync>(
     ins: &[List<i64>],
     workers: u32,
     kept: &mut Option<Kept>,
-    load: &mut Load,
+    workload: &mut Workload,
     gate: &K,
     journal: Journal,
 ) -> Result<(Iteration, Journal), IterationFault>
@@ -170,7 +170,7 @@ pub fn run_iteration_by<K: Gate + Sync, R: Threads + Wait + Sync>(
     // Its clause says that the kernels give outputs of the lengths that they are asked for.
     let _signatures = gate.signatures();
     iterate(
-        rt, alloc, graphs, delays, ins, workers, kept, load, gate, journal,
+        rt, alloc, graphs, delays, ins, workers, kept, workload, gate, journal,
     )
 }
 
@@ -217,9 +217,18 @@ pub fn run_iteration<K: Gate + Sync, R: Threads + Wait + Sync>(
     // The state that is left suits the next iteration.
     ensures state { IsTopState (arc_value graphs.now) delays.new.lists }
 {
-    let mut load = Load::new();
+    let mut workload = Workload::new();
     let journal = Journal::new(alloc);
     run_iteration_by(
-        rt, alloc, graphs, delays, ins, workers, kept, &mut load, gate, journal,
+        rt,
+        alloc,
+        graphs,
+        delays,
+        ins,
+        workers,
+        kept,
+        &mut workload,
+        gate,
+        journal,
     )
 }

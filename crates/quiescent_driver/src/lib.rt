@@ -21,4 +21,4 @@ pub use run::{plain_run, run_all, top_of};
 pub use stop::Stop;
 pub use streams::{Lack, Streams};
 pub use unfolded::run_unfolded;
-pub use worker_crew::Load;
+pub use worker_crew::Workload;

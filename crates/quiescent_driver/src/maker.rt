@@ -68,7 +68,7 @@ pub(crate) fn make_by_workers<K: Gate + Sync, R: Threads + Wait + Sync>(
         ins,
         workers,
         &mut carried.kept,
-        &mut carried.load,
+        &mut carried.workload,
         gate,
         Journal::unreadable(),
     ) {

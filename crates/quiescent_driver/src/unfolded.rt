@@ -97,7 +97,7 @@ fn next_group<K: Gate + Sync, R: Threads + Wait + Sync>(
         ins.as_slice(),
         workers,
         &mut carried.kept,
-        &mut carried.load,
+        &mut carried.workload,
         gate,
         Journal::unreadable(),
     ) {

@@ -10,10 +10,10 @@ ghost use Rattle.worker_crew.specs.Passes.{HasSeenOver, IsIdleAt, MayWork};
 ghost use Rattle.worker_crew.specs.Worked.{HasAdded, HasWorked};
 
 use crate::laws::{board_laws, compilations_end};
-use crate::load::{COMPILATION, Load};
 use crate::running::tokens_of;
 use crate::turn_end::TurnEnd;
 use crate::under_lock::{claim_here, copy_here};
+use crate::workload::{COMPILATION, Workload};
 use board_lock::{Held, Lock, Pass};
 use firing_board::{Board, Claim, Ticket};
 use job_preparing::CompileTask;
@@ -27,7 +27,7 @@ fn fire_here<'a, K: Gate>(
     gate: &K,
     ticket: Ticket,
     mut frame: Frame,
-    load: &mut Load,
+    workload: &mut Workload,
 ) -> Held<'a, Board>
     requires leave { MayLeave board_meant held.turn.known held.turn.found held.state.value }
     requires found { Finds board_meant (known_after board_meant held.turn.known held.state.value) held.state.value }
@@ -41,7 +41,7 @@ fn fire_here<'a, K: Gate>(
 {
     board_laws();
     let tokens = tokens_of(gate, &frame);
-    load.add(tokens);
+    workload.add(tokens);
     let answer = gate.fire(&mut frame);
     let _journal = held.state.journal();
     held.state.finish_fire(ticket, frame, answer);
@@ -78,7 +78,7 @@ fn compile_here<'a>(
     mut held: Held<'a, Board>,
     ticket: Ticket,
     task: CompileTask,
-    load: &mut Load,
+    workload: &mut Workload,
 ) -> Held<'a, Board>
     requires leave { MayLeave board_meant held.turn.known held.turn.found held.state.value }
     requires found { Finds board_meant (known_after board_meant held.turn.known held.state.value) held.state.value }
@@ -92,7 +92,7 @@ fn compile_here<'a>(
     board_laws();
     compilations_end();
     if !task.has_kept() {
-        load.add(COMPILATION);
+        workload.add(COMPILATION);
     }
     let end = task.run(alloc);
     let _journal = held.state.journal();
@@ -105,7 +105,7 @@ fn turn_here<'a, K: Gate>(
     alloc: Global,
     held: Held<'a, Board>,
     gate: &K,
-    load: &mut Load,
+    workload: &mut Workload,
 ) -> (Held<'a, Board>, TurnEnd)
     requires leave { MayLeave board_meant held.turn.known held.turn.found held.state.value }
     requires found { Finds board_meant (known_after board_meant held.turn.known held.state.value) held.state.value }
@@ -119,13 +119,19 @@ fn turn_here<'a, K: Gate>(
 {
     let (held, claim) = claim_here(alloc, held);
     match claim {
-        Claim::Fire(ticket, frame) => (fire_here(held, gate, ticket, frame, load), TurnEnd::Ran),
+        Claim::Fire(ticket, frame) => (
+            fire_here(held, gate, ticket, frame, workload),
+            TurnEnd::Ran,
+        ),
         Claim::Configure(ticket, frame) => {
             (configure_here(held, gate, ticket, frame), TurnEnd::Ran)
         }
         Claim::Copy(ticket, node, frame) => (copy_here(held, ticket, node, frame), TurnEnd::Ran),
         Claim::Compile(ticket, task) => {
-            (compile_here(alloc, held, ticket, task, load), TurnEnd::Ran)
+            (
+                compile_here(alloc, held, ticket, task, workload),
+                TurnEnd::Ran,
+            )
         }
         Claim::Wait => (held, TurnEnd::Waits),
         Claim::Finished => (held, TurnEnd::Over),
@@ -134,7 +140,7 @@ fn turn_here<'a, K: Gate>(
 }
 
 /// Works for the pass's number, which is the least of its numbers and runs nothing, in one holding of the lock, until the board is
-/// over; or until its load is great, where there are others to be called. The answer is whether the board is over. Each claim that
+/// over; or until its workload is great, where there are others to be called. The answer is whether the board is over. Each claim that
 /// it adds to the journal is followed by its finish.
 pub(crate) fn work_alone<K: Gate, R: Wait>(
     rt: &R,
@@ -142,7 +148,7 @@ pub(crate) fn work_alone<K: Gate, R: Wait>(
     lock: &Lock<Board>,
     pass: Pass<Board>,
     gate: &K,
-    load: &mut Load,
+    workload: &mut Workload,
 ) -> (Pass<Board>, bool)
     requires lock { pass.lock ≡ lock.now }
     requires may { MayWork (unnamed (K.kernels gate.now)) pass.known }
@@ -154,10 +160,10 @@ pub(crate) fn work_alone<K: Gate, R: Wait>(
     let others = pass.count() > 1;
     let mut held = lock.enter(rt, pass);
     for _ in rt.forever() {
-        let (next, end) = turn_here(alloc, held, gate, load);
+        let (next, end) = turn_here(alloc, held, gate, workload);
         match end {
             TurnEnd::Ran => {
-                if others && load.is_great() {
+                if others && workload.is_great() {
                     return (next.leave(), false);
                 }
                 held = next;

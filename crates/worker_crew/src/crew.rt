@@ -9,9 +9,9 @@ ghost use Rattle.worker_crew.specs.Worked.{HasWorked};
 
 use crate::alone::work_alone;
 use crate::laws::board_laws;
-use crate::load::Load;
 use crate::slot::{full, put, take};
 use crate::working::work;
+use crate::workload::Workload;
 use board_lock::{Lock, NotMade, Pass};
 use firing_board::Board;
 use kernel_gate::Gate;
@@ -89,14 +89,14 @@ fn crew_of<K: Gate + Sync, R: Threads + Wait + Sync>(
     lock.join(first, others)
 }
 
-/// The numbers of the pass work in as many threads as the load asks for, at first perhaps one of them alone.
+/// The numbers of the pass work in as many threads as the workload asks for, at first perhaps one of them alone.
 fn crew_by<K: Gate + Sync, R: Threads + Wait + Sync>(
     rt: &R,
     alloc: Global,
     lock: &Lock<Board>,
     pass: Pass<Board>,
     gate: &K,
-    load: &mut Load,
+    workload: &mut Workload,
 ) -> Pass<Board>
     requires lock { pass.lock ≡ lock.now }
     requires may { AllMayWork (unnamed (K.kernels gate.now)) pass.known }
@@ -105,20 +105,20 @@ fn crew_by<K: Gate + Sync, R: Threads + Wait + Sync>(
     ensures worked { HasWorked pass.known result.known }
     ensures over { HasSeenOver result.known }
 {
-    let threads = load.begin(pass.count());
+    let threads = workload.begin(pass.count());
     if threads > 1 {
         return crew_of(rt, alloc, lock, pass, gate, threads);
     }
-    let (pass, over) = work_alone(rt, alloc, lock, pass, gate, load);
+    let (pass, over) = work_alone(rt, alloc, lock, pass, gate, workload);
     if over {
         return pass;
     }
-    let threads = load.call(rt, pass.count());
+    let threads = workload.call(rt, pass.count());
     crew_of(rt, alloc, lock, pass, gate, threads)
 }
 
 /// Runs a board of which no worker runs anything until it is over: its journal has ended, or memory was wanted. No worker runs
-/// anything then. All its workers may run items of it, in as many threads as `load` asks for by what the run's boards before it
+/// anything then. All its workers may run items of it, in as many threads as `workload` asks for by what the run's boards before it
 /// have shown, at most one for each worker. Where a thread can't be started, the half of the workers that it was for works in
 /// the thread that wanted it, once the other half has. It may wait.
 ///
@@ -131,7 +131,7 @@ pub fn run_crew_by<K: Gate + Sync, R: Threads + Wait + Sync>(
     board: Board,
     workers: u32,
     gate: &K,
-    load: &mut Load,
+    workload: &mut Workload,
 ) -> Result<Board, NotMade<Board>>
     requires workers { workers ≡ board.key.workers }
     requires kernels { board.key.signatures ≡ unnamed (K.kernels gate.now) }
@@ -144,7 +144,7 @@ pub fn run_crew_by<K: Gate + Sync, R: Threads + Wait + Sync>(
     board_laws();
     let _journal = board.journal();
     let (lock, pass) = Lock::start(alloc, board, workers)?;
-    let pass = crew_by(rt, alloc, &lock, pass, gate, load);
+    let pass = crew_by(rt, alloc, &lock, pass, gate, workload);
     let board = lock.close(pass);
     let _journal = board.journal();
     Ok(board)
@@ -170,6 +170,6 @@ pub fn run_crew<K: Gate + Sync, R: Threads + Wait + Sync>(
     ensures idle { IfOk result AreAllIdle }
     ensures refused { IfErr result (λ r. r.state ≡ board) }
 {
-    let mut load = Load::new();
-    run_crew_by(rt, alloc, board, workers, gate, &mut load)
+    let mut workload = Workload::new();
+    run_crew_by(rt, alloc, board, workers, gate, &mut workload)
 }

@@ -9,15 +9,15 @@ mod asking;
 mod crew;
 mod giving_back;
 mod laws;
-mod load;
 mod pace;
 mod running;
 mod slot;
 mod turn_end;
 mod under_lock;
 mod working;
+mod workload;
 
 pub use crew::{run_crew, run_crew_by};
 pub use laws::{board_laws, cells_are_lent_once, compilations_end, work_fits};
-pub use load::Load;
 pub use working::work;
+pub use workload::Workload;

@@ -23,7 +23,7 @@ pub(crate) const COMPILATION: u64 = 1024;
 /// alone. Where its kernels have enough to do, it calls for others, and so many threads as there are processors run this board
 /// on, and the boards after it for a while.
 #[derive(Drop)]
-pub struct Load {
+pub struct Workload {
     /// Whether a board was begun.
     begun: bool,
     /// On how many boards more several threads start at once.
@@ -36,10 +36,10 @@ pub struct Load {
     firings: u64,
 }
 
-impl Load {
+impl Workload {
     /// Of no board so far.
-    pub fn new() -> Load {
-        Load {
+    pub fn new() -> Workload {
+        Workload {
             begun: false,
             with_others: 0,
             processors: 0,
