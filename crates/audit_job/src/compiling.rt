@@ -1,5 +1,5 @@
 // The compilation of a job.
-ghost use Rattle.std.specs.Prelude.{◌≡◌, ◌≤◌, ℕ, List as Seq, [], Some, IfErr, IfOk, length, map, slice_get};
+ghost use Rattle.std.specs.Prelude.{◌≡◌, ◌≤◌, ℕ, List as Seq, [], Some, IfErr, IfOk, length, slice_get};
 ghost use Rattle.std.specs.Arc.{arc_value};
 ghost use Rattle.job_compiler.specs.Compilation.{IsCompiled};
 ghost use Rattle.job_preparing.specs.CompileTasks.{IsReadyWith, schedule_of};
@@ -8,7 +8,6 @@ ghost use Rattle.job_rules.specs.Doing as doing;
 ghost use Rattle.job_rules.specs.Items.{graph_of};
 ghost use Rattle.job_rules.specs.Words as words;
 ghost use Rattle.param_resolver.specs.EarlyCheck.{early_faults};
-ghost use Rattle.param_resolver.specs.Numbering.{acting, acting_places, has_state};
 ghost use Rattle.pisdf_meaning.specs.Configuring.{early_in};
 ghost use Rattle.pisdf_meaning.specs.Endings.{IfRefused};
 ghost use Rattle.pisdf_model.specs.Valid.{AreValid};
@@ -18,14 +17,12 @@ use crate::answer::Answer;
 use crate::job::Nodes;
 use crate::rows::{Side, edges_by};
 use crate::wires::edge_counts;
-use crate::working::acting_at;
 use job_compiler::{Compiled, Kept, Key};
-use job_preparing::{Made, make};
+use job_preparing::{Made, keeps_at, make};
 use level_schedule::LevelSchedule;
-use param_resolver::{Early, LevelSet, level_by_actor};
+use param_resolver::{Early, LevelSet};
 use pisdf_meaning::{
-    Configured, Firing, PlainFault, chosen_values, copy_tokens, has_state, holds_for, link_starts,
-    source_tokens,
+    Configured, Firing, PlainFault, chosen_values, copy_tokens, link_starts, source_tokens,
 };
 use pisdf_model::{Graph, Graphs};
 use sdf_level::{List, Turn};
@@ -49,25 +46,6 @@ fn key_of(
         workers,
         values: List::new(values),
     })
-}
-
-/// Whether the state of each of the actors at these places goes on.
-fn keeps_at(
-    alloc: Global,
-    graphs: &[Graph],
-    graph: &Graph,
-    places: &[u32],
-) -> Result<Vec<bool>, AllocError>
-    requires { places.now ≡ acting_places graph.now }
-    ensures { IfOk result (λ keeps. keeps.items ≡ map (has_state graphs.now) (acting graph.now)) }
-{
-    level_by_actor();
-    let holds = holds_for(alloc, graphs, graph.actors.items())?;
-    let mut keeps = Vec::with_capacity(alloc, places.len())?;
-    for n in 0..places.len() {
-        keeps.push(has_state(&holds, acting_at(graph, places, n)))?;
-    }
-    Ok(keeps)
 }
 
 /// The same turns.

@@ -12,12 +12,11 @@ ghost use Rattle.audit_job.specs.Marks.{answer_of, answers, mark_of};
 ghost use Rattle.nested_jobs.specs.Marks.{answer_of as answer_in};
 
 use crate::answer::{Answer, Mark};
-use crate::copying::push_rows;
 use crate::job::{Job, Nodes};
 use crate::outlets::{Outlet, firing_places, outlet_places};
 use crate::reading::push_written;
 use crate::wires::keeps_state;
-use pisdf_meaning::{LevelEnd, Refusal, TraceRow, given_by};
+use pisdf_meaning::{LevelEnd, Refusal, TraceRow, append_rows, given_by};
 use pisdf_model::Graph;
 use sdf_level::{Link, List, Node};
 use std::alloc::{AllocError, Global};
@@ -88,7 +87,7 @@ fn push_trace(alloc: Global, mark: &Mark, rows: &mut Vec<TraceRow>) -> Result<()
     ensures { OnOk result (rows.new.items ≡ rows.old.items ++ trace_of (answer_in (mark_of mark.now))) }
 {
     match mark {
-        Mark::Done(Answer::Gives(given)) => push_rows(alloc, rows, given.trace.items()),
+        Mark::Done(Answer::Gives(given)) => append_rows(alloc, rows, given.trace.items()),
         Mark::Done(Answer::Schedules(_)) => Ok(()),
         Mark::Done(Answer::Refuses(_)) => Ok(()),
         Mark::Free => Ok(()),

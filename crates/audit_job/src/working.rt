@@ -38,6 +38,7 @@ use crate::firing::{copied, fired, passed};
 use crate::job::Nodes;
 use crate::reading::read_by;
 use crate::wires::sizes_out;
+use job_preparing::acting_at;
 use kernel_gate::Gate;
 use param_resolver::{Early, level_by_actor};
 use pisdf_meaning::{ChildCall, Firing, Path, child_firing, fire_kernel, rates_at, tokens_at};
@@ -55,16 +56,6 @@ fn actor_kind(body: &Body) -> Option<Kind>
         Body::Config { .. } => None,
         Body::ConfigChild { .. } => None,
     }
-}
-
-/// The actor with this number in the level of a graph, whose actors stand at these places.
-pub(crate) fn acting_at<'a>(graph: &'a Graph, places: &[u32], number: usize) -> &'a Actor
-    requires places { places.now ≡ acting_places graph.now }
-    requires there { number < length places.now }
-    ensures { slice_get (acting graph.now) number ≡ Some result.now }
-{
-    level_by_actor();
-    &graph.actors.items()[places[number] as usize]
 }
 
 /// What a node is to do, once the nodes before it have given something.

@@ -2,6 +2,7 @@
 //! firing, which is made apart from its job.
 #![tactic(auto)]
 
+mod acting;
 mod asking;
 mod compile_task;
 mod compiling;
@@ -13,6 +14,7 @@ mod slim;
 mod stage;
 mod starting;
 
+pub use acting::{acting_at, keeps_at};
 pub use compile_task::CompileTask;
 pub use compiling::{CompileEnd, Made, make};
 pub use configuring::Configuring;

@@ -16,8 +16,12 @@ fn copy_row(alloc: Global, row: &TraceRow) -> Result<TraceRow, AllocError>
     })
 }
 
-/// Copies of rows, at the end of others.
-pub(crate) fn append_rows(
+/// Adds copies of rows.
+///
+/// # Errors
+///
+/// Want of memory. Some of the rows may have been added.
+pub fn append_rows(
     alloc: Global,
     rows: &mut Vec<TraceRow>,
     more: &[TraceRow],

@@ -18,7 +18,11 @@ use sdf_level::List;
 use std::alloc::{AllocError, Global};
 
 /// A state in one line.
-pub(crate) fn in_line(alloc: Global, state: &[List<i64>]) -> Result<List<i64>, AllocError>
+///
+/// # Errors
+///
+/// Want of memory.
+pub fn in_line(alloc: Global, state: &[List<i64>]) -> Result<List<i64>, AllocError>
     ensures { IfOk result (λ line. line ≡ in_line state.now) }
 {
     let mut line = Vec::new(alloc);

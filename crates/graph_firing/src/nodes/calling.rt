@@ -11,8 +11,9 @@ ghost use Rattle.pisdf_model.specs.declared.actor.Body.TheVariants.{Child};
 ghost use Rattle.pisdf_meaning.specs.Running.{child_firing as firing_of};
 ghost use Rattle.pisdf_meaning.specs.States.{tokens_at};
 
+use job_preparing::acting_at;
 use kernel_gate::Frame;
-use param_resolver::{LevelSet, level_by_actor};
+use param_resolver::LevelSet;
 use pisdf_meaning::{ChildCall, Firing, Path, child_firing, copy_tokens};
 use pisdf_model::{Actor, Body, Graph, input_count};
 use sdf_level::{List, Node};
@@ -71,17 +72,6 @@ pub(crate) fn firing_of(which: Node) -> (u32, u32)
         | Node::Join { .. }
         | Node::Round(_) => unreachable!(),
     }
-}
-
-/// The actor with this number in the level of a graph, whose actors stand at these places.
-pub(crate) fn acting_at<'a>(graph: &'a Graph, places: &[u32], number: usize) -> &'a Actor
-    requires places { places.now ≡ acting_places graph.now }
-    requires there { number < length places.now }
-    requires inside { number < length (acting graph.now) }
-    ensures { slice_get (acting graph.now) number ≡ Some result.now }
-{
-    level_by_actor();
-    &graph.actors.items()[places[number] as usize]
 }
 
 /// What an actor of the level of the graph at this place calls with.

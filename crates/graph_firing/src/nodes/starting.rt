@@ -17,20 +17,19 @@ ghost use Rattle.job_preparing.specs.View.{IsReady, graph_in, left_by};
 ghost use Rattle.graph_firing.specs.Nodes.Parts.{kernel_in, kind_of_actor, prepared_with};
 ghost use Rattle.graph_firing.specs.Nodes.View.{nodes_of};
 
-use crate::nodes::calling::acting_at;
 use crate::nodes::frames::{Held, nothing_held};
 use crate::nodes::given::empty_rows;
 use crate::nodes::running::Running;
 use crate::nodes::stages::Stages;
 use crate::nodes::told::{told_before, told_block};
 use job_compiler::Compiled;
-use job_preparing::Configuring;
+use job_preparing::{Configuring, acting_at, keeps_at};
 use one_job::{Job, start};
 use param_expr::Name;
 use param_resolver::{LevelSet, level_by_actor};
 use pisdf_meaning::{
-    Configured, Firing, Path, TraceRow, copy_lists, copy_name, exports_of, has_state, holds_for,
-    link_starts, source_tokens, value_at,
+    Configured, Firing, Path, TraceRow, copy_lists, copy_name, exports_of, link_starts,
+    source_tokens, value_at,
 };
 use pisdf_model::{Body, Graph, Graphs, Param, ParamKind};
 use sdf_level::List;
@@ -75,25 +74,6 @@ fn names_at(alloc: Global, graph: &Graph, places: &[u32]) -> Result<Vec<Name>, A
         names.push(copy_name(alloc, &acting_at(graph, places, n).name)?)?;
     }
     Ok(names)
-}
-
-/// Whether the state of each of the actors at these places goes on.
-fn keeps_at(
-    alloc: Global,
-    graphs: &[Graph],
-    graph: &Graph,
-    places: &[u32],
-) -> Result<Vec<bool>, AllocError>
-    requires { places.now ≡ acting_places graph.now }
-    ensures { IfOk result (λ keeps. keeps.items ≡ map (has_state graphs.now) (acting graph.now)) }
-{
-    level_by_actor();
-    let holds = holds_for(alloc, graphs, graph.actors.items())?;
-    let mut keeps = Vec::with_capacity(alloc, places.len())?;
-    for n in 0..places.len() {
-        keeps.push(has_state(&holds, acting_at(graph, places, n)))?;
-    }
-    Ok(keeps)
 }
 
 // ---- the values of parameters

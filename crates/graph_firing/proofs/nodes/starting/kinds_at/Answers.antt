@@ -1,11 +1,8 @@
 use Rattle.std.proofs.Common.{◌++◌, ◌∷◌, [], ap, ◌∙◌, arith}
 use Rattle.param_resolver.specs.Numbering.{acting}
 use Rattle.graph_firing.specs.Nodes.Parts.{kind_of_actor}
-use Rattle.job_preparing.proofs.ActingPlaces.{level_inside, one_more, all_more}
+use Rattle.job_preparing.proofs.ActingPlaces.{one_more, all_more}
 use Rattle.graph_firing.proofs.nodes.starting.kinds_at.Goals as goal
-
-pub acting_at-requires-clause-inside : goal.acting_at-requires-clause-inside
-acting_at-requires-clause-inside c = level_inside c.level_by_actor.ensures.many c.args.graph.now c.args.places.now c.loop-n.n c.requires c.loop-n-test.true
 
 pub loop-n-preserved : goal.loop-n-preserved
 loop-n-preserved c = one_more kind_of_actor (acting c.args.graph.now) c.loop-n.n c.acting_at.result.now c.loop-n.kinds.items c.push.new.self.items c.acting_at.ensures c.loop-n.invariant (c.in_ok-push.ensures.items ∙ ap (λ k. c.loop-n.kinds.items ++ k ∷ []) c.kind_of.ensures)
