@@ -2,11 +2,9 @@
 ghost use Rattle.std.specs.Prelude.{◌≡◌, ◌<◌, ◌≤◌, ◌↔◌, ℕ, List as Seq, [], Some, IfOk, IsTrue, length, slice_get, slice_index_or, take};
 ghost use Rattle.kernel_gate.specs.Signed.{unnamed};
 ghost use Rattle.kernel_gate.specs.Table.{the_value};
-ghost use Rattle.job_preparing.specs.Standing.{ArePlaces, IsCall};
-ghost use Rattle.job_preparing.specs.View.{HasInherited, task_of};
+ghost use Rattle.job_preparing.specs.View.{task_of};
 ghost use Rattle.job_rules.specs.Fitting.{FitsAsked};
 ghost use Rattle.job_rules.specs.Items.{config_task, left_from};
-ghost use Rattle.job_rules.specs.Meant.{IsFit};
 ghost use Rattle.job_rules.specs.Words as words;
 ghost use Rattle.nested_jobs.specs.Rules.{Call, Work};
 ghost use Rattle.pisdf_meaning.specs.Configuring.{Configuration, early_in, fed_to};
@@ -27,24 +25,10 @@ use crate::copying::left_of;
 use crate::firing::fired;
 use kernel_gate::Gate;
 use param_expr::Name;
-use param_resolver::{Early, early_unfolds};
-use pisdf_meaning::{Configured, Firing, config_firing, fed_to, fire_kernel, rates_at, tokens_at};
-use pisdf_model::{Body, Graph, Graphs, is_configuration};
+use param_resolver::Early;
+use pisdf_meaning::{Configured, Firing, fed_to, fire_kernel, rates_at, tokens_at};
+use pisdf_model::{Body, Graph, Graphs};
 use std::alloc::{AllocError, Global};
-
-/// The places of the configuration actors of a graph.
-pub(crate) fn config_places(alloc: Global, graph: &Graph) -> Result<Vec<usize>, AllocError>
-    ensures { IfOk result (λ v. ArePlaces graph.now v.items) }
-{
-    let mut places = Vec::new(alloc);
-    let actors = graph.actors.items();
-    for place in 0..actors.len() {
-        if is_configuration(&actors[place].body) {
-            places.push(place)?;
-        }
-    }
-    Ok(places)
-}
 
 /// What a configuration actor is to do.
 pub(crate) fn config_kind(body: &Body) -> Option<Kind>
@@ -122,49 +106,6 @@ pub(crate) fn config_answer<K: Gate>(
             sets.items().len() as u32,
         ),
         Body::ConfigChild { .. } => unreachable!(),
-        Body::Kernel { .. } => unreachable!(),
-        Body::Child { .. } => unreachable!(),
-    }
-}
-
-/// The firing of the graph that the configuration actor with this number names, which stands at a place of its graph.
-pub(crate) fn config_call(
-    alloc: Global,
-    graphs: &Graphs,
-    graph: &Graph,
-    early: &Early,
-    firing: &Firing,
-    number: usize,
-    place: usize,
-) -> Result<Firing, AllocError>
-    requires valid { AreValid graphs.now }
-    requires here { slice_get graphs.now.graphs firing.now.graph ≡ Some graph.now }
-    requires early { early.now ≡ early_in graphs.now.graphs firing.now }
-    requires is { IsConfiguration graph.now number place }
-    requires call { IsCall (task_of graphs.now.graphs graph.now firing.now (Some (configuration_at graph.now number place))) }
-    requires fit { IsFit graphs.now.graphs firing.now }
-    ensures inherited { IfOk result (HasInherited graphs.now.graphs) }
-    ensures task { IfOk result (λ d. task_of graphs.now.graphs graph.now firing.now (Some (configuration_at graph.now number place)) ≡ Some (Call d)) }
-{
-    early_unfolds();
-    let actor = &graph.actors.items()[place];
-    match &actor.body {
-        Body::ConfigChild { graph: child, .. } => {
-            let inputs = graphs.graphs.items()[*child as usize].inputs.items().len();
-            config_firing(
-                alloc,
-                graphs.graphs.items(),
-                graph,
-                early,
-                firing,
-                number,
-                place,
-                &actor.name,
-                *child,
-                inputs,
-            )
-        }
-        Body::Config { .. } => unreachable!(),
         Body::Kernel { .. } => unreachable!(),
         Body::Child { .. } => unreachable!(),
     }

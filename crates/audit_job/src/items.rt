@@ -8,8 +8,6 @@ ghost use Rattle.kernel_gate.specs.Signed.{unnamed};
 ghost use Rattle.nested_jobs.specs.Marks as stands;
 ghost use Rattle.nested_jobs.specs.Rules.{Call, Work};
 ghost use Rattle.nested_jobs.specs.Tables.{is_quiet_row};
-ghost use Rattle.pisdf_meaning.specs.Configuring.{early_in};
-ghost use Rattle.pisdf_model.specs.Ports.{inherited_count};
 ghost use Rattle.pisdf_model.specs.Valid.{AreValid};
 ghost use Rattle.pisdf_meaning.specs.declared.firing.Firing.{Firing as FiringView};
 ghost use Rattle.audit_job.specs.Answering.{FitsWork, IsAnswer};
@@ -20,28 +18,15 @@ ghost use Rattle.audit_job.specs.Marks.{answer_of as told, answers, mark_at, mar
 
 use crate::answer::{Answer, Kind, Mark};
 use crate::candidates::add_first;
-use crate::configuring::{all_gave, config_answer, config_call, config_kind, config_places};
+use crate::configuring::{all_gave, config_answer, config_kind};
 use crate::job::Job;
 use crate::working::{kind_of_node, node_answer, node_call};
+use job_preparing::{config_call, config_places, early_for};
 use kernel_gate::Gate;
-use param_resolver::{Early, early, level_by_actor};
+use param_resolver::level_by_actor;
 use pisdf_meaning::Firing;
 use pisdf_model::{Graph, Graphs};
 use std::alloc::{AllocError, Global};
-
-/// What is known of the graph of a firing before its configuration actors fire.
-fn known(alloc: Global, graphs: &Graphs, firing: &Firing) -> Result<Early, AllocError>
-    requires valid { AreValid graphs.now }
-    requires fit { IsFit graphs.now.graphs firing.now }
-    requires inherited { length firing.now.inherited ≡ inherited_count (slice_get graphs.now.graphs firing.now.graph) }
-    ensures { IfOk result (λ e. e ≡ early_in graphs.now.graphs firing.now) }
-{
-    // The early check has no fault, so that only memory can be wanting.
-    match early(alloc, graphs, firing.graph, firing.inherited.items()) {
-        Ok(early) => Ok(early),
-        Err(_) => Err(AllocError),
-    }
-}
 
 /// Adds so many free items.
 pub(crate) fn push_free(marks: &mut Vec<Mark>, count: usize) -> Result<(), AllocError>
@@ -62,7 +47,7 @@ pub fn open(alloc: Global, graphs: &Graphs, firing: Firing) -> Result<Job, Alloc
     ensures firing { IfOk result (λ job. job.firing ≡ firing) }
     ensures free { IfOk result (λ job. (i : ℕ) → mark_at job.marks.items i ≡ stands.Free) }
 {
-    let early = known(alloc, graphs, &firing)?;
+    let early = early_for(alloc, graphs, &firing)?;
     let graph = &graphs.graphs.items()[firing.graph as usize];
     let places = config_places(alloc, graph)?;
     let mut marks = Vec::new(alloc);

@@ -28,8 +28,12 @@ use pisdf_model::{Body, Graph, Graphs, is_configuration};
 use sdf_level::List;
 use std::alloc::{AllocError, Global};
 
-/// What is known of the graph of a firing before its configuration actors fire.
-pub(crate) fn known(alloc: Global, graphs: &Graphs, firing: &Firing) -> Result<Early, AllocError>
+/// The early check of the graph of a firing: what is known of it before its configuration actors fire.
+///
+/// # Errors
+///
+/// Want of memory.
+pub fn early_for(alloc: Global, graphs: &Graphs, firing: &Firing) -> Result<Early, AllocError>
     requires valid { AreValid graphs.now }
     requires fit { IsFit graphs.now.graphs firing.now }
     requires inherited { length firing.now.inherited ≡ inherited_count (slice_get graphs.now.graphs firing.now.graph) }
@@ -42,8 +46,12 @@ pub(crate) fn known(alloc: Global, graphs: &Graphs, firing: &Firing) -> Result<E
     }
 }
 
-/// The places of the configuration actors of a graph.
-pub(crate) fn config_places(alloc: Global, graph: &Graph) -> Result<Vec<usize>, AllocError>
+/// The places of the configuration actors of a graph among all its actors.
+///
+/// # Errors
+///
+/// Want of memory.
+pub fn config_places(alloc: Global, graph: &Graph) -> Result<Vec<usize>, AllocError>
     ensures { IfOk result (λ v. ArePlaces graph.now v.items) }
 {
     let mut places = Vec::new(alloc);
@@ -147,7 +155,11 @@ pub(crate) fn unclaimed_actor(
 }
 
 /// The firing of the graph that the configuration actor with this number names, which stands at a place of its graph.
-pub(crate) fn child_of(
+///
+/// # Errors
+///
+/// Want of memory.
+pub fn config_call(
     alloc: Global,
     graphs: &Graphs,
     graph: &Graph,

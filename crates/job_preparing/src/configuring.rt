@@ -1,5 +1,5 @@
 // The configuration actors of a firing.
-use crate::asking::{child_of, line_for};
+use crate::asking::{config_call, line_for};
 use crate::compile_task::CompileTask;
 use crate::ending::{keep, kernel_given};
 use crate::handing::{JobGiven, Left};
@@ -154,7 +154,7 @@ impl Configuring {
     {
         let n = c as usize;
         let graph = &self.graphs.graphs.items()[self.firing.graph as usize];
-        let firing = child_of(
+        let firing = config_call(
             alloc,
             &self.graphs,
             graph,

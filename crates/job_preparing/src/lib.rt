@@ -15,6 +15,7 @@ mod stage;
 mod starting;
 
 pub use acting::{acting_at, keeps_at};
+pub use asking::{config_call, config_places, early_for};
 pub use compile_task::CompileTask;
 pub use compiling::{CompileEnd, Made, make};
 pub use configuring::Configuring;

@@ -10,7 +10,7 @@ ghost use Rattle.job_preparing.specs.Unclaimed.{AreUnclaimed};
 ghost use Rattle.job_preparing.specs.Standing.{ArePlaces, IsOwn, nothing};
 ghost use Rattle.job_preparing.specs.View.{HasInherited};
 
-use crate::asking::{Unclaimed, config_places, known, unclaimed_actor};
+use crate::asking::{Unclaimed, config_places, early_for, unclaimed_actor};
 use crate::configuring::Configuring;
 use crate::stage::Stage;
 use kernel_gate::Frame;
@@ -120,7 +120,7 @@ pub fn configure(
     ensures lent { IfOk result (λ v. v.lent ≡ replicate (compile_number (graph_of (arc_value graphs).graphs firing)) None) }
 {
     early_unfolds();
-    let early = known(alloc, &graphs, &firing)?;
+    let early = early_for(alloc, &graphs, &firing)?;
     let graph = &graphs.graphs.items()[firing.graph as usize];
     let places = config_places(alloc, graph)?;
     let left = nothing_left(alloc, places.len())?;

@@ -75,11 +75,11 @@ module _ (i : Inside) (kept : IsConfiguring i) (n : ℕ) (old : ConfiguringView)
       called_state : (d : Firing) → lengths d.state ≡ lengths (initial gs d.graph) → lengths d.state ≡ lengths (initial (arc_value i.graphs).graphs d.graph)
       called_state d e = subst (λ (l : List Graph). lengths d.state ≡ lengths (initial l d.graph)) gs_are e
 
-pub child_of-requires-clause-is : goal.child_of-requires-clause-is
-child_of-requires-clause-is c = is_there c.self.inside c.self.invariant c.args.c c.args.self.now c.self.view_is c.requires c.index.result.now c.index.ensures c.index-items-self.result (c.index-items-self.is ∙ graph_at (arc_value c.self.inside.graphs).graphs c.self.inside.firing c.self.invariant.fit c.items.result.now c.index-items-self.result (c.items.ensures ∙ ap (λ (x : Graphs). x.graphs) c.deref.ensures)) _ (ap (λ (x : Graphs). x.graphs) c.deref-2.ensures)
+pub config_call-requires-clause-is : goal.config_call-requires-clause-is
+config_call-requires-clause-is c = is_there c.self.inside c.self.invariant c.args.c c.args.self.now c.self.view_is c.requires c.index.result.now c.index.ensures c.index-items-self.result (c.index-items-self.is ∙ graph_at (arc_value c.self.inside.graphs).graphs c.self.inside.firing c.self.invariant.fit c.items.result.now c.index-items-self.result (c.items.ensures ∙ ap (λ (x : Graphs). x.graphs) c.deref.ensures)) _ (ap (λ (x : Graphs). x.graphs) c.deref-2.ensures)
 
-pub child_of-requires-clause-call : goal.child_of-requires-clause-call
-child_of-requires-clause-call c = is_call c.self.inside c.self.invariant c.args.c c.args.self.now c.self.view_is c.requires c.index.result.now c.index.ensures c.index-items-self.result (c.index-items-self.is ∙ graph_at (arc_value c.self.inside.graphs).graphs c.self.inside.firing c.self.invariant.fit c.items.result.now c.index-items-self.result (c.items.ensures ∙ ap (λ (x : Graphs). x.graphs) c.deref.ensures)) c.deref-2.result.now.graphs (ap (λ (x : Graphs). x.graphs) c.deref-2.ensures)
+pub config_call-requires-clause-call : goal.config_call-requires-clause-call
+config_call-requires-clause-call c = is_call c.self.inside c.self.invariant c.args.c c.args.self.now c.self.view_is c.requires c.index.result.now c.index.ensures c.index-items-self.result (c.index-items-self.is ∙ graph_at (arc_value c.self.inside.graphs).graphs c.self.inside.firing c.self.invariant.fit c.items.result.now c.index-items-self.result (c.items.ensures ∙ ap (λ (x : Graphs). x.graphs) c.deref.ensures)) c.deref-2.result.now.graphs (ap (λ (x : Graphs). x.graphs) c.deref-2.ensures)
 
 pub index_mut-requires : goal.index_mut-requires
 index_mut-requires c = let s = inside c.self.inside c.self.invariant c.args.c c.args.self.now c.self.view_is c.requires in omega (arith, c.self.inside.stages.ok.0)
