@@ -1,9 +1,21 @@
 -- Numbers of which each is of one group, and for each group the least of its numbers that are in.
-use Rattle.std.specs.Prelude.{◌≡◌, ℕ, ◌+◌, ◌*◌, ◌/◌, ◌%◌, ◌^◌, ◌<◌, ◌≤◌, ◌==◌, Bool, List, length, map, slice_index, Option, Some, None}
+use Rattle.std.specs.Prelude.{◌≡◌, ℕ, ◌+◌, ◌-◌, ◌*◌, ◌/◌, ◌%◌, ◌^◌, ◌<◌, ◌≤◌, ◌==◌, Bool, List, length, map, slice_index, Option, Some, None}
 use Rattle.std.specs.Int.{bit_at}
 use Rattle.ready_heap.specs.Heaps.{Holds}
 use Rattle.ready_heap.specs.Bits.{IsSet, IsSummary}
 use Rattle.ready_heap.specs.Ranks.{IsRanking, AreRanks, AreStarts}
+
+-- the group and the key of each number, and how they are ordered by these: where the ranks of each group start, and at the end
+-- how many numbers there are; the number of each rank; and the rank of each number
+pub record RankingView : Type 0 where
+  pub groups : List ℕ
+  pub keys : List ℕ
+  pub starts : List ℕ
+  pub numbers : List ℕ
+  pub ranks : List ℕ
+
+abbrev pub group_count : RankingView → ℕ
+group_count r = length r.starts - 1
 
 -- the group and the key of each number, whether it is in, and how many groups there are
 pub record HeapsView : Type 0 where
@@ -40,6 +52,9 @@ pub record KeepsRanks (groups keys starts numbers ranks : List ℕ) : Type 0 whe
   pub starts_are : AreStarts groups numbers starts
   pub some : 1 ≤ length starts
   pub grouped : (n : ℕ) → n < length groups → slice_index groups n + 1 < length starts
+
+abbrev pub IsRanked : RankingView → Type 0
+IsRanked r = KeepsRanks r.groups r.keys r.starts r.numbers r.ranks
 
 -- a bit for each rank, and none beyond them
 pub record KeepsBits (numbers words summary : List ℕ) : Type 0 where
