@@ -4,3 +4,4 @@ pub mod Entries
 pub mod Rows
 pub mod Ends
 pub mod Wired
+pub mod Ranked

@@ -1,15 +1,19 @@
 use crate::wiring::Wiring;
 use placement::Placement;
+use ready_heap::Ranking;
 use sdf_level::{Level, List, SingleRate, Turn};
 use std::marker::Model;
+use std::sync::Arc;
 use worker_mapping::Mapping;
 
 /// A level, ready to be run as a job: how often each actor fires and in which order, its single-rate graph, where the buffers
-/// of that graph lie in one run of cells, the priority and home of each of its nodes, and the edges at their ports.
+/// of that graph lie in one run of cells, the priority and home of each of its nodes, the edges at their ports, and the order in
+/// which the nodes of each home go.
 ///
 /// The type keeps that all of these are those of the level, and the homes those for the number of workers, so that two
-/// compilations of one level for as many workers are the same. The edges at the ports are told by the level and its graph.
-#[derive(Debug, Drop)]
+/// compilations of one level for as many workers are the same. The edges at the ports are told by the level and its graph, and
+/// the order by the priorities and homes.
+#[derive(Drop)]
 pub struct Compiled {
     pub(crate) level: Level,
     pub(crate) workers: u32,
@@ -19,6 +23,7 @@ pub struct Compiled {
     pub(crate) placement: Placement,
     pub(crate) mapping: Mapping,
     pub(crate) wiring: Wiring,
+    pub(crate) ranking: Arc<Ranking>,
 }
 
 impl Model for Compiled {
@@ -27,15 +32,18 @@ impl Model for Compiled {
     ghost Value = { Compilation };
 
     ghost use Rattle.job_compiler.specs.Compilation.{IsCompiled};
+    ghost use Rattle.std.specs.Arc.{arc_value};
+    ghost use Rattle.job_compiler.specs.Ranked.{IsRankingOf};
     ghost use Rattle.job_compiler.specs.Wired.{IsWiring};
 
     ghost view = { λ c. record { level = c.level; workers = c.workers; counts = c.counts; order = c.order; graph = c.graph; placement = c.placement; mapping = c.mapping } };
 
-    ghost invariant = { λ c. IsCompiled record { level = c.level; workers = c.workers; counts = c.counts; order = c.order; graph = c.graph; placement = c.placement; mapping = c.mapping } × IsWiring c.level c.graph c.wiring };
+    ghost invariant = { λ c. IsCompiled record { level = c.level; workers = c.workers; counts = c.counts; order = c.order; graph = c.graph; placement = c.placement; mapping = c.mapping } × IsWiring c.level c.graph c.wiring × IsRankingOf c.mapping (arc_value c.ranking) };
 }
 
 impl Compiled {
     ghost use Rattle.std.specs.Prelude.{◌≡◌, length, map};
+    ghost use Rattle.std.specs.Arc.{arc_value};
     ghost use Rattle.sdf_level.specs.Repetition.{IsRepetition};
     ghost use Rattle.sdf_level.specs.Limits.{IsWithinLimits};
     ghost use Rattle.sdf_level.specs.Orders.{IsTurnOrder};
@@ -43,6 +51,7 @@ impl Compiled {
     ghost use Rattle.job_compiler.specs.Ends.{head_of, AreEndCounts};
     ghost use Rattle.job_compiler.specs.Rows.{IsMost};
     ghost use Rattle.job_compiler.specs.Wired.{entering, leaving, WireJobs};
+    ghost use Rattle.job_compiler.specs.Ranked.{IsRankingOf};
 
     /// The level that was compiled.
     pub fn level(&self) -> &Level
@@ -110,5 +119,13 @@ impl Compiled {
         ensures wired { WireJobs self.now.level self.now.graph result.now.entering result.now.leaving }
     {
         &self.wiring
+    }
+
+    /// The ranking of the nodes: each home is a group, in which the nodes of greater priority go first, then those of lesser
+    /// number.
+    pub fn ranking(&self) -> &Arc<Ranking>
+        ensures { IsRankingOf self.now.mapping (arc_value result.now) }
+    {
+        &self.ranking
     }
 }

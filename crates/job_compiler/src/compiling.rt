@@ -4,6 +4,7 @@ ghost use Rattle.level_schedule.specs.Schedules.{IsUnscheduled};
 
 use crate::compiled::Compiled;
 use crate::parts::{copy_level, map_nodes, place_buffers};
+use crate::ranking::rank_nodes;
 use crate::wiring::wire;
 use level_schedule::{LevelSchedule, Unscheduled, schedule};
 use sdf_level::Level;
@@ -33,6 +34,7 @@ pub fn compile(alloc: Global, level: &Level, workers: u32) -> Result<Compiled, U
     let placement = place_buffers(alloc, &graph, &pairs)?;
     let mapping = map_nodes(alloc, &graph, &pairs, workers)?;
     let wiring = wire(alloc, level, &graph)?;
+    let ranking = rank_nodes(alloc, &mapping)?;
     Ok(Compiled {
         level: copy_level(alloc, level)?,
         workers,
@@ -42,5 +44,6 @@ pub fn compile(alloc: Global, level: &Level, workers: u32) -> Result<Compiled, U
         placement,
         mapping,
         wiring,
+        ranking,
     })
 }

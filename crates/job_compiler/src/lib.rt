@@ -1,6 +1,6 @@
 //! Everything that a job of one level needs before its first firing: how often each actor fires and in which order, the
-//! single-rate graph, where its buffers lie in reused cells, which worker each node belongs to, and which edges are at its
-//! ports.
+//! single-rate graph, where its buffers lie in reused cells, which worker each node belongs to, which edges are at its ports,
+//! and in which order the nodes of each worker go.
 #![tactic(auto)]
 
 mod cache;
@@ -11,6 +11,7 @@ mod keeping;
 mod key;
 mod laws;
 mod parts;
+mod ranking;
 mod rows;
 mod wiring;
 

@@ -32,3 +32,6 @@ wire-requires c = record {
 
 pub returns-in_err-copy_level-clause-only_compilation : goal.returns-in_err-copy_level-clause-only_compilation
 returns-in_err-copy_level-clause-only_compilation c = λ other is level workers. inr (search rules)
+
+pub returns-in_err-ranking-clause-only_compilation : goal.returns-in_err-ranking-clause-only_compilation
+returns-in_err-ranking-clause-only_compilation c = λ other is level workers. inr (search rules)

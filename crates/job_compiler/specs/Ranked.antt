@@ -1,0 +1,17 @@
+-- The order in which the nodes of each home go.
+use Rattle.std.specs.Prelude.{◌≡◌, ℕ, ◌+◌, ◌*◌, ◌<◌, List, length, slice_index}
+use Rattle.ready_heap.specs.Groups.{RankingView}
+use Rattle.worker_mapping.specs.declared.mapping.Mapping.{Mapping}
+
+-- node n's key is the lesser, the greater its priority, and then the lesser its number
+pub record IsKey (priority n key : ℕ) : Type 0 where
+  pub sum : key + priority * 4294967296 ≡ 18446744073709551615 * 4294967296 + n
+
+pub record AreKeys (priority keys : List ℕ) : Type 0 where
+  pub long : length keys ≡ length priority
+  pub each : (n : ℕ) → n < length priority → IsKey (slice_index priority n) n (slice_index keys n)
+
+-- each home is a group, in the order of the keys
+pub record IsRankingOf (mapping : Mapping) (ranking : RankingView) : Type 0 where
+  pub homes : ranking.groups ≡ mapping.home
+  pub keys : AreKeys mapping.priority ranking.keys

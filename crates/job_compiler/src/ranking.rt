@@ -1,0 +1,49 @@
+// The order in which the nodes of each home go.
+ghost use Rattle.std.specs.Prelude.{◌≡◌, ◌<◌, ◌^◌, EachIndex, length, slice_index, IfOk};
+ghost use Rattle.std.specs.Arc.{arc_value};
+ghost use Rattle.job_compiler.specs.Ranked.{AreKeys, IsRankingOf};
+
+use ready_heap::Ranking;
+use std::alloc::{AllocError, Global};
+use std::sync::Arc;
+use worker_mapping::Mapping;
+
+/// One more than the greatest home, 0 where there is none.
+fn count_of(homes: &[u32]) -> usize
+    ensures { EachIndex homes.now (λ n. slice_index homes.now n < result) }
+{
+    let mut count = 0;
+    for home in homes {
+        let home = *home as usize;
+        if home >= count {
+            count = home + 1;
+        }
+    }
+    count
+}
+
+/// For each node the key by which greater priority goes first, then lesser number.
+fn keys_of(alloc: Global, priorities: &[u64]) -> Result<Vec<u128>, AllocError>
+    requires { length priorities.now < 2 ^ 32 }
+    ensures { IfOk result (λ v. AreKeys priorities.now v.items) }
+{
+    let mut keys = Vec::with_capacity(alloc, priorities.len())?;
+    for n in 0..priorities.len() {
+        let urgency = u64::MAX - priorities[n];
+        keys.push(urgency as u128 * 4294967296 + n as u128)?;
+    }
+    Ok(keys)
+}
+
+/// The ranking of the nodes: each home is a group, in which the nodes of greater priority go first, then those of lesser
+/// number.
+pub(crate) fn rank_nodes(alloc: Global, mapping: &Mapping) -> Result<Arc<Ranking>, AllocError>
+    requires few { length mapping.now.home < 2 ^ 32 }
+    requires priorities { length mapping.now.priority ≡ length mapping.now.home }
+    ensures { IfOk result (λ r. IsRankingOf mapping.now (arc_value r)) }
+{
+    let homes = mapping.home.items();
+    let keys = keys_of(alloc, mapping.priority.items())?;
+    let ranking = Ranking::new(alloc, homes, &keys, count_of(homes))?;
+    Ok(Arc::new(alloc, ranking)?)
+}
