@@ -6,22 +6,11 @@
 ghost use Rattle.std.specs.Prelude.{◌≡◌, ◌<◌, EachIndex, slice_index};
 ghost use Rattle.std.specs.Bool.{OnTrue};
 
-use case_rows::{Trouble, items, small};
-use ready_heap::GroupedHeaps;
+use case_rows::{Trouble, items, small, smalls};
+use ready_heap::{GroupedHeaps, Ranking};
 use serde_json::Value;
 use std::alloc::Global;
-
-/// The row's groups.
-fn groups_of(alloc: Global, row: &Value) -> Result<Vec<usize>, Trouble> {
-    let mut groups = Vec::new(alloc);
-    for item in items(row, "groups")? {
-        match item.as_u64() {
-            Some(group) => groups.push(group as usize)?,
-            None => return Err(Trouble::Member("groups")),
-        }
-    }
-    Ok(groups)
-}
+use std::sync::Arc;
 
 /// The row's keys.
 fn keys_of(alloc: Global, row: &Value) -> Result<Vec<u128>, Trouble> {
@@ -36,11 +25,11 @@ fn keys_of(alloc: Global, row: &Value) -> Result<Vec<u128>, Trouble> {
 }
 
 /// Whether all numbers are below a bound.
-fn are_below(numbers: &[usize], bound: usize) -> bool
+fn are_below(numbers: &[u32], bound: usize) -> bool
     ensures { OnTrue result (EachIndex numbers.now (λ n. slice_index numbers.now n < bound)) }
 {
     for n in 0..numbers.len() {
-        if numbers[n] >= bound {
+        if numbers[n] as usize >= bound {
             return false;
         }
     }
@@ -121,7 +110,7 @@ fn step_all(
 
 /// The answers of the row's steps.
 pub fn answers(alloc: Global, row: &Value) -> Result<Value, Trouble> {
-    let groups = groups_of(alloc, row)?;
+    let groups = smalls(alloc, row, "groups")?;
     let keys = keys_of(alloc, row)?;
     let count = small(row, "count")? as usize;
     let steps = items(row, "steps")?;
@@ -129,6 +118,7 @@ pub fn answers(alloc: Global, row: &Value) -> Result<Value, Trouble> {
         return Err(Trouble::Member("groups"));
     }
     let mut held = vec![in alloc; false; groups.len()]?;
-    let mut heaps = GroupedHeaps::new(alloc, groups, &keys, count)?;
+    let ranking = Arc::new(alloc, Ranking::new(alloc, &groups, &keys, count)?)?;
+    let mut heaps = GroupedHeaps::new(alloc, ranking)?;
     step_all(alloc, &mut heaps, &mut held, steps)
 }

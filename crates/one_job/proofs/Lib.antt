@@ -15,6 +15,8 @@ pub mod FirstFault
 pub mod JobStart
 pub mod RoomSteps
 pub mod Firsts
+pub mod Sides
+pub mod StartReady
 pub mod Releasing
 pub mod Heads
 pub mod Pending

@@ -2,11 +2,11 @@
 use Rattle.std.proofs.Common.{◌≡◌, ℕ, zero, suc, ℤ, ◌+◌, ◌-◌, ◌<◌, ◌≤◌, inl, inr, ⊎_elim, Bool, true, false, List, [], ◌∷◌, length, set, get_or, replicate, map, refl, sym, ap, ap₂, ◌∙◌, subst, arith}
 use Rattle.std.specs.Prelude.{◌≢◌, Option, Some, None, slice_index}
 use Rattle.std.proofs.lemmas.Bool.{cases_eq, cases_lt, false≢true}
-use Rattle.std.proofs.lemmas.List.{length-set, get_or-set_same, get_or-set_other, get_or_past}
+use Rattle.std.proofs.lemmas.List.{length-set, get_or_past}
 use Rattle.std.proofs.lemmas.List.Elements.{recursion_from_All, All-from_get_or}
 use Rattle.sdf_level.specs.declared.single_rate.Edge.{Edge}
 use Rattle.ready_heap.specs.Heaps.{Holds}
-use Rattle.ready_heap.specs.Groups.{HeapsView}
+use Rattle.ready_heap.specs.Groups.{RankingView}
 use Rattle.kernel_gate.specs.Value.{Places}
 use Rattle.job_flow.specs.Events.{IsDone, IsReady, IsFinished as IsEnded, IsQuiet}
 use Rattle.one_job.specs.Marks.{Mark, Free, Claimed, mark_at, Phase, IsFree, IsClaimed, IsFinished, IsFailed, phase, phase_of, values, value_of}
@@ -15,13 +15,17 @@ use Rattle.one_job.specs.Live.{InOrder}
 use Rattle.one_job.specs.Ports.{EachLeaves}
 use Rattle.job_compiler.specs.Ends.{head_of, AreEndCounts}
 use Rattle.one_job.specs.View.{JobView, IsEnabled, graph_of}
-use Rattle.one_job.specs.Ready.{bit, is_unfinished, is_pending, marked_into, waits_for, is_claimed, claims, AreGroups, AreKeys, KeepsReady, AreStarted, heads_in, heads_at, Releases, CanRelease}
+use Rattle.job_compiler.specs.Ranked.{IsRankingOf}
+use Rattle.one_job.specs.Pick.{is_child}
+use Rattle.one_job.specs.Ready.{bit, side, put, none_ready, is_in, is_unfinished, is_pending, marked_into, waits_for, is_claimed, claims, KeepsReady, AreStarted, heads_in, heads_at, Releases, CanRelease}
+use Rattle.one_job.specs.declared.ready.ReadyNodes.{ReadyNodes}
 use Rattle.one_job.proofs.Phases.{inside_of, phase_there, phase_elsewhere, claimed_not_free, claimed_not_finished, free_not_finished, free_not_claimed}
 use Rattle.one_job.proofs.Order.{CanClaim}
 use Rattle.one_job.proofs.Lending.{In, NotIn, NotIn-cases, EachEdge, EachEdge-weaker}
 use Rattle.one_job.proofs.Claiming.{Leaves, leaves_each, leaves_fresh, In-leaves}
 use Rattle.one_job.proofs.Wires.{can_claim}
 use Rattle.one_job.proofs.JobEnds.{phase_done}
+use Rattle.one_job.proofs.Sides.{ranked_still, put_here, put_others, put_ranked, put_sorted, none_ranked}
 use Rattle.one_job.proofs.Pending.{marked_same, marked_zero, marked_none, marked_without, marked_all, without, without_in, without_out}
 
 -- ---- a node may be claimed
@@ -150,7 +154,7 @@ module _ (edges : List Edge) (marks : List Mark) (n : ℕ) (m : Mark) (there : n
 
 -- ---- a claim
 
-module _ (j : JobView) (one_each : length j.marks ≡ length j.compilation.graph.nodes) (waiting : List ℕ) (claimed : ℕ) (ready : HeapsView) (keeps : KeepsReady j waiting claimed ready) (n : ℕ) (enabled : IsEnabled j n) (places : Places) where
+module _ (j : JobView) (one_each : length j.marks ≡ length j.compilation.graph.nodes) (waiting : List ℕ) (claimed : ℕ) (ready : ReadyNodes) (keeps : KeepsReady j waiting claimed ready) (n : ℕ) (enabled : IsEnabled j n) (places : Places) where
   abbrev edges : List Edge
   edges = j.compilation.graph.edges
 
@@ -169,23 +173,28 @@ module _ (j : JobView) (one_each : length j.marks ≡ length j.compilation.graph
   claimed_now : phase after.marks n ≡ IsClaimed
   claimed_now = phase_there j.marks n (Claimed places) can.there
 
-  pub claim_ready : KeepsReady after waiting (claimed + 1) (record ready { held = set ready.held n false })
+  n_inside : n < length (side ready (is_child j n)).held
+  n_inside = let w = (keeps.ranked (is_child j n)).wide in let t = enabled.ready.there in omega arith
+
+  abbrev without_node : ReadyNodes
+  without_node = put ready (is_child j n) n false
+
+  pub claim_ready : KeepsReady after waiting (claimed + 1) without_node
   claim_ready = record {
-    groups = keeps.groups;
-    keys = keeps.keys;
-    wide = length-set ready.held n false ∙ keeps.wide;
+    ranked = λ b. ranked_still j.compilation.mapping (length j.compilation.graph.nodes) (side ready b) (side without_node b) (keeps.ranked b) (put_ranked ready n false (is_child j n) b);
+    sorted = put_sorted ready n false (is_child j) keeps.sorted;
     long = keeps.long;
     counted = λ k inside. keeps.counted k inside ∙ sym (same_waits k);
     exact = λ k. (
       λ holds.
-          let differs : k ≢ n = λ same. false≢true (sym (get_or-set_same ready.held n false false (let w = keeps.wide in let t = enabled.ready.there in omega arith)) ∙ subst (Holds (set ready.held n false)) same holds) in
-          let was = can_claim j k one_each ((keeps.exact k).0 (sym (get_or-set_other ready.held n k false false differs) ∙ holds)) in
+          let differs : k ≢ n = λ same. false≢true (sym (put_here ready n false (is_child j n) n_inside) ∙ subst (λ q. is_in (is_child j) without_node q ≡ true) same holds) in
+          let was = can_claim j k one_each ((keeps.exact k).0 (sym (put_others ready n false (is_child j n) (is_child j k) k differs) ∙ holds)) in
           enabled_of after k after_each (none_waits edges after.marks k (let l = length-set j.marks n (Claimed places) in let t = was.there in omega arith)
           (phase_elsewhere j.marks n k (Claimed places) differs ∙ was.free) (same_waits k ∙ waits_none edges j.marks k was)),
       λ now.
           let is = can_claim after k after_each now in
           let differs : k ≢ n = λ same. free_not_claimed (phase after.marks n) (subst (λ q. phase after.marks q ≡ IsFree) same is.free) claimed_now in
-          get_or-set_other ready.held n k false false differs
+          put_others ready n false (is_child j n) (is_child j k) k differs
           ∙ (keeps.exact k).1 (enabled_of j k one_each (none_waits edges j.marks k (let l = length-set j.marks n (Claimed places) in let t = is.there in omega arith)
           (sym (phase_elsewhere j.marks n k (Claimed places) differs) ∙ is.free) (sym (same_waits k) ∙ waits_none edges after.marks k is))),
     );
@@ -287,7 +296,7 @@ failed_released edges marks n row can code = record {
   free = λ k some. absurd (let bad : ⊥ = omega arith in bad);
 }
 
-module _ (j : JobView) (one_each : length j.marks ≡ length j.compilation.graph.nodes) (waiting : List ℕ) (claimed : ℕ) (ready : HeapsView) (keeps : KeepsReady j waiting claimed ready) (n : ℕ) (m : Mark) (ports : List (Option ℕ))
+module _ (j : JobView) (one_each : length j.marks ≡ length j.compilation.graph.nodes) (waiting : List ℕ) (claimed : ℕ) (ready : ReadyNodes) (keeps : KeepsReady j waiting claimed ready) (n : ℕ) (m : Mark) (ports : List (Option ℕ))
     (released : IsReleased j.compilation.graph.edges j.marks n m ports) where
   abbrev graph_edges : List Edge
   graph_edges = j.compilation.graph.edges
@@ -298,7 +307,7 @@ module _ (j : JobView) (one_each : length j.marks ≡ length j.compilation.graph
   n_there : n < length j.marks
   n_there = inside_of j.marks n (claimed_not_free (phase j.marks n) released.claimed)
 
-  not_held : (b : Bool) (k : ℕ) → get_or ready.held k false ≡ b → 0 < heads_in graph_edges ports k → b ≡ false
+  not_held : (b : Bool) (k : ℕ) → is_in (is_child j) ready k ≡ b → 0 < heads_in graph_edges ports k → b ≡ false
   not_held false k is some = refl
   not_held true k is some =
       let none = waits_none graph_edges j.marks k (can_claim j k one_each ((keeps.exact k).0 is)) in
@@ -306,13 +315,14 @@ module _ (j : JobView) (one_each : length j.marks ≡ length j.compilation.graph
       absurd (let bad : ⊥ = omega arith in bad)
 
   -- what the release asks
-  pub release_can : ((k e : ℕ) → get_or ports k None ≡ Some e → (e < length graph_edges) × ((edge_at graph_edges e).head < length j.compilation.graph.nodes)) → CanRelease graph_edges ports waiting ready
+  pub release_can : ((k e : ℕ) → get_or ports k None ≡ Some e → (e < length graph_edges) × ((edge_at graph_edges e).head < length j.compilation.graph.nodes)) → CanRelease (is_child j) graph_edges ports waiting ready
   release_can inside = record {
     edges_in = λ k e is. (inside k e is).0;
     heads = λ k e is. let below = (inside k e is).1 in let l = keeps.long in omega arith;
-    wide = let w = keeps.wide in let l = keeps.long in omega arith;
+    wide = λ b. let w = (keeps.ranked b).wide in let l = keeps.long in omega arith;
+    sorted = keeps.sorted;
     waits = λ k k_in. let is = keeps.counted k (let l = keeps.long in omega arith) in let step = released.waits k in omega arith;
-    out = λ k some. not_held (get_or ready.held k false) k refl some;
+    out = λ k some. not_held (is_in (is_child j) ready k) k refl some;
   }
 
   then_each : length then.marks ≡ length j.compilation.graph.nodes
@@ -327,28 +337,26 @@ module _ (j : JobView) (one_each : length j.marks ≡ length j.compilation.graph
   free_before : (k : ℕ) → phase then.marks k ≡ IsFree → phase j.marks k ≡ IsFree
   free_before k free = sym (phase_elsewhere j.marks n k m (λ same. released.ended (sym phase_then ∙ subst (λ q. phase then.marks q ≡ IsFree) same free))) ∙ free
 
-  pub finish_ready : (waiting_now : List ℕ) (ready_now : HeapsView) → Releases graph_edges ports [] waiting waiting_now ready ready_now → KeepsReady then waiting_now (claimed - 1) ready_now
+  pub finish_ready : (waiting_now : List ℕ) (ready_now : ReadyNodes) → Releases (is_child j) graph_edges ports [] waiting waiting_now ready ready_now → KeepsReady then waiting_now (claimed - 1) ready_now
   finish_ready waiting_now ready_now releases =
-      let wide = keeps.wide in
       let long = keeps.long in
       let counted_now : (k : ℕ) → k < length j.compilation.graph.nodes → slice_index waiting_now k ≡ waits_for graph_edges then.marks k = λ k inside.
       let was = keeps.counted k inside in let step = released.waits k in let count = releases.counted k in omega arith in
       record {
-        groups = subst (AreGroups j.compilation.mapping.home j.compilation.graph.nodes j.kinds) (sym releases.groups) keeps.groups;
-        keys = subst (AreKeys j.compilation.mapping.priority) (sym releases.keys) keeps.keys;
-        wide = releases.wide ∙ wide;
+        ranked = λ b. ranked_still j.compilation.mapping (length j.compilation.graph.nodes) (side ready b) (side ready_now b) (keeps.ranked b) (releases.ranked b);
+        sorted = releases.sorted;
         long = releases.long ∙ long;
         counted = counted_now;
         exact = λ k. (
           λ holds. ⊎_elim
-              (λ (was_in : Holds ready.held k).
+              (λ (was_in : is_in (is_child j) ready k ≡ true).
               let was = can_claim j k one_each ((keeps.exact k).0 was_in) in
               let none = waits_none graph_edges j.marks k was in
               let step = released.waits k in
               enabled_of then k then_each (none_waits graph_edges then.marks k (let l = length-set j.marks n m in let t = was.there in omega arith) (free_then k was.free) (omega arith)))
               (λ (new : (heads_in graph_edges [] k < heads_in graph_edges ports k) × (slice_index waiting_now k ≡ 0)).
               let some : 0 < heads_in graph_edges ports k = new.0 in
-              let k_in : k < length j.compilation.graph.nodes = inside_now k holds (releases.wide ∙ wide) in
+              let k_in : k < length j.compilation.graph.nodes = inside_now k holds ((releases.ranked (is_child j k)).wide ∙ (keeps.ranked (is_child j k)).wide) in
               let count = counted_now k k_in in
               let zero_now = new.1 in
               enabled_of then k then_each (none_waits graph_edges then.marks k (let l = then_each in omega arith) (free_then k (released.free k some)) (omega arith)))
@@ -373,15 +381,15 @@ module _ (j : JobView) (one_each : length j.marks ≡ length j.compilation.graph
             omega arith;
       }
     where
-      inside_now : (k : ℕ) → Holds ready_now.held k → length ready_now.held ≡ length j.compilation.graph.nodes → k < length j.compilation.graph.nodes
+      inside_now : (k : ℕ) → is_in (is_child j) ready_now k ≡ true → length (side ready_now (is_child j k)).held ≡ length j.compilation.graph.nodes → k < length j.compilation.graph.nodes
       inside_now k holds same = ⊎_elim
-          (λ (inside : k < length ready_now.held). omega arith)
-          (λ (past : length ready_now.held ≤ k). absurd (false≢true (sym (get_or_past ready_now.held k false past) ∙ holds)))
-          (cases_lt k (length ready_now.held))
+          (λ (inside : k < length (side ready_now (is_child j k)).held). omega arith)
+          (λ (past : length (side ready_now (is_child j k)).held ≤ k). absurd (false≢true (sym (get_or_past (side ready_now (is_child j k)).held k false past) ∙ holds)))
+          (cases_lt k (length (side ready_now (is_child j k)).held))
 
 -- ---- a quiet job
 
-module _ (j : JobView) (one_each : length j.marks ≡ length j.compilation.graph.nodes) (ready_before : (n : ℕ) → phase j.marks n ≢ IsFree → IsReady (graph_of j) (values j.marks) n) (waiting : List ℕ) (claimed : ℕ) (ready : HeapsView) (keeps : KeepsReady j waiting claimed ready) where
+module _ (j : JobView) (one_each : length j.marks ≡ length j.compilation.graph.nodes) (ready_before : (n : ℕ) → phase j.marks n ≢ IsFree → IsReady (graph_of j) (values j.marks) n) (waiting : List ℕ) (claimed : ℕ) (ready : ReadyNodes) (keeps : KeepsReady j waiting claimed ready) where
   ended_by : (m : Mark) → phase_of m ≢ IsFree → phase_of m ≢ IsClaimed → IsEnded (value_of m)
   ended_by Free not_free not_claimed = absurd (not_free refl)
   ended_by (Claimed places) not_free not_claimed = absurd (not_claimed refl)
@@ -394,18 +402,18 @@ module _ (j : JobView) (one_each : length j.marks ≡ length j.compilation.graph
   claimed_ended (Rattle.one_job.specs.Marks.Finished outs) is ended = absurd (cc)
   claimed_ended (Rattle.one_job.specs.Marks.Failed code) is ended = absurd (cc)
 
-  pub quiet_of : claimed ≡ 0 → ((n : ℕ) → Holds ready.held n → ⊥) → IsQuiet (graph_of j) (values j.marks)
+  pub quiet_of : claimed ≡ 0 → ((b : Bool) (n : ℕ) → Holds (side ready b).held n → ⊥) → IsQuiet (graph_of j) (values j.marks)
   quiet_of none_claimed none_in = λ n is_ready.
       let n_in : n < length j.marks = (let t = is_ready.there in let l = one_each in omega arith) in
       ended_by (mark_at j.marks n)
-      (λ free. none_in n ((keeps.exact n).1 record { ready = is_ready; unclaimed = free_mark (mark_at j.marks n) free }))
+      (λ free. none_in (is_child j n) n ((keeps.exact n).1 record { ready = is_ready; unclaimed = free_mark (mark_at j.marks n) free }))
       (claims_none j.marks (length j.marks) (sym keeps.claims_are ∙ none_claimed) n n_in)
 
-  pub of_quiet : IsQuiet (graph_of j) (values j.marks) → (claimed ≡ 0) × ((n : ℕ) → Holds ready.held n → ⊥)
+  pub of_quiet : IsQuiet (graph_of j) (values j.marks) → (claimed ≡ 0) × ((b : Bool) (n : ℕ) → Holds (side ready b).held n → ⊥)
   of_quiet quiet = (
     keeps.claims_are ∙ none_claims j.marks (length j.marks) (λ n is. claimed_ended (mark_at j.marks n) is (quiet n (ready_before n (claimed_not_free (phase j.marks n) is)))),
-    λ n holds.
-        let enabled = (keeps.exact n).0 holds in
+    λ b n holds.
+        let enabled = (keeps.exact n).0 (subst (λ q. Holds (side ready q).held n) (sym (keeps.sorted b n holds)) holds) in
         subst (λ m. IsEnded (value_of m)) enabled.unclaimed (quiet n enabled.ready),
   )
 
@@ -417,13 +425,12 @@ free_phase count n = ap phase_of (⊎_elim
     (λ (past : count ≤ n). get_or_past (replicate count Free) n Free (let l = Rattle.std.proofs.lemmas.List.length-replicate count Free in omega arith))
     (cases_lt n count))
 
-pub start_ready_keeps : (j : JobView) (waiting : List ℕ) (ready : HeapsView) → j.marks ≡ replicate (length j.compilation.graph.nodes) Free
-    → AreGroups j.compilation.mapping.home j.compilation.graph.nodes j.kinds ready.groups → AreKeys j.compilation.mapping.priority ready.keys
+pub start_ready_keeps : (j : JobView) (ranking : RankingView) (waiting : List ℕ) (ready : ReadyNodes) → j.marks ≡ replicate (length j.compilation.graph.nodes) Free
+    → IsRankingOf j.compilation.mapping ranking → length j.compilation.mapping.home ≡ length j.compilation.graph.nodes
     → AreEndCounts (length j.compilation.graph.nodes) (map head_of j.compilation.graph.edges) waiting
-    → AreStarted ready.groups ready.keys waiting (length waiting) ready → KeepsReady j waiting 0 ready
-start_ready_keeps j waiting ready marks_are groups keys counts started =
+    → AreStarted (is_child j) waiting (length waiting) (none_ready ranking) ready → KeepsReady j waiting 0 ready
+start_ready_keeps j ranking waiting ready marks_are ranked homes counts started =
     let long = counts.one_each in
-    let wide = started.wide in
     let each_free : (n : ℕ) → phase j.marks n ≡ IsFree = λ n. ap (λ marks. phase marks n) marks_are ∙ free_phase (length j.compilation.graph.nodes) n in
     let marks_long : length j.marks ≡ length j.compilation.graph.nodes = ap length marks_are ∙ Rattle.std.proofs.lemmas.List.length-replicate (length j.compilation.graph.nodes) Free in
     let waits_all : (n : ℕ) → n < length j.compilation.graph.nodes → slice_index waiting n ≡ waits_for j.compilation.graph.edges j.marks n = λ n inside.
@@ -431,9 +438,9 @@ start_ready_keeps j waiting ready marks_are groups keys counts started =
     ∙ (sym (marked_all j.compilation.graph.edges n)
     ∙ marked_same j.compilation.graph.edges (λ e. true) (is_pending j.compilation.graph.edges j.marks) n (length j.compilation.graph.edges) (λ e below. sym (ap is_unfinished (each_free (edge_at j.compilation.graph.edges e).tail)))) in
     record {
-      groups = groups;
-      keys = keys;
-      wide = wide ∙ long;
+      ranked = λ b. ranked_still j.compilation.mapping (length j.compilation.graph.nodes) (side (none_ready ranking) b) (side ready b)
+          (none_ranked j.compilation.mapping ranking (length j.compilation.graph.nodes) ranked homes b) (started.ranked b);
+      sorted = started.sorted;
       long = long;
       counted = waits_all;
       exact = λ n. (

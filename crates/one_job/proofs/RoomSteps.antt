@@ -1,16 +1,21 @@
 -- How much memory the frames of nodes take at the start.
-use Rattle.std.proofs.Common.{◌≡◌, ℕ, ℤ, ◌+◌, ◌<◌, ◌≤◌, Bool, true, false, List, [], length, refl, sym, ap, ◌∙◌, arith}
-use Rattle.std.specs.Prelude.{slice_index_or, if◌then◌else◌}
+use Rattle.std.proofs.Common.{◌≡◌, ℕ, ℤ, ◌+◌, ◌<◌, ◌≤◌, Bool, true, false, List, [], length, refl, sym, ap, ◌∙◌, subst, arith}
+use Rattle.std.specs.Prelude.{Option, slice_index_or, if◌then◌else◌}
 use Rattle.std.proofs.lemmas.List.{length-map}
 use Rattle.sdf_level.specs.declared.node.Node.{Node}
 use Rattle.sdf_level.specs.declared.node.Node.TheVariants as node
 use Rattle.job_flow.specs.Graphs.{node_at}
 use Rattle.job_flow.specs.Frames.{lens, ports_in}
+use Rattle.kernel_gate.specs.declared.room.RoomSize.{RoomSize}
+use Rattle.job_compiler.specs.Compilation.{Compilation}
 use Rattle.job_compiler.specs.Rows.{IsMost}
+use Rattle.job_compiler.specs.Wired.{entering, leaving}
+use Rattle.job_compiler.specs.declared.wiring.Wiring.{Wiring}
 use Rattle.one_job.specs.Ports.{reads_stored, writes_stored, row_of, AreWired, port_size}
 use Rattle.one_job.specs.Taking.{own}
 use Rattle.one_job.specs.View.{JobView, args_at, graph_of}
 use Rattle.one_job.specs.Kept.{Parts, HasRoom}
+use Rattle.one_job.specs.Rooms.{IsMostArgs, IsRoomOf}
 
 args_few : (which : Node) (lists : List (List ℤ)) (most : ℕ) → ((a : ℕ) → length (slice_index_or lists a []) ≤ most) → length (args_at lists which) ≤ most
 args_few (node.Source s) lists most each = omega arith
@@ -44,3 +49,13 @@ rooms_at_start j p wired ins outs args n inside =
     no_rest : (b : Bool) (list : List ℕ) → length (if b then [] else list) ≡ (if b then 0 else length list)
     no_rest true list = refl
     no_rest false list = refl
+
+-- the room of a job, from what was read of its compilation
+pub room_of : (comp read : Compilation) (wiring : Wiring) (lists lists_read : List (List ℤ)) (room : RoomSize) → read ≡ comp → lists_read ≡ lists
+    → wiring.entering ≡ entering read.level read.graph → wiring.leaving ≡ leaving read.level read.graph → IsMost wiring.entering wiring.inputs → IsMost wiring.leaving wiring.outputs
+    → room.inputs ≡ wiring.inputs → room.outputs ≡ wiring.outputs → IsMostArgs lists_read room.args → IsRoomOf comp.level comp.graph lists room
+room_of comp read wiring lists lists_read room read_is lists_are ins outs most_ins most_outs inputs outputs args = subst (λ (k : Compilation). IsRoomOf k.level k.graph lists room) read_is (record {
+  inputs = subst (λ (t : Type 0). t) (λ i. IsMost (ins i) (sym inputs i)) most_ins;
+  outputs = subst (λ (t : Type 0). t) (λ i. IsMost (outs i) (sym outputs i)) most_outs;
+  args = subst (λ (xs : List (List ℤ)). IsMostArgs xs room.args) lists_are args;
+})

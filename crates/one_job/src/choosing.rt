@@ -1,25 +1,11 @@
 // Which of the nodes that may be claimed comes first.
-ghost use Rattle.std.specs.Prelude.{◌≡◌, ◌+◌, ◌*◌, ◌<◌, ◌≤◌, ◌⊎◌, ℕ, Some, IsTrue, IsFalse, length, slice_index};
+ghost use Rattle.std.specs.Prelude.{◌≡◌, ◌<◌, ◌⊎◌, ℕ, Some, IsTrue, IsFalse, length};
+ghost use Rattle.ready_heap.specs.Heaps.{Holds};
 ghost use Rattle.one_job.specs.Pick.{GoesBefore, IsFirst};
-ghost use Rattle.one_job.specs.Ready.{bit, AreRanked, IsPut};
+ghost use Rattle.one_job.specs.Ready.{AreRanked};
 
 use ready_heap::GroupedHeaps;
 use worker_mapping::Mapping;
-
-/// How many homes have groups: a group is twice its home, and one more for the nodes that are jobs of their own.
-fn homes_of(ready: &GroupedHeaps) -> usize
-    ensures all { (n home : ℕ) → n < length ready.now.groups → 2 * home ≤ slice_index ready.now.groups n → home < result }
-    ensures small { 2 * result ≤ 18446744073709551616 }
-{
-    let groups = ready.groups();
-    groups / 2 + groups % 2
-}
-
-fn bit_of(child: bool) -> usize
-    ensures { result ≡ bit child }
-{
-    if child { 1 } else { 0 }
-}
 
 /// Whether node `one` goes before node `other`.
 fn goes_before(mapping: &Mapping, worker: u32, one: u32, other: u32) -> bool
@@ -59,20 +45,14 @@ fn first_of(mapping: &Mapping, worker: u32, best: Option<u32>, next: u32) -> u32
     }
 }
 
-/// The first of the nodes that are in and are jobs of their own, or of those that aren't: of the heads of their heaps, one a
-/// home.
-pub(crate) fn first_head(
-    ready: &GroupedHeaps,
-    mapping: &Mapping,
-    worker: u32,
-    child: bool,
-) -> Option<u32>
-    requires { AreRanked mapping.now ready.now }
-    ensures { IsFirst mapping.now worker (IsPut mapping.now ready.now child) result }
+/// The first of the nodes that are in: of the heads of their heaps, one a home.
+pub(crate) fn first_head(heaps: &GroupedHeaps, mapping: &Mapping, worker: u32) -> Option<u32>
+    requires { AreRanked mapping.now heaps.now }
+    ensures { IsFirst mapping.now worker (Holds heaps.now.held) result }
 {
     let mut best = None;
-    for home in 0..homes_of(ready) {
-        if let Some(head) = ready.least(2 * home + bit_of(child)) {
+    for home in 0..heaps.groups() {
+        if let Some(head) = heaps.least(home) {
             best = Some(first_of(mapping, worker, best, head));
         }
     }

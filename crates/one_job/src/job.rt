@@ -11,13 +11,12 @@ ghost use Rattle.job_flow.specs.Outcomes.{ended};
 use crate::choosing::first_head;
 use crate::leases::{give_inputs, give_outputs, take_ports};
 use crate::nodes::{is_child, keep_tokens, kind_of, reads_stored, writes_stored};
-use crate::ready::{is_quiet, release, released};
+use crate::ready::{ReadyNodes, is_quiet, release, released};
 use crate::stage::{Stage, ended_stage, first_fault};
 use crate::stock::begin;
 use cell_pool::Pool;
 use job_compiler::Compiled;
 use kernel_gate::{Frame, KernelFault, Lent, Room, RoomSize, told_of};
-use ready_heap::GroupedHeaps;
 use sdf_level::{List, Node};
 use single_rate::graphs_numbered;
 use std::alloc::Global;
@@ -37,7 +36,7 @@ pub struct Job {
     /// How many edges into each node have a tail that isn't finished without a fault.
     pub(crate) waiting: Vec<usize>,
     /// The nodes that may be claimed.
-    pub(crate) ready: GroupedHeaps,
+    pub(crate) ready: ReadyNodes,
     /// How many nodes are claimed.
     pub(crate) claimed: usize,
     /// For each node the stored tokens that it reads, or cells for those that it keeps, until it is claimed.
@@ -103,7 +102,7 @@ impl Job {
     fn first(&self, worker: u32, child: bool) -> Option<u32>
         ensures { IsFirst self.now.compilation.mapping worker (IsOffered self.now child) result }
     {
-        first_head(&self.ready, self.compiled.mapping(), worker, child)
+        first_head(self.ready.heaps(child), self.compiled.mapping(), worker)
     }
 
     /// What a node is.
@@ -202,7 +201,7 @@ impl Job {
         );
         let frame = Frame::lend(lent);
         self.stages[n] = Stage::Claimed(told_of(&frame));
-        self.ready.remove(node);
+        self.ready.remove(node, is_child(kind, self.kinds.items()));
         self.claimed += 1;
         frame
     }
@@ -245,6 +244,8 @@ impl Job {
             released(is_done, self.compiled.wiring().leaving.row(n)),
             &mut self.waiting,
             &mut self.ready,
+            self.compiled.graph().nodes.items(),
+            self.kinds.items(),
         );
         Room::close(lent)
     }

@@ -1,126 +1,133 @@
 // Which nodes may be claimed, as heaps by home that each claim and each finish keeps.
-ghost use Rattle.std.specs.Prelude.{IsTrue, ◌↔◌, ◌≡◌, ◌<◌, ◌≤◌, ◌^◌, ◌+◌, ◌-◌, ◌*◌, [], ℕ, Some, None, EachIndex, true, false, length, slice_index, slice_index_or, slice_set, if◌then◌else◌, ◌==◌, IfOk};
+ghost use Rattle.std.specs.Prelude.{IsTrue, ◌↔◌, ◌≡◌, ◌<◌, ◌^◌, ◌-◌, [], Bool, ℕ, None, true, false, length, slice_index, slice_index_or, slice_set, if◌then◌else◌, ◌==◌, IfOk};
+ghost use Rattle.std.specs.Arc.{arc_value};
 ghost use Rattle.ready_heap.specs.Heaps.{Holds};
-ghost use Rattle.one_job.specs.Places.{edge_at};
-ghost use Rattle.one_job.specs.Pick.{is_child_in};
-ghost use Rattle.one_job.specs.Ready.{bit, group_of, AreKeys, AreGroups, Releases, CanRelease, AreStarted};
+ghost use Rattle.one_job.specs.Ready.{side, put, none_ready, is_in, is_child_at, Releases, CanRelease, AreStarted};
 
 use crate::nodes::is_child;
 use job_compiler::Port;
-use ready_heap::GroupedHeaps;
+use ready_heap::{GroupedHeaps, Ranking};
 use sdf_level::{Edge, Node};
 use std::alloc::{AllocError, Global};
-use worker_mapping::Mapping;
+use std::sync::Arc;
 
-/// The group of the nodes of a home that are jobs of their own, or aren't.
-pub(crate) fn group_of_home(home: u32, child: bool) -> usize
-    ensures { result ≡ group_of home child }
-{
-    2 * home as usize + if child { 1 } else { 0 }
+/// The nodes that may be claimed, each in the group of its home: those that are jobs of their own, and the others.
+#[derive(Drop)]
+pub(crate) struct ReadyNodes {
+    pub(crate) children: GroupedHeaps,
+    pub(crate) others: GroupedHeaps,
 }
 
-/// For each node the group of its home.
-fn groups_of(
-    alloc: Global,
-    homes: &[u32],
-    nodes: &[Node],
-    kinds: &[Option<u32>],
-) -> Result<Vec<usize>, AllocError>
-    requires { length homes.now ≡ length nodes.now }
-    ensures groups { IfOk result (λ v. AreGroups homes.now nodes.now kinds.now v.items) }
-    ensures small { IfOk result (λ v. EachIndex v.items (λ n. slice_index v.items n < 2 ^ 34)) }
-{
-    let mut groups = Vec::with_capacity(alloc, nodes.len())?;
-    for n in 0..nodes.len() {
-        groups.push(group_of_home(homes[n], is_child(nodes[n], kinds)))?;
+impl ReadyNodes {
+    /// None of the nodes that are ranked is in.
+    fn new(alloc: Global, ranking: &Arc<Ranking>) -> Result<ReadyNodes, AllocError>
+        ensures { IfOk result (λ r. r ≡ none_ready (arc_value ranking.now)) }
+    {
+        Ok(ReadyNodes {
+            children: GroupedHeaps::new(alloc, ranking.clone()?)?,
+            others: GroupedHeaps::new(alloc, ranking.clone()?)?,
+        })
     }
-    Ok(groups)
-}
 
-/// One more than the greatest group.
-fn count_of(groups: &[usize]) -> usize
-    requires { EachIndex groups.now (λ n. slice_index groups.now n < 2 ^ 34) }
-    ensures { EachIndex groups.now (λ n. slice_index groups.now n < result) }
-{
-    let mut count = 0;
-    for group in groups {
-        if *group >= count {
-            count = *group + 1;
+    /// The nodes that are jobs of their own, or the others.
+    pub(crate) fn heaps(&self, child: bool) -> &GroupedHeaps
+        ensures { result.now ≡ side self.now child }
+    {
+        if child { &self.children } else { &self.others }
+    }
+
+    /// Puts a node in, which is a job of its own or isn't.
+    fn insert(&mut self, node: u32, child: bool)
+        requires below { node < length (side self.old child).held }
+        requires new { slice_index_or (side self.old child).held node false ≡ false }
+        ensures { self.new ≡ put self.old child node true }
+    {
+        if child {
+            self.children.insert(node);
+        } else {
+            self.others.insert(node);
         }
     }
-    count
-}
 
-/// For each node the key by which greater priority goes first, then lesser number.
-fn keys_of(alloc: Global, priorities: &[u64]) -> Result<Vec<u128>, AllocError>
-    requires { length priorities.now < 2 ^ 32 }
-    ensures { IfOk result (λ v. AreKeys priorities.now v.items) }
-{
-    let mut keys = Vec::with_capacity(alloc, priorities.len())?;
-    for n in 0..priorities.len() {
-        let urgency = u64::MAX - priorities[n];
-        keys.push(urgency as u128 * 4294967296 + n as u128)?;
+    /// Takes it out.
+    pub(crate) fn remove(&mut self, node: u32, child: bool)
+        requires { Holds (side self.old child).held node }
+        ensures { self.new ≡ put self.old child node false }
+    {
+        if child {
+            self.children.remove(node);
+        } else {
+            self.others.remove(node);
+        }
     }
-    Ok(keys)
+
+    /// Whether no node is in.
+    fn is_empty(&self) -> bool
+        ensures { IsTrue result ↔ ((b : Bool) (n : ℕ) → Holds (side self.now b).held n → ⊥) }
+    {
+        self.others.is_empty() && self.children.is_empty()
+    }
 }
 
 /// Puts those nodes in that wait for none.
-fn put_first(ready: &mut GroupedHeaps, waiting: &[usize])
-    requires wide { length ready.old.held ≡ length waiting.now }
-    requires none { (n : ℕ) → slice_index_or ready.old.held n false ≡ false }
+fn put_first(ready: &mut ReadyNodes, waiting: &[usize], nodes: &[Node], kinds: &[Option<u32>])
+    requires long { length nodes.now ≡ length waiting.now }
+    requires wide { (b : Bool) → length (side ready.old b).held ≡ length waiting.now }
+    requires none { (b : Bool) (n : ℕ) → slice_index_or (side ready.old b).held n false ≡ false }
     requires few { length waiting.now < 2 ^ 32 }
-    ensures { AreStarted ready.old.groups ready.old.keys waiting.now (length waiting.now) ready.new }
+    ensures { AreStarted (is_child_at nodes.now kinds.now) waiting.now (length waiting.now) ready.old ready.new }
 {
     for n in 0..waiting.len() {
         if waiting[n] == 0 {
-            ready.insert(n as u32);
+            ready.insert(n as u32, is_child(nodes[n], kinds));
         }
     }
 }
 
-/// The heaps at the start of a job: of the nodes that wait for none.
+/// The nodes that may be claimed at the start of a job: those that wait for none.
 pub(crate) fn start_ready(
     alloc: Global,
-    mapping: &Mapping,
+    ranking: &Arc<Ranking>,
     nodes: &[Node],
     kinds: &[Option<u32>],
     waiting: &[usize],
-) -> Result<GroupedHeaps, AllocError>
+) -> Result<ReadyNodes, AllocError>
     requires few { length nodes.now < 2 ^ 32 }
-    requires homes { length mapping.now.home ≡ length nodes.now }
-    requires priorities { length mapping.now.priority ≡ length nodes.now }
+    requires ranked { length (arc_value ranking.now).groups ≡ length nodes.now }
     requires waiting { length waiting.now ≡ length nodes.now }
-    ensures groups { IfOk result (λ r. AreGroups mapping.now.home nodes.now kinds.now r.groups) }
-    ensures keys { IfOk result (λ r. AreKeys mapping.now.priority r.keys) }
-    ensures started { IfOk result (λ r. AreStarted r.groups r.keys waiting.now (length waiting.now) r) }
+    ensures { IfOk result (AreStarted (is_child_at nodes.now kinds.now) waiting.now (length waiting.now) (none_ready (arc_value ranking.now))) }
 {
-    let groups = groups_of(alloc, mapping.home.items(), nodes, kinds)?;
-    let keys = keys_of(alloc, mapping.priority.items())?;
-    let count = count_of(&groups);
-    let mut ready = GroupedHeaps::new(alloc, groups, &keys, count)?;
-    put_first(&mut ready, waiting);
+    let mut ready = ReadyNodes::new(alloc, ranking)?;
+    put_first(&mut ready, waiting, nodes, kinds);
     Ok(ready)
 }
 
 /// A node waits for an edge less, and is in if it waits for none then.
-fn release_one(waiting: &mut [usize], ready: &mut GroupedHeaps, node: u32)
+fn release_one(
+    waiting: &mut [usize],
+    ready: &mut ReadyNodes,
+    node: u32,
+    nodes: &[Node],
+    kinds: &[Option<u32>],
+)
     requires there { node < length waiting.old }
-    requires wide { length ready.old.held ≡ length waiting.old }
+    requires node { node < length nodes.now }
+    requires wide { (b : Bool) → length (side ready.old b).held ≡ length waiting.old }
     requires waits { 0 < slice_index waiting.old node }
-    requires out { slice_index_or ready.old.held node false ≡ false }
+    requires out { is_in (is_child_at nodes.now kinds.now) ready.old node ≡ false }
     ensures waiting { waiting.new ≡ slice_set waiting.old node (slice_index waiting.old node - 1) }
-    ensures ready { ready.new ≡ record ready.old { held = if slice_index waiting.old node == 1 then slice_set ready.old.held node true else ready.old.held } }
+    ensures ready { ready.new ≡ (if slice_index waiting.old node == 1 then put ready.old (is_child_at nodes.now kinds.now node) node true else ready.old) }
 {
     let count = waiting[node as usize] - 1;
     waiting[node as usize] = count;
     if count == 0 {
-        ready.insert(node);
+        ready.insert(node, is_child(nodes[node as usize], kinds));
     }
 }
 
 /// Whether no node is claimed and none is in.
-pub(crate) fn is_quiet(claimed: usize, ready: &GroupedHeaps) -> bool
-    ensures { IsTrue result ↔ ((claimed ≡ 0) × ((n : ℕ) → Holds ready.now.held n → ⊥)) }
+pub(crate) fn is_quiet(claimed: usize, ready: &ReadyNodes) -> bool
+    ensures { IsTrue result ↔ ((claimed ≡ 0) × ((b : Bool) (n : ℕ) → Holds (side ready.now b).held n → ⊥)) }
 {
     claimed == 0 && ready.is_empty()
 }
@@ -137,14 +144,17 @@ pub(crate) fn release(
     edges: &[Edge],
     ports: &[Port],
     waiting: &mut [usize],
-    ready: &mut GroupedHeaps,
+    ready: &mut ReadyNodes,
+    nodes: &[Node],
+    kinds: &[Option<u32>],
 )
-    requires { CanRelease edges.now ports.now waiting.old ready.old }
-    ensures { Releases edges.now ports.now [] waiting.old waiting.new ready.old ready.new }
+    requires nodes { length nodes.now ≡ length waiting.old }
+    requires can { CanRelease (is_child_at nodes.now kinds.now) edges.now ports.now waiting.old ready.old }
+    ensures { Releases (is_child_at nodes.now kinds.now) edges.now ports.now [] waiting.old waiting.new ready.old ready.new }
 {
     for port in ports {
         if let Some(edge) = port.edge() {
-            release_one(waiting, ready, edges[edge as usize].head);
+            release_one(waiting, ready, edges[edge as usize].head, nodes, kinds);
         }
     }
 }

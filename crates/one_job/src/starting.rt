@@ -3,6 +3,7 @@ ghost use Rattle.std.specs.Prelude.{◌≡◌, length, map, replicate, IfOk};
 ghost use Rattle.std.specs.Arc.{arc_value};
 ghost use Rattle.sdf_level.specs.LevelRun.{HaveDelays};
 ghost use Rattle.one_job.specs.Marks.{Free};
+ghost use Rattle.one_job.specs.Rooms.{IsRoomOf};
 
 use crate::job::Job;
 use crate::opening::{empty_lists, free_stages};
@@ -19,7 +20,8 @@ use std::sync::Arc;
 
 /// A job of a compiled level, in which each node is free. `kinds` has for each actor the place of its kernel, or none where
 /// its firings are jobs of their own; `args` has each actor's arguments, `sources` the tokens of each source, and `stored`
-/// those that each link holds at the start. All memory of the job is taken here.
+/// those that each link holds at the start. All memory of the job is taken here. Its room has the most ports of a node, but 1 at
+/// least on each side, and the most arguments of an actor.
 ///
 /// # Errors
 ///
@@ -38,6 +40,7 @@ pub fn start(
     requires stored { HaveDelays (arc_value compiled).level.links stored }
     ensures compilation { IfOk result (λ j. j.compilation ≡ arc_value compiled) }
     ensures given { IfOk result (λ j. (j.kinds ≡ kinds) × (j.args ≡ args) × (j.sources ≡ sources) × (j.stored ≡ stored)) }
+    ensures room { IfOk result (λ j. IsRoomOf (arc_value compiled).level (arc_value compiled).graph args j.room) }
     ensures free { IfOk result (λ j. j.marks ≡ replicate (length (arc_value compiled).graph.nodes) Free) }
 {
     edges_have_ports::<i64>();
@@ -49,7 +52,7 @@ pub fn start(
     let stages = free_stages(alloc, nodes.len())?;
     let outs = empty_lists(alloc, level.sinks.items().len())?;
     let left = empty_lists(alloc, level.links.items().len())?;
-    let ready = start_ready(alloc, compiled.mapping(), nodes, kinds.items(), &waiting)?;
+    let ready = start_ready(alloc, compiled.ranking(), nodes, kinds.items(), &waiting)?;
     let stock = make_stock(
         alloc,
         nodes,

@@ -1,6 +1,5 @@
 use Rattle.std.proofs.Common.{◌≡◌, ℕ, ℤ, List, [], length, map, replicate, refl, sym, ap, ◌∙◌, subst}
 use Rattle.std.specs.Arc.{arc_value}
-use Rattle.std.specs.Prelude.{slice_index_or}
 use Rattle.job_flow.specs.Laws.{EdgesHavePorts}
 use Rattle.job_compiler.specs.Compilation.{IsCompiled}
 use Rattle.one_job.specs.Marks.{Free}
@@ -11,19 +10,20 @@ use Rattle.one_job.specs.View.{job_graph}
 use Rattle.sdf_level.specs.LevelRun.{HaveDelays}
 use Rattle.sdf_level.specs.declared.single_rate.Edge.{Edge}
 use Rattle.one_job.proofs.JobStart.{first_there, stock_of_free, keeps_at_start}
-use Rattle.one_job.proofs.RoomSteps.{rooms_at_start}
+use Rattle.one_job.proofs.RoomSteps.{rooms_at_start, room_of}
 use Rattle.one_job.specs.Kept.{Parts, Keeps}
-use Rattle.one_job.specs.Ready.{AreGroups, AreKeys, AreStarted, KeepsReady}
+use Rattle.one_job.specs.Pick.{is_child}
+use Rattle.one_job.specs.Rooms.{IsRoomOf}
+use Rattle.one_job.specs.Ready.{none_ready, is_child_at, AreStarted, KeepsReady}
+use Rattle.ready_heap.specs.Groups.{RankingView}
+use Rattle.job_compiler.specs.Ranked.{IsRankingOf}
 use Rattle.job_compiler.specs.Ends.{head_of, AreEndCounts}
-use Rattle.worker_mapping.specs.declared.mapping.Mapping.{Mapping}
 use Rattle.job_compiler.specs.Compilation.{Compilation}
 use Rattle.one_job.proofs.ReadySteps.{start_ready_keeps}
 use Rattle.one_job.specs.View.{JobView, HasGiven, graph_of}
 use Rattle.std.proofs.lemmas.List.{length-replicate}
 use Rattle.std.proofs.Common.{arith, ◌<◌, ◌≤◌}
 use Rattle.std.specs.Prelude.{Option}
-use Rattle.kernel_gate.specs.declared.room.RoomSize.{RoomSize}
-use Rattle.job_compiler.specs.Rows.{IsMost}
 use Rattle.job_compiler.specs.Wired.{entering, leaving, WireJobs}
 use Rattle.one_job.proofs.starting.start.Goals as goal
 
@@ -115,16 +115,10 @@ made_so : (c : goal.After-of-2) → AreMade (arc_value c.args.compiled).graph.no
 made_so c =
     subst (λ (t : Type 0). t) (λ i. AreMade (nodes_are c i) (edges_are c i) (entering_is c i) (c.items-5.ensures i) (c.items-6.ensures i) (parts c).stock) c.in_ok-stock.ensures
 
--- a room has the most ports of any node
-record HasMost (rows_in rows_out : List (List (Option ℕ))) (room : RoomSize) : Type 0 where
-  inputs : IsMost rows_in room.inputs
-  outputs : IsMost rows_out room.outputs
-
-most_ports : (c : goal.After-of-2) → HasMost (parts c).entering (parts c).leaving c.room_size-size.result
-most_ports c = record {
-  inputs = subst (λ (t : Type 0). t) (λ i. IsMost (entering_is c i) (sym c.room_size-size.ensures.ports.0 i)) c.wiring-wiring.ensures.inputs;
-  outputs = subst (λ (t : Type 0). t) (λ i. IsMost (leaving_is c i) (sym c.room_size-size.ensures.ports.1 i)) c.wiring-wiring.ensures.outputs;
-}
+room_is : (c : goal.After-of-2) → IsRoomOf (arc_value c.args.compiled).level (arc_value c.args.compiled).graph c.args.args c.room_size-size.result
+room_is c =
+    room_of (arc_value c.args.compiled) c.deref-4.result.now c.wiring-wiring.result.now c.args.args c.items-7.result.now c.room_size-size.result c.deref-4.ensures c.items-7.ensures
+    c.wiring-wiring.ensures.entering c.wiring-wiring.ensures.leaving c.wiring-wiring.ensures.inputs c.wiring-wiring.ensures.outputs c.room_size-size.ensures.ports.0 c.room_size-size.ensures.ports.1 c.room_size-size.ensures.args
 
 keeps : (c : goal.After-of-2) → Keeps (view c) (parts c) c.in_ok-pool.pool c.in_ok-outs.outs.items c.in_ok-left.left.items
 keeps c =
@@ -143,8 +137,7 @@ keeps c =
     c.in_ok-pool.ensures.out.0
     (made_so c).one_each
     (stock_of_free (view c) (parts c) (kept c) (all_given c) (wired_so c) (law c) (made_so c))
-    (rooms_at_start (view c) (parts c) (wired_so c) (most_ports c).inputs (most_ports c).outputs
-    (λ a. subst (λ (lists : List (List ℤ)). length (slice_index_or lists a []) ≤ c.room_size-size.result.args) c.items-7.ensures (c.room_size-size.ensures.args a)))
+    (rooms_at_start (view c) (parts c) (wired_so c) (room_is c).inputs (room_is c).outputs (room_is c).args.each)
     (outs_are c ∙ ap (λ list. replicate (length list) []) (sinks_are c))
     (left_are c ∙ ap (λ list. replicate (length list) []) (links_are c))
 
@@ -159,16 +152,14 @@ keeps_ready c =
     let comp = arc_value c.args.compiled in
     let ready = c.in_ok-ready.ready in
     let into = c.in_ok-waiting.waiting.items in
-    let mapping_is : c.mapping.result.now ≡ comp.mapping = c.mapping.ensures.value ∙ ap (λ x. x.mapping) c.deref-5.ensures in
-    let groups : AreGroups comp.mapping.home comp.graph.nodes c.args.kinds ready.groups =
-    subst (λ (t : Type 0). t) (λ t. AreGroups (mapping_is t).home (nodes_are c t) (c.items-4.ensures t) ready.groups) c.in_ok-ready.ensures.groups in
-    let keys : AreKeys comp.mapping.priority ready.keys = subst (λ (m : Mapping). AreKeys m.priority ready.keys) mapping_is c.in_ok-ready.ensures.keys in
+    let ranking : RankingView = arc_value c.ranking.result.now in
+    let ranked : IsRankingOf comp.mapping ranking = subst (λ (x : Compilation). IsRankingOf x.mapping ranking) c.deref-5.ensures c.ranking.ensures in
     let counts : AreEndCounts (length comp.graph.nodes) (map head_of comp.graph.edges) into =
     subst (AreEndCounts (length comp.graph.nodes) (map head_of comp.graph.edges)) (sym (waiting_are c))
     (subst (λ (x : Compilation). AreEndCounts (length x.graph.nodes) (map head_of x.graph.edges) c.wiring-wiring.result.now.into) (compiled_is c) c.wiring-wiring.ensures.into) in
-    let started : AreStarted ready.groups ready.keys into (length into) ready =
-    subst (λ (xs : List ℕ). AreStarted ready.groups ready.keys xs (length xs) ready) c.deref-6.ensures.value c.in_ok-ready.ensures.started in
-    start_ready_keeps (view c) into ready (marks_are c ∙ ap (λ k. replicate k Free) (ap length (nodes_are c))) groups keys counts started
+    let started : AreStarted (is_child (view c)) into (length into) (none_ready ranking) ready =
+    subst (λ (t : Type 0). t) (λ t. AreStarted (is_child_at (nodes_are c t) (c.items-4.ensures t)) (c.deref-6.ensures.value t) (length (c.deref-6.ensures.value t)) (none_ready ranking) ready) c.in_ok-ready.ensures in
+    start_ready_keeps (view c) ranking into ready (marks_are c ∙ ap (λ k. replicate k Free) (ap length (nodes_are c))) ranked (kept c).mapped.homes.one_each counts started
 
 pub make_stock-requires-clause-rows : goal.make_stock-requires-clause-rows
 make_stock-requires-clause-rows c =
@@ -189,3 +180,8 @@ invariant_of-result c = (
       (subst (λ x. Keeps (view_with c c.args.sources x) (parts c) c.in_ok-pool.pool c.in_ok-outs.outs.items c.in_ok-left.left.items) (sym (stored_of_job c)) (keeps c)),
   subst (λ (t : Type 0). t) (λ t. KeepsReady (view_with c (sym (sources_of_job c) t) (sym (stored_of_job c) t)) c.in_ok-waiting.waiting.items 0 c.in_ok-ready.ready) (keeps_ready c),
 )
+
+pub returns-clause-room : goal.returns-clause-room
+returns-clause-room c =
+    room_of (arc_value c.args.compiled) c.deref-4.result.now c.wiring-wiring.result.now c.args.args c.items-7.result.now c.room_size-size.result c.deref-4.ensures c.items-7.ensures
+    c.wiring-wiring.ensures.entering c.wiring-wiring.ensures.leaving c.wiring-wiring.ensures.inputs c.wiring-wiring.ensures.outputs c.room_size-size.ensures.ports.0 c.room_size-size.ensures.ports.1 c.room_size-size.ensures.args

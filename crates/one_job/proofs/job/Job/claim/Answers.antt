@@ -1,4 +1,4 @@
-use Rattle.std.proofs.Common.{◌≡◌, ◌+◌, [], length, map, set, get_or, refl, sym, ap, ◌∙◌, subst, arith}
+use Rattle.std.proofs.Common.{◌≡◌, ◌+◌, false, [], length, map, set, get_or, refl, sym, ap, ap₂, ◌∙◌, subst, arith}
 use Rattle.std.proofs.lemmas.List.{map-set, get_or_default}
 use Rattle.split_block.specs.View.{lease_place}
 use Rattle.cell_pool.specs.View.{PoolView}
@@ -18,7 +18,9 @@ use Rattle.one_job.specs.Staged.{mark_of}
 use Rattle.one_job.specs.View.{JobView, IsEnabled, graph_of}
 use Rattle.one_job.specs.Calls.{LieAtBuffers}
 use Rattle.one_job.specs.Kept.{Parts, view_of, parts_of, Keeps}
-use Rattle.one_job.specs.Ready.{KeepsReady}
+use Rattle.ready_heap.specs.Heaps.{Holds}
+use Rattle.one_job.specs.Pick.{is_child}
+use Rattle.one_job.specs.Ready.{side, put, is_child_at, KeepsReady}
 use Rattle.one_job.proofs.ReadySteps.{claim_ready, claims_few}
 use Rattle.one_job.proofs.JobClaim.{HasBegun, HasRead, HasTaken, begun_here, can_take_ins, can_take_outs, ins_taken, outs_also_taken, last_canonical, claim_keeps, inputs_hold, outputs_fit, lie_at_buffers}
 use Rattle.one_job.proofs.job.Job.claim.Goals as goal
@@ -162,6 +164,22 @@ now_is c =
     ∙ ap (λ q. set (map mark_of i.stages.items) n (Claimed q)) (ap (λ (f : FrameView). f.places) c.told_of.ensures ∙ places_are c) in
     λ k. record (view_of i) { block = block_is k; marks = marks_is k }
 
+-- the node is on the side of its sort
+child_is : (c : goal.After-self-3-1) → c.is_child.result ≡ is_child (view_of c.self.inside) c.args.node
+child_is c = c.is_child.ensures ∙ ap₂ (λ ns ks. is_child_at ns ks c.args.node) (nodes_are c) c.items-4.ensures
+
+removed_is : (c : goal.After-self-3-1) → c.remove.new.self ≡ put c.self.inside.ready (is_child (view_of c.self.inside) c.args.node) c.args.node false
+removed_is c = c.remove.ensures ∙ ap (λ b. put c.self.inside.ready b c.args.node false) (child_is c)
+
+pub remove-requires : goal.remove-requires
+remove-requires c =
+    let i = c.self.inside in
+    let n = c.args.node in
+    let enabled : IsEnabled (view_of i) n = subst (λ v. IsEnabled v n) (sym c.self.view_is) c.requires.enabled in
+    let nodes = c.items.ensures ∙ (ap (λ g. g.nodes) c.graph.ensures.value ∙ ap (λ (k : Compilation). k.graph.nodes) c.deref.ensures) in
+    let child : c.is_child.result ≡ is_child (view_of i) n = c.is_child.ensures ∙ ap₂ (λ ns ks. is_child_at ns ks n) nodes c.items-4.ensures in
+    subst (λ b. Holds (side i.ready b).held n) (sym child) ((c.self.invariant.1.exact n).1 enabled)
+
 pub invariant_of-self : goal.invariant_of-self
 invariant_of-self c =
     let i = c.self.inside in
@@ -170,7 +188,7 @@ invariant_of-self c =
       subst (λ v. Keeps v (later_parts c) c.take_ports-2.new.pool i.outs.items i.left.items) (sym (now_is c))
           (subst (λ q. Keeps (later c) (later_parts c) q i.outs.items i.left.items) (sym (last_is c)) kept),
       subst (λ v. KeepsReady v i.waiting.items (i.claimed + 1) c.remove.new.self) (sym (now_is c))
-          (subst (λ r. KeepsReady (later c) i.waiting.items (i.claimed + 1) r) (sym c.remove.ensures) then_ready),
+          (subst (λ r. KeepsReady (later c) i.waiting.items (i.claimed + 1) r) (sym (removed_is c)) then_ready),
     )
 
 pub returns-clause-inputs : goal.returns-clause-inputs

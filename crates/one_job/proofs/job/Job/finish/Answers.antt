@@ -17,7 +17,7 @@ use Rattle.one_job.specs.Staged.{mark_of}
 use Rattle.one_job.specs.Kept.{view_of, parts_of, Keeps}
 use Rattle.one_job.proofs.JobDone.{can_give_both, back_is, ports_part, finish_keeps, mark_stage, length-with_out, length-with_left, lent_back}
 use Rattle.one_job.proofs.JobEnds.{once_of}
-use Rattle.one_job.proofs.FinishReady.{some_claimed, release_asks, release_keeps}
+use Rattle.one_job.proofs.FinishReady.{some_claimed, nodes_long, release_asks, release_keeps}
 use Rattle.one_job.proofs.job.Job.finish.Goals as goal
 
 pub give_inputs-requires : goal.give_inputs-requires
@@ -104,8 +104,10 @@ invariant_of-self c =
     let edges_are : c.items-2.result.now ≡ j.compilation.graph.edges = c.items-2.ensures ∙ (ap (λ g. g.edges) c.graph-2.ensures.value ∙ ap (λ (k : Compilation). k.graph.edges) c.deref-2.ensures) in
     let row_is : c.row.result.now ≡ row_of (parts_of i).leaving n = c.row.ensures ∙ ap (λ rows. row_of rows n) (c.wiring.ensures.leaving ∙ ap (λ (k : Compilation). leaving k.level k.graph) c.deref-3.ensures) in
     let ports_are : c.released.result.now ≡ (if c.is_ok-is_done.result then row_of (parts_of i).leaving n else []) = c.released.ensures ∙ ap (λ ports. if c.is_ok-is_done.result then ports else []) row_is in
+    let nodes_now : c.items-3.result.now ≡ j.compilation.graph.nodes = c.items-3.ensures ∙ (ap (λ g. g.nodes) c.graph-3.ensures.value ∙ ap (λ (k : Compilation). k.graph.nodes) c.deref-4.ensures) in
+    let kinds_now : c.items-4.result.now ≡ j.kinds = c.items-4.ensures in
     let same = with_items_is i.waiting c.release.new.waiting (c.release.auto.waiting ∙ (ap length c.deref_mut-3.ensures.value ∙ sym i.waiting.ok.0)) in
-    let then_ready = release_keeps j (parts_of i) i.pool i.outs.items i.left.items c.self.invariant.0 i.waiting.items i.claimed i.ready c.self.invariant.1 n c.args.frame claimed c.args.answer c.is_ok-is_done.result c.is_ok-is_done.ensures.value c.items-2.result.now c.released.result.now c.deref_mut-3.result.now edges_are ports_are c.deref_mut-3.ensures.value c.release.new.waiting c.release.new.ready c.release.ensures in (
+    let then_ready = release_keeps j (parts_of i) i.pool i.outs.items i.left.items c.self.invariant.0 i.waiting.items i.claimed i.ready c.self.invariant.1 n c.args.frame claimed c.args.answer c.is_ok-is_done.result c.is_ok-is_done.ensures.value c.items-2.result.now c.released.result.now c.deref_mut-3.result.now c.items-3.result.now c.items-4.result.now edges_are ports_are c.deref_mut-3.ensures.value nodes_now kinds_now c.release.new.waiting c.release.new.ready c.release.ensures in (
       subst (λ v. Keeps v (parts_of c.self.inside) c.give_outputs-kept.new.pool (take i.outs.len (c.keep_tokens.new.outs ++ drop (length c.keep_tokens.new.outs) i.outs.items)) (take i.left.len (c.keep_tokens.new.left ++ drop (length c.keep_tokens.new.left) i.left.items))) (sym (now_is c))
           (subst (λ q. Keeps (later c) (parts_of c.self.inside) q (take i.outs.len (c.keep_tokens.new.outs ++ drop (length c.keep_tokens.new.outs) i.outs.items)) (take i.left.len (c.keep_tokens.new.left ++ drop (length c.keep_tokens.new.left) i.left.items))) (sym (pool_is c))
           (subst (λ l. Keeps (later c) (parts_of c.self.inside) (with_leases (ports_part (writes_stored (which c)) c.deref_mut-parts.result.now.outputs.items) (with_leases (ports_part (reads_stored (which c)) c.deref_mut-parts.result.now.inputs.items) i.pool)) l (take i.left.len (c.keep_tokens.new.left ++ drop (length c.keep_tokens.new.left) i.left.items))) (sym outs_are)
@@ -124,8 +126,8 @@ row-requires c =
     let rows = c.wiring.ensures.leaving ∙ ap (λ (k : Compilation). leaving k.level k.graph) c.deref-3.ensures in
     omega (arith, ap length rows, c.self.invariant.0.wired.rows_out, c.self.invariant.0.one_each, marked)
 
-pub release-requires : goal.release-requires
-release-requires c =
+pub release-requires-clause-can : goal.release-requires-clause-can
+release-requires-clause-can c =
     let i = c.self.inside in
     let n = c.args.node in
     let j = view_of i in
@@ -133,7 +135,22 @@ release-requires c =
     let edges_are : c.items-2.result.now ≡ j.compilation.graph.edges = c.items-2.ensures ∙ (ap (λ g. g.edges) c.graph-2.ensures.value ∙ ap (λ (k : Compilation). k.graph.edges) c.deref-2.ensures) in
     let row_is : c.row.result.now ≡ row_of (parts_of i).leaving n = c.row.ensures ∙ ap (λ rows. row_of rows n) (c.wiring.ensures.leaving ∙ ap (λ (k : Compilation). leaving k.level k.graph) c.deref-3.ensures) in
     let ports_are : c.released.result.now ≡ (if c.is_ok-is_done.result then row_of (parts_of i).leaving n else []) = c.released.ensures ∙ ap (λ ports. if c.is_ok-is_done.result then ports else []) row_is in
-    release_asks j (parts_of i) i.pool i.outs.items i.left.items c.self.invariant.0 i.waiting.items i.claimed i.ready c.self.invariant.1 n c.args.frame claimed c.args.answer c.is_ok-is_done.result c.is_ok-is_done.ensures.value c.items-2.result.now c.released.result.now c.deref_mut-3.result.now edges_are ports_are c.deref_mut-3.ensures.value
+    let nodes_now : c.items-3.result.now ≡ j.compilation.graph.nodes = c.items-3.ensures ∙ (ap (λ g. g.nodes) c.graph-3.ensures.value ∙ ap (λ (k : Compilation). k.graph.nodes) c.deref-4.ensures) in
+    let kinds_now : c.items-4.result.now ≡ j.kinds = c.items-4.ensures in
+    release_asks j (parts_of i) i.pool i.outs.items i.left.items c.self.invariant.0 i.waiting.items i.claimed i.ready c.self.invariant.1 n c.args.frame claimed c.args.answer c.is_ok-is_done.result c.is_ok-is_done.ensures.value c.items-2.result.now c.released.result.now c.deref_mut-3.result.now c.items-3.result.now c.items-4.result.now edges_are ports_are c.deref_mut-3.ensures.value nodes_now kinds_now
+
+pub release-requires-clause-nodes : goal.release-requires-clause-nodes
+release-requires-clause-nodes c =
+    let i = c.self.inside in
+    let n = c.args.node in
+    let j = view_of i in
+    let claimed : mark_at j.marks n ≡ Claimed c.args.frame.places = subst (λ (v : JobView). mark_at v.marks n ≡ Claimed c.args.frame.places) (sym c.self.view_is) c.requires.claimed in
+    let edges_are : c.items-2.result.now ≡ j.compilation.graph.edges = c.items-2.ensures ∙ (ap (λ g. g.edges) c.graph-2.ensures.value ∙ ap (λ (k : Compilation). k.graph.edges) c.deref-2.ensures) in
+    let row_is : c.row.result.now ≡ row_of (parts_of i).leaving n = c.row.ensures ∙ ap (λ rows. row_of rows n) (c.wiring.ensures.leaving ∙ ap (λ (k : Compilation). leaving k.level k.graph) c.deref-3.ensures) in
+    let ports_are : c.released.result.now ≡ (if c.is_ok-is_done.result then row_of (parts_of i).leaving n else []) = c.released.ensures ∙ ap (λ ports. if c.is_ok-is_done.result then ports else []) row_is in
+    let nodes_now : c.items-3.result.now ≡ j.compilation.graph.nodes = c.items-3.ensures ∙ (ap (λ g. g.nodes) c.graph-3.ensures.value ∙ ap (λ (k : Compilation). k.graph.nodes) c.deref-4.ensures) in
+    let kinds_now : c.items-4.result.now ≡ j.kinds = c.items-4.ensures in
+    nodes_long j (parts_of i) i.pool i.outs.items i.left.items c.self.invariant.0 i.waiting.items i.claimed i.ready c.self.invariant.1 n c.args.frame claimed c.args.answer c.is_ok-is_done.result c.is_ok-is_done.ensures.value c.items-2.result.now c.released.result.now c.deref_mut-3.result.now c.items-3.result.now c.items-4.result.now edges_are ports_are c.deref_mut-3.ensures.value nodes_now kinds_now
 
 pub overflow_sub-self : goal.overflow_sub-self
 overflow_sub-self c =

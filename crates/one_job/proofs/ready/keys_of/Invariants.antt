@@ -1,9 +1,0 @@
-use Rattle.std.proofs.Common.{◌≡◌, ℕ, ◌<◌, length, slice_index}
-use Rattle.one_job.specs.Ready.{IsKey}
-use Rattle.one_job.proofs.ready.keys_of.Given as goal
-
-abbrev pub invariant-loop-n : goal.invariant-loop-n
-invariant-loop-n l = record {
-  long : length l.keys.items ≡ l.n;
-  each : (m : ℕ) → m < l.n → IsKey (slice_index l.priorities m) m (slice_index l.keys.items m);
-}
