@@ -3,7 +3,7 @@ use Rattle.std.proofs.Common.{ℕ, ◌<◌, Bool, List, length, slice_index, sym
 use Rattle.ready_heap.specs.Heaps.{Holds}
 use Rattle.job_compiler.specs.Compilation.{IsCompiled}
 use Rattle.one_job.specs.View.{JobView}
-use Rattle.one_job.specs.Pick.{is_child, IsOffered}
+use Rattle.one_job.specs.Pick.{IsOffered}
 use Rattle.one_job.specs.Ready.{side, AreRanked, KeepsReady}
 use Rattle.one_job.specs.declared.ready.ReadyNodes.{ReadyNodes}
 

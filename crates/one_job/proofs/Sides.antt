@@ -1,13 +1,13 @@
 -- A node comes in on its side, or goes out.
-use Rattle.std.proofs.Common.{◌≡◌, ℕ, ◌<◌, ◌≤◌, ⊎_elim, Bool, true, false, length, replicate, set, get_or, refl, sym, ◌∙◌, ap, subst, arith}
+use Rattle.std.proofs.Common.{◌≡◌, ℕ, ◌<◌, ⊎_elim, Bool, true, false, length, get_or, refl, sym, ◌∙◌, ap, subst}
 use Rattle.std.specs.Prelude.{◌≢◌}
-use Rattle.std.proofs.lemmas.Bool.{cases_eq, cases_lt, false≢true}
-use Rattle.std.proofs.lemmas.List.{length-set, length-replicate, get_or-set_same, get_or-set_other, get_or-replicate, get_or_past}
+use Rattle.std.proofs.lemmas.Bool.{cases_eq}
+use Rattle.std.proofs.lemmas.List.{length-set, length-replicate, get_or-set_same, get_or-set_other}
 use Rattle.ready_heap.specs.Heaps.{Holds}
 use Rattle.ready_heap.specs.Groups.{HeapsView, RankingView}
 use Rattle.worker_mapping.specs.declared.mapping.Mapping.{Mapping}
 use Rattle.job_compiler.specs.Ranked.{AreKeys, IsRankingOf}
-use Rattle.one_job.specs.Ready.{side, put, none_in, none_ready, is_in, AreSorted, AreRankedAs, AreRankedBy}
+use Rattle.one_job.specs.Ready.{side, put, none_ready, AreSorted, AreRankedAs, AreRankedBy}
 use Rattle.one_job.specs.declared.ready.ReadyNodes.{ReadyNodes}
 
 -- ---- the same nodes are ranked, in the same way
@@ -63,16 +63,6 @@ module _ (r : ReadyNodes) (n : ℕ) (on : Bool) where
 pub both_sides : (r : ReadyNodes) → ((n : ℕ) → Holds r.others.held n → ⊥) → ((n : ℕ) → Holds r.children.held n → ⊥) → (b : Bool) (n : ℕ) → Holds (side r b).held n → ⊥
 both_sides r no_other no_child true n holds = no_child n holds
 both_sides r no_other no_child false n holds = no_other n holds
-
-none_of : (ranking : RankingView) (n : ℕ) → get_or (none_in ranking).held n false ≡ false
-none_of ranking n = ⊎_elim
-    (λ (inside : n < length ranking.groups). get_or-replicate (length ranking.groups) n false false inside)
-    (λ (past : length ranking.groups ≤ n). get_or_past (replicate (length ranking.groups) false) n false (omega (arith, past, length-replicate (length ranking.groups) false)))
-    (cases_lt n (length ranking.groups))
-
-pub none_at : (ranking : RankingView) (b : Bool) (n : ℕ) → get_or (side (none_ready ranking) b).held n false ≡ false
-none_at ranking true n = none_of ranking n
-none_at ranking false n = none_of ranking n
 
 pub none_wide : (ranking : RankingView) (b : Bool) → length (side (none_ready ranking) b).held ≡ length ranking.groups
 none_wide ranking true = length-replicate (length ranking.groups) false

@@ -1,27 +1,12 @@
 -- The nodes that wait for none come in, one after the other.
-use Rattle.std.proofs.Common.{◌≡◌, ℕ, ◌+◌, ◌<◌, ◌≤◌, ⊎_elim, Bool, true, false, List, length, get_or, refl, sym, ◌∙◌, subst, arith}
+use Rattle.std.proofs.Common.{◌≡◌, ℕ, ◌+◌, ◌<◌, ⊎_elim, Bool, true, List, length, sym, ◌∙◌, subst, arith}
 use Rattle.std.specs.Prelude.{◌≢◌, slice_index}
-use Rattle.std.proofs.lemmas.Bool.{cases_eq, cases_lt, false≢true}
+use Rattle.std.proofs.lemmas.Bool.{cases_eq}
 use Rattle.one_job.specs.Ready.{side, put, is_in, AreStarted}
 use Rattle.one_job.specs.declared.ready.ReadyNodes.{ReadyNodes}
-use Rattle.one_job.proofs.Sides.{as_before, as_earlier, put_here, put_others, put_ranked, put_sorted}
-
-pub started_none : (child : ℕ → Bool) (waiting : List ℕ) (before : ReadyNodes) → ((b : Bool) (n : ℕ) → get_or (side before b).held n false ≡ false) → AreStarted child waiting 0 before before
-started_none child waiting before none = record {
-  ranked = λ b. as_before (side before b);
-  sorted = λ b n holds. absurd (false≢true (sym (none b n) ∙ holds));
-  in_now = λ n below. absurd (let bad : ⊥ = omega arith in bad);
-  only = λ n holds. absurd (false≢true (sym (none (child n) n) ∙ holds));
-}
+use Rattle.one_job.proofs.Sides.{as_earlier, put_here, put_others, put_ranked, put_sorted}
 
 module _ (child : ℕ → Bool) (waiting : List ℕ) (n : ℕ) (before ready : ReadyNodes) (so_far : AreStarted child waiting n before ready) where
-  pub not_yet : is_in child ready n ≡ false
-  not_yet = by_value (is_in child ready n) refl
-    where
-      by_value : (b : Bool) → is_in child ready n ≡ b → b ≡ false
-      by_value false is = refl
-      by_value true is = let below = (so_far.only n is).0 in absurd (let bad : ⊥ = omega arith in bad)
-
   pub started_out : slice_index waiting n ≢ 0 → AreStarted child waiting (n + 1) before ready
   started_out waits = record {
     ranked = so_far.ranked;

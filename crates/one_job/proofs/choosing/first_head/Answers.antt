@@ -1,4 +1,4 @@
-use Rattle.std.proofs.Common.{◌+◌, slice_index, sym, subst, arith}
+use Rattle.std.proofs.Common.{◌+◌, sym, subst, arith}
 use Rattle.std.specs.Prelude.{Some, None}
 use Rattle.ready_heap.specs.Heaps.{Holds}
 use Rattle.ready_heap.specs.Groups.{IsLeastOf}
