@@ -1,0 +1,100 @@
+// What the compilation of a firing needs, and how it is made.
+ghost use Rattle.std.specs.Prelude.{◌≡◌};
+
+use crate::compiling::{CompileEnd, Made, make};
+use job_compiler::{Compiled, one_compilation};
+use param_resolver::Early;
+use pisdf_meaning::{Configured, Firing, PlainFault, TraceRow};
+use pisdf_model::Graphs;
+use std::alloc::Global;
+use std::collections::LinkedList;
+use std::marker::Model;
+use std::snapshot::Snapshot;
+use std::sync::Arc;
+
+/// What the compilation of a firing needs.
+#[derive(Drop)]
+pub(crate) struct Task {
+    pub(crate) graphs: Arc<Graphs>,
+    pub(crate) early: Arc<Early>,
+    pub(crate) workers: u32,
+    pub(crate) firing: Firing,
+    pub(crate) left: Vec<Configured>,
+    pub(crate) kept: Option<Arc<Compiled>>,
+    // The firing itself and what its configuration actors left, of which the task has what it looks at.
+    pub(crate) whole: Snapshot<Firing>,
+    pub(crate) left_by: Snapshot<Vec<Configured>>,
+    pub(crate) traces: Snapshot<Vec<LinkedList<TraceRow>>>,
+}
+
+impl Model for Task {
+    ghost use Rattle.job_preparing.specs.CompileTasks.{CompileView};
+
+    ghost Value = { CompileView };
+
+    ghost use Rattle.std.specs.Coded.{codes};
+    ghost use Rattle.param_expr.specs.Tree.{tree_code};
+
+    ghost coded = { Prim.hlevel (codes, tree_code) };
+
+    ghost use Rattle.job_preparing.specs.Tasked.{IsTask, task_view};
+
+    ghost view = { task_view };
+
+    ghost invariant = { IsTask };
+}
+
+impl Task {
+    ghost use Rattle.std.specs.Prelude.{◌⊎◌, ℤ, List as Seq, is_some};
+    ghost use Rattle.std.specs.Arc.{arc_value};
+    ghost use Rattle.job_compiler.specs.Compilation.{Compilation};
+    ghost use Rattle.param_resolver.specs.declared.level_set.LevelSet.{LevelSet as SetOfLevel};
+    ghost use Rattle.pisdf_meaning.specs.declared.refusal.Cause.{Cause};
+    ghost use Rattle.job_rules.specs.Doing as doing;
+    ghost use Rattle.job_rules.specs.Words as words;
+    ghost use Rattle.job_preparing.specs.CompileTasks.{IsEndOf, IsReadyWith, IsReadyAs};
+
+    /// Whether a compilation comes with it.
+    pub(crate) fn has_kept(&self) -> bool
+        ensures { result ≡ is_some self.now.kept }
+    {
+        self.kept.is_some()
+    }
+
+    /// Makes the compilation: the values of the parameters, then the level with its rates, then its schedule and all else. The
+    /// compilation that came with the task is taken where it is of this level and of as many workers, else a new one is made.
+    pub(crate) fn run(&self, alloc: Global) -> CompileEnd
+        ensures end { IsEndOf self.now.graphs.graphs self.now.workers self.now.firing self.now.left result }
+
+        // Where there is such a compilation the end is that, and where the firing is refused that refusal, unless there was
+        // no memory.
+        ensures only_ready { (c : Compilation) (set : SetOfLevel) (values : Seq ℤ) → IsReadyWith self.now.graphs.graphs self.now.workers self.now.firing self.now.left c set values → IsReadyAs c set values result ⊎ (result ≡ CompileEnd.Memory) }
+        ensures only_refused { (cause : Cause) → doing.IsCompiled self.now.graphs.graphs self.now.firing self.now.left (words.Refuses record { path = self.now.firing.path; cause = cause }) → (result ≡ CompileEnd.Refused cause) ⊎ (result ≡ CompileEnd.Memory) }
+    {
+        one_compilation();
+        let made = make(
+            alloc,
+            &self.graphs,
+            &self.early,
+            &self.firing,
+            &self.left,
+            self.workers,
+            &self.kept,
+        );
+        match made {
+            Ok(
+                Made {
+                    compiled,
+                    set,
+                    values,
+                },
+            ) => CompileEnd::Ready {
+                compiled,
+                set,
+                values,
+            },
+            Err(PlainFault::Refused(refusal)) => CompileEnd::Refused(refusal.cause),
+            Err(PlainFault::Memory) => CompileEnd::Memory,
+        }
+    }
+}
