@@ -9,9 +9,9 @@ use Rattle.job_rules.specs.Items.{graph_of}
 use Rattle.job_preparing.specs.CompileTasks.{CompileView}
 use Rattle.job_preparing.specs.Handing.{with_traces}
 use Rattle.job_preparing.specs.Slim.{slim_firing, slim_left}
-use Rattle.job_preparing.specs.declared.compile_task.CompileTask.TheInside.{Inside}
+use Rattle.job_preparing.specs.declared.compile_task.Parts.{Parts}
 
-abbrev pub task_view : Inside → CompileView
+abbrev pub task_view : Parts → CompileView
 task_view i = record {
   graphs = arc_value i.graphs;
   workers = i.workers;
@@ -20,7 +20,7 @@ task_view i = record {
   kept = option_map arc_value i.kept;
 }
 
-pub record IsTask (i : Inside) : Type 0 where
+pub record IsTask (i : Parts) : Type 0 where
   pub valid : AreValid (arc_value i.graphs)
   pub here : slice_get (arc_value i.graphs).graphs i.whole.value.graph ≡ Some (graph_of (arc_value i.graphs).graphs i.whole.value)
   pub sound : early_faults (arc_value i.graphs).graphs i.whole.value.graph i.whole.value.inherited ≡ []

@@ -13,9 +13,15 @@ use std::snapshot::Snapshot;
 use std::sync::Arc;
 
 /// The compilation of one firing of a graph, whose configuration actors all gave something. It owns what it needs, so that it
-/// is made while others go on with the job.
+/// is made while others go on with the job. That lies in a box, so that a claim is small, of which the task is a part.
 #[derive(Drop)]
 pub struct CompileTask {
+    pub(crate) parts: Box<Parts>,
+}
+
+/// What a compilation needs.
+#[derive(Drop)]
+pub(crate) struct Parts {
     pub(crate) graphs: Arc<Graphs>,
     pub(crate) early: Arc<Early>,
     pub(crate) workers: u32,
@@ -40,9 +46,9 @@ impl Model for CompileTask {
 
     ghost use Rattle.job_preparing.specs.Tasked.{IsTask, task_view};
 
-    ghost view = { task_view };
+    ghost view = { λ t. task_view t.parts.value };
 
-    ghost invariant = { IsTask };
+    ghost invariant = { λ t. IsTask t.parts.value };
 }
 
 impl CompileTask {
@@ -59,7 +65,7 @@ impl CompileTask {
     pub fn has_kept(&self) -> bool
         ensures { result ≡ is_some self.now.kept }
     {
-        self.kept.is_some()
+        self.parts.kept.is_some()
     }
 
     /// Makes the compilation: the values of the parameters, then the level with its rates, then its schedule and all else. The
@@ -73,14 +79,15 @@ impl CompileTask {
         ensures only_refused { (cause : Cause) → doing.IsCompiled self.now.graphs.graphs self.now.firing self.now.left (words.Refuses record { path = self.now.firing.path; cause = cause }) → (result ≡ CompileEnd.Refused cause) ⊎ (result ≡ CompileEnd.Memory) }
     {
         one_compilation();
+        let parts: &Parts = &self.parts;
         let made = make(
             alloc,
-            &self.graphs,
-            &self.early,
-            &self.firing,
-            &self.left,
-            self.workers,
-            &self.kept,
+            &parts.graphs,
+            &parts.early,
+            &parts.firing,
+            &parts.left,
+            parts.workers,
+            &parts.kept,
         );
         match made {
             Ok(

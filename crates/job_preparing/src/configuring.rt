@@ -1,6 +1,6 @@
 // The configuration actors of a firing.
 use crate::asking::{config_call, line_for};
-use crate::compile_task::CompileTask;
+use crate::compile_task::{CompileTask, Parts};
 use crate::ending::{keep, kernel_given};
 use crate::handing::{JobGiven, Left};
 use crate::slim::{slim_firing, slim_left};
@@ -289,7 +289,7 @@ impl Configuring {
         requires workers { 1 ≤ workers }
         ensures { IfOk result (λ t. t ≡ record { graphs = self.now.graphs; workers = workers; firing = self.now.firing; left = left_by self.now; kept = option_map arc_value kept }) }
     {
-        Ok(CompileTask {
+        let parts = Parts {
             graphs: Arc::try_clone(&self.graphs)?,
             early: Arc::try_clone(&self.early)?,
             workers,
@@ -299,6 +299,9 @@ impl Configuring {
             whole: Snapshot::of(&self.firing),
             left_by: Snapshot::of(&self.left),
             traces: Snapshot::of(&self.traces),
+        };
+        Ok(CompileTask {
+            parts: Box::new(alloc, parts)?,
         })
     }
 

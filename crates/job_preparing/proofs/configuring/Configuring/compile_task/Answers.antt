@@ -15,6 +15,8 @@ use Rattle.job_preparing.specs.CompileTasks.{CompileView}
 use Rattle.job_preparing.specs.Handing.{with_traces}
 use Rattle.job_preparing.specs.Kept.{view_of}
 use Rattle.job_preparing.specs.Slim.{slim_firing, slim_left}
+use Rattle.job_preparing.specs.Tasked.{IsTask, task_view}
+use Rattle.job_preparing.specs.declared.compile_task.Parts.{Parts}
 use Rattle.job_preparing.specs.View.{ConfiguringView, IsReady, left_by}
 use Rattle.job_preparing.proofs.Asked.{here}
 use Rattle.job_preparing.proofs.Readied.{left_is}
@@ -22,13 +24,27 @@ use Rattle.job_preparing.proofs.Slimmed.{slim_traced}
 use Rattle.job_preparing.proofs.configuring.Configuring.compile_task.Goals as goal
 
 -- what the task was told, as it stands in the fields
-told_left : (c : goal.After-of-3) → with_traces c.of-2.result.value.items c.of-3.result.value.items ≡ left_by (view_of c.self.inside)
+told_left : (c : goal.In_ok-new) → with_traces c.of-2.result.value.items c.of-3.result.value.items ≡ left_by (view_of c.self.inside)
 told_left c =
     let ready = subst IsReady (sym c.self.view_is) c.requires.ready in
     ap (λ (v : Vec Configured Global). with_traces v.items c.of-3.result.value.items) c.of-2.ensures ∙ ap (λ (v : Vec (List TraceRow) Global). with_traces c.self.inside.left.items v.items) c.of-3.ensures ∙ sym (left_is (arc_value c.self.inside.graphs) c.self.inside.firing (arc_value c.self.inside.early) c.self.inside.places.items c.self.inside.stages.items c.self.inside.frames.items c.self.inside.left.items c.self.inside.traces.items c.self.invariant ready)
 
-pub invariant_of-result : goal.invariant_of-result
-invariant_of-result c =
+-- what is put into the box
+abbrev parts : goal.In_ok-new → Parts
+parts c = record {
+  graphs = c.in_ok-try_clone.field-0;
+  early = c.in_ok-try_clone-2.field-0;
+  workers = c.args.workers;
+  firing = c.in_ok-slim_firing.field-0;
+  left = c.in_ok-slim_left.field-0;
+  kept = c.args.kept;
+  whole = c.of.result;
+  left_by = c.of-2.result;
+  traces = c.of-3.result;
+}
+
+is_task : (c : goal.In_ok-new) → IsTask (parts c)
+is_task c =
     let graphs_are : arc_value c.in_ok-try_clone.field-0 ≡ arc_value c.self.inside.graphs = c.in_ok-try_clone.ensures in
     let firing_is : c.of.result.value ≡ c.self.inside.firing = c.of.ensures in
     let P : Graphs → Firing → Type 0 = λ x f. slice_get x.graphs f.graph ≡ Some (graph_of x.graphs f) in
@@ -46,10 +62,14 @@ invariant_of-result c =
           ∙ sym (slim_traced c.of-2.result.value.items c.of-3.result.value.items);
     }
 
+pub invariant_of-result : goal.invariant_of-result
+invariant_of-result c = subst IsTask (sym c.in_ok-new.ensures.ok) (is_task c)
+
 pub returns : goal.returns
 returns c =
     let V : Graphs → Firing → List Configured → CompileView = λ x f l. record { graphs = x; workers = c.args.workers; firing = f; left = l; kept = option_map arc_value c.args.kept } in
-    ap (λ x. V x c.of.result.value (with_traces c.of-2.result.value.items c.of-3.result.value.items)) c.in_ok-try_clone.ensures
+    ap task_view c.in_ok-new.ensures.ok
+    ∙ ap (λ x. V x c.of.result.value (with_traces c.of-2.result.value.items c.of-3.result.value.items)) c.in_ok-try_clone.ensures
     ∙ ap (λ f. V (arc_value c.self.inside.graphs) f (with_traces c.of-2.result.value.items c.of-3.result.value.items)) c.of.ensures
     ∙ ap (V (arc_value c.self.inside.graphs) c.self.inside.firing) (told_left c)
     ∙ ap (λ (v : ConfiguringView). V v.graphs v.firing (left_by v)) c.self.view_is
