@@ -24,7 +24,9 @@ use Rattle.param_resolver.specs.contracts.known.Early as Early
 use Rattle.param_resolver.specs.contracts.level_set.LevelSet as LevelSet
 use Rattle.job_preparing.specs.contracts.configuring.Configuring as Configuring
 use Rattle.ready_heap.specs.contracts.groups.GroupedHeaps as GroupedHeaps
+use Rattle.ready_heap.specs.contracts.ranking.Ranking as Ranking
 use Rattle.one_job.specs.contracts.job.Job as Job
+use Rattle.one_job.specs.contracts.ready.ReadyNodes as ReadyNodes
 use Rattle.graph_firing.specs.contracts.nodes.running.Running as Running
 use Rattle.graph_firing.specs.contracts.job.OpenJob as OpenJob
 use Rattle.firing_board.specs.contracts.table.JobTable as JobTable
@@ -60,11 +62,20 @@ told_send = search sendable depth 20
 job_stage_send : IsSend JobStage.the_row
 job_stage_send = search (told_send, sendable) depth 20
 
+ranking_send : IsSend Ranking.the_row
+ranking_send = search (crosses, sendable) depth 30 fits 4000
+
+ranking_sync : IsSync Ranking.the_row
+ranking_sync = search (crosses, sendable) depth 30 fits 4000
+
 heaps_send : IsSend GroupedHeaps.the_row
-heaps_send = search (crosses, sendable) depth 30 fits 4000
+heaps_send = search (ranking_send, ranking_sync, crosses, sendable) depth 30 fits 4000
+
+ready_field_send : IsSend ReadyNodes.the_field.row
+ready_field_send = search (heaps_send, crosses, sendable) depth 30 fits 4000
 
 job_send : IsSend Job.the_row
-job_send = search (job_stage_send, compiled.the_send, compiled.the_sync, pool.the_send, heaps_send, list.the_send, option.the_send, crosses, sendable) depth 30 fits 4000
+job_send = search (job_stage_send, compiled.the_send, compiled.the_sync, pool.the_send, ready_field_send, list.the_send, option.the_send, crosses, sendable) depth 30 fits 4000
 
 preparing_stage_send : IsSend PreparingStage.the_row
 preparing_stage_send = search (told_send, spare.the_field_send, refusal.the_field_send, crosses, sendable) depth 20
