@@ -2,6 +2,8 @@
 use denote.Param.Send.{IsSend, IsSync, sendable}
 use Rattle.std.proofs.Crossing.{crosses}
 use Rattle.std.proofs.collections.LinkedList.TheSendSync as linked
+use Rattle.std.proofs.hash.BuildHasherDefault.TheSendSync as build_hasher
+use Rattle.std.proofs.hash.FoldHasher.TheSendSync as fold_hasher
 use Rattle.std.proofs.option.Option.TheSendSync as option
 use Rattle.param_expr.proofs.name.Name.TheSendSync as name
 use Rattle.param_resolver.proofs.known.Early.TheLaws.TheKnot as early
@@ -12,9 +14,8 @@ use Rattle.pisdf_meaning.proofs.firing.Firing.TheSendSync as firing
 use Rattle.pisdf_meaning.proofs.outcome.TraceRow.TheSendSync as row
 use Rattle.pisdf_meaning.proofs.path.Path.TheSendSync as path
 use Rattle.pisdf_meaning.proofs.refusal.Refusal.TheSendSync as refusal
-use Rattle.job_compiler.proofs.cache.Kept.TheSendSync as kept
-use Rattle.job_compiler.proofs.compiled.Compiled.TheSendSync as compiled
 use Rattle.job_compiler.proofs.key.Key.TheSendSync as key
+use Rattle.lru.proofs.cache.LruCache.TheSendSync as lru_cache
 use Rattle.job_preparing.proofs.handing.JobGiven.TheSendSync as given
 use Rattle.board_journal.proofs.kept.Entries.TheSendSync as entries
 use Rattle.board_journal.proofs.history.Past.TheLaws.TheKnot as past
@@ -25,6 +26,8 @@ use Rattle.param_resolver.specs.contracts.level_set.LevelSet as LevelSet
 use Rattle.job_preparing.specs.contracts.configuring.Configuring as Configuring
 use Rattle.ready_heap.specs.contracts.groups.GroupedHeaps as GroupedHeaps
 use Rattle.ready_heap.specs.contracts.ranking.Ranking as Ranking
+use Rattle.job_compiler.specs.contracts.cache.Kept as Kept
+use Rattle.job_compiler.specs.contracts.compiled.Compiled as Compiled
 use Rattle.one_job.specs.contracts.job.Job as Job
 use Rattle.one_job.specs.contracts.ready.ReadyNodes as ReadyNodes
 use Rattle.graph_firing.specs.contracts.nodes.running.Running as Running
@@ -35,7 +38,9 @@ use Rattle.board_journal.specs.contracts.journal.Journal as Journal
 use Rattle.firing_board.specs.contracts.board.Board as Board
 use Rattle.firing_board.specs.contracts.state.Core as Core
 use Rattle.firing_board.specs.contracts.told.ToldSignatures as ToldSignatures
+use Rattle.sdf_level.proofs.level.Level.TheSendSync as level
 use Rattle.sdf_level.proofs.list.List.TheSendSync as list
+use Rattle.sdf_level.proofs.turn.Turn.TheSendSync as turn
 use Rattle.kernel_gate.specs.contracts.told.Told as Told
 use Rattle.one_job.specs.contracts.stage.Stage as JobStage
 use Rattle.job_preparing.specs.contracts.stage.Stage as PreparingStage
@@ -68,6 +73,15 @@ ranking_send = search (crosses, sendable) depth 30 fits 4000
 ranking_sync : IsSync Ranking.the_row
 ranking_sync = search (crosses, sendable) depth 30 fits 4000
 
+compiled_send : IsSend Compiled.the_row
+compiled_send = search (ranking_send, ranking_sync, level.the_send, turn.the_send, list.the_send, crosses, sendable) depth 30 fits 4000
+
+compiled_sync : IsSync Compiled.the_row
+compiled_sync = search (ranking_send, ranking_sync, level.the_sync, turn.the_sync, list.the_sync, crosses, sendable) depth 30 fits 4000
+
+kept_send : IsSend Kept.the_row
+kept_send = search (compiled_send, compiled_sync, key.the_send, key.the_sync, lru_cache.the_send, build_hasher.the_send, fold_hasher.the_send, crosses, sendable) depth 60 fits 20000
+
 heaps_send : IsSend GroupedHeaps.the_row
 heaps_send = search (ranking_send, ranking_sync, crosses, sendable) depth 30 fits 4000
 
@@ -75,7 +89,7 @@ ready_field_send : IsSend ReadyNodes.the_field.row
 ready_field_send = search (heaps_send, crosses, sendable) depth 30 fits 4000
 
 job_send : IsSend Job.the_row
-job_send = search (job_stage_send, compiled.the_send, compiled.the_sync, pool.the_send, ready_field_send, list.the_send, option.the_send, crosses, sendable) depth 30 fits 4000
+job_send = search (job_stage_send, compiled_send, compiled_sync, pool.the_send, ready_field_send, list.the_send, option.the_send, crosses, sendable) depth 30 fits 4000
 
 preparing_stage_send : IsSend PreparingStage.the_row
 preparing_stage_send = search (told_send, spare.the_field_send, refusal.the_field_send, crosses, sendable) depth 20
@@ -96,7 +110,7 @@ running_held_send : IsSend RunningHeld.the_row
 running_held_send = search (frame.the_send, refusal.the_field_send, crosses, sendable) depth 20
 
 running_send : IsSend Running.the_row
-running_send = search (running_stages_send, running_held_send, told_before_send, told_block_send, graphs_send, graphs_sync, level_set_field_send, job_send, compiled.the_send, compiled.the_sync, path.the_send, name.the_send, linked.the_send, row.the_send, list.the_send, crosses, sendable) depth 60 fits 6000
+running_send = search (running_stages_send, running_held_send, told_before_send, told_block_send, graphs_send, graphs_sync, level_set_field_send, job_send, compiled_send, compiled_sync, path.the_send, name.the_send, linked.the_send, row.the_send, list.the_send, crosses, sendable) depth 60 fits 6000
 
 open_send : IsSend OpenJob.the_row
 open_send = search (configuring_send, running_send, crosses, sendable) depth 60 fits 20000
@@ -117,4 +131,4 @@ core_field_send : IsSend Core.the_field.row
 core_field_send = search (table_send, frame_rooms.the_field_send, run.the_send, journal_send, given.the_send, refusal.the_send, crosses, sendable) depth 60 fits 20000
 
 pub board_send : IsSend Board.the_row
-board_send = search (core_field_send, told_signatures_send, kept.the_send, key.the_send, crosses, sendable) depth 60 fits 20000
+board_send = search (core_field_send, told_signatures_send, kept_send, key.the_send, crosses, sendable) depth 60 fits 20000
