@@ -1,20 +1,20 @@
 -- The actors that fire in a level, one after the other.
-use Rattle.std.proofs.Common.{◌≡◌, ℕ, ◌+◌, ◌<◌, ℤ, List, [], ◌∷◌, ◌++◌, length, map, take, Option, Result, Ok, Err, IfErr, sym, ap, ◌∙◌, append_assoc, subst, arith, get_or}
+use Rattle.std.proofs.Common.{◌≡◌, ℕ, ◌+◌, ◌<◌, ◌≤◌, ℤ, List, [], ◌∷◌, ◌++◌, length, map, take, Option, Result, Ok, Err, IfErr, sym, ap, ◌∙◌, append_assoc, subst, arith, get_or}
 use Rattle.std.specs.Result.{IsErrAnd}
 use Rattle.param_expr.specs.Tree.{Tree}
 use Rattle.param_resolver.specs.Rates.{arg_faults, arg_values}
 use Rattle.param_resolver.specs.declared.fault.LevelFault.{LevelFault}
 use Rattle.std.specs.List.{flat_map}
-use Rattle.std.proofs.lemmas.List.{append-nil, length-take, take_more}
+use Rattle.std.proofs.lemmas.List.{append-nil, length-take, take_all, take_more}
 use Rattle.pisdf_model.specs.Details.{from_number, of_each}
 use Rattle.pisdf_model.specs.declared.actor.Actor.{Actor}
 use Rattle.pisdf_model.specs.declared.graph.Graph.{Graph}
-use Rattle.pisdf_model.proofs.Walking.{Stands, goes_on}
+use Rattle.pisdf_model.proofs.Walking.{Stands, goes_on, is_done}
 use Rattle.param_resolver.specs.EarlyCheck.{early_faults}
 use Rattle.param_resolver.specs.EarlyView.{EarlyView}
-use Rattle.param_resolver.specs.LevelOf.{acting_args, acting_children, acting_faults, acting_outs, level_faults}
+use Rattle.param_resolver.specs.LevelOf.{acting_args, acting_children, acting_faults, acting_outs, level_args, level_children, level_faults, level_outs}
 use Rattle.param_resolver.specs.Refusal.{Refusal, StandsFirst, child, level_refusal_of}
-use Rattle.param_resolver.specs.Tables.{acting_ins, acting_place}
+use Rattle.param_resolver.specs.Tables.{acting_ins, acting_place, level_ins}
 use Rattle.param_resolver.proofs.Configuring.{flat_more}
 use Rattle.param_resolver.proofs.Walks.{later_part, stands_among}
 
@@ -57,6 +57,26 @@ module _ (graphs : List Graph) (g : Graph) (values : List ℤ) (i : ℕ) (places
     outs_are = flat_more (λ (b : Actor). acting_outs graphs values b.body) g.actors i a outs inside is so_far.outs_are;
     children_are = flat_more (λ (b : Actor). acting_children graphs values b.body) g.actors i a children inside is so_far.children_are;
   }
+
+  -- all of them have acted
+  module _ (whole : length g.actors ≤ i) where
+    pub whole_places : places ≡ of_each (λ n (a : Actor). acting_place n a.body) g.actors
+    whole_places = so_far.places_are ∙ ap (of_each (λ n (a : Actor). acting_place n a.body)) (take_all i g.actors whole)
+
+    pub whole_args : args ≡ level_args g values
+    whole_args = so_far.args_are ∙ ap (flat_map (λ (a : Actor). acting_args values a.body)) (take_all i g.actors whole)
+
+    pub whole_ins : ins ≡ level_ins graphs g values
+    whole_ins = so_far.ins_are ∙ ap (flat_map (λ (a : Actor). acting_ins graphs values a.body)) (take_all i g.actors whole)
+
+    pub whole_outs : outs ≡ level_outs graphs g values
+    whole_outs = so_far.outs_are ∙ ap (flat_map (λ (a : Actor). acting_outs graphs values a.body)) (take_all i g.actors whole)
+
+    pub whole_children : children ≡ level_children graphs g values
+    whole_children = so_far.children_are ∙ ap (flat_map (λ (a : Actor). acting_children graphs values a.body)) (take_all i g.actors whole)
+
+    pub whole_sound : level_faults graphs g values ≡ []
+    whole_sound = is_done 0 Faults i g.actors whole so_far.stands
 
   pub acts_fault : (a : Actor) (r : Option Refusal) → i < length g.actors → a ≡ get_or g.actors i a → StandsFirst (Faults i a) r → StandsFirst (level_faults graphs g values) r
   acts_fault a r inside is here = stands_among Faults i g.actors a r inside is here so_far.stands

@@ -1,7 +1,7 @@
 -- The configuration actors of a graph, one after the other.
-use Rattle.std.proofs.Common.{◌≡◌, ℕ, zero, suc, ◌+◌, ◌-◌, ◌<◌, ℤ, List, [], ◌∷◌, ◌++◌, length, map, take, Option, Some, sym, ap, ◌∙◌, subst, arith, get_or}
+use Rattle.std.proofs.Common.{◌≡◌, ℕ, zero, suc, ◌+◌, ◌-◌, ◌<◌, ◌≤◌, ℤ, List, [], ◌∷◌, ◌++◌, length, map, take, Option, Some, sym, ap, ◌∙◌, subst, arith, get_or}
 use Rattle.std.specs.List.{flat_map, slice_get}
-use Rattle.std.proofs.lemmas.List.{take_more, flat_map_more}
+use Rattle.std.proofs.lemmas.List.{take_all, take_more, flat_map_more}
 use Rattle.std.proofs.lemmas.Option.{slice_get-get_or}
 use Rattle.param_expr.specs.Tree.{Tree}
 use Rattle.pisdf_model.specs.Details.{of_each}
@@ -9,7 +9,7 @@ use Rattle.pisdf_model.specs.Parts.{inputs_of}
 use Rattle.pisdf_model.specs.declared.graph.Interface.{Interface}
 use Rattle.pisdf_model.specs.declared.actor.Actor.{Actor}
 use Rattle.pisdf_model.specs.declared.graph.Graph.{Graph}
-use Rattle.pisdf_model.proofs.Walking.{Stands, goes_on}
+use Rattle.pisdf_model.proofs.Walking.{Stands, goes_on, is_done}
 use Rattle.param_resolver.specs.EarlyCheck.{Checked, check_by, check_to, child_config_faults, config_args, config_children, config_faults, config_outs, early_numbers, early_values, rated_faults, unfed_inputs}
 use Rattle.param_resolver.specs.EarlyView.{EarlyView, whole}
 use Rattle.param_resolver.specs.Refusal.{Refusal, StandsFirst, child}
@@ -39,6 +39,20 @@ module _ (check : ℕ → List ℤ → Checked) (graphs : List Graph) (g : Graph
     outs_are = flat_more (λ (b : Actor). config_outs check values b.body) g.actors i a outs inside is so_far.outs_are;
     children_are = flat_more (λ (b : Actor). config_children check values b.body) g.actors i a children inside is so_far.children_are;
   }
+
+  -- all of them are looked at
+  module _ (whole : length g.actors ≤ i) where
+    pub checked_args : args ≡ flat_map (λ (a : Actor). config_args values a.body) g.actors
+    checked_args = so_far.args_are ∙ ap (flat_map (λ (a : Actor). config_args values a.body)) (take_all i g.actors whole)
+
+    pub checked_outs : outs ≡ flat_map (λ (a : Actor). config_outs check values a.body) g.actors
+    checked_outs = so_far.outs_are ∙ ap (flat_map (λ (a : Actor). config_outs check values a.body)) (take_all i g.actors whole)
+
+    pub checked_children : children ≡ flat_map (λ (a : Actor). config_children check values a.body) g.actors
+    checked_children = so_far.children_are ∙ ap (flat_map (λ (a : Actor). config_children check values a.body)) (take_all i g.actors whole)
+
+    pub checked_sound : of_each Faults g.actors ≡ []
+    checked_sound = is_done 0 Faults i g.actors whole so_far.stands
 
   pub configures_fault : (a : Actor) (r : Option Refusal) → i < length g.actors → a ≡ get_or g.actors i a → StandsFirst (Faults i a) r → StandsFirst (of_each Faults g.actors) r
   configures_fault a r inside is here = stands_among Faults i g.actors a r inside is here so_far.stands

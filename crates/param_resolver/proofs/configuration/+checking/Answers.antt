@@ -9,7 +9,7 @@ use Rattle.std.proofs.lemmas.Option.{slice_get-get_or}
 use Rattle.param_resolver.proofs.RatedFaults.{length-numbers}
 use Rattle.param_resolver.proofs.Walks.{passed, passed_same}
 use Rattle.param_resolver.specs.Resolvable.{IsResolvable}
-use Rattle.param_resolver.proofs.Configuring.{check_step, child_stands, configured_stands, fed_none, unfed_stands, whole_known}
+use Rattle.param_resolver.proofs.Configuring.{check_step, checked_args, checked_children, checked_outs, checked_sound, child_stands, configured_stands, configures_fault, configures_more, fed_none, unfed_stands, whole_known}
 use Rattle.param_resolver.proofs.NestedGraphs.{children_nested, some_levels}
 use Rattle.param_resolver.proofs.configuration.+checking.Goals as goal
 
@@ -35,6 +35,39 @@ add_child-returns-clause-sound t c =
     let taken = c.items-2.ensures ∙ ap (λ (e : EarlyView). e.inputs) (c.early.view_is ∙ c.in-Ok.ensures.known) in
     fed_none (check_to c.args.levels c.args.graphs.now) c.args.graphs.now c.args.graph.now c.args.numbers.now c.args.inputs.now c.args.number c.args.actor.now c.args.place c.args.args.now c.deref.result.now
     c.in_ok-values.ensures.sound (c.deref.ensures.value ∙ c.in_ok-values.ensures.values) c.in-Ok.ensures.sound c.items.result.now c.items-2.result.now inputs taken c.in_ok-inputs_fed.ensures.sound
+
+pub add_actors-loop-number-preserved : goal.add_actors-loop-number-preserved
+add_actors-loop-number-preserved t c =
+    let configured = c.loop-number.configured in
+    rw (c.in_ok-add_actor.ensures.args, c.in_ok-add_actor.ensures.outs, c.in_ok-add_actor.ensures.children) (
+    configures_more (check_to c.args.levels c.args.graphs.now) c.args.graphs.now c.args.graph.now c.args.numbers.now c.args.inputs.now c.loop-number.number configured.args.items configured.outs.items configured.children.items c.loop-number.invariant c.actor-item.result (rw c.items-actor-items.ensures at c.loop-number-test.true) (rw c.items-actor-items.ensures at c.actor-item.is) c.in_ok-add_actor.ensures.sound)
+
+pub add_actors-returns-in_err-add_actor-clause-fault : goal.add_actors-returns-in_err-add_actor-clause-fault
+add_actors-returns-in_err-add_actor-clause-fault t c =
+    let configured = c.loop-number.configured in
+    let fault = c.in_err-add_actor.field-0.0 in
+    passed_same c.from_residual.result fault _ c.from_residual.ensures.1
+    (configures_fault (check_to c.args.levels c.args.graphs.now) c.args.graphs.now c.args.graph.now c.args.numbers.now c.args.inputs.now c.loop-number.number configured.args.items configured.outs.items configured.children.items c.loop-number.invariant c.actor-item.result (refusal_of fault) (rw c.items-actor-items.ensures at c.loop-number-test.true) (rw c.items-actor-items.ensures at c.actor-item.is) c.in_err-add_actor.ensures.fault)
+
+pub add_actors-returns-clause-args : goal.add_actors-returns-clause-args
+add_actors-returns-clause-args t c =
+    let configured = c.loop-number.configured in
+    checked_args (check_to c.args.levels c.args.graphs.now) c.args.graphs.now c.args.graph.now c.args.numbers.now c.args.inputs.now c.loop-number.number configured.args.items configured.outs.items configured.children.items c.loop-number.invariant (rw c.items-actor-items.ensures at c.loop-number-test.false)
+
+pub add_actors-returns-clause-outs : goal.add_actors-returns-clause-outs
+add_actors-returns-clause-outs t c =
+    let configured = c.loop-number.configured in
+    checked_outs (check_to c.args.levels c.args.graphs.now) c.args.graphs.now c.args.graph.now c.args.numbers.now c.args.inputs.now c.loop-number.number configured.args.items configured.outs.items configured.children.items c.loop-number.invariant (rw c.items-actor-items.ensures at c.loop-number-test.false)
+
+pub add_actors-returns-clause-children : goal.add_actors-returns-clause-children
+add_actors-returns-clause-children t c =
+    let configured = c.loop-number.configured in
+    checked_children (check_to c.args.levels c.args.graphs.now) c.args.graphs.now c.args.graph.now c.args.numbers.now c.args.inputs.now c.loop-number.number configured.args.items configured.outs.items configured.children.items c.loop-number.invariant (rw c.items-actor-items.ensures at c.loop-number-test.false)
+
+pub add_actors-returns-clause-sound : goal.add_actors-returns-clause-sound
+add_actors-returns-clause-sound t c =
+    let configured = c.loop-number.configured in
+    checked_sound (check_to c.args.levels c.args.graphs.now) c.args.graphs.now c.args.graph.now c.args.numbers.now c.args.inputs.now c.loop-number.number configured.args.items configured.outs.items configured.children.items c.loop-number.invariant (rw c.items-actor-items.ensures at c.loop-number-test.false)
 
 pub check_graph-add_actors-requires : goal.check_graph-add_actors-requires
 check_graph-add_actors-requires t c =
