@@ -255,7 +255,7 @@ module _ (laws : ClaimLaws) (key : Key) (old : Core) (w : ℕ) (may : MayClaim k
         one_each = ap (λ (rs : List (Option Run)). length rs) running_are ∙ (length-set old.running.items w (Some run) ∙ may.keeps.one_each);
         lent = to_runners;
         owners = owners_next own;
-        room = let room = t.room.entries in omega (arith, room);
+        room = let room = t.room.in_journal in omega (arith, room);
         taken = next;
         at = stands_next;
       }

@@ -24,7 +24,7 @@ use Rattle.firing_board.specs.Table.View.{TableView, job_row, row_at, table_of}
 use Rattle.firing_board.specs.declared.table.pick.Asked.{Asked}
 use Rattle.firing_board.specs.declared.table.row.Row.{Row}
 use Rattle.firing_board.specs.Core.{StandsAt, held_of}
-use Rattle.firing_board.specs.Finding.{HasNoWork, IsFound}
+use Rattle.firing_board.specs.Finding.{IsFound}
 use Rattle.firing_board.specs.Opening.{Calls, OpensWay}
 use Rattle.firing_board.specs.Wanting.{PicksInNew}
 use Rattle.firing_board.specs.declared.state.Core.{Core}
@@ -155,5 +155,5 @@ module _ (paths_apart : PathsAreApart) (key : Key) (taken : List Step) (old : Co
   none_found nothing none w is a = nothing key taken (table_of old.table) (held_of old.running.items) a s.suits.is_key s.kept none (is key (state_after key taken).marks s.suits differ)
 
   -- no row offers work
-  pub no_work : (w : ℕ) → IsAsked w false old.table None → HasNoWork key taken old
-  no_work w is = record { stands = s; none = is key (state_after key taken).marks s.suits differ }
+  pub no_work : (w : ℕ) → IsAsked w false old.table None → NoRowOffers key false (table_of old.table)
+  no_work w is = is key (state_after key taken).marks s.suits differ

@@ -2,6 +2,7 @@
 use Rattle.std.proofs.Common.{◌≡◌, ◌≢◌, ◌⊎◌, ⊎_elim, ℕ, zero, suc, ◌+◌, ◌<◌, nat_lt, Bool, true, false, List, [], ◌∷◌, length, set, get_or, length-set, inl, inr, Option, Some, None, Result, Ok, Err, OnOk, refl, sym, ap, ◌∙◌, subst, arith}
 use Rattle.std.proofs.lemmas.Bool.{cases_eq}
 use Rattle.std.proofs.lemmas.List.{get_or-set_other, get_or-set_same, get_or_read}
+use Rattle.std.proofs.Math.Nat.{le-max_left, le-max_right}
 use Rattle.std.specs.Prelude.{is_err}
 use Rattle.kernel_gate.specs.Rooms.{Suffices}
 use Rattle.kernel_gate.specs.Value.{Places}
@@ -12,8 +13,8 @@ use Rattle.nested_jobs.specs.Marks.{Mark}
 use Rattle.pisdf_meaning.specs.declared.firing.Firing.{Firing}
 use Rattle.graph_firing.specs.Rooms.{HasRoomFor, TakesRoom, is_node, slot_after}
 use Rattle.board_rules.specs.declared.entry.Item.{Item}
-use Rattle.firing_board.specs.Core.{HaveRooms, HoldsRoom, IsOut, RowsGoOn, RunsNode, lent_of, lent_with}
-use Rattle.firing_board.specs.FrameRooms.{AreGrown, FitsNeed, IsWithin, slot_at}
+use Rattle.firing_board.specs.Core.{HasFrameRooms, HoldsRoom, IsOut, RowsGoOn, RunsNode, lent_of, lent_with}
+use Rattle.firing_board.specs.FrameRooms.{AreAllOf, FitsNeed, IsWithin, larger, size_with, slot_at}
 use Rattle.firing_board.specs.Handing.{Enters}
 use Rattle.firing_board.specs.Opening.{KeepsRuns}
 use Rattle.firing_board.specs.Table.Calls.{AsksAsBefore, LendsAsBefore, LendsItem, MarksItem, StaysAs}
@@ -35,8 +36,20 @@ suffices_on a b c one two = record {
   args = let x = one.args in let y = two.args in omega arith;
 }
 
-pub within_on : (need size : RoomSize) (o : Option RoomSize) → Suffices need size → IsWithin size o → IsWithin need o
-within_on need size o one within = (within.0, within.1, suffices_on need size within.0 one within.2)
+-- the larger of two sizes suffices for each
+larger_one : (one other : RoomSize) → Suffices one (larger one other)
+larger_one one other = record { inputs = le-max_left one.inputs other.inputs; outputs = le-max_left one.outputs other.outputs; args = le-max_left one.args other.args }
+
+larger_other : (one other : RoomSize) → Suffices other (larger one other)
+larger_other one other = record { inputs = le-max_right one.inputs other.inputs; outputs = le-max_right one.outputs other.outputs; args = le-max_right one.args other.args }
+
+with_enough : (need : RoomSize) (before : Option RoomSize) → Suffices need (size_with need before)
+with_enough need None = suffices_itself need
+with_enough need (Some size) = larger_one need size
+
+with_more : (need : RoomSize) (before : Option RoomSize) (size : RoomSize) → before ≡ Some size → Suffices size (size_with need before)
+with_more need None size is = absurd (cc)
+with_more need (Some own) size is = let same : own ≡ size = cc in subst (λ (x : RoomSize). Suffices x (larger need own)) same (larger_other need own)
 
 -- one more slot has a new room
 pub one_more_made : (slots : List (Option RoomSize)) (w : ℕ) (size : RoomSize) (slot : Option RoomSize) → slot ≡ Some size → w < length slots → ((u : ℕ) → u < w → slot_at slots u ≡ Some size)
@@ -84,7 +97,7 @@ read_slot slots w slot inside at = get_or_read slots w slot inside at None
 
 -- ---- jobs are opened
 
-pub rooms_opened : (old new : Core) → KeepsRuns old new → HaveRooms old → HaveRooms new
+pub rooms_opened : (old new : Core) → KeepsRuns old new → HasFrameRooms old → HasFrameRooms new
 rooms_opened old new kept has =
     let slots : new.rooms.slots.items ≡ old.rooms.slots.items = ap (λ (r : FrameRooms). r.slots.items) kept.rooms_are in
     let size_is : new.rooms.size ≡ old.rooms.size = ap (λ (r : FrameRooms). r.size) kept.rooms_are in
@@ -101,7 +114,7 @@ rooms_opened old new kept has =
     }
 
 -- what a job's nodes take, the room of a worker has that runs nothing
-pub claims_room : (c : Core) (w : ℕ) (run : Run) (row : Row) → HaveRooms c → w < length c.running.items → get_or c.running.items w None ≡ None → row_at c.table run.row ≡ Some row
+pub claims_room : (c : Core) (w : ℕ) (run : Run) (row : Row) → HasFrameRooms c → w < length c.running.items → get_or c.running.items w None ≡ None → row_at c.table run.row ≡ Some row
     → (slot : Option RoomSize) → slot ≡ slot_at c.rooms.slots.items w → HasRoomFor row.job.room slot
 claims_room c w run row has lt idle here slot at = λ least need.
     let within = has.needs run.row least (ap room_by here ∙ need) in
@@ -174,10 +187,10 @@ set_back (s ∷ slots) (suc w) = ap (λ l. s ∷ l) (set_back slots w)
 
 -- ---- a worker that ran nothing runs something
 
-module _ (old mid new : Core) (w : ℕ) (run : Run) (item : Item) (ticket : Ticket) (has : HaveRooms old) (running : mid.running ≡ old.running) (asked : AsksAsBefore old.table mid.table) (size_is : mid.rooms.size ≡ old.rooms.size)
+module _ (old mid new : Core) (w : ℕ) (run : Run) (item : Item) (ticket : Ticket) (has : HasFrameRooms old) (running : mid.running ≡ old.running) (asked : AsksAsBefore old.table mid.table) (size_is : mid.rooms.size ≡ old.rooms.size)
     (slot : Option RoomSize) (slots : mid.rooms.slots.items ≡ set old.rooms.slots.items w slot) (lt : w < length old.running.items) (e : Enters mid w run item ticket new) where
   pub rooms_entered : ((size : RoomSize) → old.rooms.size ≡ Some size → HoldsRoom size mid.table (Some run) slot)
-      → ((u : ℕ) (size : RoomSize) → u < length old.running.items → old.rooms.size ≡ Some size → HoldsRoom size mid.table (get_or old.running.items u None) (slot_at old.rooms.slots.items u)) → HaveRooms new
+      → ((u : ℕ) (size : RoomSize) → u < length old.running.items → old.rooms.size ≡ Some size → HoldsRoom size mid.table (get_or old.running.items u None) (slot_at old.rooms.slots.items u)) → HasFrameRooms new
   rooms_entered own others =
       let runs : new.running.items ≡ set old.running.items w (Some run) = e.running_are ∙ ap (λ rs. set rs.items w (Some run)) running in
       let rooms : new.rooms.slots.items ≡ set old.rooms.slots.items w slot = ap (λ (r : FrameRooms). r.slots.items) e.rooms_are ∙ slots in
@@ -209,7 +222,7 @@ module _ (old mid new : Core) (w : ℕ) (run : Run) (item : Item) (ticket : Tick
 
 -- ---- a worker leaves what it ran
 
-module _ (old new : Core) (w : ℕ) (run : Run) (has : HaveRooms old) (ran : get_or old.running.items w None ≡ Some run) (running : new.running.items ≡ set old.running.items w None) (lt : w < length old.running.items)
+module _ (old new : Core) (w : ℕ) (run : Run) (has : HasFrameRooms old) (ran : get_or old.running.items w None ≡ Some run) (running : new.running.items ≡ set old.running.items w None) (lt : w < length old.running.items)
     (rows : RowsGoOn old.table new.table) (lent : lent_of new.table new.running.items ≡ set (lent_of old.table old.running.items) w None) (size_is : new.rooms.size ≡ old.rooms.size)
     (slot : Option RoomSize) (slots : new.rooms.slots.items ≡ set old.rooms.slots.items w slot) where
   still_lent : (u : ℕ) → u ≢ w → (r : Run) → get_or old.running.items u None ≡ Some r → lent_in new.table r.row r.item ≡ lent_in old.table r.row r.item
@@ -220,7 +233,7 @@ module _ (old new : Core) (w : ℕ) (run : Run) (has : HaveRooms old) (ran : get
       ∙ (get_or-set_other (lent_of old.table old.running.items) w u None None apart
       ∙ (lent_at_worker old.table old.running.items u ∙ ap (lent_with old.table) runs)))
 
-  pub rooms_left : ((size : RoomSize) → old.rooms.size ≡ Some size → (room : RoomSize) × (slot ≡ Some room) × Suffices size room) → ((k : ℕ) (need : RoomSize) → room_in new.table k ≡ Some need → IsWithin need new.rooms.size) → HaveRooms new
+  pub rooms_left : ((size : RoomSize) → old.rooms.size ≡ Some size → (room : RoomSize) × (slot ≡ Some room) × Suffices size room) → ((k : ℕ) (need : RoomSize) → room_in new.table k ≡ Some need → IsWithin need new.rooms.size) → HasFrameRooms new
   rooms_left own needs =
       let one = has.one_each in
       let a = ap (λ (l : List (Option Run)). length l) running in
@@ -290,9 +303,9 @@ asks_still mid new stay k need is =
 -- ---- the whole of a claim
 
 -- a frame is handed out
-pub rooms_claimed : (old mid new : Core) (w : ℕ) (run : Run) (item : Item) (ticket : Ticket) (places : Places) (row : Row) (slot : Option RoomSize) → HaveRooms old → w < length old.running.items → get_or old.running.items w None ≡ None
+pub rooms_claimed : (old mid new : Core) (w : ℕ) (run : Run) (item : Item) (ticket : Ticket) (places : Places) (row : Row) (slot : Option RoomSize) → HasFrameRooms old → w < length old.running.items → get_or old.running.items w None ≡ None
     → row_at old.table run.row ≡ Some row → mid.running ≡ old.running → RowsGoOn old.table mid.table → LendsItem run.row run.item (Some places) old.table mid.table → AsksAsBefore old.table mid.table → mid.rooms.size ≡ old.rooms.size
-    → mid.rooms.slots.items ≡ set old.rooms.slots.items w slot → TakesRoom (is_node row.job run.item) (slot_at old.rooms.slots.items w) places slot → Enters mid w run item ticket new → HaveRooms new
+    → mid.rooms.slots.items ≡ set old.rooms.slots.items w slot → TakesRoom (is_node row.job run.item) (slot_at old.rooms.slots.items w) places slot → Enters mid w run item ticket new → HasFrameRooms new
 rooms_claimed old mid new w run item ticket places row slot has lt idle here running rows lends asked size_is slots takes e =
     let held : (size : RoomSize) → old.rooms.size ≡ Some size → HoldsRoom size old.table None (slot_at old.rooms.slots.items w) = λ size is. subst (λ (r : Option Run). HoldsRoom size old.table r (slot_at old.rooms.slots.items w)) idle (has.each w size lt is) in
     rooms_entered old mid new w run item ticket has running asked size_is slot slots lt e
@@ -301,8 +314,8 @@ rooms_claimed old mid new w run item ticket places row slot has lt idle here run
     (room_enough old.table mid.table run places rows lends row here size (slot_at old.rooms.slots.items w) slot (held size is) takes) (has.each u size inside is))
 
 -- a compilation is handed out
-pub rooms_kept : (old mid new : Core) (w : ℕ) (run : Run) (item : Item) (ticket : Ticket) → HaveRooms old → w < length old.running.items → get_or old.running.items w None ≡ None
-    → mid.running ≡ old.running → RowsGoOn old.table mid.table → LendsAsBefore old.table mid.table → AsksAsBefore old.table mid.table → mid.rooms ≡ old.rooms → Enters mid w run item ticket new → HaveRooms new
+pub rooms_kept : (old mid new : Core) (w : ℕ) (run : Run) (item : Item) (ticket : Ticket) → HasFrameRooms old → w < length old.running.items → get_or old.running.items w None ≡ None
+    → mid.running ≡ old.running → RowsGoOn old.table mid.table → LendsAsBefore old.table mid.table → AsksAsBefore old.table mid.table → mid.rooms ≡ old.rooms → Enters mid w run item ticket new → HasFrameRooms new
 rooms_kept old mid new w run item ticket has lt idle running rows lends asked rooms e =
     let slots : mid.rooms.slots.items ≡ set old.rooms.slots.items w (slot_at old.rooms.slots.items w) = ap (λ (r : FrameRooms). r.slots.items) rooms ∙ sym (set_back old.rooms.slots.items w) in
     rooms_entered old mid new w run item ticket has running asked (ap (λ (r : FrameRooms). r.size) rooms) (slot_at old.rooms.slots.items w) slots lt e
@@ -314,10 +327,10 @@ rooms_kept old mid new w run item ticket has lt idle running rows lends asked ro
 -- ---- the whole of a finish
 
 -- a frame is back
-pub rooms_back : (old new : Core) (w : ℕ) (run : Run) (row : Row) (places : Places) → HaveRooms old → get_or old.running.items w None ≡ Some run → w < length old.running.items → row_at old.table run.row ≡ Some row
+pub rooms_back : (old new : Core) (w : ℕ) (run : Run) (row : Row) (places : Places) → HasFrameRooms old → get_or old.running.items w None ≡ Some run → w < length old.running.items → row_at old.table run.row ≡ Some row
     → lent_in old.table run.row run.item ≡ Some places → new.running.items ≡ set old.running.items w None → RowsGoOn old.table new.table → lent_of new.table new.running.items ≡ set (lent_of old.table old.running.items) w None
     → ((k : ℕ) (need : RoomSize) → room_in new.table k ≡ Some need → room_in old.table k ≡ Some need) → new.rooms.size ≡ old.rooms.size
-    → new.rooms.slots.items ≡ set old.rooms.slots.items w (slot_after (is_node row.job run.item) (slot_at old.rooms.slots.items w) places) → HaveRooms new
+    → new.rooms.slots.items ≡ set old.rooms.slots.items w (slot_after (is_node row.job run.item) (slot_at old.rooms.slots.items w) places) → HasFrameRooms new
 rooms_back old new w run row places has ran lt here out running rows lent asked size_is slots =
     let slot = slot_after (is_node row.job run.item) (slot_at old.rooms.slots.items w) places in
     rooms_left old new w run has ran running lt rows lent size_is slot slots
@@ -325,13 +338,13 @@ rooms_back old new w run row places has ran lt here out running rows lent asked 
     (λ k need asks. subst (IsWithin need) (sym size_is) (has.needs k need (asked k need asks)))
 
 -- a compilation is back, and the rooms fit the job's nodes
-pub rooms_fit : (old new : Core) (w : ℕ) (run : Run) → HaveRooms old → get_or old.running.items w None ≡ Some run → w < length old.running.items → lent_in old.table run.row run.item ≡ None
+pub rooms_fit : (old new : Core) (w : ℕ) (run : Run) → HasFrameRooms old → get_or old.running.items w None ≡ Some run → w < length old.running.items → lent_in old.table run.row run.item ≡ None
     → new.running.items ≡ set old.running.items w None → RowsGoOn old.table new.table → lent_of new.table new.running.items ≡ set (lent_of old.table old.running.items) w None
     → length new.rooms.slots.items ≡ length old.rooms.slots.items → (need : Option RoomSize) → FitsNeed need old.rooms new.rooms
-    → ((k : ℕ) (asked : RoomSize) → room_in new.table k ≡ Some asked → (room_in old.table k ≡ Some asked) ⊎ (need ≡ Some asked)) → HaveRooms new
+    → ((k : ℕ) (asked : RoomSize) → room_in new.table k ≡ Some asked → (room_in old.table k ≡ Some asked) ⊎ (need ≡ Some asked)) → HasFrameRooms new
 rooms_fit old new w run has ran lt none running rows lent many need fits asks = by_need need fits asks
   where
-    as_were : new.rooms ≡ old.rooms → ((k : ℕ) (asked : RoomSize) → room_in new.table k ≡ Some asked → IsWithin asked old.rooms.size) → HaveRooms new
+    as_were : new.rooms ≡ old.rooms → ((k : ℕ) (asked : RoomSize) → room_in new.table k ≡ Some asked → IsWithin asked old.rooms.size) → HasFrameRooms new
     as_were same within =
         let slots : new.rooms.slots.items ≡ set old.rooms.slots.items w (slot_at old.rooms.slots.items w) = ap (λ (r : FrameRooms). r.slots.items) same ∙ sym (set_back old.rooms.slots.items w) in
         let size_is : new.rooms.size ≡ old.rooms.size = ap (λ (r : FrameRooms). r.size) same in
@@ -339,27 +352,28 @@ rooms_fit old new w run has ran lt none running rows lent many need fits asks = 
         (λ size is. stays_there size old.table run none (slot_at old.rooms.slots.items w) (own_held old new w run has ran running lt rows lent size_is (slot_at old.rooms.slots.items w) slots size is))
         (λ k asked is. subst (IsWithin asked) (sym size_is) (within k asked is))
 
-    grown : (least : RoomSize) → AreGrown least old.rooms new.rooms → ((k : ℕ) (asked : RoomSize) → room_in new.table k ≡ Some asked → (room_in old.table k ≡ Some asked) ⊎ (Some least ≡ Some asked)) → HaveRooms new
+    grown : (least : RoomSize) → AreAllOf (size_with least old.rooms.size) new.rooms → ((k : ℕ) (asked : RoomSize) → room_in new.table k ≡ Some asked → (room_in old.table k ≡ Some asked) ⊎ (Some least ≡ Some asked)) → HasFrameRooms new
     grown least g asks' =
+        let size = size_with least old.rooms.size in
         let one : length new.rooms.slots.items ≡ length new.running.items =
         (let a = has.one_each in let b = ap (λ (l : List (Option Run)). length l) running in let d = length-set old.running.items w None in omega (arith, many, a, b, d)) in
         record {
           one_each = one;
           needs = λ k asked is. ⊎_elim
-              (λ was. let within = has.needs k asked was in (g.size, g.size_is, suffices_on asked within.0 g.size within.2 (g.more within.0 within.1)))
-              (λ (own : Some least ≡ Some asked). let same : least ≡ asked = cc in (g.size, g.size_is, subst (λ (x : RoomSize). Suffices x g.size) same g.enough))
+              (λ was. let within = has.needs k asked was in (size, g.size_is, suffices_on asked within.0 size within.2 (with_more least old.rooms.size within.0 within.1)))
+              (λ (own : Some least ≡ Some asked). let same : least ≡ asked = cc in (size, g.size_is, subst (λ (x : RoomSize). Suffices x size) same (with_enough least old.rooms.size)))
               (asks' k asked is);
-          each = λ u size inside is.
-              let same : g.size ≡ size = (let e : Some g.size ≡ Some size = sym g.size_is ∙ is in cc) in
-              held_as size new.table new.table (get_or new.running.items u None) (get_or new.running.items u None) (Some g.size) (slot_at new.rooms.slots.items u) refl refl (g.each u (omega (arith, inside, one))) (subst (λ (x : RoomSize). Suffices x g.size) same (suffices_itself g.size));
+          each = λ u asked inside is.
+              let same : size ≡ asked = (let e : Some size ≡ Some asked = sym g.size_is ∙ is in cc) in
+              held_as asked new.table new.table (get_or new.running.items u None) (get_or new.running.items u None) (Some size) (slot_at new.rooms.slots.items u) refl refl (g.each u (omega (arith, inside, one))) (subst (λ (x : RoomSize). Suffices x size) same (suffices_itself size));
         }
 
-    by_need : (o : Option RoomSize) → FitsNeed o old.rooms new.rooms → ((k : ℕ) (asked : RoomSize) → room_in new.table k ≡ Some asked → (room_in old.table k ≡ Some asked) ⊎ (o ≡ Some asked)) → HaveRooms new
+    by_need : (o : Option RoomSize) → FitsNeed o old.rooms new.rooms → ((k : ℕ) (asked : RoomSize) → room_in new.table k ≡ Some asked → (room_in old.table k ≡ Some asked) ⊎ (o ≡ Some asked)) → HasFrameRooms new
     by_need None same asks' = as_were same (λ k asked is. ⊎_elim (λ was. has.needs k asked was) (λ (own : None ≡ Some asked). absurd (cc)) (asks' k asked is))
     by_need (Some least) fits' asks' = ⊎_elim
-        (λ (t : (new.rooms ≡ old.rooms) × IsWithin least old.rooms.size).
-        as_were t.0 (λ k asked is. ⊎_elim (λ was. has.needs k asked was) (λ (own : Some least ≡ Some asked). let same : least ≡ asked = cc in subst (λ (x : RoomSize). IsWithin x old.rooms.size) same t.1) (asks' k asked is)))
-        (λ g. grown least g asks')
+        (λ (t : IsWithin least old.rooms.size × (new.rooms ≡ old.rooms)).
+        as_were t.1 (λ k asked is. ⊎_elim (λ was. has.needs k asked was) (λ (own : Some least ≡ Some asked). let same : least ≡ asked = cc in subst (λ (x : RoomSize). IsWithin x old.rooms.size) same t.0) (asks' k asked is)))
+        (λ (t : (¬ (IsWithin least old.rooms.size)) × AreAllOf (size_with least old.rooms.size) new.rooms). grown least t.1 asks')
         fits'
 
 -- the compilation of the job in a row is done: the other jobs ask for what they asked for

@@ -30,7 +30,7 @@ use Rattle.firing_board.specs.Table.Calls.{LendsItem, MarksItem, StaysAs}
 use Rattle.firing_board.specs.Table.View.{TableView, firings_of, lent_by, lent_in, job_row, row_at, table_of}
 use Rattle.firing_board.specs.declared.table.row.Row.{Row}
 use Rattle.firing_board.specs.Claims.{Claims, EntersAs, EntersItem, IsTicket, Picks}
-use Rattle.firing_board.specs.Core.{HasRoom, held_of}
+use Rattle.firing_board.specs.Core.{HasMemory, held_of}
 use Rattle.firing_board.specs.Firings.{FiringsGoOn, LeasesFrame, LeasesNode}
 use Rattle.firing_board.specs.Finding.{IsFound}
 use Rattle.firing_board.specs.Handing.{HandsCompilation, HandsFrame, HandsOut, claim_of, path_in}
@@ -208,7 +208,7 @@ module _ (laws : ClaimLaws) (key : Key) (old : Core) (w : ℕ) (may : MayClaim k
             found.opens;
       }
 
-  module _ (room : HasRoom new) (result : Claim) (h : HandsOut mid w run new result) where
+  module _ (room : HasMemory new) (result : Claim) (h : HandsOut mid w run new result) where
     is_row : h.row ≡ found.row
     is_row = the_same (row_at mid.table run.row) h.row found.row h.here found.here
 

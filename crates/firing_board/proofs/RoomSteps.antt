@@ -4,9 +4,9 @@ use Rattle.board_journal.specs.View.{JournalView}
 use Rattle.board_rules.specs.declared.entry.Item.{Item}
 use Rattle.firing_board.specs.Table.View.{free_items}
 use Rattle.firing_board.specs.Closing.{KeepsJournal}
-use Rattle.firing_board.specs.Core.{HasEntries, HasRoom, runners}
+use Rattle.firing_board.specs.Core.{HasJournalRoom, HasMemory, runners}
 use Rattle.firing_board.specs.Handing.{Enters}
-use Rattle.firing_board.specs.Kept.{HasRoomUnless}
+use Rattle.firing_board.specs.Kept.{HasMemoryUnless}
 use Rattle.firing_board.specs.Returning.{Leaves}
 use Rattle.firing_board.specs.declared.claim.Ticket.{Ticket}
 use Rattle.firing_board.specs.declared.run.Run.{Run}
@@ -14,8 +14,8 @@ use Rattle.firing_board.specs.declared.state.Core.{Core}
 use Rattle.firing_board.proofs.Runners.{runners_less, runners_more}
 
 -- an item that was free is claimed
-pub entered_room : (old mid new : Core) (w : ℕ) (run : Run) (item : Item) (ticket : Ticket) → HasEntries old → mid.running ≡ old.running → mid.journal ≡ old.journal → free_items old.table ≡ free_items mid.table + 1
-    → Enters mid w run item ticket new → HasEntries new
+pub entered_room : (old mid new : Core) (w : ℕ) (run : Run) (item : Item) (ticket : Ticket) → HasJournalRoom old → mid.running ≡ old.running → mid.journal ≡ old.journal → free_items old.table ≡ free_items mid.table + 1
+    → Enters mid w run item ticket new → HasJournalRoom new
 entered_room old mid new w run item ticket has running journal fewer e =
     let more = runners_more mid.running.items w run in
     let now : runners new.running.items ≡ runners (set mid.running.items w (Some run)) = ap runners e.running_are in
@@ -48,14 +48,14 @@ leaves_more old mid new w run l running numbers end paths entries more = record 
 }
 
 -- jobs are closed
-pub closed_room : (mid new : Core) → KeepsJournal mid new → free_items new.table ≤ free_items mid.table → HasEntries mid → HasEntries new
+pub closed_room : (mid new : Core) → KeepsJournal mid new → free_items new.table ≤ free_items mid.table → HasJournalRoom mid → HasJournalRoom new
 closed_room mid new kept fewer has =
     let running : runners new.running.items ≡ runners mid.running.items = ap (λ rs. runners rs.items) kept.running_is in
     let room : new.journal.room ≡ mid.journal.room = ap (λ (j : JournalView). j.room) kept.journal_is in
     omega (arith, has, fewer, running, room)
 
 -- where a finish keeps it
-pub room_unless : (starved after : Bool) (old new : Core) → (starved ≡ true → after ≡ true) → HasRoomUnless starved old → (after ≡ false → HasRoom old → HasRoom new) → HasRoomUnless after new
+pub room_unless : (starved after : Bool) (old new : Core) → (starved ≡ true → after ≡ true) → HasMemoryUnless starved old → (after ≡ false → HasMemory old → HasMemory new) → HasMemoryUnless after new
 room_unless starved true old new stays was go = tt
 room_unless false false old new stays was go = go refl was
 room_unless true false old new stays was go = absurd (let wrong = stays refl in cc)

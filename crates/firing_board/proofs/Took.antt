@@ -8,7 +8,7 @@ use Rattle.board_rules.specs.declared.entry.Item.{Item}
 use Rattle.board_journal.specs.View.{JournalView}
 use Rattle.firing_board.specs.Table.Calls.{LendsAsBefore, LendsItem, MarksItem}
 use Rattle.firing_board.specs.Table.View.{TableView}
-use Rattle.firing_board.specs.Core.{HasRoom}
+use Rattle.firing_board.specs.Core.{HasMemory}
 use Rattle.firing_board.specs.Handing.{Enters, path_in}
 use Rattle.firing_board.specs.declared.claim.Ticket.{Ticket}
 use Rattle.firing_board.specs.declared.state.Core.{Core}
@@ -20,12 +20,12 @@ pub record Took (mid : Core) (w : ℕ) (run : Run) (item : Item) (ticket : Ticke
   pub numbers_are : new.numbers.items ≡ mid.numbers.items
   pub paths_are : new.journal.paths ≡ mid.journal.paths
   pub entries_are : new.journal.entries ≡ mid.journal.entries ++ entry.Claim w (path_in mid run.row) item ∷ []
-  pub room : HasRoom new
+  pub room : HasMemory new
   pub end_is : new.end ≡ mid.end
   pub ticket_is : ticket ≡ record { worker = w; entry = length mid.journal.entries }
 
 pub took : (mid claimed new : Core) (w : ℕ) (run : Run) (item : Item) (ticket : Ticket) → claimed.running ≡ mid.running → claimed.numbers ≡ mid.numbers
-    → claimed.journal ≡ mid.journal → claimed.end ≡ mid.end → HasRoom new → Enters claimed w run item ticket new → Took mid w run item ticket new
+    → claimed.journal ≡ mid.journal → claimed.end ≡ mid.end → HasMemory new → Enters claimed w run item ticket new → Took mid w run item ticket new
 took mid claimed new w run item ticket running numbers journal end room e =
     let paths : claimed.journal.paths ≡ mid.journal.paths = ap (λ (j : JournalView). j.paths) journal in
     let entries : claimed.journal.entries ≡ mid.journal.entries = ap (λ (j : JournalView). j.entries) journal in

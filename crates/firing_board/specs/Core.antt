@@ -84,9 +84,9 @@ AreNumbered table numbers paths = (k : ℕ) (row : Row) → row_at table k ≡ S
 abbrev pub entries_to_come : Core → ℕ
 entries_to_come c = runners c.running.items + 2 * free_items c.table
 
--- there is room for them
-abbrev pub HasEntries : Core → Type 0
-HasEntries c = entries_to_come c ≤ c.journal.room
+-- the journal has room for them
+abbrev pub HasJournalRoom : Core → Type 0
+HasJournalRoom c = entries_to_come c ≤ c.journal.room
 
 -- ---- rooms for frames
 
@@ -111,15 +111,15 @@ HoldsRoom size table run None = OutWith size table run
 HoldsRoom size table run (Some room) = Suffices size room
 
 -- the rooms of workers suffice for the frame of any node of an open job; while no job has nodes, none has to be there
-pub record HaveRooms (c : Core) : Type 0 where
+pub record HasFrameRooms (c : Core) : Type 0 where
   pub one_each : length c.rooms.slots.items ≡ length c.running.items
   pub needs : (k : ℕ) (need : RoomSize) → room_in c.table k ≡ Some need → IsWithin need c.rooms.size
   pub each : (w : ℕ) (size : RoomSize) → w < length c.running.items → c.rooms.size ≡ Some size → HoldsRoom size c.table (slice_index_or c.running.items w None) (slot_at c.rooms.slots.items w)
 
--- there is room for the entries that may come, and for the frames
-pub record HasRoom (c : Core) : Type 0 where
-  pub entries : HasEntries c
-  pub rooms : HaveRooms c
+-- the memory that was taken for what is to come: in the journal for its entries, and rooms for the frames of nodes
+pub record HasMemory (c : Core) : Type 0 where
+  pub in_journal : HasJournalRoom c
+  pub for_frames : HasFrameRooms c
 
 -- ---- the end
 

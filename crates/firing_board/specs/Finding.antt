@@ -6,7 +6,6 @@ use Rattle.nested_jobs.specs.Steps.{IsEnabled}
 use Rattle.job_rules.specs.Words.{Answer}
 use Rattle.graph_firing.specs.View.{IsOfferedWork}
 use Rattle.pisdf_meaning.specs.declared.firing.Firing.{Firing}
-use Rattle.board_rules.specs.Asking.{NoRowOffers}
 use Rattle.board_rules.specs.Board.{HasOpened}
 use Rattle.board_rules.specs.Entries.{Step}
 use Rattle.board_rules.specs.Keys.{Key, rules}
@@ -15,7 +14,7 @@ use Rattle.board_rules.specs.Picks.{IsPick, is_open}
 use Rattle.firing_board.specs.Table.Suits.{Suits}
 use Rattle.firing_board.specs.Table.View.{row_at, table_of}
 use Rattle.firing_board.specs.declared.table.row.Row.{Row}
-use Rattle.firing_board.specs.Core.{AreNumbered, StandsAt}
+use Rattle.firing_board.specs.Core.{AreNumbered}
 use Rattle.firing_board.specs.declared.state.Core.{Core}
 use Rattle.firing_board.specs.declared.run.Run.{Run}
 
@@ -31,11 +30,6 @@ pub record IsFound (key : Key) (taken : List Step) (old : Core) (w : ℕ) (new :
   pub numbered : AreNumbered new.table new.numbers.items new.journal.paths
   -- nothing was opened, or the item's job was
   pub opens : (new ≡ old) ⊎ (is_open ((state_after key taken).marks row.place) ≡ false)
-
--- these steps were taken, and no job offers work
-pub record HasNoWork (key : Key) (taken : List Step) (c : Core) : Type 0 where
-  pub stands : StandsAt key taken c
-  pub none : NoRowOffers key false (table_of c.table)
 
 -- none is picked exactly where nothing is enabled
 abbrev pub Finds : Key → List Step → Core → ℕ → Core → Option Run → Type 0

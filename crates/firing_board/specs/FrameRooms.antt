@@ -1,5 +1,5 @@
 -- Rooms for the frames of nodes, one for each worker.
-use Rattle.std.specs.Prelude.{◌≡◌, ◌⊎◌, ℕ, ◌<◌, Bool, List, Option, Some, None, length, slice_index_or, slice_set}
+use Rattle.std.specs.Prelude.{◌≡◌, ◌⊎◌, ℕ, ◌<◌, max, Bool, List, Option, Some, None, length, slice_index_or, slice_set}
 use Rattle.kernel_gate.specs.Rooms.{Suffices}
 use Rattle.kernel_gate.specs.Value.{Places}
 use Rattle.kernel_gate.specs.declared.room.RoomSize.{RoomSize}
@@ -24,15 +24,22 @@ pub record TakesSlot (node : Bool) (w : ℕ) (places : Places) (old new : FrameR
 abbrev pub IsWithin : RoomSize → Option RoomSize → Type 0
 IsWithin need size = (s : RoomSize) × (size ≡ Some s) × Suffices need s
 
--- all rooms are new, and are of a size that suffices, as it does for what was asked for before
-pub record AreGrown (need : RoomSize) (old new : FrameRooms) : Type 0 where
-  pub size : RoomSize
-  pub size_is : new.size ≡ Some size
-  pub each : AreOf size new.slots.items
-  pub enough : Suffices need size
-  pub more : (s : RoomSize) → old.size ≡ Some s → Suffices s size
+-- the least size that suffices where one of these is asked for
+abbrev pub larger : (one other : RoomSize) → RoomSize
+larger one other = record { inputs = max one.inputs other.inputs; outputs = max one.outputs other.outputs; args = max one.args other.args }
 
--- rooms are as they were, where they suffice for what is asked for, or all are new and suffice for it
+-- that of what is needed, and of what was needed before
+abbrev pub size_with : (need : RoomSize) (before : Option RoomSize) → RoomSize
+size_with need None = need
+size_with need (Some size) = larger need size
+
+-- each slot has a room of this very size
+pub record AreAllOf (size : RoomSize) (rooms : FrameRooms) : Type 0 where
+  pub size_is : rooms.size ≡ Some size
+  pub each : AreOf size rooms.slots.items
+
+-- all is as it was, where nothing is needed or the rooms suffice for it; else each slot has a room of just the size that suffices
+-- for it and for what was needed before
 abbrev pub FitsNeed : Option RoomSize → FrameRooms → FrameRooms → Type 0
 FitsNeed None old new = new ≡ old
-FitsNeed (Some need) old new = ((new ≡ old) × IsWithin need old.size) ⊎ AreGrown need old new
+FitsNeed (Some need) old new = (IsWithin need old.size × (new ≡ old)) ⊎ ((¬ (IsWithin need old.size)) × AreAllOf (size_with need old.size) new)

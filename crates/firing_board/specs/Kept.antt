@@ -5,7 +5,7 @@ use Rattle.pisdf_meaning.specs.declared.firing.Firing.{Firing}
 use Rattle.board_rules.specs.Entries.{Step}
 use Rattle.board_rules.specs.Keys.{IsKey, Key}
 use Rattle.firing_board.specs.Table.View.{firings_of}
-use Rattle.firing_board.specs.Core.{HasRoom, IsLentToRunners, RowsHaveOwners, StandsAt, lent_of, runners}
+use Rattle.firing_board.specs.Core.{HasMemory, IsLentToRunners, RowsHaveOwners, StandsAt, lent_of, runners}
 use Rattle.firing_board.specs.Starved.{StarvesAt}
 use Rattle.firing_board.specs.View.{BoardView}
 use Rattle.firing_board.specs.declared.board.Board.TheInside.{Inside}
@@ -39,9 +39,9 @@ pub record Keeps (key : Key) (c : Core) (starved : Bool) : Type 0 where
   pub at : StandsOrStarves starved key taken c
 
 -- unless memory was wanted, so has each entry that may come, and each frame
-abbrev pub HasRoomUnless : Bool → Core → Type 0
-HasRoomUnless false c = HasRoom c
-HasRoomUnless true c = Unit {0}
+abbrev pub HasMemoryUnless : Bool → Core → Type 0
+HasMemoryUnless false c = HasMemory c
+HasMemoryUnless true c = Unit {0}
 
 abbrev pub IsBoard : Inside → Type 0
-IsBoard i = Keeps (key_of i) i.core i.starved × (length i.compiling.items ≡ length i.core.running.items) × HasRoomUnless i.starved i.core × (length i.core.rooms.slots.items ≡ length i.core.running.items)
+IsBoard i = Keeps (key_of i) i.core i.starved × (length i.compiling.items ≡ length i.core.running.items) × HasMemoryUnless i.starved i.core × (length i.core.rooms.slots.items ≡ length i.core.running.items)

@@ -9,7 +9,7 @@ ghost use Rattle.graph_firing.specs.Calls.{IsHanded, frame_of};
 ghost use Rattle.graph_firing.specs.Rooms.{HasRoomFor, is_node};
 ghost use Rattle.nested_jobs.specs.Marks.{Busy};
 ghost use Rattle.graph_firing.specs.View.{IsOfferedCompilation, IsOfferedWork, compilation_of, graph_in};
-ghost use Rattle.firing_board.specs.Core.{HasRoom, IsNumbered};
+ghost use Rattle.firing_board.specs.Core.{HasMemory, IsNumbered};
 ghost use Rattle.firing_board.specs.Handing.{Enters, HandsCompilation, HandsFrame, HandsOut, MayEnter, claim_of};
 ghost use Rattle.firing_board.specs.Kept.{view_with};
 ghost use Rattle.firing_board.specs.OnCore.{ClaimsOn, KeepsKey, MayClaim, StarvesOn};
@@ -87,10 +87,10 @@ fn claim_item(table: &mut JobTable, rooms: &mut FrameRooms, worker: u32, run: Ru
 /// Hands out the frame of an item other than a compilation. That of a node is made in the room of the worker.
 fn hand_frame(core: &mut Core, worker: u32, run: Run, item: Item) -> Claim
     requires enter { MayEnter core.old worker run }
-    requires room { HasRoom core.old }
+    requires room { HasMemory core.old }
     requires offered { HasJob (λ job. IsOfferedWork job run.item × (run.item ≢ compilation_of job)) core.old.table run.row }
     ensures handed { HandsFrame core.old worker run item core.new result }
-    ensures room { HasRoom core.new }
+    ensures room { HasMemory core.new }
     ensures slots { length core.new.rooms.slots.items ≡ length core.old.rooms.slots.items }
 {
     let handed = claim_item(&mut core.table, &mut core.rooms, worker, run);
@@ -113,10 +113,10 @@ fn hand_compilation(
     compiled: Option<Arc<Compiled>>,
 ) -> Result<Claim, AllocError>
     requires enter { MayEnter core.old worker run }
-    requires room { HasRoom core.old }
+    requires room { HasMemory core.old }
     requires offered { HasJob IsOfferedCompilation core.old.table run.row }
     ensures handed { IfOk result (HandsCompilation core.old worker run core.new) }
-    ensures room { OnOk result (HasRoom core.new) }
+    ensures room { OnOk result (HasMemory core.new) }
     ensures rooms { core.new.rooms ≡ core.old.rooms }
     ensures refused { OnErr result (core.new ≡ core.old) }
 {
@@ -141,9 +141,9 @@ fn hand_out(
     requires idle { slice_index_or core.old.running.items worker None ≡ None }
     requires numbered { (path : Seq ℕ) × IsNumbered core.old.numbers.items core.old.journal.paths run.row path }
     requires offered { HasJob (λ job. IsOfferedWork job run.item) core.old.table run.row }
-    requires room { HasRoom core.old }
+    requires room { HasMemory core.old }
     ensures handed { IfOk result (HandsOut core.old worker run core.new) }
-    ensures room { OnOk result (HasRoom core.new) }
+    ensures room { OnOk result (HasMemory core.new) }
     ensures slots { length core.new.rooms.slots.items ≡ length core.old.rooms.slots.items }
     ensures compiles { OnErr result (HasJob (λ job. run.item ≡ compilation_of job) core.old.table run.row) }
     ensures refused { OnErr result (core.new ≡ core.old) }
@@ -177,10 +177,10 @@ pub(crate) fn claim(
     compiling: &mut Vec<Option<Key>>,
 ) -> Result<Claim, AllocError>
     requires may { (key : BoardKey) × MayClaim key core.old worker }
-    requires room { HasRoom core.old }
+    requires room { HasMemory core.old }
     requires compiling { length compiling.old.items ≡ length core.old.running.items }
     ensures claimed { IfOk result (λ claim. (key : BoardKey) → MayClaim key core.old worker → ClaimsOn key core.old worker core.new claim) }
-    ensures room { OnOk result (HasRoom core.new) }
+    ensures room { OnOk result (HasMemory core.new) }
     ensures refused { OnErr result ((key : BoardKey) → MayClaim key core.old worker → StarvesOn key core.old core.new) }
     ensures licensed { OnErr result ((key : BoardKey) → MayClaim key core.old worker → MayStarve (view_with key core.old false) worker) }
     ensures kept { KeepsKey core.old core.new × (length compiling.new.items ≡ length compiling.old.items) × (is_some kept.new ≡ is_some kept.old) }

@@ -3,17 +3,17 @@ ghost use Rattle.std.specs.Prelude.{◌≡◌, ◌<◌, List as Seq, IfOk, OnErr
 ghost use Rattle.board_rules.specs.Entries.{Step};
 ghost use Rattle.board_rules.specs.Keys.{Key};
 ghost use Rattle.board_rules.specs.Legal.{state_after};
-ghost use Rattle.firing_board.specs.Finding.{Finds, HasNoWork};
+ghost use Rattle.firing_board.specs.Finding.{Finds};
 ghost use Rattle.firing_board.specs.Opening.{KeepsRuns, MayOpen, OpensAt, OpensWay};
-ghost use Rattle.firing_board.specs.Core.{HasRoom, StandsAt};
+ghost use Rattle.firing_board.specs.Core.{HasMemory, StandsAt};
 ghost use Rattle.firing_board.specs.Wanting.{PicksInNew};
 
+use crate::journal_room::room_for;
 use crate::laws::{calls_are_fit, tables_suit};
 use crate::numbering::number_row;
-use crate::rooms::room_for;
 use crate::run::Run;
 use crate::state::Core;
-use crate::table::Begins;
+use crate::table::{Begins, Picked};
 use board_rules::{boards_keep, paths_stay, rows_are_asked, workers_are_answered};
 use job_rules::rules_are_lawful;
 use std::alloc::{AllocError, Global};
@@ -26,7 +26,7 @@ use std::alloc::{AllocError, Global};
 fn open(alloc: Global, core: &mut Core, at: Run) -> Result<usize, AllocError>
     requires { MayOpen core.old at }
     ensures opened { IfOk result (λ child. OpensAt core.old at child core.new) }
-    ensures room { OnOk result (HasRoom core.old → HasRoom core.new) }
+    ensures room { OnOk result (HasMemory core.old → HasMemory core.new) }
     ensures kept { KeepsRuns core.old core.new }
 {
     let child = core.table.open_child(alloc, at.row, at.item)?;
@@ -46,7 +46,7 @@ fn open(alloc: Global, core: &mut Core, at: Run) -> Result<usize, AllocError>
 pub(crate) fn open_way(alloc: Global, core: &mut Core, at: Run) -> Result<Run, AllocError>
     requires { MayOpen core.old at }
     ensures opened { IfOk result (λ run. OpensWay core.old at core.new run) }
-    ensures room { OnOk result (HasRoom core.old → HasRoom core.new) }
+    ensures room { OnOk result (HasMemory core.old → HasMemory core.new) }
     ensures kept { KeepsRuns core.old core.new }
 {
     boards_keep();
@@ -64,7 +64,8 @@ pub(crate) fn open_way(alloc: Global, core: &mut Core, at: Run) -> Result<Run, A
     }
 }
 
-/// The item that is picked for a worker, whose job is open then; none where nothing may be claimed.
+/// The item that is picked for a worker, whose job is open then; none where nothing may be claimed. Of a call it is the first
+/// item of the job that the call opens.
 ///
 /// # Errors
 ///
@@ -72,33 +73,8 @@ pub(crate) fn open_way(alloc: Global, core: &mut Core, at: Run) -> Result<Run, A
 pub(crate) fn find(alloc: Global, core: &mut Core, worker: u32) -> Result<Option<Run>, AllocError>
     requires { (key : Key) × (taken : Seq Step) × StandsAt key taken core.old }
     ensures found { IfOk result (λ run. (key : Key) (taken : Seq Step) → StandsAt key taken core.old → Finds key taken core.old worker core.new run) }
-    ensures room { OnOk result (HasRoom core.old → HasRoom core.new) }
+    ensures room { OnOk result (HasMemory core.old → HasMemory core.new) }
     ensures wants { OnErr result ((key : Key) (taken : Seq Step) → StandsAt key taken core.old → PicksInNew key (state_after key taken) worker) }
-    ensures kept { KeepsRuns core.old core.new }
-{
-    boards_keep();
-    rows_are_asked();
-    paths_stay();
-    calls_are_fit();
-    match core.table.first_work(worker) {
-        Some(asked) => Ok(Some(Run {
-            row: asked.row,
-            item: asked.offer.item,
-        })),
-        None => find_call(alloc, core, worker),
-    }
-}
-
-/// The first item of the job that the first call opens; none where no job calls any.
-///
-/// # Errors
-///
-/// Want of memory.
-fn find_call(alloc: Global, core: &mut Core, worker: u32) -> Result<Option<Run>, AllocError>
-    requires { (key : Key) × (taken : Seq Step) × HasNoWork key taken core.old }
-    ensures found { IfOk result (λ run. (key : Key) (taken : Seq Step) → HasNoWork key taken core.old → Finds key taken core.old worker core.new run) }
-    ensures room { OnOk result (HasRoom core.old → HasRoom core.new) }
-    ensures wants { OnErr result ((key : Key) (taken : Seq Step) → HasNoWork key taken core.old → PicksInNew key (state_after key taken) worker) }
     ensures kept { KeepsRuns core.old core.new }
 {
     boards_keep();
@@ -107,11 +83,15 @@ fn find_call(alloc: Global, core: &mut Core, worker: u32) -> Result<Option<Run>,
     calls_are_fit();
     rules_are_lawful();
     workers_are_answered();
-    match core.table.first_call(worker) {
-        Some(asked) => {
+    match core.table.pick(worker) {
+        Some(Picked::Work(work)) => Ok(Some(Run {
+            row: work.row,
+            item: work.offer.item,
+        })),
+        Some(Picked::Call(call)) => {
             let at = Run {
-                row: asked.row,
-                item: asked.offer.item,
+                row: call.row,
+                item: call.offer.item,
             };
             let run = open_way(alloc, core, at)?;
             Ok(Some(run))

@@ -4,7 +4,7 @@ ghost use Rattle.board_rules.specs.Keys.{Key};
 ghost use Rattle.firing_board.specs.Table.Closing.{ClosesLong, IsClosingFrom};
 ghost use Rattle.firing_board.specs.Table.View.{free_items, room_in};
 ghost use Rattle.firing_board.specs.Closing.{ClosesOn, KeepsJournal};
-ghost use Rattle.firing_board.specs.Core.{HasEntries, HasRoom};
+ghost use Rattle.firing_board.specs.Core.{HasJournalRoom, HasMemory};
 ghost use Rattle.firing_board.specs.FrameRooms.{FitsNeed};
 ghost use Rattle.firing_board.specs.Ends.{HasLongTraces};
 ghost use Rattle.firing_board.specs.Finishes.{MayComeBack, MayEnd};
@@ -13,8 +13,8 @@ ghost use Rattle.firing_board.specs.OnCore.{FinishesOn, KeepsKey, MayLeave};
 ghost use Rattle.firing_board.specs.Returning.{Compiles, GivesUp, Leaves, MayCompile, MayReturn, Returns, RunsItem};
 
 use crate::frame_rooms::fit_rooms;
+use crate::journal_room::room_for_nodes;
 use crate::laws::tables_suit;
-use crate::rooms::room_for_nodes;
 use crate::run::Run;
 use crate::state::Core;
 use board_rules::{boards_keep, entries_tell_steps, journals_grow};
@@ -52,7 +52,7 @@ fn take_back(core: &mut Core, worker: u32, frame: Frame, answer: Result<(), Kern
     requires room { 0 < core.old.journal.room }
     requires slot { worker < length core.old.rooms.slots.items }
     ensures returns { Returns frame answer core.old worker core.new result }
-    ensures room { HasEntries core.old → HasEntries core.new }
+    ensures room { HasJournalRoom core.old → HasJournalRoom core.new }
 {
     let run = leave(core, worker);
     let slot = &mut core.rooms.slots[worker as usize];
@@ -74,7 +74,7 @@ fn take_compilation(
     requires item { RunsItem (MayCompile end) core.old worker }
     requires room { 0 < core.old.journal.room }
     ensures compiled { IfOk result (Compiles end core.old worker core.new) }
-    ensures room { OnOk result (HasEntries core.old → HasEntries core.new) }
+    ensures room { OnOk result (HasJournalRoom core.old → HasJournalRoom core.new) }
     ensures refused { OnErr result (GivesUp core.old worker core.new) }
     ensures rooms { core.new.rooms ≡ core.old.rooms }
 {
@@ -139,7 +139,7 @@ pub(crate) fn finish_frame(
     requires slots { length core.old.rooms.slots.items ≡ length core.old.running.items }
     ensures finished { (key : Key) → MayLeave key core.old starved worker (MayComeBack key frame answer (IsOk answer)) (Some frame.places) → FinishesOn key core.old starved worker core.new result }
     ensures kept { KeepsKey core.old core.new }
-    ensures room { HasRoom core.old → HasRoom core.new }
+    ensures room { HasMemory core.old → HasMemory core.new }
     ensures live { starved ≡ false → result ≡ true → (key : Key) → MayLeave key core.old starved worker (MayComeBack key frame answer (IsOk answer)) (Some frame.places) → HasLongTraces (view_with key core.new true) }
 {
     boards_keep();
@@ -162,7 +162,7 @@ pub(crate) fn finish_compilation(
     requires { (key : Key) × MayLeave key core.old starved worker (MayEnd key end) None }
     ensures finished { (key : Key) → MayLeave key core.old starved worker (MayEnd key end) None → FinishesOn key core.old starved worker core.new result }
     ensures kept { KeepsKey core.old core.new }
-    ensures room { result ≡ false → HasRoom core.old → HasRoom core.new }
+    ensures room { result ≡ false → HasMemory core.old → HasMemory core.new }
     ensures memory { end ≡ CompileEnd.Memory → result ≡ true }
 {
     boards_keep();

@@ -1,7 +1,7 @@
 // Each worker has a room, in which the frame of the node is made that it claims. So a claim takes no memory for a frame.
-ghost use Rattle.std.specs.Prelude.{◌≡◌, ◌≤◌, IfOk, None, OnOk, Some, length, replicate, true};
+ghost use Rattle.std.specs.Prelude.{◌≡◌, ◌↔◌, IfOk, IsTrue, None, OnOk, Some, length, replicate};
 ghost use Rattle.kernel_gate.specs.Rooms.{Suffices};
-ghost use Rattle.firing_board.specs.FrameRooms.{AreOf, FitsNeed};
+ghost use Rattle.firing_board.specs.FrameRooms.{AreAllOf, AreOf, FitsNeed, larger};
 
 use kernel_gate::{Room, RoomSize};
 use std::alloc::{AllocError, Global};
@@ -58,26 +58,19 @@ fn make_rooms(
 
 /// Whether a room of the second size suffices where one of the first is asked for.
 fn suffices(least: RoomSize, size: RoomSize) -> bool
-    ensures yes { result ≡ true → Suffices least size }
+    ensures { IsTrue result ↔ Suffices least size }
 {
     least.inputs <= size.inputs && least.outputs <= size.outputs && least.args <= size.args
 }
 
-/// The greater of two numbers.
-fn greater(one: usize, other: usize) -> usize
-    ensures { (one ≤ result) × (other ≤ result) }
-{
-    if one < other { other } else { one }
-}
-
-/// A size that suffices where one of these is asked for.
-fn both(one: RoomSize, other: RoomSize) -> RoomSize
-    ensures { (Suffices one result) × (Suffices other result) }
+/// The least size that suffices where one of these is asked for.
+fn larger(one: RoomSize, other: RoomSize) -> RoomSize
+    ensures { result ≡ larger one other }
 {
     RoomSize {
-        inputs: greater(one.inputs, other.inputs),
-        outputs: greater(one.outputs, other.outputs),
-        args: greater(one.args, other.args),
+        inputs: one.inputs.max(other.inputs),
+        outputs: one.outputs.max(other.outputs),
+        args: one.args.max(other.args),
     }
 }
 
@@ -87,7 +80,7 @@ fn both(one: RoomSize, other: RoomSize) -> RoomSize
 ///
 /// Want of memory.
 fn grow(alloc: Global, rooms: &mut FrameRooms, size: RoomSize) -> Result<(), AllocError>
-    ensures made { OnOk result ((AreOf size rooms.new.slots.items) × (rooms.new.size ≡ Some size)) }
+    ensures made { OnOk result (AreAllOf size rooms.new) }
     ensures many { length rooms.new.slots.items ≡ length rooms.old.slots.items }
 {
     make_rooms(alloc, &mut rooms.slots, size)?;
@@ -95,7 +88,7 @@ fn grow(alloc: Global, rooms: &mut FrameRooms, size: RoomSize) -> Result<(), All
     Ok(())
 }
 
-/// Makes larger rooms for all workers, where the frames of a job's nodes take more than the rooms have.
+/// Makes larger rooms for all workers, where the frames of a job's nodes take more than the rooms have. Else it changes nothing.
 ///
 /// # Errors
 ///
@@ -115,7 +108,7 @@ pub(crate) fn fit_rooms(
             if suffices(need, size) {
                 Ok(())
             } else {
-                grow(alloc, rooms, both(need, size))
+                grow(alloc, rooms, larger(need, size))
             }
         }
     }

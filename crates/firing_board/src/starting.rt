@@ -7,10 +7,10 @@ ghost use Rattle.job_rules.specs.Meant.{IsFit};
 ghost use Rattle.graph_firing.specs.View.{compilation_of};
 ghost use Rattle.pisdf_model.specs.Valid.{AreValid};
 ghost use Rattle.firing_board.specs.Beginning.{IsStartedOn};
-ghost use Rattle.firing_board.specs.Core.{HasRoom};
+ghost use Rattle.firing_board.specs.Core.{HasMemory};
 
 use crate::frame_rooms::{FrameRooms, no_rooms};
-use crate::rooms::room_for;
+use crate::journal_room::room_for;
 use crate::run::Run;
 use crate::state::Core;
 use crate::table::JobTable;
@@ -41,8 +41,9 @@ pub(crate) fn nothing_compiles(alloc: Global, workers: u32) -> Result<Vec<Option
     Ok(compiling)
 }
 
-/// Room for what the top job takes of the journal, and no room for frames yet.
-fn first_rooms(
+/// The memory that a board has at its start: in the journal for the entries of the top job, and a slot for the room of each
+/// worker, in which none lies yet.
+fn first_memory(
     alloc: Global,
     journal: &mut Journal,
     job: &OpenJob,
@@ -70,14 +71,14 @@ pub(crate) fn start_core(
     requires some { 1 ≤ workers }
     requires empty { IsEmpty journal }
     ensures started { IfOk result (IsStartedOn (arc_value graphs) workers firing) }
-    ensures room { IfOk result HasRoom }
+    ensures room { IfOk result HasMemory }
 {
     let running = nothing_runs(alloc, workers)?;
     let path = firing.path.copy()?;
     let _number = journal.add_path(path)?;
     let numbers = Vec::new(alloc);
     let table = JobTable::start(alloc, graphs, workers, firing)?;
-    match first_rooms(alloc, &mut journal, table.job(0), workers) {
+    match first_memory(alloc, &mut journal, table.job(0), workers) {
         Ok(rooms) => Ok(Core {
             table,
             running,

@@ -18,7 +18,7 @@ use job_preparing::{CompileEnd, CompileTask, JobGiven};
 use job_rules::rules_are_lawful;
 use kernel_gate::{Frame, KernelFault, Room};
 use opening::{child_place, child_steps, count_rows, end_rows, top_row, vacant_key};
-pub(crate) use pick::Asked;
+pub(crate) use pick::Picked;
 use pisdf_meaning::{Firing, Refusal};
 use pisdf_model::Graphs;
 use row::Row;
@@ -60,7 +60,7 @@ impl JobTable {
     ghost use Rattle.graph_firing.specs.Calls.{IsHanded, IsSoundFor, frame_of};
     ghost use Rattle.graph_firing.specs.Rooms.{HasRoomFor, TakesRoom, is_node, slot_after};
     ghost use Rattle.graph_firing.specs.View.{IsOfferedCall, IsOfferedCompilation, IsOfferedWork, compilation_of, left_by, task};
-    ghost use Rattle.firing_board.specs.Table.Asked.{IsAsked};
+    ghost use Rattle.firing_board.specs.Table.Asked.{IsPicked};
     ghost use Rattle.firing_board.specs.Table.Calls.{AsksAsBefore, BeginsWith, FinishesIn, IsStarted, LendsAsBefore, LendsItem, MarksItem, OpensChild, SpoilsItem};
     ghost use Rattle.firing_board.specs.Table.Closing.{Closes, ClosesLong, IsClosingFrom, RowsStay};
     ghost use Rattle.firing_board.specs.Table.View.{HasJob, NothingIsLent, free_items, keys_of, lent_in};
@@ -116,18 +116,12 @@ impl JobTable {
         count_rows(self.rows.as_slice())
     }
 
-    /// The work that goes first for a worker, of all that the jobs offer; none where none offers any.
-    pub(crate) fn first_work(&self, worker: u32) -> Option<Asked>
-        ensures { IsAsked worker false self.now result }
+    /// What goes first for a worker, of all that the jobs offer: work of an open job before each call. None where no job offers
+    /// anything.
+    pub(crate) fn pick(&self, worker: u32) -> Option<Picked>
+        ensures { IsPicked worker self.now result }
     {
-        pick::first_work(self.rows.as_slice(), worker)
-    }
-
-    /// The call that goes first for a worker, of all that the jobs offer; none where none offers any.
-    pub(crate) fn first_call(&self, worker: u32) -> Option<Asked>
-        ensures { IsAsked worker true self.now result }
-    {
-        pick::first_call(self.rows.as_slice(), worker)
+        pick::pick(self.rows.as_slice(), worker)
     }
 
     /// What the first item of a job does of which nothing is claimed.

@@ -12,7 +12,7 @@ use Rattle.job_rules.specs.Words.{Answer}
 use Rattle.nested_jobs.specs.Marks.{Marks}
 use Rattle.graph_firing.specs.declared.offer.Offer.{Offer}
 use Rattle.pisdf_meaning.specs.declared.firing.Firing.{Firing}
-use Rattle.firing_board.specs.Table.Asked.{IsAskedOf, IsFirstOffer, PathsDiffer, offer_of}
+use Rattle.firing_board.specs.Table.Asked.{IsAsked, IsFirstOffer, PathsDiffer, offer_of}
 use Rattle.firing_board.specs.Table.AskedRows.{Follows, GivesWayTo, IsBestOf, IsFirstOf, goes_before_in, standing_of}
 use Rattle.firing_board.specs.Table.Suits.{Suits}
 use Rattle.firing_board.specs.Table.View.{TableView, job_row, row_at, table_of}
@@ -113,6 +113,6 @@ module _ (key : Key) (m : Marks Firing Answer) (v : TableView) (suits : Suits ke
         },
       )
 
-pub asked_so : (w : ℕ) (opens : Bool) (rows : List (Option Row)) (answer : Option Asked) → IsBestOf w opens rows (length rows) answer → IsAskedOf w opens rows answer
+pub asked_so : (w : ℕ) (opens : Bool) (rows : List (Option Row)) (answer : Option Asked) → IsBestOf w opens rows (length rows) answer → (v : TableView) → v.rows ≡ rows → IsAsked w opens v answer
 asked_so w opens rows answer best v rows_are key m suits differ =
     best_is key m v suits differ w opens answer (subst (λ (rs : List (Option Row)). IsBestOf w opens rs (length rs) answer) (sym rows_are) best)

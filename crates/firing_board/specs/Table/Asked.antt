@@ -1,5 +1,5 @@
--- What a table answers that is asked for work, or for calls.
-use Rattle.std.specs.Prelude.{◌≡◌, ℕ, Bool, List, Option, Some, None}
+-- What a table answers that is asked what goes first.
+use Rattle.std.specs.Prelude.{◌≡◌, ℕ, Bool, true, false, List, Option, Some, None}
 use Rattle.board_rules.specs.Asking.{IsFirstOfAll, JobRow, NoRowOffers}
 use Rattle.board_rules.specs.Asking as board
 use Rattle.board_rules.specs.Keys.{Key}
@@ -12,6 +12,8 @@ use Rattle.pisdf_meaning.specs.declared.firing.Firing.{Firing}
 use Rattle.firing_board.specs.Table.Suits.{Suits}
 use Rattle.firing_board.specs.Table.View.{TableView, table_of}
 use Rattle.firing_board.specs.declared.table.pick.Asked.{Asked}
+use Rattle.firing_board.specs.declared.table.pick.Picked.{Picked}
+use Rattle.firing_board.specs.declared.table.pick.Picked.TheVariants.{Work, Call}
 use Rattle.firing_board.specs.declared.table.row.Row.{Row}
 
 -- an offer as the rules of boards have it
@@ -31,6 +33,12 @@ PathsDiffer key m = (p q : Place) (c d : Firing) → m p ≡ Open c → m q ≡ 
 abbrev pub IsAsked : ℕ → Bool → TableView → Option Asked → Type 0
 IsAsked w opens v answer = (key : Key) (m : Marks Firing Answer) → Suits key m v → PathsDiffer key m → IsFirstOffer key m w opens v answer
 
+-- rule 1: the first work, or, where no row offers work, the first call; none exactly where no row offers either
+abbrev pub IsPicked : ℕ → TableView → Option Picked → Type 0
+IsPicked w v (Some (Work work)) = IsAsked w false v (Some work)
+IsPicked w v (Some (Call call)) = IsAsked w false v None × IsAsked w true v (Some call)
+IsPicked w v None = IsAsked w false v None × IsAsked w true v None
+
 -- the same of a table with these rows
-abbrev pub IsAskedOf : ℕ → Bool → List (Option Row) → Option Asked → Type 0
-IsAskedOf w opens rows answer = (v : TableView) → v.rows ≡ rows → IsAsked w opens v answer
+abbrev pub IsPickedOf : ℕ → List (Option Row) → Option Picked → Type 0
+IsPickedOf w rows answer = (v : TableView) → v.rows ≡ rows → IsPicked w v answer

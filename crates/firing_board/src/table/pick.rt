@@ -1,10 +1,10 @@
-// What the rows of a table offer a worker first. Six rules say it, and the first that tells two items apart decides. The
-// board asks for work before it asks for calls, which is rule 1. `goes_before` has rules 2 to 6.
+// What the rows of a table offer a worker first. Six rules say it, and the first that tells two items apart decides. `pick` is
+// rule 1, and `goes_before` has rules 2 to 6.
 ghost use Rattle.std.specs.Prelude.{◌≡◌, ◌<◌, false, true, length, IfSome, IsSome};
 ghost use Rattle.board_rules.specs.Picks.{goes_before};
 ghost use Rattle.nested_jobs.specs.Pick.{is_more_urgent};
 ghost use Rattle.graph_firing.specs.Offers.{IsPick};
-ghost use Rattle.firing_board.specs.Table.Asked.{IsAskedOf};
+ghost use Rattle.firing_board.specs.Table.Asked.{IsPickedOf};
 ghost use Rattle.firing_board.specs.Table.AskedRows.{IsBestOf, IsFirstOf, IsOfferedAs, ordering_by, row_in, standing_of};
 ghost use Rattle.firing_board.specs.Table.AskedRows as rows_asked;
 
@@ -21,20 +21,28 @@ pub(crate) struct Asked {
     pub offer: Offer,
 }
 
-// ---- rule 1
-
-/// The first of the work that the rows offer. By rule 1 it goes before each call.
-pub(crate) fn first_work(rows: &[Option<Row>], worker: u32) -> Option<Asked>
-    ensures { IsAskedOf worker false rows.now result }
-{
-    best_of(rows, worker, false)
+/// What goes first of all that a table offers.
+#[derive(Debug, Clone, Copy)]
+pub(crate) enum Picked {
+    /// Work of a job that is open.
+    Work(Asked),
+    /// A call, whose claim opens a job. No open job offers work.
+    Call(Asked),
 }
 
-/// The first of the calls that the rows offer. By rule 1 it is asked for where none offers work.
-pub(crate) fn first_call(rows: &[Option<Row>], worker: u32) -> Option<Asked>
-    ensures { IsAskedOf worker true rows.now result }
+// ---- rule 1
+
+/// What goes first of all that the rows offer: work of an open job before each call. None where no row offers anything.
+pub(crate) fn pick(rows: &[Option<Row>], worker: u32) -> Option<Picked>
+    ensures { IsPickedOf worker rows.now result }
 {
-    best_of(rows, worker, true)
+    match best_of(rows, worker, false) {
+        Some(work) => Some(Picked::Work(work)),
+        None => match best_of(rows, worker, true) {
+            Some(call) => Some(Picked::Call(call)),
+            None => None,
+        },
+    }
 }
 
 // ---- rules 2 to 6
@@ -139,7 +147,7 @@ fn asked_at(rows: &[Option<Row>], key: usize, worker: u32, calls: bool) -> Optio
     }
 }
 
-/// What the rows offer first.
+/// What the rows offer first of their work, or of their calls.
 fn best_of(rows: &[Option<Row>], worker: u32, calls: bool) -> Option<Asked>
     ensures { IsBestOf worker calls rows.now (length rows.now) result }
 {

@@ -219,7 +219,7 @@ module _ (f : Fixed) (workers : ℕ) (values : List ℤ) (valid : AreValid f.gra
       pub args_asked : AreOneEach G g (values_of f) → length args ≡ f.compilation.level.actors
       args_asked each = ap length (args_are ∙ set_is.args) ∙ each.args ∙ ap (λ (l : LevelView). l.actors) (sym level_is)
 
-      pub set_up : IsSetUp f record { compilation = f.compilation; kinds = kinds; args = args; sources = sources; stored = stored; block = f.block; room = f.room }
+      pub set_up : IsSetUp f record { compilation = f.compilation; kinds = kinds; args = args; sources = sources; stored = stored; block = f.block }
       set_up = record {
         valid = valid;
         fit = fit;
@@ -228,7 +228,6 @@ module _ (f : Fixed) (workers : ℕ) (values : List ℤ) (valid : AreValid f.gra
         compiled = compiled.compiled;
         compilation_is = refl;
         block_is = refl;
-        room_is = refl;
         graph_is = graph_same;
         is_job = is_job;
         kinds = kinds_are;
@@ -236,7 +235,7 @@ module _ (f : Fixed) (workers : ℕ) (values : List ℤ) (valid : AreValid f.gra
       }
 
       -- all nodes are free
-      pub keeps_at_start : (j : leased.JobView) → start_of j ≡ record { compilation = f.compilation; kinds = kinds; args = args; sources = sources; stored = stored; block = f.block; room = f.room } → j.kinds ≡ kinds → j.marks ≡ replicate (length f.compilation.graph.nodes) one.Free → (stages : List Stage) → stages ≡ replicate (length f.compilation.graph.nodes) Free →
+      pub keeps_at_start : (j : leased.JobView) → start_of j ≡ record { compilation = f.compilation; kinds = kinds; args = args; sources = sources; stored = stored; block = f.block } → j.kinds ≡ kinds → j.marks ≡ replicate (length f.compilation.graph.nodes) one.Free → (stages : List Stage) → stages ≡ replicate (length f.compilation.graph.nodes) Free →
           (held : List Held) → held ≡ replicate (length held) Nothing → length held ≤ length j.compilation.graph.nodes → ((n : ℕ) → n < length j.compilation.graph.nodes → is_child j n ≡ true → n < length held) → (rows : List (Vec (List TraceRow) Global)) → length rows ≡ length f.compilation.counts → ((a : ℕ) → row_at rows a ≡ replicate (call_count j.kinds f.compilation.counts a) []) → AreParts f →
           KeepsAll f stages held rows j
       keeps_at_start j started j_kinds marks_are stages stages_are held held_are few room rows many row_is parts = record {

@@ -15,15 +15,15 @@ fixed_of i = record {
   left = i.preparing.left;
   compilation = arc_value i.compiled;
   block = i.cells.block;
-  room = i.room;
+  room = i.job.room;
   set = i.set;
   place = i.place;
   path = i.path;
-  keeps = i.keeps.items;
+  keeps = i.ending.keeps.items;
   names = i.names.items;
-  rows = i.rows;
-  exports = i.exports;
-  state = i.state;
+  rows = i.ending.rows;
+  exports = i.ending.exports;
+  state = i.ending.state;
 }
 
 -- what is seen of nodes in these stages
@@ -44,4 +44,4 @@ abbrev pub view_of : Inside → RunningView
 view_of i = view_with (fixed_of i) i.stages
 
 abbrev pub IsRunning : Inside → Type 0
-IsRunning i = KeepsAll (fixed_of i) i.stages i.held.items i.traces.items i.job
+IsRunning i = KeepsAll (fixed_of i) i.stages i.held.items i.ending.traces.items i.job

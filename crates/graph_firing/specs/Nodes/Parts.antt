@@ -49,10 +49,9 @@ pub record Start : Type 0 where
   pub sources : List (List ℤ)
   pub stored : List (List ℤ)
   pub block : Block
-  pub room : RoomSize
 
 abbrev pub start_of : leased.JobView → Start
-start_of j = record { compilation = j.compilation; kinds = j.kinds; args = j.args; sources = j.sources; stored = j.stored; block = j.block; room = j.room }
+start_of j = record { compilation = j.compilation; kinds = j.kinds; args = j.args; sources = j.sources; stored = j.stored; block = j.block }
 
 abbrev pub kernel_in : Body → Option ℕ
 kernel_in (Kernel kernel args ins outs) = Some kernel
@@ -115,7 +114,6 @@ pub record IsSetUp (f : Fixed) (s : Start) : Type 0 where
   pub compiled : IsCompiled f.compilation
   pub compilation_is : s.compilation ≡ f.compilation
   pub block_is : s.block ≡ f.block
-  pub room_is : s.room ≡ f.room
   pub graph_is : leased.job_graph s.compilation s.sources s.stored ≡ job_in f
   pub is_job : IsJobGraph f.compilation.counts f.compilation.order (job_in f)
   pub kinds : s.kinds ≡ map kind_of_actor (acting (fired f))

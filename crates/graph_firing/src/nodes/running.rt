@@ -26,12 +26,11 @@ use kernel_gate::{Frame, KernelFault, Room, RoomSize, told_of};
 use one_job::{Job, JobEnd};
 use param_expr::Name;
 use param_resolver::{LevelSet, level_by_actor};
-use pisdf_meaning::{Firing, Path, Refusal, TraceRow};
+use pisdf_meaning::{Firing, Path, Refusal};
 use pisdf_model::Graphs;
-use sdf_level::{List, Node, TokenName};
+use sdf_level::{Node, TokenName};
 use single_rate::{graphs_numbered, tokens_delivered};
 use std::alloc::{AllocError, Global};
-use std::collections::LinkedList;
 use std::marker::Model;
 use std::snapshot::Snapshot;
 use std::sync::Arc;
@@ -48,22 +47,14 @@ pub(crate) struct Running {
     pub(crate) place: u32,
     pub(crate) path: Path,
     pub(crate) set: LevelSet,
-    // Of each actor of the level whether its state goes on, and its name.
-    pub(crate) keeps: Vec<bool>,
+    // The name of each actor of the level.
     pub(crate) names: Vec<Name>,
-    // The rows of its own parameters, and the values of its exports.
-    pub(crate) rows: LinkedList<TraceRow>,
-    pub(crate) exports: List<i64>,
-    // Empty, with room for the state that it leaves.
-    pub(crate) state: Vec<List<i64>>,
+    // Its list of states is empty. Of each actor that fires graphs it has a trace for each firing, of another none.
+    pub(crate) ending: Ending,
     pub(crate) stages: Stages,
     // At the number of each node that fires a graph: as long as the last such node asks, and empty where no node fires one.
     pub(crate) held: Vec<Held>,
-    // Of each actor that fires graphs a trace for each firing, of another none.
-    pub(crate) traces: Vec<Vec<LinkedList<TraceRow>>>,
     pub(crate) job: Job,
-    // As much memory as the frame of any node takes.
-    pub(crate) room: RoomSize,
     pub(crate) alloc: Global,
 }
 
@@ -166,7 +157,7 @@ impl Running {
     pub(crate) fn room_size(&self) -> RoomSize
         ensures { result ≡ self.now.room }
     {
-        self.room
+        self.job.room_size()
     }
 
     /// Claims a node that has work of its own. Its frame has what the work says. It is made in the room, and takes no memory.
@@ -222,7 +213,7 @@ impl Running {
         level_by_actor();
         faults_renamed::<i64, u8, Refusal>();
         ready_stays::<i64, u8, ()>();
-        let room = Room::start(alloc, self.room)?;
+        let room = Room::start(alloc, self.job.room_size())?;
         let which = self.job.node(node);
         let (actor, turn) = firing_of(which);
         let frame = self.job.claim(node, room);
@@ -230,7 +221,7 @@ impl Running {
             self.graphs.graphs.items(),
             self.place,
             &self.set,
-            &self.keeps,
+            &self.ending.keeps,
             actor,
             turn,
         );
@@ -259,9 +250,9 @@ impl Running {
                     exports: _,
                 } = given;
                 let (actor, turn) = firing_of(which);
-                let keeps = self.keeps[actor as usize];
+                let keeps = self.ending.keeps[actor as usize];
                 write_child(&mut frame, keeps, outs.items(), state.items());
-                put_trace(&mut self.traces, actor, turn, trace);
+                put_trace(&mut self.ending.traces, actor, turn, trace);
                 self.job.finish(node, frame, Ok(())).end();
             }
             Err(refusal) => {
@@ -309,16 +300,11 @@ impl Running {
             place,
             path,
             set: _,
-            keeps,
             names,
-            rows,
-            exports,
-            state,
+            ending,
             stages: _,
             held,
-            traces,
             job,
-            room: _,
             alloc,
         } = self;
         match job.outcome() {
@@ -330,14 +316,7 @@ impl Running {
             JobEnd::Done { outs, stored } => {
                 spend_held(held);
                 let graph = &graphs.graphs.items()[place as usize];
-                let own = Ending {
-                    keeps,
-                    rows,
-                    exports,
-                    state,
-                    traces,
-                };
-                match job_given(alloc, graph, own, left, outs, stored) {
+                match job_given(alloc, graph, ending, left, outs, stored) {
                     Ok(given) => Ok(Ok(given)),
                     Err(error) => Err(error),
                 }
@@ -358,16 +337,11 @@ impl Running {
             place: _,
             path: _,
             set: _,
-            keeps: _,
             names: _,
-            rows: _,
-            exports: _,
-            state: _,
+            ending: _,
             stages: _,
             held,
-            traces: _,
             job,
-            room: _,
             alloc: _,
         } = self;
         end_frames(job, held).end();

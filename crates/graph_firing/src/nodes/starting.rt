@@ -17,6 +17,7 @@ ghost use Rattle.job_preparing.specs.View.{IsReady, graph_in, left_by};
 ghost use Rattle.graph_firing.specs.Nodes.Parts.{kernel_in, kind_of_actor, prepared_with};
 ghost use Rattle.graph_firing.specs.Nodes.View.{nodes_of};
 
+use crate::nodes::ending::Ending;
 use crate::nodes::frames::{Held, nothing_held};
 use crate::nodes::given::empty_rows;
 use crate::nodes::running::Running;
@@ -326,7 +327,13 @@ pub(crate) fn run(
     let place = firing.graph;
     let shared = Arc::try_clone(&compiled)?;
     let Started { job, held } = start_job(alloc, compiled, lists)?;
-    let room = job.room_size();
+    let ending = Ending {
+        keeps: parts.keeps,
+        rows: own.rows,
+        exports: own.exports,
+        state: parts.state,
+        traces,
+    };
     Ok(Running {
         graphs,
         compiled: shared,
@@ -336,16 +343,11 @@ pub(crate) fn run(
         place,
         path: own.path,
         set,
-        keeps: parts.keeps,
         names: parts.names,
-        rows: own.rows,
-        exports: own.exports,
-        state: parts.state,
+        ending,
         stages,
         held,
-        traces,
         job,
-        room,
         alloc,
     })
 }

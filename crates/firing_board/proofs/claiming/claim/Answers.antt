@@ -2,7 +2,7 @@ use Rattle.std.proofs.Common.{◌≡◌, ◌∙◌, inl, false, get_or, Option, 
 use Rattle.std.specs.List.{All}
 use Rattle.board_rules.specs.Keys.{Key}
 use Rattle.graph_firing.specs.View.{OpenView, compilation_of}
-use Rattle.firing_board.specs.Core.{HasRoom, RowsLast}
+use Rattle.firing_board.specs.Core.{HasMemory, RowsLast}
 use Rattle.firing_board.specs.Finding.{Finds}
 use Rattle.firing_board.specs.Handing.{HandsOut}
 use Rattle.firing_board.specs.Kept.{view_with}
@@ -68,8 +68,8 @@ returns-in-Some-clause-claimed c =
       suit = c.tables_suit.ensures.claim;
       mark = c.tables_suit.ensures.marks;
     } in
-    if_ok_with c.hand_out.result (HandsOut mid w run new) (λ (result : Claim). (key : Key) → MayClaim key old w → ClaimsOn key old w new result) (HasRoom new)
-    (λ (result : Claim) (room : HasRoom new) (h : HandsOut mid w run new result). λ key may.
+    if_ok_with c.hand_out.result (HandsOut mid w run new) (λ (result : Claim). (key : Key) → MayClaim key old w → ClaimsOn key old w new result) (HasMemory new)
+    (λ (result : Claim) (room : HasMemory new) (h : HandsOut mid w run new result). λ key may.
     let found = subst (λ (o : Option Run). Finds key may.keeps.taken old w mid o) c.in-Some.is (c.in_ok-run.ensures.found key may.keeps.taken may.keeps.at) in
     hands_claims laws key old w may mid run found c.in_ok-run.ensures.kept new room result h)
     c.hand_out.ensures.room c.hand_out.ensures.handed

@@ -38,7 +38,7 @@ returns-clause-handed c =
     }
 
 pub enter-ticket-requires-clause-room : goal.enter-ticket-requires-clause-room
-enter-ticket-requires-clause-room c = let has = c.requires.room.entries in let fewer = c.in_ok-task.ensures.fewer in omega (arith, has, fewer)
+enter-ticket-requires-clause-room c = let has = c.requires.room.in_journal in let fewer = c.in_ok-task.ensures.fewer in omega (arith, has, fewer)
 
 pub returns-clause-room : goal.returns-clause-room
 returns-clause-room c =
@@ -46,7 +46,7 @@ returns-clause-room c =
     let mid : Core = record old { table = c.claim_compile.new.self } in
     let marks = c.in_ok-task.ensures.claimed in
     record {
-      entries = entered_room old mid c.enter-ticket.new.core c.args.worker c.args.run items.Compile c.enter-ticket.result c.requires.room.entries refl refl c.in_ok-task.ensures.fewer c.enter-ticket.ensures;
-      rooms = rooms_kept old mid c.enter-ticket.new.core c.args.worker c.args.run items.Compile c.enter-ticket.result c.requires.room.rooms c.requires.enter.is_worker c.requires.enter.idle refl
+      in_journal = entered_room old mid c.enter-ticket.new.core c.args.worker c.args.run items.Compile c.enter-ticket.result c.requires.room.in_journal refl refl c.in_ok-task.ensures.fewer c.enter-ticket.ensures;
+      for_frames = rooms_kept old mid c.enter-ticket.new.core c.args.worker c.args.run items.Compile c.enter-ticket.result c.requires.room.for_frames c.requires.enter.is_worker c.requires.enter.idle refl
           (last_go_on old.table mid.table (marks_rows c.args.run.row (compilation_of marks.0.job) Busy old.table mid.table marks.2)) c.in_ok-task.ensures.lent c.in_ok-task.ensures.asked refl c.enter-ticket.ensures;
     }

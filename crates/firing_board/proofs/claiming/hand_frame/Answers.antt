@@ -20,17 +20,17 @@ use Rattle.firing_board.proofs.claiming.hand_frame.Goals as goal
 pub claim_item-handed-requires-clause-slot : goal.claim_item-handed-requires-clause-slot
 claim_item-handed-requires-clause-slot c =
     let l = c.requires.enter.is_worker in
-    let m = c.requires.room.rooms.one_each in
+    let m = c.requires.room.for_frames.one_each in
     omega (arith, l, m)
 
 pub claim_item-handed-requires-clause-room : goal.claim_item-handed-requires-clause-room
 claim_item-handed-requires-clause-room c =
     let old = c.args.core.now in
     let o = c.requires.offered in
-    (o.0, o.1, claims_room old c.args.worker c.args.run o.0 c.requires.room.rooms c.requires.enter.is_worker c.requires.enter.idle o.1 (slot_at old.rooms.slots.items c.args.worker) refl)
+    (o.0, o.1, claims_room old c.args.worker c.args.run o.0 c.requires.room.for_frames c.requires.enter.is_worker c.requires.enter.idle o.1 (slot_at old.rooms.slots.items c.args.worker) refl)
 
 pub enter-ticket-requires-clause-room : goal.enter-ticket-requires-clause-room
-enter-ticket-requires-clause-room c = let has = c.requires.room.entries in let fewer = c.claim_item-handed.ensures.fewer in omega (arith, has, fewer)
+enter-ticket-requires-clause-room c = let has = c.requires.room.in_journal in let fewer = c.claim_item-handed.ensures.fewer in omega (arith, has, fewer)
 
 pub returns-clause-room : goal.returns-clause-room
 returns-clause-room c =
@@ -42,8 +42,8 @@ returns-clause-room c =
     let mid : Core = record old { table = c.claim_item-handed.new.table; rooms = c.claim_item-handed.new.rooms } in
     let takes = subst (λ (r : Row). TakesRoom (is_node r.job run.item) (slot_at old.rooms.slots.items w) (frame_of c.claim_item-handed.result).places t.2.slot) (the_same (row_at old.table run.row) t.0 o.0 t.1 o.1) t.2.takes in
     record {
-      entries = entered_room old mid c.enter-ticket.new.core w run c.args.item c.enter-ticket.result c.requires.room.entries refl refl c.claim_item-handed.ensures.fewer c.enter-ticket.ensures;
-      rooms = rooms_claimed old mid c.enter-ticket.new.core w run c.args.item c.enter-ticket.result (frame_of c.claim_item-handed.result).places o.0 t.2.slot c.requires.room.rooms c.requires.enter.is_worker c.requires.enter.idle o.1 refl
+      in_journal = entered_room old mid c.enter-ticket.new.core w run c.args.item c.enter-ticket.result c.requires.room.in_journal refl refl c.claim_item-handed.ensures.fewer c.enter-ticket.ensures;
+      for_frames = rooms_claimed old mid c.enter-ticket.new.core w run c.args.item c.enter-ticket.result (frame_of c.claim_item-handed.result).places o.0 t.2.slot c.requires.room.for_frames c.requires.enter.is_worker c.requires.enter.idle o.1 refl
           (last_go_on old.table mid.table (marks_rows run.row run.item Busy old.table mid.table c.claim_item-handed.ensures.claimed)) c.claim_item-handed.ensures.lent c.claim_item-handed.ensures.asked t.2.size_is t.2.slots_are takes c.enter-ticket.ensures;
     }
 

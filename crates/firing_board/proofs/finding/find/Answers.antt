@@ -1,40 +1,44 @@
-use Rattle.std.proofs.Common.{List, Option}
+use Rattle.std.proofs.Common.{List, Some, refl, subst}
 use Rattle.board_rules.specs.Entries.{Step}
 use Rattle.board_rules.specs.Keys.{Key}
 use Rattle.board_rules.specs.Legal.{state_after}
 use Rattle.firing_board.specs.Core.{StandsAt}
-use Rattle.firing_board.specs.Finding.{Finds, HasNoWork}
+use Rattle.firing_board.specs.Table.Asked.{IsPicked}
 use Rattle.firing_board.specs.Wanting.{PicksInNew}
-use Rattle.firing_board.specs.declared.run.Run.{Run}
-use Rattle.firing_board.proofs.Found.{no_work, work_found}
-use Rattle.firing_board.proofs.Openings.{if_ok, on_err}
+use Rattle.firing_board.specs.declared.table.pick.Picked.{Picked}
+use Rattle.firing_board.proofs.Found.{call_found, call_wants, first_calls, no_work, none_found, work_found}
+use Rattle.firing_board.proofs.Openings.{on_err_by}
 use Rattle.firing_board.proofs.finding.find.Goals as goal
 
-pub returns-in-Some-clause-found : goal.returns-in-Some-clause-found
-returns-in-Some-clause-found c = λ key taken s.
-    work_found c.paths_stay.ensures.apart key taken c.args.core.now s c.boards_keep.ensures.nothing_opened c.rows_are_asked.ensures.work c.args.worker c.in-Some.asked c.in-Some.ensures
+pub returns-in-Some-Work-clause-found : goal.returns-in-Some-Work-clause-found
+returns-in-Some-Work-clause-found c = λ key taken s.
+    let first = subst (λ (p : Picked). IsPicked c.args.worker c.args.core.now.table (Some p)) c.in-Some-Work.field-0-is c.in-Some-Work.ensures in
+    work_found c.paths_stay.ensures.apart key taken c.args.core.now s c.boards_keep.ensures.nothing_opened c.rows_are_asked.ensures.work c.args.worker c.in-Some-Work.work first
 
-pub find_call-requires : goal.find_call-requires
-find_call-requires c = (c.requires.0, c.requires.1, no_work c.paths_stay.ensures.apart c.requires.0 c.requires.1 c.args.core.now c.requires.2 c.args.worker c.in-None.ensures)
+pub open_way-requires : goal.open_way-requires
+open_way-requires c =
+    let key = c.requires.0 in
+    let taken = c.requires.1 in
+    let first = subst (λ (p : Picked). IsPicked c.args.worker c.args.core.now.table (Some p)) c.in-Some-Call.field-0-is c.in-Some-Call.ensures in
+    record { key = key; marks = (state_after key taken).marks; calls = first_calls c.paths_stay.ensures.apart key taken c.args.core.now c.requires.2 c.calls_are_fit.ensures.kept c.args.worker c.in-Some-Call.call first.1 }
+
+pub returns-in_ok-run-in-Some-Call-clause-found : goal.returns-in_ok-run-in-Some-Call-clause-found
+returns-in_ok-run-in-Some-Call-clause-found c = λ key taken s.
+    let first = subst (λ (p : Picked). IsPicked c.args.worker c.args.core.now.table (Some p)) c.in-Some-Call.field-0-is c.in-Some-Call.ensures in
+    let none = no_work c.paths_stay.ensures.apart key taken c.args.core.now s c.args.worker first.0 in
+    call_found c.paths_stay.ensures.apart key taken c.args.core.now s c.calls_are_fit.ensures.kept c.boards_keep.ensures.nothing_opened c.rows_are_asked.ensures.opened none c.args.worker c.in-Some-Call.call first.1 c.open_way.new.core c.in_ok-run-in-Some-Call.run' c.in_ok-run-in-Some-Call.ensures.opened
 
 pub returns-in-None-clause-found : goal.returns-in-None-clause-found
-returns-in-None-clause-found c =
-    let old = c.args.core.now in
-    let new = c.find_call.new.core in
-    if_ok c.find_call.result
-    (λ (run : Option Run). (key : Key) (taken : List Step) → HasNoWork key taken old → Finds key taken old c.args.worker new run)
-    (λ (run : Option Run). (key : Key) (taken : List Step) → StandsAt key taken old → Finds key taken old c.args.worker new run)
-    (λ (run : Option Run) (h : (key : Key) (taken : List Step) → HasNoWork key taken old → Finds key taken old c.args.worker new run). λ key taken s.
-    h key taken (no_work c.paths_stay.ensures.apart key taken old s c.args.worker c.in-None.ensures))
-    c.find_call.ensures.found
+returns-in-None-clause-found c = λ key taken s.
+    let none = no_work c.paths_stay.ensures.apart key taken c.args.core.now s c.args.worker c.in-None.ensures.0 in
+    (refl, none_found c.paths_stay.ensures.apart key taken c.args.core.now s c.rows_are_asked.ensures.none none c.args.worker c.in-None.ensures.1)
 
-pub returns-in-None-clause-wants : goal.returns-in-None-clause-wants
-returns-in-None-clause-wants c =
+pub returns-in_err-run-in-Some-Call-clause-wants : goal.returns-in_err-run-in-Some-Call-clause-wants
+returns-in_err-run-in-Some-Call-clause-wants c =
     let old = c.args.core.now in
     let w = c.args.worker in
-    on_err c.find_call.result
-    ((key : Key) (taken : List Step) → HasNoWork key taken old → PicksInNew key (state_after key taken) w)
-    ((key : Key) (taken : List Step) → StandsAt key taken old → PicksInNew key (state_after key taken) w)
-    (λ (h : (key : Key) (taken : List Step) → HasNoWork key taken old → PicksInNew key (state_after key taken) w). λ key taken s.
-    h key taken (no_work c.paths_stay.ensures.apart key taken old s w c.in-None.ensures))
-    c.find_call.ensures.wants
+    let first = subst (λ (p : Picked). IsPicked c.args.worker c.args.core.now.table (Some p)) c.in-Some-Call.field-0-is c.in-Some-Call.ensures in
+    on_err_by c.from_residual.result ((key : Key) (taken : List Step) → StandsAt key taken old → PicksInNew key (state_after key taken) w)
+    (λ key taken s.
+    let none = no_work c.paths_stay.ensures.apart key taken old s w first.0 in
+    call_wants c.paths_stay.ensures.apart key taken old s c.workers_are_answered.ensures.picked (c.rules_are_lawful.ensures key.graphs s.suits.is_key.valid.valid) none w c.in-Some-Call.call first.1)

@@ -127,11 +127,11 @@ returns-clause-kept c = record {
 
 pub returns-clause-room : goal.returns-clause-room
 returns-clause-room c = λ had.
-    let has = had.entries in
+    let has = had.in_journal in
     let o = c.in_ok-child.ensures.opened in
     let same : compilation_of c.job.result.now ≡ compilation_of o.child.job =
     ap compilation_of (c.job.ensures.2 ∙ ap (λ (r : Row). r.job) (the_same (row_at c.open_child.new.self c.in_ok-child.child) c.job.ensures.0 o.child c.job.ensures.1 o.added)) in
     let many = o.many in
     let taken = c.in_ok-room_for.ensures.taken in
     let room = ap (λ (j : JournalView). j.room) c.in_ok-number.ensures.added in
-    record { entries = omega (arith, has, same, many, taken, room); rooms = rooms_opened c.args.core.now _ (returns-clause-kept c) had.rooms }
+    record { in_journal = omega (arith, has, same, many, taken, room); for_frames = rooms_opened c.args.core.now _ (returns-clause-kept c) had.for_frames }

@@ -238,8 +238,8 @@ returns-in-Ok-clause-room c = λ live has.
     let ended : FinishesOn key old c.args.starved w new c.is_err.result = returns-in-Ok-clause-finished c key c.requires.1 in
     let fits = on_ok_by c.settle.result (FitsNeed (room_in mid.table c.in-Ok.row) mid.rooms new.rooms) (sym c.is_err.ensures.value ∙ live) c.settle.ensures.fits in
     record {
-      entries = closed_room mid new c.settle.ensures.kept c.settle.ensures.fewer (c.in-Ok.ensures.room has.entries);
-      rooms = rooms_fit old new w r.run has.rooms r.leaves.ran (inside_of old.running.items w r.run r.leaves.ran)
+      in_journal = closed_room mid new c.settle.ensures.kept c.settle.ensures.fewer (c.in-Ok.ensures.room has.in_journal);
+      for_frames = rooms_fit old new w r.run has.for_frames r.leaves.ran (inside_of old.running.items w r.run r.leaves.ran)
           (ap (λ (x : Run). lent_in old.table x.row x.item) same_run ∙ none)
           (ap (λ rs. rs.items) c.settle.ensures.kept.running_is ∙ r.leaves.running_are)
           (rows_close old.table mid.table new.table (marks_rows r.run.row (compilation_of r.row.job) (Done r.finishes.answer) old.table mid.table r.finishes.marks) c.settle.ensures.kept.stay)

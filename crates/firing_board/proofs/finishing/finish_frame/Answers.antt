@@ -134,8 +134,8 @@ returns-then-starved-clause-room c = λ has.
     let r = c.take_back-row.ensures.returns in
     let ended : FinishesOn key old c.args.starved w new c.args.starved = returns-then-starved-clause-finished c key may in
     record {
-      entries = c.take_back-row.ensures.room has.entries;
-      rooms = rooms_back old new w r.run r.row c.args.frame.places has.rooms r.leaves.ran (inside_of old.running.items w r.run r.leaves.ran) r.here
+      in_journal = c.take_back-row.ensures.room has.in_journal;
+      for_frames = rooms_back old new w r.run r.row c.args.frame.places has.for_frames r.leaves.ran (inside_of old.running.items w r.run r.leaves.ran) r.here
           (lent_run old w r.run c.args.frame.places r.leaves.ran may.lent)
           r.leaves.running_are
           (last_go_on old.table new.table (marks_rows r.run.row r.run.item (Done (answer_with (task r.row.job r.run.item) c.args.frame c.args.answer)) old.table new.table r.marks))
@@ -154,8 +154,8 @@ returns-else-starved-clause-room c = λ has.
     let r = c.take_back-row.ensures.returns in
     let ended : FinishesOn key old c.args.starved w new c.is_err.result = returns-else-starved-clause-finished c key may in
     record {
-      entries = closed_room mid new c.close.ensures.kept c.close.ensures.fewer (c.take_back-row.ensures.room has.entries);
-      rooms = rooms_back old new w r.run r.row c.args.frame.places has.rooms r.leaves.ran (inside_of old.running.items w r.run r.leaves.ran) r.here
+      in_journal = closed_room mid new c.close.ensures.kept c.close.ensures.fewer (c.take_back-row.ensures.room has.in_journal);
+      for_frames = rooms_back old new w r.run r.row c.args.frame.places has.for_frames r.leaves.ran (inside_of old.running.items w r.run r.leaves.ran) r.here
           (lent_run old w r.run c.args.frame.places r.leaves.ran may.lent)
           (ap (λ rs. rs.items) c.close.ensures.kept.running_is ∙ r.leaves.running_are)
           (rows_close old.table mid.table new.table (marks_rows r.run.row r.run.item (Done (answer_with (task r.row.job r.run.item) c.args.frame c.args.answer)) old.table mid.table r.marks) c.close.ensures.kept.stay)

@@ -31,8 +31,8 @@ returns-in-Ok-clause-room c =
     let runs : c.in_ok-running.running.items ≡ replicate c.args.workers None = c.in_ok-running.ensures in
     let rooms = c.in-Ok.ensures.rooms in
     record {
-      entries = omega (arith, same, none, many, taken);
-      rooms = record {
+      in_journal = omega (arith, same, none, many, taken);
+      for_frames = record {
         one_each = ap (λ (l : List (Option RoomSize)). length l) rooms.0 ∙ (length-replicate c.args.workers None ∙ sym (ap (λ (l : List (Option Run)). length l) runs ∙ length-replicate c.args.workers None));
         needs = λ k need asks. absurd (let no = started_roomless (arc_value c.args.graphs) c.args.workers c.args.firing c.in_ok-table.table s k in cc);
         each = λ w size lt is. absurd (let no = rooms.1 in cc);

@@ -3,7 +3,7 @@ use Rattle.board_rules.specs.Keys.{Key}
 use Rattle.firing_board.specs.Table.View.{firings_of}
 use Rattle.firing_board.specs.Claims.{Claims, EntersAs}
 use Rattle.firing_board.specs.Firings.{FiringsGoOn, LeasesFrame}
-use Rattle.firing_board.specs.Kept.{HasRoomUnless, Keeps, key_of, key_with, view_with}
+use Rattle.firing_board.specs.Kept.{HasMemoryUnless, Keeps, key_of, key_with, view_with}
 use Rattle.firing_board.specs.View.{BoardView}
 use Rattle.firing_board.specs.Wanting.{MayStarve}
 use Rattle.firing_board.proofs.Fields.{key_same}
@@ -17,7 +17,7 @@ claim-claimed-requires-clause-may c =
     (key_of i, may_claim_by c.entries_tell_steps.ensures.steps i c.self.invariant c.args.self.now c.self.view_is c.if-self.false c.args.worker c.requires)
 
 pub claim-claimed-requires-clause-room : goal.claim-claimed-requires-clause-room
-claim-claimed-requires-clause-room c = subst (λ (b : Bool). HasRoomUnless b c.self.inside.core) c.if-self.false c.self.invariant.2
+claim-claimed-requires-clause-room c = subst (λ (b : Bool). HasMemoryUnless b c.self.inside.core) c.if-self.false c.self.invariant.2
 
 pub invariant_of-self : goal.invariant_of-self
 invariant_of-self c =
@@ -29,7 +29,7 @@ invariant_of-self c =
     let same = key_same i.signatures.counts i.top.value i.core new c.claim-claimed.ensures.kept.0 in (
       subst (λ (k : Key). Keeps k new i.starved) (sym same) (subst (λ (b : Bool). Keeps key new b) (sym live) (c.in-Ok.ensures.claimed key may).keeps),
       c.claim-claimed.ensures.kept.1 ∙ (c.self.invariant.1 ∙ sym c.claim-claimed.ensures.kept.0.one_each),
-      subst (λ (b : Bool). HasRoomUnless b new) (sym live) c.in-Ok.ensures.room,
+      subst (λ (b : Bool). HasMemoryUnless b new) (sym live) c.in-Ok.ensures.room,
       c.claim-claimed.ensures.kept.0.slots_each ∙ (c.self.invariant.3 ∙ sym c.claim-claimed.ensures.kept.0.one_each),
     )
 

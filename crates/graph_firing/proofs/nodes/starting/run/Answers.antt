@@ -63,7 +63,7 @@ invariant_of-result c =
     let f = made_with firing left (arc_value c.args.compiled) c.in_ok-job.field-0.job.block c.in_ok-job.field-0.job.room in
     let suits = suits_here gs c.args.preparing.now.graphs c.requires.graphs firing left c.requires.suits in
     let told_is : firing ≡ c.of-told.result.value = sym (c.of-told.ensures ∙ c.firing-firing.ensures) in
-    let same : f ≡ made_with c.of-told.result.value c.told_before.result.left (arc_value c.in_ok-shared.shared) c.told_block.result.block c.room_size-room.result = λ k. made_with (told_is k) (sym c.told_before.ensures k) (sym c.in_ok-shared.ensures k) (sym c.told_block.ensures k) (sym c.room_size-room.ensures k) in
+    let same : f ≡ made_with c.of-told.result.value c.told_before.result.left (arc_value c.in_ok-shared.shared) c.told_block.result.block c.in_ok-job.field-0.job.room = λ k. made_with (told_is k) (sym c.told_before.ensures k) (sym c.in_ok-shared.ensures k) (sym c.told_block.ensures k) c.in_ok-job.field-0.job.room in
     let nodes_are : c.items-4.result.now ≡ (arc_value c.args.compiled).graph.nodes = c.items-4.ensures ∙ ap (λ (x : SingleRate). x.nodes) (c.graph.ensures.value ∙ ap (λ (x : Compilation). x.graph) c.deref-3.ensures) in
     let stages_are : c.free-stages.result ≡ replicate (length (arc_value c.args.compiled).graph.nodes) Free = c.free-stages.ensures ∙ ap (λ (l : List Node). replicate (length l) Free) nodes_are in
     let kinds_are : c.in_ok-lists.lists.kinds ≡ map kind_of_actor (acting (graph_of gs.graphs firing)) = c.in_ok-lists.ensures.kinds ∙ (λ k. map kind_of_actor (acting (here k))) in
@@ -80,8 +80,8 @@ invariant_of-result c =
       none = c.in_ok-parts.ensures.empty.1;
       room = subst (λ (x : Graph). length x.fifos + length x.actors ≤ vec_capacity c.in_ok-parts.parts.state) here c.in_ok-parts.ensures.room;
     } in
-    let started : start_of c.in_ok-job.field-0.job ≡ record { compilation = arc_value c.args.compiled; kinds = c.in_ok-lists.lists.kinds; args = c.in_ok-lists.lists.args; sources = c.in_ok-lists.lists.sources; stored = c.in_ok-lists.lists.stored; block = c.in_ok-job.field-0.job.block; room = c.in_ok-job.field-0.job.room } =
-    λ k. record { compilation = c.in_ok-job.ensures.compilation k; kinds = c.in_ok-job.ensures.given.0 k; args = c.in_ok-job.ensures.given.1 k; sources = c.in_ok-job.ensures.given.2 k; stored = c.in_ok-job.ensures.given.3 k; block = c.in_ok-job.field-0.job.block; room = c.in_ok-job.field-0.job.room } in
+    let started : start_of c.in_ok-job.field-0.job ≡ record { compilation = arc_value c.args.compiled; kinds = c.in_ok-lists.lists.kinds; args = c.in_ok-lists.lists.args; sources = c.in_ok-lists.lists.sources; stored = c.in_ok-lists.lists.stored; block = c.in_ok-job.field-0.job.block } =
+    λ k. record { compilation = c.in_ok-job.ensures.compilation k; kinds = c.in_ok-job.ensures.given.0 k; args = c.in_ok-job.ensures.given.1 k; sources = c.in_ok-job.ensures.given.2 k; stored = c.in_ok-job.ensures.given.3 k; block = c.in_ok-job.field-0.job.block } in
     let kinds_same : c.items-3.result.now ≡ c.in_ok-job.field-0.job.kinds = c.items-3.ensures ∙ sym c.in_ok-job.ensures.given.0 in
     let counts_are : c.counts.result.now ≡ (arc_value c.args.compiled).counts = c.counts.ensures.value ∙ ap (λ (x : Compilation). x.counts) c.deref-2.ensures in
     let rows_are : (a : ℕ) → row_at c.in_ok-traces.traces.items a ≡ replicate (call_count c.in_ok-job.field-0.job.kinds (arc_value c.args.compiled).counts a) [] =
@@ -99,7 +99,7 @@ returns-clause-free c =
     let f = made_with firing left (arc_value c.args.compiled) c.in_ok-job.field-0.job.block c.in_ok-job.field-0.job.room in
     let suits = suits_here gs c.args.preparing.now.graphs c.requires.graphs firing left c.requires.suits in
     let told_is : firing ≡ c.of-told.result.value = sym (c.of-told.ensures ∙ c.firing-firing.ensures) in
-    let same : f ≡ made_with c.of-told.result.value c.told_before.result.left (arc_value c.in_ok-shared.shared) c.told_block.result.block c.room_size-room.result = λ k. made_with (told_is k) (sym c.told_before.ensures k) (sym c.in_ok-shared.ensures k) (sym c.told_block.ensures k) (sym c.room_size-room.ensures k) in
+    let same : f ≡ made_with c.of-told.result.value c.told_before.result.left (arc_value c.in_ok-shared.shared) c.told_block.result.block c.in_ok-job.field-0.job.room = λ k. made_with (told_is k) (sym c.told_before.ensures k) (sym c.in_ok-shared.ensures k) (sym c.told_block.ensures k) c.in_ok-job.field-0.job.room in
     let nodes_are : c.items-4.result.now ≡ (arc_value c.args.compiled).graph.nodes = c.items-4.ensures ∙ ap (λ (x : SingleRate). x.nodes) (c.graph.ensures.value ∙ ap (λ (x : Compilation). x.graph) c.deref-3.ensures) in
     let stages_are : c.free-stages.result ≡ replicate (length (arc_value c.args.compiled).graph.nodes) Free = c.free-stages.ensures ∙ ap (λ (l : List Node). replicate (length l) Free) nodes_are in
     subst (λ (x : Fixed). (view_with x c.free-stages.result).marks ≡ replicate (length (nodes_of (view_with x c.free-stages.result))) mark.Free) same
@@ -114,7 +114,7 @@ returns-clause-nothing c =
     let f = made_with firing left (arc_value c.args.compiled) c.in_ok-job.field-0.job.block c.in_ok-job.field-0.job.room in
     let suits = suits_here gs c.args.preparing.now.graphs c.requires.graphs firing left c.requires.suits in
     let told_is : firing ≡ c.of-told.result.value = sym (c.of-told.ensures ∙ c.firing-firing.ensures) in
-    let same : f ≡ made_with c.of-told.result.value c.told_before.result.left (arc_value c.in_ok-shared.shared) c.told_block.result.block c.room_size-room.result = λ k. made_with (told_is k) (sym c.told_before.ensures k) (sym c.in_ok-shared.ensures k) (sym c.told_block.ensures k) (sym c.room_size-room.ensures k) in
+    let same : f ≡ made_with c.of-told.result.value c.told_before.result.left (arc_value c.in_ok-shared.shared) c.told_block.result.block c.in_ok-job.field-0.job.room = λ k. made_with (told_is k) (sym c.told_before.ensures k) (sym c.in_ok-shared.ensures k) (sym c.told_block.ensures k) c.in_ok-job.field-0.job.room in
     let nodes_are : c.items-4.result.now ≡ (arc_value c.args.compiled).graph.nodes = c.items-4.ensures ∙ ap (λ (x : SingleRate). x.nodes) (c.graph.ensures.value ∙ ap (λ (x : Compilation). x.graph) c.deref-3.ensures) in
     let stages_are : c.free-stages.result ≡ replicate (length (arc_value c.args.compiled).graph.nodes) Free = c.free-stages.ensures ∙ ap (λ (l : List Node). replicate (length l) Free) nodes_are in
     subst (λ (x : Fixed). (view_with x c.free-stages.result).lent ≡ replicate (length (nodes_of (view_with x c.free-stages.result))) None) same

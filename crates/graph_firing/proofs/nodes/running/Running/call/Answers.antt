@@ -20,133 +20,136 @@ pub claim-frame-requires-clause-enabled : goal.claim-frame-requires-clause-enabl
 claim-frame-requires-clause-enabled c =
     let i = c.self.inside in
     let offered = subst (λ (v : RunningView). IsOfferedCall v c.args.node) (sym c.self.view_is) c.requires in
-    enabled (fixed_of i) i.stages i.held.items i.traces.items i.job c.self.invariant c.faults_renamed.ensures.ready c.faults_renamed.ensures.inputs c.args.node (Call offered.job) offered.free offered.task_is
+    enabled (fixed_of i) i.stages i.held.items i.ending.traces.items i.job c.self.invariant c.faults_renamed.ensures.ready c.faults_renamed.ensures.inputs c.args.node (Call offered.job) offered.free offered.task_is
 
 pub caller_of-caller-requires-clause-keeps : goal.caller_of-caller-requires-clause-keeps
 caller_of-caller-requires-clause-keeps c =
     let i = c.self.inside in
     let offered = subst (λ (v : RunningView). IsOfferedCall v c.args.node) (sym c.self.view_is) c.requires in
-    let same = (numbers (fixed_of i) i.stages i.held.items i.traces.items i.job c.self.invariant c.args.node c.faults_renamed.ensures.ready c.faults_renamed.ensures.inputs c.ready_stays.ensures.ready offered c.node-which.result c.firing_of-actor.result.0 c.firing_of-actor.result.1 c.node-which.ensures c.firing_of-actor.ensures).0 in
-    keeps_inside (fixed_of i) i.stages i.held.items i.traces.items i.job c.self.invariant c.args.node c.faults_renamed.ensures.ready c.faults_renamed.ensures.inputs c.ready_stays.ensures.ready offered c.firing_of-actor.result.0 c.deref-2.result.now same c.deref-2.ensures.value
+    let same = (numbers (fixed_of i) i.stages i.held.items i.ending.traces.items i.job c.self.invariant c.args.node c.faults_renamed.ensures.ready c.faults_renamed.ensures.inputs c.ready_stays.ensures.ready offered c.node-which.result c.firing_of-actor.result.0 c.firing_of-actor.result.1 c.node-which.ensures c.firing_of-actor.ensures).0 in
+    keeps_inside (fixed_of i) i.stages i.held.items i.ending.traces.items i.job c.self.invariant c.args.node c.faults_renamed.ensures.ready c.faults_renamed.ensures.inputs c.ready_stays.ensures.ready offered c.firing_of-actor.result.0 c.deref-2.result.now same c.deref-2.ensures.value
 
 pub caller_of-caller-requires-clause-set : goal.caller_of-caller-requires-clause-set
 caller_of-caller-requires-clause-set c =
     let i = c.self.inside in
     let offered = subst (λ (v : RunningView). IsOfferedCall v c.args.node) (sym c.self.view_is) c.requires in
-    let same = (numbers (fixed_of i) i.stages i.held.items i.traces.items i.job c.self.invariant c.args.node c.faults_renamed.ensures.ready c.faults_renamed.ensures.inputs c.ready_stays.ensures.ready offered c.node-which.result c.firing_of-actor.result.0 c.firing_of-actor.result.1 c.node-which.ensures c.firing_of-actor.ensures).0 in
-    set_inside (fixed_of i) i.stages i.held.items i.traces.items i.job c.self.invariant c.args.node c.faults_renamed.ensures.ready c.faults_renamed.ensures.inputs c.ready_stays.ensures.ready offered c.level_by_actor.ensures.many c.firing_of-actor.result.0 same
+    let same = (numbers (fixed_of i) i.stages i.held.items i.ending.traces.items i.job c.self.invariant c.args.node c.faults_renamed.ensures.ready c.faults_renamed.ensures.inputs c.ready_stays.ensures.ready offered c.node-which.result c.firing_of-actor.result.0 c.firing_of-actor.result.1 c.node-which.ensures c.firing_of-actor.ensures).0 in
+    set_inside (fixed_of i) i.stages i.held.items i.ending.traces.items i.job c.self.invariant c.args.node c.faults_renamed.ensures.ready c.faults_renamed.ensures.inputs c.ready_stays.ensures.ready offered c.level_by_actor.ensures.many c.firing_of-actor.result.0 same
 
 pub caller_of-caller-requires-clause-places : goal.caller_of-caller-requires-clause-places
 caller_of-caller-requires-clause-places c =
     let i = c.self.inside in
     let offered = subst (λ (v : RunningView). IsOfferedCall v c.args.node) (sym c.self.view_is) c.requires in
     let items_are = c.items.ensures ∙ ap (λ (x : Graphs). x.graphs) c.deref.ensures in
-    λ h at. places_are (fixed_of i) i.stages i.held.items i.traces.items i.job c.self.invariant c.args.node c.faults_renamed.ensures.ready c.faults_renamed.ensures.inputs c.ready_stays.ensures.ready offered c.items.result.now h items_are at
+    λ h at. places_are (fixed_of i) i.stages i.held.items i.ending.traces.items i.job c.self.invariant c.args.node c.faults_renamed.ensures.ready c.faults_renamed.ensures.inputs c.ready_stays.ensures.ready offered c.items.result.now h items_are at
 
 pub caller_of-caller-requires-clause-there : goal.caller_of-caller-requires-clause-there
 caller_of-caller-requires-clause-there c =
     let i = c.self.inside in
     let offered = subst (λ (v : RunningView). IsOfferedCall v c.args.node) (sym c.self.view_is) c.requires in
-    let same = (numbers (fixed_of i) i.stages i.held.items i.traces.items i.job c.self.invariant c.args.node c.faults_renamed.ensures.ready c.faults_renamed.ensures.inputs c.ready_stays.ensures.ready offered c.node-which.result c.firing_of-actor.result.0 c.firing_of-actor.result.1 c.node-which.ensures c.firing_of-actor.ensures).0 in
+    let same = (numbers (fixed_of i) i.stages i.held.items i.ending.traces.items i.job c.self.invariant c.args.node c.faults_renamed.ensures.ready c.faults_renamed.ensures.inputs c.ready_stays.ensures.ready offered c.node-which.result c.firing_of-actor.result.0 c.firing_of-actor.result.1 c.node-which.ensures c.firing_of-actor.ensures).0 in
     let items_are = c.items.ensures ∙ ap (λ (x : Graphs). x.graphs) c.deref.ensures in
-    λ h at. inside_of (fixed_of i) i.stages i.held.items i.traces.items i.job c.self.invariant c.args.node c.faults_renamed.ensures.ready c.faults_renamed.ensures.inputs c.ready_stays.ensures.ready offered c.firing_of-actor.result.0 c.items.result.now h same items_are at
+    λ h at. inside_of (fixed_of i) i.stages i.held.items i.ending.traces.items i.job c.self.invariant c.args.node c.faults_renamed.ensures.ready c.faults_renamed.ensures.inputs c.ready_stays.ensures.ready offered c.firing_of-actor.result.0 c.items.result.now h same items_are at
 
 pub called-result-requires-clause-args : goal.called-result-requires-clause-args
 called-result-requires-clause-args c =
     let i = c.self.inside in
     let offered = subst (λ (v : RunningView). IsOfferedCall v c.args.node) (sym c.self.view_is) c.requires in
     let items_are = c.items.ensures ∙ ap (λ (x : Graphs). x.graphs) c.deref.ensures in
-    let caller = caller_so (fixed_of i) i.stages i.held.items i.traces.items i.job c.self.invariant c.args.node c.faults_renamed.ensures.ready c.faults_renamed.ensures.inputs c.ready_stays.ensures.ready offered c.caller_of-caller.result.graphs.now c.items.result.now c.caller_of-caller.result.set.now c.caller_of-caller.result.actor.now c.caller_of-caller.result.number c.caller_of-caller.result.turn c.firing_of-actor.result.0 c.firing_of-actor.result.1 c.caller_of-caller.result.keeps c.deref-2.result.now c.node-which.result c.node-which.ensures c.firing_of-actor.ensures items_are c.deref-2.ensures.value c.caller_of-caller.ensures.actor c.caller_of-caller.ensures.graphs c.caller_of-caller.ensures.number c.caller_of-caller.ensures.keeps in
-    args_inside (fixed_of i) i.stages i.held.items i.traces.items i.job c.self.invariant c.args.node c.faults_renamed.ensures.ready c.faults_renamed.ensures.inputs c.ready_stays.ensures.ready offered c.level_by_actor.ensures.many c.caller_of-caller.result.set.now c.caller_of-caller.result.number caller.number_is caller.set_is
+    let caller = caller_so (fixed_of i) i.stages i.held.items i.ending.traces.items i.job c.self.invariant c.args.node c.faults_renamed.ensures.ready c.faults_renamed.ensures.inputs c.ready_stays.ensures.ready offered c.caller_of-caller.result.graphs.now c.items.result.now c.caller_of-caller.result.set.now c.caller_of-caller.result.actor.now c.caller_of-caller.result.number c.caller_of-caller.result.turn c.firing_of-actor.result.0 c.firing_of-actor.result.1 c.caller_of-caller.result.keeps c.deref-2.result.now c.node-which.result c.node-which.ensures c.firing_of-actor.ensures items_are c.deref-2.ensures.value c.caller_of-caller.ensures.actor c.caller_of-caller.ensures.graphs c.caller_of-caller.ensures.number c.caller_of-caller.ensures.keeps in
+    args_inside (fixed_of i) i.stages i.held.items i.ending.traces.items i.job c.self.invariant c.args.node c.faults_renamed.ensures.ready c.faults_renamed.ensures.inputs c.ready_stays.ensures.ready offered c.level_by_actor.ensures.many c.caller_of-caller.result.set.now c.caller_of-caller.result.number caller.number_is caller.set_is
 
 pub called-result-requires-clause-known : goal.called-result-requires-clause-known
 called-result-requires-clause-known c =
     let i = c.self.inside in
     let offered = subst (λ (v : RunningView). IsOfferedCall v c.args.node) (sym c.self.view_is) c.requires in
     let items_are = c.items.ensures ∙ ap (λ (x : Graphs). x.graphs) c.deref.ensures in
-    let caller = caller_so (fixed_of i) i.stages i.held.items i.traces.items i.job c.self.invariant c.args.node c.faults_renamed.ensures.ready c.faults_renamed.ensures.inputs c.ready_stays.ensures.ready offered c.caller_of-caller.result.graphs.now c.items.result.now c.caller_of-caller.result.set.now c.caller_of-caller.result.actor.now c.caller_of-caller.result.number c.caller_of-caller.result.turn c.firing_of-actor.result.0 c.firing_of-actor.result.1 c.caller_of-caller.result.keeps c.deref-2.result.now c.node-which.result c.node-which.ensures c.firing_of-actor.ensures items_are c.deref-2.ensures.value c.caller_of-caller.ensures.actor c.caller_of-caller.ensures.graphs c.caller_of-caller.ensures.number c.caller_of-caller.ensures.keeps in
-    child_known (fixed_of i) i.stages i.held.items i.traces.items i.job c.self.invariant c.args.node c.faults_renamed.ensures.ready c.faults_renamed.ensures.inputs c.ready_stays.ensures.ready offered c.level_by_actor.ensures.each c.caller_of-caller.result.set.now c.caller_of-caller.result.number caller.number_is caller.set_is
+    let caller = caller_so (fixed_of i) i.stages i.held.items i.ending.traces.items i.job c.self.invariant c.args.node c.faults_renamed.ensures.ready c.faults_renamed.ensures.inputs c.ready_stays.ensures.ready offered c.caller_of-caller.result.graphs.now c.items.result.now c.caller_of-caller.result.set.now c.caller_of-caller.result.actor.now c.caller_of-caller.result.number c.caller_of-caller.result.turn c.firing_of-actor.result.0 c.firing_of-actor.result.1 c.caller_of-caller.result.keeps c.deref-2.result.now c.node-which.result c.node-which.ensures c.firing_of-actor.ensures items_are c.deref-2.ensures.value c.caller_of-caller.ensures.actor c.caller_of-caller.ensures.graphs c.caller_of-caller.ensures.number c.caller_of-caller.ensures.keeps in
+    child_known (fixed_of i) i.stages i.held.items i.ending.traces.items i.job c.self.invariant c.args.node c.faults_renamed.ensures.ready c.faults_renamed.ensures.inputs c.ready_stays.ensures.ready offered c.level_by_actor.ensures.each c.caller_of-caller.result.set.now c.caller_of-caller.result.number caller.number_is caller.set_is
 
 pub called-result-requires-clause-child : goal.called-result-requires-clause-child
 called-result-requires-clause-child c =
     let i = c.self.inside in
     let offered = subst (λ (v : RunningView). IsOfferedCall v c.args.node) (sym c.self.view_is) c.requires in
     let items_are = c.items.ensures ∙ ap (λ (x : Graphs). x.graphs) c.deref.ensures in
-    let caller = caller_so (fixed_of i) i.stages i.held.items i.traces.items i.job c.self.invariant c.args.node c.faults_renamed.ensures.ready c.faults_renamed.ensures.inputs c.ready_stays.ensures.ready offered c.caller_of-caller.result.graphs.now c.items.result.now c.caller_of-caller.result.set.now c.caller_of-caller.result.actor.now c.caller_of-caller.result.number c.caller_of-caller.result.turn c.firing_of-actor.result.0 c.firing_of-actor.result.1 c.caller_of-caller.result.keeps c.deref-2.result.now c.node-which.result c.node-which.ensures c.firing_of-actor.ensures items_are c.deref-2.ensures.value c.caller_of-caller.ensures.actor c.caller_of-caller.ensures.graphs c.caller_of-caller.ensures.number c.caller_of-caller.ensures.keeps in
-    let body = calls_graph (fixed_of i) i.stages i.held.items i.traces.items i.job c.self.invariant c.args.node c.faults_renamed.ensures.ready c.faults_renamed.ensures.inputs c.ready_stays.ensures.ready offered c.caller_of-caller.result.actor.now c.caller_of-caller.result.number caller.number_is caller.found in
-    ((calls (fixed_of i) i.stages i.held.items i.traces.items i.job c.self.invariant c.args.node c.faults_renamed.ensures.ready c.faults_renamed.ensures.inputs c.ready_stays.ensures.ready offered).place, (calls (fixed_of i) i.stages i.held.items i.traces.items i.job c.self.invariant c.args.node c.faults_renamed.ensures.ready c.faults_renamed.ensures.inputs c.ready_stays.ensures.ready offered).exprs, body)
+    let caller = caller_so (fixed_of i) i.stages i.held.items i.ending.traces.items i.job c.self.invariant c.args.node c.faults_renamed.ensures.ready c.faults_renamed.ensures.inputs c.ready_stays.ensures.ready offered c.caller_of-caller.result.graphs.now c.items.result.now c.caller_of-caller.result.set.now c.caller_of-caller.result.actor.now c.caller_of-caller.result.number c.caller_of-caller.result.turn c.firing_of-actor.result.0 c.firing_of-actor.result.1 c.caller_of-caller.result.keeps c.deref-2.result.now c.node-which.result c.node-which.ensures c.firing_of-actor.ensures items_are c.deref-2.ensures.value c.caller_of-caller.ensures.actor c.caller_of-caller.ensures.graphs c.caller_of-caller.ensures.number c.caller_of-caller.ensures.keeps in
+    let body = calls_graph (fixed_of i) i.stages i.held.items i.ending.traces.items i.job c.self.invariant c.args.node c.faults_renamed.ensures.ready c.faults_renamed.ensures.inputs c.ready_stays.ensures.ready offered c.caller_of-caller.result.actor.now c.caller_of-caller.result.number caller.number_is caller.found in
+    ((calls (fixed_of i) i.stages i.held.items i.ending.traces.items i.job c.self.invariant c.args.node c.faults_renamed.ensures.ready c.faults_renamed.ensures.inputs c.ready_stays.ensures.ready offered).place, (calls (fixed_of i) i.stages i.held.items i.ending.traces.items i.job c.self.invariant c.args.node c.faults_renamed.ensures.ready c.faults_renamed.ensures.inputs c.ready_stays.ensures.ready offered).exprs, body)
 
 pub called-result-requires-clause-few : goal.called-result-requires-clause-few
 called-result-requires-clause-few c =
     let i = c.self.inside in
     let offered = subst (λ (v : RunningView). IsOfferedCall v c.args.node) (sym c.self.view_is) c.requires in
-    few_read (fixed_of i) i.stages i.held.items i.traces.items i.job c.self.invariant c.args.node c.faults_renamed.ensures.ready c.faults_renamed.ensures.inputs c.ready_stays.ensures.ready offered c.claim-frame.result.inputs c.claim-frame.ensures.inputs
+    few_read (fixed_of i) i.stages i.held.items i.ending.traces.items i.job c.self.invariant c.args.node c.faults_renamed.ensures.ready c.faults_renamed.ensures.inputs c.ready_stays.ensures.ready offered c.claim-frame.result.inputs c.claim-frame.ensures.inputs
 
 pub put_frame-requires-clause-inside : goal.put_frame-requires-clause-inside
 put_frame-requires-clause-inside c =
     let i = c.self.inside in
     let offered = subst (λ (v : RunningView). IsOfferedCall v c.args.node) (sym c.self.view_is) c.requires in
-    subst (λ (l : List Held). c.args.node < length l) (sym c.deref_mut.ensures.value) (inside_held (fixed_of i) i.stages i.held.items i.traces.items i.job c.self.invariant c.args.node c.faults_renamed.ensures.ready c.faults_renamed.ensures.inputs c.ready_stays.ensures.ready offered)
+    subst (λ (l : List Held). c.args.node < length l) (sym c.deref_mut.ensures.value) (inside_held (fixed_of i) i.stages i.held.items i.ending.traces.items i.job c.self.invariant c.args.node c.faults_renamed.ensures.ready c.faults_renamed.ensures.inputs c.ready_stays.ensures.ready offered)
 
 pub put_frame-requires-clause-nothing : goal.put_frame-requires-clause-nothing
 put_frame-requires-clause-nothing c =
     let i = c.self.inside in
     let offered = subst (λ (v : RunningView). IsOfferedCall v c.args.node) (sym c.self.view_is) c.requires in
-    ap (λ (l : List Held). held_at l c.args.node) c.deref_mut.ensures.value ∙ nothing_held (fixed_of i) i.stages i.held.items i.traces.items i.job c.self.invariant c.args.node c.faults_renamed.ensures.ready c.faults_renamed.ensures.inputs c.ready_stays.ensures.ready offered.free (Call offered.job) offered.task_is
+    ap (λ (l : List Held). held_at l c.args.node) c.deref_mut.ensures.value ∙ nothing_held (fixed_of i) i.stages i.held.items i.ending.traces.items i.job c.self.invariant c.args.node c.faults_renamed.ensures.ready c.faults_renamed.ensures.inputs c.ready_stays.ensures.ready offered.free (Call offered.job) offered.task_is
 
 pub invariant_of-self : goal.invariant_of-self
 invariant_of-self c =
     let i = c.self.inside in
     let offered = subst (λ (v : RunningView). IsOfferedCall v c.args.node) (sym c.self.view_is) c.requires in
     let items_are = c.items.ensures ∙ ap (λ (x : Graphs). x.graphs) c.deref.ensures in
-    let caller = caller_so (fixed_of i) i.stages i.held.items i.traces.items i.job c.self.invariant c.args.node c.faults_renamed.ensures.ready c.faults_renamed.ensures.inputs c.ready_stays.ensures.ready offered c.caller_of-caller.result.graphs.now c.items.result.now c.caller_of-caller.result.set.now c.caller_of-caller.result.actor.now c.caller_of-caller.result.number c.caller_of-caller.result.turn c.firing_of-actor.result.0 c.firing_of-actor.result.1 c.caller_of-caller.result.keeps c.deref-2.result.now c.node-which.result c.node-which.ensures c.firing_of-actor.ensures items_are c.deref-2.ensures.value c.caller_of-caller.ensures.actor c.caller_of-caller.ensures.graphs c.caller_of-caller.ensures.number c.caller_of-caller.ensures.keeps in
-    let body = calls_graph (fixed_of i) i.stages i.held.items i.traces.items i.job c.self.invariant c.args.node c.faults_renamed.ensures.ready c.faults_renamed.ensures.inputs c.ready_stays.ensures.ready offered c.caller_of-caller.result.actor.now c.caller_of-caller.result.number caller.number_is caller.found in
-    let made = called_ok (fixed_of i) i.stages i.held.items i.traces.items i.job c.self.invariant c.args.node c.faults_renamed.ensures.ready c.faults_renamed.ensures.inputs c.ready_stays.ensures.ready offered c.called-result.result c.caller_of-caller.result.graphs.now c.caller_of-caller.result.set.now c.caller_of-caller.result.actor.now c.caller_of-caller.result.number c.caller_of-caller.result.turn c.caller_of-caller.result.keeps c.claim-frame.result.inputs caller c.claim-frame.ensures.inputs
-    (c.called-result.ensures i.firing.value (calls (fixed_of i) i.stages i.held.items i.traces.items i.job c.self.invariant c.args.node c.faults_renamed.ensures.ready c.faults_renamed.ensures.inputs c.ready_stays.ensures.ready offered).place (calls (fixed_of i) i.stages i.held.items i.traces.items i.job c.self.invariant c.args.node c.faults_renamed.ensures.ready c.faults_renamed.ensures.inputs c.ready_stays.ensures.ready offered).exprs (sym c.self.invariant.parts.path_is) body) in
+    let caller = caller_so (fixed_of i) i.stages i.held.items i.ending.traces.items i.job c.self.invariant c.args.node c.faults_renamed.ensures.ready c.faults_renamed.ensures.inputs c.ready_stays.ensures.ready offered c.caller_of-caller.result.graphs.now c.items.result.now c.caller_of-caller.result.set.now c.caller_of-caller.result.actor.now c.caller_of-caller.result.number c.caller_of-caller.result.turn c.firing_of-actor.result.0 c.firing_of-actor.result.1 c.caller_of-caller.result.keeps c.deref-2.result.now c.node-which.result c.node-which.ensures c.firing_of-actor.ensures items_are c.deref-2.ensures.value c.caller_of-caller.ensures.actor c.caller_of-caller.ensures.graphs c.caller_of-caller.ensures.number c.caller_of-caller.ensures.keeps in
+    let body = calls_graph (fixed_of i) i.stages i.held.items i.ending.traces.items i.job c.self.invariant c.args.node c.faults_renamed.ensures.ready c.faults_renamed.ensures.inputs c.ready_stays.ensures.ready offered c.caller_of-caller.result.actor.now c.caller_of-caller.result.number caller.number_is caller.found in
+    let made = called_ok (fixed_of i) i.stages i.held.items i.ending.traces.items i.job c.self.invariant c.args.node c.faults_renamed.ensures.ready c.faults_renamed.ensures.inputs c.ready_stays.ensures.ready offered c.called-result.result c.caller_of-caller.result.graphs.now c.caller_of-caller.result.set.now c.caller_of-caller.result.actor.now c.caller_of-caller.result.number c.caller_of-caller.result.turn c.caller_of-caller.result.keeps c.claim-frame.result.inputs caller c.claim-frame.ensures.inputs
+    (c.called-result.ensures i.firing.value (calls (fixed_of i) i.stages i.held.items i.ending.traces.items i.job c.self.invariant c.args.node c.faults_renamed.ensures.ready c.faults_renamed.ensures.inputs c.ready_stays.ensures.ready offered).place (calls (fixed_of i) i.stages i.held.items i.ending.traces.items i.job c.self.invariant c.args.node c.faults_renamed.ensures.ready c.faults_renamed.ensures.inputs c.ready_stays.ensures.ready offered).exprs (sym c.self.invariant.parts.path_is) body) in
     let held_are = with_items_is i.held c.put_frame.new.all (c.put_frame.auto.all ∙ (ap length c.deref_mut.ensures.value ∙ sym i.held.ok.0)) ∙ c.put_frame.ensures ∙ ap (λ (l : List Held). set l c.args.node (Waits c.claim-frame.result)) c.deref_mut.ensures.value in
-    subst (λ (s : List Stage). KeepsAll (fixed_of i) s (take i.held.len (c.put_frame.new.all ++ drop (length c.put_frame.new.all) i.held.items)) i.traces.items c.claim-frame.new.self) (sym c.put.ensures)
-    (subst (λ (l : List Held). KeepsAll (fixed_of i) (set i.stages c.args.node c.waiting.result) l i.traces.items c.claim-frame.new.self) (sym held_are)
-    (subst (λ (j : leased.JobView). KeepsAll (fixed_of i) (set i.stages c.args.node c.waiting.result) (set i.held.items c.args.node (Waits c.claim-frame.result)) i.traces.items j) (sym c.claim-frame.ensures.claimed)
-    (keeps_waiting (fixed_of i) i.stages i.held.items i.traces.items i.job c.self.invariant c.args.node c.faults_renamed.ensures.ready c.faults_renamed.ensures.inputs c.ready_stays.ensures.ready offered c.called-result.result c.claim-frame.result c.waiting.result c.waiting.ensures made c.claim-frame.ensures.outputs)))
+    subst (λ (s : List Stage). KeepsAll (record (fixed_of i) { room = c.claim-frame.new.self.room }) s (take i.held.len (c.put_frame.new.all ++ drop (length c.put_frame.new.all) i.held.items)) i.ending.traces.items c.claim-frame.new.self) (sym c.put.ensures)
+    (subst (λ (l : List Held). KeepsAll (record (fixed_of i) { room = c.claim-frame.new.self.room }) (set i.stages c.args.node c.waiting.result) l i.ending.traces.items c.claim-frame.new.self) (sym held_are)
+    (subst (λ (j : leased.JobView). KeepsAll (record (fixed_of i) { room = j.room }) (set i.stages c.args.node c.waiting.result) (set i.held.items c.args.node (Waits c.claim-frame.result)) i.ending.traces.items j) (sym c.claim-frame.ensures.claimed)
+    (keeps_waiting (fixed_of i) i.stages i.held.items i.ending.traces.items i.job c.self.invariant c.args.node c.faults_renamed.ensures.ready c.faults_renamed.ensures.inputs c.ready_stays.ensures.ready offered c.called-result.result c.claim-frame.result c.waiting.result c.waiting.ensures made c.claim-frame.ensures.outputs)))
 
 pub returns-clause-called : goal.returns-clause-called
 returns-clause-called c =
     let i = c.self.inside in
     let offered = subst (λ (v : RunningView). IsOfferedCall v c.args.node) (sym c.self.view_is) c.requires in
     let items_are = c.items.ensures ∙ ap (λ (x : Graphs). x.graphs) c.deref.ensures in
-    let caller = caller_so (fixed_of i) i.stages i.held.items i.traces.items i.job c.self.invariant c.args.node c.faults_renamed.ensures.ready c.faults_renamed.ensures.inputs c.ready_stays.ensures.ready offered c.caller_of-caller.result.graphs.now c.items.result.now c.caller_of-caller.result.set.now c.caller_of-caller.result.actor.now c.caller_of-caller.result.number c.caller_of-caller.result.turn c.firing_of-actor.result.0 c.firing_of-actor.result.1 c.caller_of-caller.result.keeps c.deref-2.result.now c.node-which.result c.node-which.ensures c.firing_of-actor.ensures items_are c.deref-2.ensures.value c.caller_of-caller.ensures.actor c.caller_of-caller.ensures.graphs c.caller_of-caller.ensures.number c.caller_of-caller.ensures.keeps in
-    let body = calls_graph (fixed_of i) i.stages i.held.items i.traces.items i.job c.self.invariant c.args.node c.faults_renamed.ensures.ready c.faults_renamed.ensures.inputs c.ready_stays.ensures.ready offered c.caller_of-caller.result.actor.now c.caller_of-caller.result.number caller.number_is caller.found in
-    let made = called_ok (fixed_of i) i.stages i.held.items i.traces.items i.job c.self.invariant c.args.node c.faults_renamed.ensures.ready c.faults_renamed.ensures.inputs c.ready_stays.ensures.ready offered c.called-result.result c.caller_of-caller.result.graphs.now c.caller_of-caller.result.set.now c.caller_of-caller.result.actor.now c.caller_of-caller.result.number c.caller_of-caller.result.turn c.caller_of-caller.result.keeps c.claim-frame.result.inputs caller c.claim-frame.ensures.inputs
-    (c.called-result.ensures i.firing.value (calls (fixed_of i) i.stages i.held.items i.traces.items i.job c.self.invariant c.args.node c.faults_renamed.ensures.ready c.faults_renamed.ensures.inputs c.ready_stays.ensures.ready offered).place (calls (fixed_of i) i.stages i.held.items i.traces.items i.job c.self.invariant c.args.node c.faults_renamed.ensures.ready c.faults_renamed.ensures.inputs c.ready_stays.ensures.ready offered).exprs (sym c.self.invariant.parts.path_is) body) in
-    task_of (fixed_of i) i.stages i.held.items i.traces.items i.job c.self.invariant c.args.node c.faults_renamed.ensures.ready c.faults_renamed.ensures.inputs c.ready_stays.ensures.ready offered c.called-result.result c.args.self.now c.self.view_is made
+    let caller = caller_so (fixed_of i) i.stages i.held.items i.ending.traces.items i.job c.self.invariant c.args.node c.faults_renamed.ensures.ready c.faults_renamed.ensures.inputs c.ready_stays.ensures.ready offered c.caller_of-caller.result.graphs.now c.items.result.now c.caller_of-caller.result.set.now c.caller_of-caller.result.actor.now c.caller_of-caller.result.number c.caller_of-caller.result.turn c.firing_of-actor.result.0 c.firing_of-actor.result.1 c.caller_of-caller.result.keeps c.deref-2.result.now c.node-which.result c.node-which.ensures c.firing_of-actor.ensures items_are c.deref-2.ensures.value c.caller_of-caller.ensures.actor c.caller_of-caller.ensures.graphs c.caller_of-caller.ensures.number c.caller_of-caller.ensures.keeps in
+    let body = calls_graph (fixed_of i) i.stages i.held.items i.ending.traces.items i.job c.self.invariant c.args.node c.faults_renamed.ensures.ready c.faults_renamed.ensures.inputs c.ready_stays.ensures.ready offered c.caller_of-caller.result.actor.now c.caller_of-caller.result.number caller.number_is caller.found in
+    let made = called_ok (fixed_of i) i.stages i.held.items i.ending.traces.items i.job c.self.invariant c.args.node c.faults_renamed.ensures.ready c.faults_renamed.ensures.inputs c.ready_stays.ensures.ready offered c.called-result.result c.caller_of-caller.result.graphs.now c.caller_of-caller.result.set.now c.caller_of-caller.result.actor.now c.caller_of-caller.result.number c.caller_of-caller.result.turn c.caller_of-caller.result.keeps c.claim-frame.result.inputs caller c.claim-frame.ensures.inputs
+    (c.called-result.ensures i.firing.value (calls (fixed_of i) i.stages i.held.items i.ending.traces.items i.job c.self.invariant c.args.node c.faults_renamed.ensures.ready c.faults_renamed.ensures.inputs c.ready_stays.ensures.ready offered).place (calls (fixed_of i) i.stages i.held.items i.ending.traces.items i.job c.self.invariant c.args.node c.faults_renamed.ensures.ready c.faults_renamed.ensures.inputs c.ready_stays.ensures.ready offered).exprs (sym c.self.invariant.parts.path_is) body) in
+    task_of (fixed_of i) i.stages i.held.items i.ending.traces.items i.job c.self.invariant c.args.node c.faults_renamed.ensures.ready c.faults_renamed.ensures.inputs c.ready_stays.ensures.ready offered c.called-result.result c.args.self.now c.self.view_is made
 
 pub returns-clause-inherited : goal.returns-clause-inherited
 returns-clause-inherited c =
     let i = c.self.inside in
     let offered = subst (λ (v : RunningView). IsOfferedCall v c.args.node) (sym c.self.view_is) c.requires in
     let items_are = c.items.ensures ∙ ap (λ (x : Graphs). x.graphs) c.deref.ensures in
-    let caller = caller_so (fixed_of i) i.stages i.held.items i.traces.items i.job c.self.invariant c.args.node c.faults_renamed.ensures.ready c.faults_renamed.ensures.inputs c.ready_stays.ensures.ready offered c.caller_of-caller.result.graphs.now c.items.result.now c.caller_of-caller.result.set.now c.caller_of-caller.result.actor.now c.caller_of-caller.result.number c.caller_of-caller.result.turn c.firing_of-actor.result.0 c.firing_of-actor.result.1 c.caller_of-caller.result.keeps c.deref-2.result.now c.node-which.result c.node-which.ensures c.firing_of-actor.ensures items_are c.deref-2.ensures.value c.caller_of-caller.ensures.actor c.caller_of-caller.ensures.graphs c.caller_of-caller.ensures.number c.caller_of-caller.ensures.keeps in
-    let body = calls_graph (fixed_of i) i.stages i.held.items i.traces.items i.job c.self.invariant c.args.node c.faults_renamed.ensures.ready c.faults_renamed.ensures.inputs c.ready_stays.ensures.ready offered c.caller_of-caller.result.actor.now c.caller_of-caller.result.number caller.number_is caller.found in
-    let made = called_ok (fixed_of i) i.stages i.held.items i.traces.items i.job c.self.invariant c.args.node c.faults_renamed.ensures.ready c.faults_renamed.ensures.inputs c.ready_stays.ensures.ready offered c.called-result.result c.caller_of-caller.result.graphs.now c.caller_of-caller.result.set.now c.caller_of-caller.result.actor.now c.caller_of-caller.result.number c.caller_of-caller.result.turn c.caller_of-caller.result.keeps c.claim-frame.result.inputs caller c.claim-frame.ensures.inputs
-    (c.called-result.ensures i.firing.value (calls (fixed_of i) i.stages i.held.items i.traces.items i.job c.self.invariant c.args.node c.faults_renamed.ensures.ready c.faults_renamed.ensures.inputs c.ready_stays.ensures.ready offered).place (calls (fixed_of i) i.stages i.held.items i.traces.items i.job c.self.invariant c.args.node c.faults_renamed.ensures.ready c.faults_renamed.ensures.inputs c.ready_stays.ensures.ready offered).exprs (sym c.self.invariant.parts.path_is) body) in
-    inherits_of (fixed_of i) i.stages i.held.items i.traces.items i.job c.self.invariant c.args.node c.faults_renamed.ensures.ready c.faults_renamed.ensures.inputs c.ready_stays.ensures.ready offered c.called-result.result c.args.self.now c.self.view_is made
+    let caller = caller_so (fixed_of i) i.stages i.held.items i.ending.traces.items i.job c.self.invariant c.args.node c.faults_renamed.ensures.ready c.faults_renamed.ensures.inputs c.ready_stays.ensures.ready offered c.caller_of-caller.result.graphs.now c.items.result.now c.caller_of-caller.result.set.now c.caller_of-caller.result.actor.now c.caller_of-caller.result.number c.caller_of-caller.result.turn c.firing_of-actor.result.0 c.firing_of-actor.result.1 c.caller_of-caller.result.keeps c.deref-2.result.now c.node-which.result c.node-which.ensures c.firing_of-actor.ensures items_are c.deref-2.ensures.value c.caller_of-caller.ensures.actor c.caller_of-caller.ensures.graphs c.caller_of-caller.ensures.number c.caller_of-caller.ensures.keeps in
+    let body = calls_graph (fixed_of i) i.stages i.held.items i.ending.traces.items i.job c.self.invariant c.args.node c.faults_renamed.ensures.ready c.faults_renamed.ensures.inputs c.ready_stays.ensures.ready offered c.caller_of-caller.result.actor.now c.caller_of-caller.result.number caller.number_is caller.found in
+    let made = called_ok (fixed_of i) i.stages i.held.items i.ending.traces.items i.job c.self.invariant c.args.node c.faults_renamed.ensures.ready c.faults_renamed.ensures.inputs c.ready_stays.ensures.ready offered c.called-result.result c.caller_of-caller.result.graphs.now c.caller_of-caller.result.set.now c.caller_of-caller.result.actor.now c.caller_of-caller.result.number c.caller_of-caller.result.turn c.caller_of-caller.result.keeps c.claim-frame.result.inputs caller c.claim-frame.ensures.inputs
+    (c.called-result.ensures i.firing.value (calls (fixed_of i) i.stages i.held.items i.ending.traces.items i.job c.self.invariant c.args.node c.faults_renamed.ensures.ready c.faults_renamed.ensures.inputs c.ready_stays.ensures.ready offered).place (calls (fixed_of i) i.stages i.held.items i.ending.traces.items i.job c.self.invariant c.args.node c.faults_renamed.ensures.ready c.faults_renamed.ensures.inputs c.ready_stays.ensures.ready offered).exprs (sym c.self.invariant.parts.path_is) body) in
+    inherits_of (fixed_of i) i.stages i.held.items i.ending.traces.items i.job c.self.invariant c.args.node c.faults_renamed.ensures.ready c.faults_renamed.ensures.inputs c.ready_stays.ensures.ready offered c.called-result.result c.args.self.now c.self.view_is made
 
 pub returns-clause-ok : goal.returns-clause-ok
 returns-clause-ok c =
     let i = c.self.inside in
     let offered = subst (λ (v : RunningView). IsOfferedCall v c.args.node) (sym c.self.view_is) c.requires in
-    subst (λ (s : List Stage). IfOk c.called-result.result (λ d. view_with (fixed_of i) s ≡ record c.args.self.now { marks = set c.args.self.now.marks c.args.node (Open d) })) (sym c.put.ensures)
-    (view_ok (fixed_of i) i.stages i.held.items i.traces.items i.job c.self.invariant c.args.node c.faults_renamed.ensures.ready c.faults_renamed.ensures.inputs c.ready_stays.ensures.ready offered c.called-result.result c.args.self.now c.self.view_is c.claim-frame.result c.waiting.result c.waiting.ensures)
+    subst (λ (j : leased.JobView). IfOk c.called-result.result (λ d. view_with (record (fixed_of i) { room = j.room }) c.put.new.self ≡ record c.args.self.now { marks = set c.args.self.now.marks c.args.node (Open d) })) (sym c.claim-frame.ensures.claimed)
+    (subst (λ (s : List Stage). IfOk c.called-result.result (λ d. view_with (fixed_of i) s ≡ record c.args.self.now { marks = set c.args.self.now.marks c.args.node (Open d) })) (sym c.put.ensures)
+    (view_ok (fixed_of i) i.stages i.held.items i.ending.traces.items i.job c.self.invariant c.args.node c.faults_renamed.ensures.ready c.faults_renamed.ensures.inputs c.ready_stays.ensures.ready offered c.called-result.result c.args.self.now c.self.view_is c.claim-frame.result c.waiting.result c.waiting.ensures))
 
 pub returns-clause-err : goal.returns-clause-err
 returns-clause-err c =
     let i = c.self.inside in
     let offered = subst (λ (v : RunningView). IsOfferedCall v c.args.node) (sym c.self.view_is) c.requires in
-    on_err_right c.called-result.result (view_with (fixed_of i) c.put.new.self ≡ c.args.self.now) (view_with (fixed_of i) c.put.new.self ≡ record c.args.self.now { marks = set c.args.self.now.marks c.args.node Busy })
+    let new = view_with (record (fixed_of i) { room = c.claim-frame.new.self.room }) c.put.new.self in
+    on_err_right c.called-result.result (new ≡ c.args.self.now) (new ≡ record c.args.self.now { marks = set c.args.self.now.marks c.args.node Busy })
+    (subst (λ (j : leased.JobView). OnErr c.called-result.result (view_with (record (fixed_of i) { room = j.room }) c.put.new.self ≡ record c.args.self.now { marks = set c.args.self.now.marks c.args.node Busy })) (sym c.claim-frame.ensures.claimed)
     (subst (λ (s : List Stage). OnErr c.called-result.result (view_with (fixed_of i) s ≡ record c.args.self.now { marks = set c.args.self.now.marks c.args.node Busy })) (sym c.put.ensures)
-    (view_err (fixed_of i) i.stages i.held.items i.traces.items i.job c.self.invariant c.args.node c.faults_renamed.ensures.ready c.faults_renamed.ensures.inputs c.ready_stays.ensures.ready offered c.called-result.result c.args.self.now c.self.view_is c.claim-frame.result c.waiting.result c.waiting.ensures))
+    (view_err (fixed_of i) i.stages i.held.items i.ending.traces.items i.job c.self.invariant c.args.node c.faults_renamed.ensures.ready c.faults_renamed.ensures.inputs c.ready_stays.ensures.ready offered c.called-result.result c.args.self.now c.self.view_is c.claim-frame.result c.waiting.result c.waiting.ensures)))
 
 pub claim-frame-requires-clause-room : goal.claim-frame-requires-clause-room
 claim-frame-requires-clause-room c =
     let i = c.self.inside in
-    suffices_same i.job.room c.in_ok-room.room (c.in_ok-room.ensures ∙ sym c.self.invariant.set_up.room_is)
+    suffices_same i.job.room c.in_ok-room.room (c.in_ok-room.ensures ∙ c.room_size.ensures)

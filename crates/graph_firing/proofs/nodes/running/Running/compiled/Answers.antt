@@ -13,4 +13,4 @@ returns-clause-value c =
 pub returns-clause-lends : goal.returns-clause-lends
 returns-clause-lends c =
     let i = c.self.inside in
-    subst LendsNodes c.self.view_is (lends_nodes (fixed_of i) i.stages i.held.items i.traces.items i.job c.self.invariant c.compiled.ensures.buffers)
+    subst LendsNodes c.self.view_is (lends_nodes (fixed_of i) i.stages i.held.items i.ending.traces.items i.job c.self.invariant c.compiled.ensures.buffers)

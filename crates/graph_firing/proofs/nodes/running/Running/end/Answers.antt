@@ -8,4 +8,4 @@ use Rattle.graph_firing.proofs.nodes.running.Running.end.Goals as goal
 pub end_frames-requires-clause-waiting : goal.end_frames-requires-clause-waiting
 end_frames-requires-clause-waiting c =
     let i = c.self.inside in
-    hold_claimed (fixed_of i) i.stages i.held.items i.traces.items i.job c.self.invariant (subst (λ (v : RunningView). IsNothingLent v.lent) (sym c.self.view_is) c.requires)
+    hold_claimed (fixed_of i) i.stages i.held.items i.ending.traces.items i.job c.self.invariant (subst (λ (v : RunningView). IsNothingLent v.lent) (sym c.self.view_is) c.requires)
