@@ -17,36 +17,17 @@ use crate::answer::Answer;
 use crate::job::Nodes;
 use crate::rows::{Side, edges_by};
 use crate::wires::edge_counts;
-use job_compiler::{Compiled, Kept, Key};
-use job_preparing::{Made, keeps_at, make};
+use job_compiler::{Compiled, Kept};
+use job_preparing::{Made, keeps_at, key_for, make};
 use level_schedule::LevelSchedule;
 use param_resolver::{Early, LevelSet};
 use pisdf_meaning::{
-    Configured, Firing, PlainFault, chosen_values, copy_tokens, link_starts, source_tokens,
+    Configured, Firing, PlainFault, link_starts, source_tokens,
 };
 use pisdf_model::{Graph, Graphs};
 use sdf_level::{List, Turn};
 use std::alloc::{AllocError, Global};
 use std::sync::Arc;
-
-/// What the compilation of a firing is kept by, whose configuration actors left this. Another key would cost time alone: a kept
-/// compilation is taken only where it is of the same level.
-fn key_of(
-    alloc: Global,
-    graph: &Graph,
-    firing: &Firing,
-    left: &[Configured],
-    workers: u32,
-) -> Result<Key, AllocError> {
-    let mut values = copy_tokens(alloc, firing.inherited.items())?.into_items();
-    let chosen = chosen_values(alloc, graph, left)?;
-    values.extend_from_slice(&chosen)?;
-    Ok(Key {
-        graph: firing.graph,
-        workers,
-        values: List::new(values),
-    })
-}
 
 /// The same turns.
 fn copy_turns(alloc: Global, turns: &[Turn]) -> Result<List<Turn>, AllocError>
@@ -127,7 +108,7 @@ fn compiled_for(
     ensures refused { IfErr result (IfRefused (λ refusal. doing.IsCompiled graphs.now.graphs firing.now left.now (words.Refuses refusal))) }
 {
     let graph = &graphs.graphs.items()[firing.graph as usize];
-    let key = key_of(alloc, graph, firing, left, workers)?;
+    let key = key_for(alloc, graph, firing, left, workers)?;
     let found = kept.find(&key)?;
     let made = make(alloc, graphs, early, firing, left, workers, &found)?;
     let shared = Arc::try_clone(&made.compiled)?;

@@ -3,7 +3,7 @@ use Rattle.std.proofs.Common.{◌≡◌, ◌≢◌, ⊎_elim, ℕ, ◌<◌, Bool
 use Rattle.std.proofs.lemmas.Bool.{cases_eq}
 use Rattle.std.specs.Prelude.{IfOk, is_err}
 use Rattle.kernel_gate.specs.declared.fault.KernelFault.{KernelFault}
-use Rattle.graph_firing.specs.Calls.{HasLongTrace, IsSoundFor}
+use Rattle.graph_firing.specs.Calls.{IsSoundFor}
 use Rattle.kernel_gate.specs.Value.{FrameView, Places}
 use Rattle.job_preparing.specs.Handing.{answer_with, answers, end_of, lent_at, mark_at}
 use Rattle.job_preparing.specs.declared.handing.JobGiven.{JobGiven}
@@ -27,7 +27,7 @@ use Rattle.board_rules.specs.Keys.{Key, rules}
 use Rattle.board_rules.specs.Laws.{JournalsTellSteps, WorkHasOneAnswer}
 use Rattle.board_rules.specs.Legal.{state_after}
 use Rattle.firing_board.specs.Table.Calls.{LendsItem, MarksItem, StaysAs}
-use Rattle.firing_board.specs.Table.Closing.{Closes, ClosesLong, ClosesTo, IsClosingFrom}
+use Rattle.firing_board.specs.Table.Closing.{Closes, ClosesTo, IsClosingFrom}
 use Rattle.firing_board.specs.Table.Laws.{FinishesSuit, TablesMark}
 use Rattle.firing_board.specs.Table.View.{TableView, job_row, lent_by, lent_in, row_at, table_of}
 use Rattle.firing_board.specs.declared.table.row.Row.{Row}
@@ -63,17 +63,6 @@ not_both m job x one two = cc
 
 one_answer : (m : Mark Firing Answer) (x y : Answer) → m ≡ Done x → m ≡ Done y → x ≡ y
 one_answer m x y one two = cc
-
--- after these steps a firing has given a trace with as many rows as no list holds
-pub record GivesLong (key : Key) (taken : List Step) : Type 0 where
-  pub place : Place
-  pub answer : Answer
-  pub done : (state_after key taken).marks place ≡ Done answer
-  pub is_long : HasLongTrace answer
-
-pub when_err : {X E : Type 0} (r : Result X E) (Q : Type 0) → is_err r ≡ true → Rattle.std.specs.Prelude.OnErr r Q → Q
-when_err (Ok x) Q is q = absurd (cc)
-when_err (Err e) Q is q = q
 
 -- a row stays, with what is busy in it and what is answered
 abbrev pub LastsAs : Row → ℕ → TableView → ℕ → Type 0
@@ -297,11 +286,6 @@ module _ (key : Key) (laws : FinishLaws key) (old : Core) (keeps : Keeps key old
           closing = subst (λ (p : Place). IsClosing key keeps.taken (held_of old.running.items) w answer (table_of mid.table) (put m (b.run.item ∷ b.row.place) (Done answer)) p) place moved;
           suits = subst (λ (p : Place). Rattle.firing_board.specs.Table.Suits.Suits key (put m (b.run.item ∷ p) (Done answer)) mid.table) (ap (λ (r : Row). r.place) before_is) suit;
         }
-
-    -- a job was closed that gives a trace as no list holds
-    pub long_closing : ((c : IsClosingFrom mid.table b.run.row) → ClosesLong c) → GivesLong key then
-    unfolding closing_from
-    long_closing closes = let g = closes closing_from in record { place = g.place; answer = g.answer; done = g.done; is_long = g.is_long }
 
     module _ (new : Core) (kept : KeepsJournal mid new) (numbers_are : mid.numbers ≡ old.numbers) (closes : ClosesOn mid b.run.row new) where
       held_new : held_of new.running.items ≡ hold (held_of old.running.items) w None

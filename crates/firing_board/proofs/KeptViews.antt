@@ -5,7 +5,7 @@ use Rattle.job_rules.specs.Words as words
 use Rattle.board_rules.specs.Entries.{Step}
 use Rattle.board_rules.specs.Laws.{JournalsTellSteps}
 use Rattle.firing_board.specs.Claims.{Claims, EntersAs, Picks, Stays}
-use Rattle.firing_board.specs.Ends.{EndsAs, HasFinished, HasLongTraces, IsOver}
+use Rattle.firing_board.specs.Ends.{EndsAs, HasFinished, IsOver}
 use Rattle.firing_board.specs.Finishes.{Finishes}
 use Rattle.firing_board.specs.Firings.{LeasesFrame, LeasesNode}
 use Rattle.firing_board.specs.Kept.{IsBoard, Keeps, key_of, view_of, view_with}
@@ -119,9 +119,6 @@ pub ends_as_kept : (k : Bool) (b : BoardView) (end : BoardEnd) → EndsAs b end 
 ends_as_kept k b (ends.Done iteration delays journal) h = h
 ends_as_kept k b (ends.Refused refusal journal) h = h
 ends_as_kept k b ends.Starved h = h
-
-pub long_as : (k : Bool) (b : BoardView) → HasLongTraces b → HasLongTraces (keeping k b)
-long_as k b h = record { taken = h.taken; at = at_as k b h.taken h.at; place = h.place; answer = h.answer; done = h.done; is_long = h.is_long }
 
 -- ---- the view of a board
 

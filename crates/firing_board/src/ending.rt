@@ -9,10 +9,8 @@ use crate::frame_rooms::end_rooms;
 use crate::state::Core;
 use board_journal::Journal;
 use job_preparing::JobGiven;
-use pisdf_meaning::{Delays, Iteration, Refusal, TraceRow};
-use sdf_level::List;
+use pisdf_meaning::{Delays, Iteration, Refusal};
 use std::alloc::{AllocError, Global};
-use std::collections::LinkedList;
 
 /// How a board ends.
 #[derive(Drop)]
@@ -30,18 +28,6 @@ pub enum BoardEnd {
     },
     /// Memory was wanted.
     Starved,
-}
-
-/// The rows of a trace in a list.
-fn list_of(alloc: Global, rows: LinkedList<TraceRow>) -> Result<List<TraceRow>, AllocError>
-    ensures { IfOk result (λ list. list ≡ rows) }
-{
-    let mut rows = rows;
-    let mut list = Vec::new(alloc);
-    while let Some(row) = rows.pop_front() {
-        list.push(row)?;
-    }
-    Ok(List::new(list))
 }
 
 /// Gives up the open jobs.
@@ -85,7 +71,7 @@ pub(crate) fn outcome_of(alloc: Global, core: Core, starved: bool) -> Result<Boa
     }
     match end {
         Some(Ok(given)) => {
-            let trace = list_of(alloc, given.trace)?;
+            let trace = given.trace.into_list(alloc)?;
             Ok(BoardEnd::Done {
                 iteration: Iteration {
                     outs: given.outs,

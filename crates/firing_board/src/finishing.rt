@@ -1,14 +1,12 @@
 // Takes back what a worker ran.
 ghost use Rattle.std.specs.Prelude.{◌≡◌, ◌<◌, ◌≤◌, IfOk, IsErr, IsOk, None, OnErr, OnOk, Some, false, true, length, slice_index_or, slice_set};
 ghost use Rattle.board_rules.specs.Keys.{Key};
-ghost use Rattle.firing_board.specs.Table.Closing.{ClosesLong, IsClosingFrom};
+ghost use Rattle.firing_board.specs.Table.Closing.{IsClosingFrom};
 ghost use Rattle.firing_board.specs.Table.View.{free_items, room_in};
 ghost use Rattle.firing_board.specs.Closing.{ClosesOn, KeepsJournal};
 ghost use Rattle.firing_board.specs.Core.{HasJournalRoom, HasMemory};
 ghost use Rattle.firing_board.specs.FrameRooms.{FitsNeed};
-ghost use Rattle.firing_board.specs.Ends.{HasLongTraces};
 ghost use Rattle.firing_board.specs.Finishes.{MayComeBack, MayEnd};
-ghost use Rattle.firing_board.specs.Kept.{view_with};
 ghost use Rattle.firing_board.specs.OnCore.{FinishesOn, KeepsKey, MayLeave};
 ghost use Rattle.firing_board.specs.Returning.{Compiles, GivesUp, Leaves, MayCompile, MayReturn, Returns, RunsItem};
 
@@ -84,29 +82,23 @@ fn take_compilation(
     Ok(run.row)
 }
 
-/// Closes jobs from a row up. Where the top job is closed, its end is kept.
-///
-/// # Errors
-///
-/// Want of memory, only where a trace would have 2^63 rows or more.
-fn close(core: &mut Core, row: usize) -> Result<(), AllocError>
+/// Closes jobs from a row up. Where the top job is closed, its end is kept. It takes no memory.
+fn close(core: &mut Core, row: usize)
     requires { IsClosingFrom core.old.table row }
-    ensures closed { IfOk result (λ done. ClosesOn core.old row core.new) }
+    ensures closed { ClosesOn core.old row core.new }
     ensures kept { KeepsJournal core.old core.new }
     ensures fewer { free_items core.new.table ≤ free_items core.old.table }
     ensures rooms { core.new.rooms ≡ core.old.rooms }
-    ensures long { OnErr result ((c : IsClosingFrom core.old.table row) → ClosesLong c) }
 {
     boards_keep();
     rules_are_lawful();
     // Most finishes leave their job with more to do.
     if !core.table.job(row).quiet() {
-        return Ok(());
+        return;
     }
-    if let Some(end) = core.table.close_from(row)? {
+    if let Some(end) = core.table.close_from(row) {
         core.end = Some(end);
     }
-    Ok(())
 }
 
 /// Closes jobs from the row up of a job whose compilation was taken back, once the rooms of workers suffice for its nodes.
@@ -124,23 +116,23 @@ fn settle(alloc: Global, core: &mut Core, row: usize) -> Result<(), AllocError>
 {
     let need = core.table.job(row).room_size();
     fit_rooms(alloc, &mut core.rooms, need)?;
-    close(core, row)
+    close(core, row);
+    Ok(())
 }
 
-/// A worker finishes what it runs, whose frame comes back: whether memory was wanted, then or before.
+/// A worker finishes what it runs, whose frame comes back. It takes no memory. Where memory was wanted before, no job is closed.
 pub(crate) fn finish_frame(
     core: &mut Core,
     starved: bool,
     worker: u32,
     frame: Frame,
     answer: Result<(), KernelFault>,
-) -> bool
+)
     requires may { (key : Key) × MayLeave key core.old starved worker (MayComeBack key frame answer (IsOk answer)) (Some frame.places) }
     requires slots { length core.old.rooms.slots.items ≡ length core.old.running.items }
-    ensures finished { (key : Key) → MayLeave key core.old starved worker (MayComeBack key frame answer (IsOk answer)) (Some frame.places) → FinishesOn key core.old starved worker core.new result }
+    ensures finished { (key : Key) → MayLeave key core.old starved worker (MayComeBack key frame answer (IsOk answer)) (Some frame.places) → FinishesOn key core.old starved worker core.new starved }
     ensures kept { KeepsKey core.old core.new }
     ensures room { HasMemory core.old → HasMemory core.new }
-    ensures live { starved ≡ false → result ≡ true → (key : Key) → MayLeave key core.old starved worker (MayComeBack key frame answer (IsOk answer)) (Some frame.places) → HasLongTraces (view_with key core.new true) }
 {
     boards_keep();
     journals_grow();
@@ -148,7 +140,10 @@ pub(crate) fn finish_frame(
     rules_are_lawful();
     tables_suit();
     let row = take_back(core, worker, frame, answer);
-    starved || close(core, row).is_err()
+    if starved {
+        return;
+    }
+    close(core, row);
 }
 
 /// A worker finishes a compilation: whether memory was wanted, then or before.

@@ -62,7 +62,7 @@ impl JobTable {
     ghost use Rattle.graph_firing.specs.View.{IsOfferedCall, IsOfferedCompilation, IsOfferedWork, compilation_of, left_by, task};
     ghost use Rattle.firing_board.specs.Table.Asked.{IsPicked};
     ghost use Rattle.firing_board.specs.Table.Calls.{AsksAsBefore, BeginsWith, FinishesIn, IsStarted, LendsAsBefore, LendsItem, MarksItem, OpensChild, SpoilsItem};
-    ghost use Rattle.firing_board.specs.Table.Closing.{Closes, ClosesLong, IsClosingFrom, RowsStay};
+    ghost use Rattle.firing_board.specs.Table.Closing.{Closes, IsClosingFrom, RowsStay};
     ghost use Rattle.firing_board.specs.Table.View.{HasJob, NothingIsLent, free_items, keys_of, lent_in};
 
     /// A table of one job, the top one, of which nothing is claimed. The jobs will be mapped on so many workers.
@@ -251,25 +251,17 @@ impl JobTable {
     }
 
     /// Closes the job in a row where nothing more will come of it, tells the item that called it how it ended, and so on
-    /// with the job round it. Where the top job is closed, that is its end; else it is open still.
-    ///
-    /// # Errors
-    ///
-    /// Want of memory, only where a trace would have 2^63 rows or more.
-    pub(crate) fn close_from(
-        &mut self,
-        row: usize,
-    ) -> Result<Option<Result<JobGiven, Refusal>>, AllocError>
+    /// with the job round it. Where the top job is closed, that is its end; else it is open still. It takes no memory.
+    pub(crate) fn close_from(&mut self, row: usize) -> Option<Result<JobGiven, Refusal>>
         requires { IsClosingFrom self.old row }
-        ensures closed { IfOk result (Closes self.old row self.new) }
+        ensures closed { Closes self.old row self.new result }
         ensures stay { RowsStay self.old self.new }
         ensures fewer { free_items self.new ≤ free_items self.old }
-        ensures long { OnErr result ((c : IsClosingFrom self.old row) → ClosesLong c) }
     {
         boards_keep();
         rules_are_lawful();
         if !is_quiet(&self.rows[row]) {
-            return Ok(None);
+            return None;
         }
         let Row {
             job,
@@ -277,9 +269,9 @@ impl JobTable {
             place,
             steps: _,
         } = take_row(&mut self.rows[row]);
-        let end = job.outcome()?;
+        let end = job.outcome();
         match upper {
-            None => Ok(Some(end)),
+            None => Some(end),
             Some(upper) => {
                 job_in(&mut self.rows[upper]).finish_call(calling_item(&place), end);
                 self.close_from(upper)

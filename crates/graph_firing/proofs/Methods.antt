@@ -29,7 +29,7 @@ use Rattle.graph_firing.specs.Nodes.Calls as calls
 use Rattle.graph_firing.specs.Nodes.View as running
 use Rattle.graph_firing.specs.Nodes.View.{RunningView}
 use Rattle.graph_firing.specs.View.{IsOfferedCall, IsOfferedWork, IsQuiet, OpenView, compilation_of, outcome_in, task}
-use Rattle.graph_firing.specs.Calls.{HasLongTrace, IsHanded, IsHandedFor, with_item, with_mark}
+use Rattle.graph_firing.specs.Calls.{IsHanded, IsHandedFor, with_item, with_mark}
 use Rattle.graph_firing.specs.Offers.{IsPick}
 use Rattle.graph_firing.specs.Kept.{KeepsWith, node_lent, view_with}
 use Rattle.graph_firing.specs.Rooms.{is_node}
@@ -46,12 +46,6 @@ use Rattle.graph_firing.proofs.NodeEnds as nodes
 use Rattle.graph_firing.proofs.Offered as offered
 use Rattle.graph_firing.proofs.Picks as picks
 use Rattle.graph_firing.proofs.Steps as steps
-
--- ---- long traces
-
-long_answer : (end : End) → calls.HasLongTrace end → HasLongTrace (answer_of end)
-long_answer (Ok given) is_long = is_long
-long_answer (Err refusal) is_long = absurd is_long
 
 -- ---- configuration actors copy nothing
 
@@ -197,22 +191,13 @@ module _ (c : ConfiguringView) (workers : ℕ) (stage : Stage) (keeps : KeepsWit
   pub left_nodes : (r : RunningView) → stage ≡ Nodes r → preparing.left_by c ≡ r.prepared.left
   left_nodes r same = let runs : RunsFor c workers r = (at_stage (Nodes r) same).stage_fits in ap (λ o. unwrap_or o []) runs.left_is
 
-  pub nodes_outcome_ok : (r : RunningView) (result : Result (Result JobGiven Refusal) AllocError) → stage ≡ Nodes r → IfOk result (λ end. end_of end ≡ running.outcome_of r) → IfOk result (λ end. answer_of (end_of end) ≡ outcome_in v)
-  nodes_outcome_ok r (Ok end) same ends = nodes_outcome r (end_of end) same ends
-  nodes_outcome_ok r (Err error) same ends = tt
-
-  pub nodes_long : (r : RunningView) (result : Result (Result JobGiven Refusal) AllocError) → stage ≡ Nodes r → OnErr result (calls.HasLongTrace (running.outcome_of r)) → OnErr result (HasLongTrace (outcome_in v))
-  nodes_long r (Ok end) same is_long = is_long
-  nodes_long r (Err error) same is_long = subst HasLongTrace (nodes_outcome r (running.outcome_of r) same refl) (long_answer (running.outcome_of r) is_long)
-
-  pub nodes_suits : (r : RunningView) (result : Result (Result JobGiven Refusal) AllocError) → stage ≡ Nodes r → IfOk result (λ end. EndSuits r.graphs.graphs r.firing (end_of end)) → IfOk result (λ end. EndSuits v.graphs.graphs v.firing (end_of end))
-  nodes_suits r (Ok end) same suits =
+  pub nodes_suits : (r : RunningView) (end : Result JobGiven Refusal) → stage ≡ Nodes r → EndSuits r.graphs.graphs r.firing (end_of end) → EndSuits v.graphs.graphs v.firing (end_of end)
+  nodes_suits r end same suits =
       let runs : RunsFor c workers r = (at_stage (Nodes r) same).stage_fits in
       let P : Graphs → Type 0 = λ graphs. EndSuits graphs.graphs r.firing (end_of end) in
       let Q : Firing → Type 0 = λ firing. EndSuits c.graphs.graphs firing (end_of end) in
       let R : OpenView → Type 0 = λ x. EndSuits x.graphs.graphs x.firing (end_of end) in
       subst R is (subst Q runs.firing_is (subst P runs.graphs_are suits))
-  nodes_suits r (Err error) same suits = tt
 
   -- nothing is lent to nodes, where nothing is at all
   pub unlent_nodes : IsNothingLent v.lent → IsNothingLent (node_lent stage)

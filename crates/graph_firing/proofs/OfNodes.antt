@@ -18,5 +18,4 @@ pub mod GivenStates
 pub mod FiringEnds
 pub mod EndSizes
 pub mod SuitedEnds
-pub mod LongTraces
 pub mod LentNodes

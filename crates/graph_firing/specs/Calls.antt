@@ -10,7 +10,6 @@ use Rattle.job_preparing.specs.declared.compiling.CompileEnd.TheVariants.{Ready,
 use Rattle.job_rules.specs.Doing.{Answers}
 use Rattle.job_rules.specs.Words as words
 use Rattle.job_rules.specs.Words.{Answer}
-use Rattle.graph_firing.specs.Nodes.Parts.{IsLong}
 use Rattle.nested_jobs.specs.Marks.{Mark, Done}
 use Rattle.one_job.specs.Leased.{JobCells}
 use Rattle.nested_jobs.specs.Rules.{Task, Work, Call}
@@ -87,12 +86,6 @@ abbrev pub compile_answer : Firing → CompileEnd → Option Answer
 compile_answer firing (Ready compiled set values) = Some (words.Schedules (schedule_of (arc_value compiled)))
 compile_answer firing (Refused cause) = Some (words.Refuses record { path = firing.path; cause = cause })
 compile_answer firing Memory = None
-
--- what is given has a trace with as many rows as no list holds
-abbrev pub HasLongTrace : Answer → Type 0
-HasLongTrace (words.Gives given) = IsLong given.trace
-HasLongTrace (words.Schedules schedule) = ⊥
-HasLongTrace (words.Refuses refusal) = ⊥
 
 -- how many nodes are there then
 abbrev pub nodes_by : CompileEnd → ℕ

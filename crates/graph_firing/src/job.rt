@@ -62,7 +62,7 @@ impl OpenJob {
     ghost use Rattle.graph_firing.specs.Leases.{LendsItems};
     ghost use Rattle.graph_firing.specs.Paths.{IsCall, step_of};
     ghost use Rattle.graph_firing.specs.Rooms.{HasRoomFor, TakesRoom, is_node, slot_after};
-    ghost use Rattle.graph_firing.specs.Calls.{FinishesCompilation, HasLongTrace, IsHanded, IsSoundFor, PlacedIn, frame_of, with_item, with_mark};
+    ghost use Rattle.graph_firing.specs.Calls.{FinishesCompilation, IsHanded, IsSoundFor, PlacedIn, frame_of, with_item, with_mark};
 
     /// What the job was compiled to, once it is. In every state what is lent of its nodes are the leases of their buffers, in one
     /// block, at the offsets of the compilation's placement. What isn't free was claimed in the order of the edges. No cell of
@@ -316,15 +316,11 @@ impl OpenJob {
     }
 
     /// How the job ended: with the refusal of the item of the least number that was refused, else with what the firing gives.
-    ///
-    /// # Errors
-    ///
-    /// Want of memory, only where the trace would have 2^63 rows or more.
-    pub fn outcome(self) -> Result<Result<JobGiven, Refusal>, AllocError>
+    /// It takes no memory.
+    pub fn outcome(self) -> Result<JobGiven, Refusal>
         requires { IsQuiet self }
-        ensures outcome { IfOk result (λ end. answer_of (end_of end) ≡ outcome_in self) }
-        ensures suits { IfOk result (λ end. EndSuits self.graphs.graphs self.firing (end_of end)) }
-        ensures long { OnErr result (HasLongTrace (outcome_in self)) }
+        ensures outcome { answer_of (end_of result) ≡ outcome_in self }
+        ensures suits { EndSuits self.graphs.graphs self.firing (end_of result) }
     {
         let OpenJob {
             configuring,
@@ -332,11 +328,11 @@ impl OpenJob {
             stage,
         } = self;
         match stage {
-            Stage::Waiting => Ok(Err(refused_early(configuring))),
-            Stage::Compiling => Ok(Err(refused_early(configuring))),
+            Stage::Waiting => Err(refused_early(configuring)),
+            Stage::Compiling => Err(refused_early(configuring)),
             Stage::Refused(refusal) => {
                 configuring.end();
-                Ok(Err(refusal))
+                Err(refusal)
             }
             Stage::Nodes(running) => running.outcome(configuring.into_left()),
         }

@@ -10,3 +10,4 @@ pub mod Unclaimed
 pub mod Ending
 pub mod Unscheduled
 pub mod Making
+pub mod Traces

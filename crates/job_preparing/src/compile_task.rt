@@ -2,12 +2,12 @@
 ghost use Rattle.std.specs.Prelude.{◌≡◌};
 
 use crate::compiling::{CompileEnd, Made, make};
+use crate::trace::Trace;
 use job_compiler::{Compiled, one_compilation};
 use param_resolver::Early;
-use pisdf_meaning::{Configured, Firing, PlainFault, TraceRow};
+use pisdf_meaning::{Configured, Firing, PlainFault};
 use pisdf_model::Graphs;
 use std::alloc::Global;
-use std::collections::LinkedList;
 use std::marker::Model;
 use std::snapshot::Snapshot;
 use std::sync::Arc;
@@ -31,7 +31,7 @@ pub(crate) struct Parts {
     // The firing itself and what its configuration actors left, of which the task has what it looks at.
     pub(crate) whole: Snapshot<Firing>,
     pub(crate) left_by: Snapshot<Vec<Configured>>,
-    pub(crate) traces: Snapshot<Vec<LinkedList<TraceRow>>>,
+    pub(crate) traces: Snapshot<Vec<Trace>>,
 }
 
 impl Model for CompileTask {

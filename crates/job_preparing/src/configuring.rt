@@ -3,19 +3,20 @@ use crate::asking::{config_call, line_for};
 use crate::compile_task::{CompileTask, Parts};
 use crate::ending::{keep, kernel_given};
 use crate::handing::{JobGiven, Left};
+use crate::kept_one::key_for;
 use crate::slim::{slim_firing, slim_left};
 use crate::stage::{
     Stage, all_finished, all_gave, first_call, first_kernel, first_refused, line_of, put, spare_of,
 };
 use crate::starting::spend_frames;
+use crate::trace::Trace;
 use job_compiler::{Compiled, Key};
 use kernel_gate::{Frame, KernelFault, told_of};
 use param_resolver::{Early, early_unfolds};
-use pisdf_meaning::{Cause, Configured, Firing, Refusal, TraceRow, chosen_values, copy_tokens};
+use pisdf_meaning::{Cause, Configured, Firing, Refusal};
 use pisdf_model::Graphs;
 use sdf_level::List;
 use std::alloc::{AllocError, Global};
-use std::collections::LinkedList;
 use std::marker::Model;
 use std::mem;
 use std::snapshot::Snapshot;
@@ -32,7 +33,7 @@ pub struct Configuring {
     pub(crate) stages: Vec<Stage>,
     pub(crate) frames: Vec<Option<Frame>>,
     pub(crate) left: Vec<Configured>,
-    pub(crate) traces: Vec<LinkedList<TraceRow>>,
+    pub(crate) traces: Vec<Trace>,
     pub(crate) alloc: Global,
 }
 
@@ -264,14 +265,7 @@ impl Configuring {
         ensures { IfOk result (λ key. key ≡ key_of (graph_in self.now) workers self.now.firing (left_by self.now)) }
     {
         let graph = &self.graphs.graphs.items()[self.firing.graph as usize];
-        let mut values = copy_tokens(alloc, self.firing.inherited.items())?.into_items();
-        let chosen = chosen_values(alloc, graph, &self.left)?;
-        values.extend_from_slice(&chosen)?;
-        Ok(Key {
-            graph: self.firing.graph,
-            workers,
-            values: List::new(values),
-        })
+        key_for(alloc, graph, &self.firing, &self.left, workers)
     }
 
     /// The compilation of the firing for so many workers, with one that is kept by the firing's key, if one is.

@@ -7,11 +7,11 @@ ghost use Rattle.job_preparing.specs.Ending.{IsKeptAs};
 
 use crate::handing::JobGiven;
 use crate::stage::Stage;
+use crate::trace::Trace;
 use kernel_gate::{Frame, Lent, spend};
-use pisdf_meaning::{Configured, TraceRow, lists_of_leases};
+use pisdf_meaning::{Configured, lists_of_leases};
 use sdf_level::List;
 use std::alloc::Global;
-use std::collections::LinkedList;
 use std::snapshot::Snapshot;
 
 /// What stands in a fired frame, which is given up: `lists` is empty, and has room for the outputs.
@@ -34,7 +34,7 @@ pub(crate) fn kernel_given(alloc: Global, frame: Frame, lists: Vec<List<i64>>) -
     JobGiven {
         outs: lists_of_leases(outputs, lists),
         state: List::new(Vec::new(alloc)),
-        trace: LinkedList::new(alloc),
+        trace: Trace::new(alloc),
         exports: List::new(sets),
     }
 }
@@ -68,7 +68,7 @@ pub(crate) fn keep(
     given: JobGiven,
     line: Vec<i64>,
     left: &mut Configured,
-    trace: &mut LinkedList<TraceRow>,
+    trace: &mut Trace,
 ) -> Stage
     requires empty { line.items ≡ [] }
     requires room { length (in_line given.state) ≤ vec_capacity line }

@@ -1,6 +1,6 @@
-use pisdf_meaning::{Configured, Firing, TraceRow};
+use crate::trace::Trace;
+use pisdf_meaning::{Configured, Firing};
 use sdf_level::List;
-use std::collections::LinkedList;
 
 /// What a firing of a graph gave, as it goes on to the job that called it.
 #[derive(Drop)]
@@ -10,7 +10,7 @@ pub struct JobGiven {
     /// The state that it leaves: a list for each FIFO, then one for each actor.
     pub state: List<List<i64>>,
     /// The values of the chosen parameters of the job and of those below it.
-    pub trace: LinkedList<TraceRow>,
+    pub trace: Trace,
     /// The values of the graph's exports.
     pub exports: List<i64>,
 }
@@ -22,5 +22,5 @@ pub struct Left {
     /// What each configuration actor left, in file order, without its trace.
     pub configured: List<Configured>,
     /// The trace of each.
-    pub traces: List<LinkedList<TraceRow>>,
+    pub traces: List<Trace>,
 }

@@ -1,18 +1,46 @@
-// The compilation of a level: the one that is kept, if it is of this level and these workers, else a new one.
+// The compilation of a level: the one that is kept, if it is of this level and these workers, else a new one; and what it is
+// kept by.
 ghost use Rattle.std.specs.Prelude.{◌≡◌, ◌≤◌, ◌⊎◌, ◌↔◌, IfOk, IfErr, IsTrue};
 ghost use Rattle.std.specs.Arc.{arc_value};
 ghost use Rattle.job_compiler.specs.Compilation.{IsCompiled};
 ghost use Rattle.level_schedule.specs.Schedules.{IsUnscheduled};
 ghost use Rattle.pisdf_meaning.specs.Endings.{IfRefused};
 ghost use Rattle.job_preparing.specs.Unscheduled.{IsUnscheduledAs};
+ghost use Rattle.job_preparing.specs.View.{key_of};
 
-use job_compiler::{Compiled, compile};
+use job_compiler::{Compiled, Key, compile};
 use level_schedule::Unscheduled;
-use pisdf_meaning::{Firing, PlainFault, refused, schedule_cause};
+use pisdf_meaning::{
+    Configured, Firing, PlainFault, chosen_values, copy_tokens, refused, schedule_cause,
+};
 use pisdf_model::Graph;
-use sdf_level::{Level, Link};
-use std::alloc::Global;
+use sdf_level::{Level, Link, List};
+use std::alloc::{AllocError, Global};
 use std::sync::Arc;
+
+/// What the compilation of a firing for so many workers is kept by, whose configuration actors left this.
+///
+/// # Errors
+///
+/// Want of memory.
+pub fn key_for(
+    alloc: Global,
+    graph: &Graph,
+    firing: &Firing,
+    left: &[Configured],
+    workers: u32,
+) -> Result<Key, AllocError>
+    ensures { IfOk result (λ key. key ≡ key_of graph.now workers firing.now left.now) }
+{
+    let mut values = copy_tokens(alloc, firing.inherited.items())?.into_items();
+    let chosen = chosen_values(alloc, graph, left)?;
+    values.extend_from_slice(&chosen)?;
+    Ok(Key {
+        graph: firing.graph,
+        workers,
+        values: List::new(values),
+    })
+}
 
 fn same_rates(rates: &[u32], other: &[u32]) -> bool
     ensures { IsTrue result ↔ (rates.now ≡ other.now) }

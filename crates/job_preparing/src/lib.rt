@@ -13,6 +13,7 @@ mod kept_one;
 mod slim;
 mod stage;
 mod starting;
+mod trace;
 
 pub use acting::{acting_at, keeps_at};
 pub use asking::{config_call, config_places, early_for};
@@ -20,4 +21,6 @@ pub use compile_task::CompileTask;
 pub use compiling::{CompileEnd, Made, make};
 pub use configuring::Configuring;
 pub use handing::{JobGiven, Left};
+pub use kept_one::key_for;
 pub use starting::configure;
+pub use trace::Trace;

@@ -13,13 +13,13 @@ ghost use Rattle.job_preparing.specs.View.{HasInherited};
 use crate::asking::{Unclaimed, config_places, early_for, unclaimed_actor};
 use crate::configuring::Configuring;
 use crate::stage::Stage;
+use crate::trace::Trace;
 use kernel_gate::Frame;
 use param_resolver::{Early, early_unfolds};
-use pisdf_meaning::{Configured, Firing, TraceRow};
+use pisdf_meaning::{Configured, Firing};
 use pisdf_model::{Graph, Graphs};
 use sdf_level::List;
 use std::alloc::{AllocError, Global};
-use std::collections::LinkedList;
 use std::sync::Arc;
 
 /// Gives up the frames that wait.
@@ -52,12 +52,12 @@ fn nothing_left(alloc: Global, count: usize) -> Result<Vec<Configured>, AllocErr
 }
 
 /// So many empty traces.
-fn no_traces(alloc: Global, count: usize) -> Result<Vec<LinkedList<TraceRow>>, AllocError>
+fn no_traces(alloc: Global, count: usize) -> Result<Vec<Trace>, AllocError>
     ensures { IfOk result (λ v. v.items ≡ replicate count []) }
 {
     let mut traces = Vec::with_capacity(alloc, count)?;
     for number in 0..count {
-        traces.push(LinkedList::new(alloc))?;
+        traces.push(Trace::new(alloc))?;
     }
     Ok(traces)
 }

@@ -16,7 +16,7 @@ use Rattle.pisdf_meaning.proofs.path.Path.TheSendSync as path
 use Rattle.pisdf_meaning.proofs.refusal.Refusal.TheSendSync as refusal
 use Rattle.job_compiler.proofs.key.Key.TheSendSync as key
 use Rattle.lru.proofs.cache.LruCache.TheSendSync as lru_cache
-use Rattle.job_preparing.proofs.handing.JobGiven.TheSendSync as given
+use Rattle.job_preparing.proofs.trace.Rows.TheLaws.TheKnot as rows
 use Rattle.board_journal.proofs.kept.Entries.TheSendSync as entries
 use Rattle.board_journal.proofs.history.Past.TheLaws.TheKnot as past
 use Rattle.firing_board.proofs.frame_rooms.FrameRooms.TheSendSync as frame_rooms
@@ -24,6 +24,8 @@ use Rattle.firing_board.proofs.run.Run.TheSendSync as run
 use Rattle.param_resolver.specs.contracts.known.Early as Early
 use Rattle.param_resolver.specs.contracts.level_set.LevelSet as LevelSet
 use Rattle.job_preparing.specs.contracts.configuring.Configuring as Configuring
+use Rattle.job_preparing.specs.contracts.handing.JobGiven as JobGiven
+use Rattle.job_preparing.specs.contracts.trace.Trace as Trace
 use Rattle.ready_heap.specs.contracts.groups.GroupedHeaps as GroupedHeaps
 use Rattle.ready_heap.specs.contracts.ranking.Ranking as Ranking
 use Rattle.job_compiler.specs.contracts.cache.Kept as Kept
@@ -91,11 +93,17 @@ ready_field_send = search (heaps_send, crosses, sendable) depth 30 fits 4000
 job_send : IsSend Job.the_row
 job_send = search (job_stage_send, compiled_send, compiled_sync, pool.the_send, ready_field_send, list.the_send, option.the_send, crosses, sendable) depth 30 fits 4000
 
+trace_send : IsSend Trace.the_row
+trace_send = search (rows.crosses, linked.the_send, row.the_send, crosses, sendable) depth 60 fits 20000
+
+given_send : IsSend JobGiven.the_row
+given_send = search (trace_send, list.the_send, crosses, sendable) depth 60 fits 20000
+
 preparing_stage_send : IsSend PreparingStage.the_row
 preparing_stage_send = search (told_send, spare.the_field_send, refusal.the_field_send, crosses, sendable) depth 20
 
 configuring_send : IsSend Configuring.the_row
-configuring_send = search (preparing_stage_send, graphs_send, graphs_sync, early_send, early_sync, firing.the_field_send, configured.the_send, frame.the_send, linked.the_send, row.the_send, option.the_send, crosses, sendable) depth 30 fits 4000
+configuring_send = search (preparing_stage_send, graphs_send, graphs_sync, early_send, early_sync, firing.the_field_send, configured.the_send, frame.the_send, trace_send, option.the_send, crosses, sendable) depth 30 fits 4000
 
 told_before_send : IsSend ToldBefore.the_row
 told_before_send = search sendable depth 20
@@ -110,7 +118,7 @@ running_held_send : IsSend RunningHeld.the_row
 running_held_send = search (frame.the_send, refusal.the_field_send, crosses, sendable) depth 20
 
 running_send : IsSend Running.the_row
-running_send = search (running_stages_send, running_held_send, told_before_send, told_block_send, graphs_send, graphs_sync, level_set_field_send, job_send, compiled_send, compiled_sync, path.the_send, name.the_send, linked.the_send, row.the_send, list.the_send, crosses, sendable) depth 60 fits 6000
+running_send = search (running_stages_send, running_held_send, told_before_send, told_block_send, graphs_send, graphs_sync, level_set_field_send, job_send, compiled_send, compiled_sync, path.the_send, name.the_send, trace_send, list.the_send, crosses, sendable) depth 60 fits 6000
 
 open_send : IsSend OpenJob.the_row
 open_send = search (configuring_send, running_send, crosses, sendable) depth 60 fits 20000
@@ -128,7 +136,7 @@ told_signatures_send : IsSend ToldSignatures.the_row
 told_signatures_send = search sendable depth 20
 
 core_field_send : IsSend Core.the_field.row
-core_field_send = search (table_send, frame_rooms.the_field_send, run.the_send, journal_send, given.the_send, refusal.the_send, crosses, sendable) depth 60 fits 20000
+core_field_send = search (table_send, frame_rooms.the_field_send, run.the_send, journal_send, given_send, refusal.the_send, crosses, sendable) depth 60 fits 20000
 
 pub board_send : IsSend Board.the_row
 board_send = search (core_field_send, told_signatures_send, kept_send, key.the_send, crosses, sendable) depth 60 fits 20000

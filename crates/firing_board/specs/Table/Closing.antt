@@ -6,14 +6,12 @@ use Rattle.board_rules.specs.Entries.{Step}
 use Rattle.board_rules.specs.Keys.{Key}
 use Rattle.board_rules.specs.Legal.{state_after}
 use Rattle.job_preparing.specs.Handing.{answers, end_of, mark_at}
-use Rattle.nested_jobs.specs.Marks.{Busy, Done, Open}
+use Rattle.nested_jobs.specs.Marks.{Busy, Open}
 use Rattle.nested_jobs.specs.Meanings.{Within}
 use Rattle.job_preparing.specs.declared.handing.JobGiven.{JobGiven}
 use Rattle.job_rules.specs.Words.{Answer, answer_of}
 use Rattle.nested_jobs.specs.Journals as steps
 use Rattle.nested_jobs.specs.Marks.{Marks}
-use Rattle.nested_jobs.specs.Rules.{Place}
-use Rattle.graph_firing.specs.Calls.{HasLongTrace}
 use Rattle.pisdf_meaning.specs.declared.firing.Firing.{Firing}
 use Rattle.pisdf_meaning.specs.declared.refusal.Refusal.{Refusal}
 use Rattle.firing_board.specs.Table.Calls.{StaysAs}
@@ -51,13 +49,6 @@ pub record Closes (old : TableView) (k : ℕ) (new : TableView) (end : Option (R
   pub closed : (c : IsClosingFrom old k) → ClosesTo c new end
   pub suits : (c : IsClosingFrom old k) → Suits c.key (state_after c.key (steps_with c)).marks new
   pub top : (c : IsClosingFrom old k) → end ≡ None → (job : Firing) × ((state_after c.key (steps_with c)).marks [] ≡ Open job)
-
--- the finish closes a job that gives a trace with as many rows as no list holds
-pub record ClosesLong {v : TableView} {k : ℕ} (c : IsClosingFrom v k) : Type 0 where
-  pub place : Place
-  pub answer : Answer
-  pub done : (state_after c.key (steps_with c)).marks place ≡ Done answer
-  pub is_long : HasLongTrace answer
 
 -- each row that is left is as it was, but for its marks
 pub record RowsStay (old new : TableView) : Type 0 where

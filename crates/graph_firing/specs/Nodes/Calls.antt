@@ -11,8 +11,6 @@ use Rattle.job_rules.specs.Words as words
 use Rattle.job_preparing.specs.Handing.{AsksFor, CopiesIn, EndSuits, end_of, mark_at, with_traces}
 use Rattle.job_preparing.specs.declared.handing.JobGiven.{JobGiven}
 use Rattle.job_preparing.specs.declared.handing.Left.{Left}
-use Rattle.pisdf_meaning.specs.Endings.{End}
-use Rattle.graph_firing.specs.Nodes.Parts.{IsLong}
 use Rattle.graph_firing.specs.Nodes.View.{RunningView}
 use Rattle.graph_firing.specs.declared.nodes.handed.Handed.{Handed}
 use Rattle.graph_firing.specs.declared.nodes.handed.Handed.TheVariants.{Fire, Copy}
@@ -64,8 +62,3 @@ pub record IsEndOfCall (v : RunningView) (n : ℕ) (end : Result JobGiven Refusa
 pub record IsLeft (v : RunningView) (left : Left) : Type 0 where
   pub traced : length left.traces ≡ length left.configured
   pub all : with_traces left.configured left.traces ≡ v.prepared.left
-
--- what is given has a trace with as many rows as no list holds
-abbrev pub HasLongTrace : End → Type 0
-HasLongTrace (Ok given) = IsLong given.trace
-HasLongTrace (Err refusal) = ⊥

@@ -1,5 +1,5 @@
 -- What a running firing is set up with, and what it keeps for its end.
-use Rattle.std.specs.Prelude.{◌≡◌, ◌≢◌, ℕ, ◌+◌, ◌^◌, ◌<◌, ◌≤◌, ℤ, Bool, true, List, [], map, length, slice_index, slice_index_or, is_none, if◌then◌else◌, Option, Some, None, vec_capacity, vec_len, Vec}
+use Rattle.std.specs.Prelude.{◌≡◌, ◌≢◌, ℕ, ◌+◌, ◌<◌, ◌≤◌, ℤ, Bool, true, List, [], map, length, slice_index, slice_index_or, is_none, if◌then◌else◌, Option, Some, None, vec_capacity, vec_len, Vec}
 use Rattle.std.specs.Global.{Global}
 use Rattle.std.specs.List.{flat_map}
 use Rattle.sdf_level.specs.Lists.{lists_of}
@@ -179,10 +179,6 @@ pub record AreTraces (nodes : List Node) (kinds : List (Option ℕ)) (counts : L
 -- the rows of these lists, one after the other
 abbrev pub flat : List (List TraceRow) → List TraceRow
 flat lists = flat_map (λ (rows : List TraceRow). rows) lists
-
--- as many rows as no list holds
-abbrev pub IsLong : List TraceRow → Type 0
-IsLong rows = 2 ^ 63 ≤ length rows
 
 -- these are the traces of the first firings of each actor
 abbrev pub HaveTraces : List ℕ → Traces → List (Vec (List TraceRow) Global) → Type 0

@@ -1,23 +1,23 @@
 // How a firing ends.
-ghost use Rattle.std.specs.Prelude.{ℕ, ◌≡◌, ◌+◌, ◌<◌, ◌≤◌, ◌++◌, List as Seq, [], drop, length, map, vec_capacity, vec_len, slice_index_or, unwrap_or, if◌then◌else◌, IfOk, OnErr};
+ghost use Rattle.std.specs.Prelude.{ℕ, ◌≡◌, ◌+◌, ◌<◌, ◌≤◌, ◌++◌, List as Seq, [], drop, length, map, vec_capacity, vec_len, slice_index_or, unwrap_or, if◌then◌else◌};
 ghost use Rattle.pisdf_meaning.specs.Running.{Traces, actor_states, child_rows, state_after, state_of_first};
 ghost use Rattle.pisdf_meaning.specs.States.{tokens_at};
 ghost use Rattle.param_resolver.specs.Numbering.{acting, has_state};
 ghost use Rattle.pisdf_model.specs.declared.graph.Graph.{Graph as GraphView};
 ghost use Rattle.job_preparing.specs.Handing.{with_traces};
-ghost use Rattle.graph_firing.specs.Nodes.Parts.{HaveTraces, IsLong};
+ghost use Rattle.graph_firing.specs.Nodes.Parts.{HaveTraces};
 ghost use Rattle.graph_firing.specs.Nodes.Stages.{refusal_at, spot_of};
 ghost use Rattle.one_job.specs.View.{IsFiring};
 ghost use Rattle.pisdf_model.specs.declared.actor.Actor.{Actor as ActorView};
 
 use crate::nodes::tracing::append_traces;
-use job_preparing::{JobGiven, Left};
+use job_preparing::{JobGiven, Left, Trace};
 use param_expr::Name;
-use pisdf_meaning::{Cause, Configured, Path, Refusal, TraceRow, next_list, push_fifo_states};
+use pisdf_meaning::{Cause, Configured, Path, Refusal, next_list, push_fifo_states};
 use pisdf_model::{Graph, is_configuration};
 use sdf_level::{List, Node};
-use std::alloc::{AllocError, Global};
-use std::collections::{LinkedList, VecDeque};
+use std::alloc::Global;
+use std::collections::VecDeque;
 
 // ---- the state
 
@@ -97,10 +97,10 @@ pub(crate) fn state_left(
 #[derive(Drop)]
 pub(crate) struct Ending {
     pub keeps: Vec<bool>,
-    pub rows: LinkedList<TraceRow>,
+    pub rows: Trace,
     pub exports: List<i64>,
     pub state: Vec<List<i64>>,
-    pub traces: Vec<Vec<LinkedList<TraceRow>>>,
+    pub traces: Vec<Vec<Trace>>,
 }
 
 /// What a firing of a graph gives, whose configuration actors left this, and whose level gave this on its sinks and left
@@ -112,14 +112,13 @@ pub(crate) fn job_given(
     left: Left,
     outs: List<List<i64>>,
     stored: List<List<i64>>,
-) -> Result<JobGiven, AllocError>
+) -> JobGiven
     requires room { vec_len own.state + length graph.now.fifos + length graph.now.actors ≤ vec_capacity own.state }
     requires empty { own.state.items ≡ [] }
     requires many { length own.keeps.items ≡ length (acting graph.now) }
-    ensures same { IfOk result (λ given. (given.outs ≡ outs) × (given.exports ≡ own.exports)) }
-    ensures state { (graphs : Seq GraphView) → own.keeps.items ≡ map (has_state graphs) (acting graph.now) → IfOk result (λ given. given.state ≡ state_after graphs graph.now left.configured stored) }
-    ensures trace { (counts : Seq ℕ) (traces : Traces) → length left.traces ≡ length left.configured → HaveTraces counts traces own.traces.items → IfOk result (λ given. given.trace ≡ own.rows ++ child_rows counts traces 0 graph.now.actors (with_traces left.configured left.traces)) }
-    ensures long { (counts : Seq ℕ) (traces : Traces) → length left.traces ≡ length left.configured → HaveTraces counts traces own.traces.items → OnErr result (IsLong (own.rows ++ child_rows counts traces 0 graph.now.actors (with_traces left.configured left.traces))) }
+    ensures same { (result.outs ≡ outs) × (result.exports ≡ own.exports) }
+    ensures state { (graphs : Seq GraphView) → own.keeps.items ≡ map (has_state graphs) (acting graph.now) → result.state ≡ state_after graphs graph.now left.configured stored }
+    ensures trace { (counts : Seq ℕ) (traces : Traces) → length left.traces ≡ length left.configured → HaveTraces counts traces own.traces.items → result.trace ≡ own.rows ++ child_rows counts traces 0 graph.now.actors (with_traces left.configured left.traces) }
 {
     let Ending {
         keeps,
@@ -139,14 +138,14 @@ pub(crate) fn job_given(
         traces.into_items(),
         own_traces,
         &mut rows,
-    )?;
+    );
     let state = state_left(alloc, graph, &keeps, configured, stored, state);
-    Ok(JobGiven {
+    JobGiven {
         outs,
         state,
         trace: rows,
         exports,
-    })
+    }
 }
 
 // ---- the refusal

@@ -3,17 +3,16 @@ ghost use Rattle.std.specs.Prelude.{ℕ, ◌≡◌, ◌<◌, [], length, replica
 ghost use Rattle.sdf_level.specs.Lists.{lists_of};
 ghost use Rattle.graph_firing.specs.Nodes.Parts.{call_count, row_at};
 
-use pisdf_meaning::TraceRow;
+use job_preparing::Trace;
 use std::alloc::{AllocError, Global};
-use std::collections::LinkedList;
 
-/// No rows for each of so many firings.
-fn empty_row(alloc: Global, count: u32) -> Result<Vec<LinkedList<TraceRow>>, AllocError>
+/// A trace of no rows for each of so many firings.
+fn empty_row(alloc: Global, count: u32) -> Result<Vec<Trace>, AllocError>
     ensures { IfOk result (λ row. row.items ≡ replicate count []) }
 {
     let mut row = Vec::with_capacity(alloc, count as usize)?;
     for _k in 0..count {
-        row.push(LinkedList::new(alloc))?;
+        row.push(Trace::new(alloc))?;
     }
     Ok(row)
 }
@@ -29,12 +28,12 @@ fn call_count(kinds: &[Option<u32>], counts: &[u32], actor: usize) -> u32
     }
 }
 
-/// No rows for each firing of each actor that calls graphs, where the actors have these kernels and fire so often.
+/// A trace of no rows for each firing of each actor that calls graphs, where the actors have these kernels and fire so often.
 pub(crate) fn empty_rows(
     alloc: Global,
     kinds: &[Option<u32>],
     counts: &[u32],
-) -> Result<Vec<Vec<LinkedList<TraceRow>>>, AllocError>
+) -> Result<Vec<Vec<Trace>>, AllocError>
     ensures many { IfOk result (λ rows. length rows.items ≡ length counts.now) }
     ensures rows { IfOk result (λ rows. (a : ℕ) → row_at rows.items a ≡ replicate (call_count kinds.now counts.now a) []) }
 {
@@ -49,10 +48,10 @@ pub(crate) fn empty_rows(
 
 /// Keeps the trace of an actor's firing.
 pub(crate) fn put_trace(
-    rows: &mut [Vec<LinkedList<TraceRow>>],
+    rows: &mut [Vec<Trace>],
     actor: u32,
     turn: u32,
-    trace: LinkedList<TraceRow>,
+    trace: Trace,
 )
     requires actor { actor < length rows.old }
     requires turn { turn < length (row_at rows.old actor) }

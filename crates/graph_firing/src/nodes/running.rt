@@ -78,7 +78,7 @@ impl Model for Running {
 impl Running {
     ghost use Rattle.job_rules.specs.Items.{step_of_node};
     ghost use Rattle.graph_firing.specs.Nodes.View.{IsOfferedCall, IsOfferedWork, RunningView, graph_in, is_quiet, nodes_of, outcome_of, task};
-    ghost use Rattle.graph_firing.specs.Nodes.Calls.{HasLongTrace, IsEndOfCall, IsHanded, IsLeft, frame_of};
+    ghost use Rattle.graph_firing.specs.Nodes.Calls.{IsEndOfCall, IsHanded, IsLeft, frame_of};
     ghost use Rattle.graph_firing.specs.Nodes.Leases.{LendsNodes};
 
     /// What the firing was compiled to. In every state what is lent of the nodes are the leases of their buffers, in the block of
@@ -276,17 +276,12 @@ impl Running {
     }
 
     /// How the firing ends: with the refusal that stands first in the order of one thread, else with what it gives. It is
-    /// given what its configuration actors left.
-    ///
-    /// # Errors
-    ///
-    /// Want of memory, only where the trace would have 2^63 rows or more.
-    pub(crate) fn outcome(self, left: Left) -> Result<Result<JobGiven, Refusal>, AllocError>
+    /// given what its configuration actors left. It takes no memory.
+    pub(crate) fn outcome(self, left: Left) -> Result<JobGiven, Refusal>
         requires quiet { is_quiet self ≡ true }
         requires left { IsLeft self left }
-        ensures end { IfOk result (λ end. end_of end ≡ outcome_of self) }
-        ensures long { OnErr result (HasLongTrace (outcome_of self)) }
-        ensures suits { IfOk result (λ end. EndSuits self.graphs.graphs self.firing (end_of end)) }
+        ensures end { end_of result ≡ outcome_of self }
+        ensures suits { EndSuits self.graphs.graphs self.firing (end_of result) }
     {
         graphs_numbered();
         tokens_delivered::<TokenName, TokenName, TokenName>();
@@ -311,15 +306,12 @@ impl Running {
             JobEnd::Fault { node, code } => {
                 let which = compiled.graph().nodes.items()[node as usize];
                 let called = take_refusal(held, node as usize);
-                Ok(Err(refusal_of(alloc, path, names, which, called, code)))
+                Err(refusal_of(alloc, path, names, which, called, code))
             }
             JobEnd::Done { outs, stored } => {
                 spend_held(held);
                 let graph = &graphs.graphs.items()[place as usize];
-                match job_given(alloc, graph, ending, left, outs, stored) {
-                    Ok(given) => Ok(Ok(given)),
-                    Err(error) => Err(error),
-                }
+                Ok(job_given(alloc, graph, ending, left, outs, stored))
             }
         }
     }

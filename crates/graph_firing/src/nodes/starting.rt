@@ -24,7 +24,7 @@ use crate::nodes::running::Running;
 use crate::nodes::stages::Stages;
 use crate::nodes::told::{told_before, told_block};
 use job_compiler::Compiled;
-use job_preparing::{Configuring, acting_at, keeps_at};
+use job_preparing::{Configuring, Trace, acting_at, keeps_at};
 use one_job::{Job, start};
 use param_expr::Name;
 use param_resolver::{LevelSet, level_by_actor};
@@ -171,7 +171,7 @@ fn job_lists(
 #[derive(Drop)]
 struct OwnRows {
     path: Path,
-    rows: LinkedList<TraceRow>,
+    rows: Trace,
     exports: List<i64>,
 }
 
@@ -191,7 +191,7 @@ fn own_rows(
     let path = path.copy()?;
     Ok(OwnRows {
         path,
-        rows,
+        rows: Trace::of(rows),
         exports,
     })
 }

@@ -1,5 +1,5 @@
 use Rattle.std.proofs.Common.{◌≡◌, ◌∙◌, ℕ, Bool, true, false, [], ◌∷◌, ◌++◌, Some, refl, sym, ap, subst, arith}
-use Rattle.std.specs.Prelude.{IsOk, is_err}
+use Rattle.std.specs.Prelude.{IsOk}
 use Rattle.nested_jobs.specs.Marks.{Done}
 use Rattle.nested_jobs.specs.Rules.{Work}
 use Rattle.graph_firing.specs.View.{task}
@@ -7,14 +7,12 @@ use Rattle.firing_board.specs.View.{BoardView}
 use Rattle.firing_board.specs.declared.frame_rooms.FrameRooms.{FrameRooms}
 use Rattle.job_preparing.specs.Handing.{answer_with}
 use Rattle.board_rules.specs.Legal.{state_after}
-use Rattle.nested_jobs.specs.Journals as steps
-use Rattle.firing_board.specs.Table.Closing.{ClosesLong, IsClosingFrom}
+use Rattle.firing_board.specs.Table.Closing.{IsClosingFrom}
 use Rattle.firing_board.specs.Closing.{ClosesOn}
 use Rattle.firing_board.specs.Finishes.{MayComeBack}
 use Rattle.firing_board.specs.OnCore.{FinishesOn, MayLeave}
-use Rattle.firing_board.proofs.Framed.{FinishLaws, by_result, closes_finishes, closing_from, has_room, is_back, long_closing, may_return, runs_at, starved_finishes, starves_new, wanted_finishes, when_err}
+use Rattle.firing_board.proofs.Framed.{FinishLaws, closes_finishes, closing_from, has_room, is_back, may_return, runs_at, starved_finishes}
 use Rattle.firing_board.proofs.Leaving.{mine}
-use Rattle.firing_board.proofs.Openings.{if_ok}
 use Rattle.firing_board.proofs.FrameSteps.{asks_still, lent_run, rooms_back}
 use Rattle.firing_board.proofs.RoomSteps.{closed_room}
 use Rattle.firing_board.proofs.Rows.{last_go_on, marks_rows, rows_close}
@@ -83,8 +81,8 @@ returns-then-starved-clause-finished c = λ key may.
     starved_finishes key laws old c.args.starved may.keeps w may.runs.is_worker may.runs.work runs (answer_with (Some (Work may.runs.work)) c.args.frame c.args.answer) may.runs.so.answered c.take_back-row.new.core b.marks b.lends
     c.take_back-row.ensures.returns.leaves.running_are c.take_back-row.ensures.returns.leaves.journal_is c.if-starved.true
 
-pub returns-else-starved-clause-finished : goal.returns-else-starved-clause-finished
-returns-else-starved-clause-finished c = λ key was.
+pub returns-clause-finished : goal.returns-clause-finished
+returns-clause-finished c = λ key was.
     let old = c.args.core.now in
     let w = c.args.worker in
     let mid = c.take_back-row.new.core in
@@ -106,13 +104,8 @@ returns-else-starved-clause-finished c = λ key was.
     let b = is_back key (state_after key may.keeps.taken) old w may.runs.work a c.args.frame c.args.answer mid c.take_back-row.result c.take_back-row.ensures.returns in
     let leaves = c.take_back-row.ensures.returns.leaves in
     let answer = answer_with (Some (Work may.runs.work)) c.args.frame c.args.answer in
-    let ok = if_ok c.close.result (λ done. ClosesOn mid c.take_back-row.result new) (λ done. FinishesOn key old false w new false)
-    (λ done closes. closes_finishes key laws old may.keeps w may.runs.is_worker may.runs.work runs answer may.runs.so.answered mid b.marks b.lends leaves.running_are leaves.journal_is new c.close.ensures.kept leaves.numbers_are (subst (λ k. ClosesOn mid k new) b.row_is closes))
-    c.close.ensures.closed in
-    let err = wanted_finishes key laws old false may.keeps w may.runs.is_worker may.runs.work runs answer may.runs.so.answered mid b.marks b.lends leaves.running_are leaves.journal_is new c.close.ensures.kept refl in
-    let either = by_result (λ after. FinishesOn key old false w new after) c.close.result ok err in
-    subst (λ (s : Bool). FinishesOn key old s w new c.is_err.result) (sym c.if-starved.false)
-    (subst (λ after. FinishesOn key old false w new after) (sym c.is_err.ensures.value) either)
+    subst (λ (s : Bool). FinishesOn key old s w new s) (sym c.if-starved.false)
+    (closes_finishes key laws old may.keeps w may.runs.is_worker may.runs.work runs answer may.runs.so.answered mid b.marks b.lends leaves.running_are leaves.journal_is new c.close.ensures.kept leaves.numbers_are (subst (λ k. ClosesOn mid k new) b.row_is c.close.ensures.closed))
 
 pub take_back-row-requires-clause-slot : goal.take_back-row-requires-clause-slot
 take_back-row-requires-clause-slot c =
@@ -143,8 +136,8 @@ returns-then-starved-clause-room c = λ has.
           (λ k need asks. sym (r.asked k) ∙ asks) r.size_is r.slots_are;
     }
 
-pub returns-else-starved-clause-room : goal.returns-else-starved-clause-room
-returns-else-starved-clause-room c = λ has.
+pub returns-clause-room : goal.returns-clause-room
+returns-clause-room c = λ has.
     let key = c.requires.may.0 in
     let may = c.requires.may.1 in
     let old = c.args.core.now in
@@ -152,7 +145,7 @@ returns-else-starved-clause-room c = λ has.
     let mid = c.take_back-row.new.core in
     let new = c.close.new.core in
     let r = c.take_back-row.ensures.returns in
-    let ended : FinishesOn key old c.args.starved w new c.is_err.result = returns-else-starved-clause-finished c key may in
+    let ended : FinishesOn key old c.args.starved w new c.args.starved = returns-clause-finished c key may in
     record {
       in_journal = closed_room mid new c.close.ensures.kept c.close.ensures.fewer (c.take_back-row.ensures.room has.in_journal);
       for_frames = rooms_back old new w r.run r.row c.args.frame.places has.for_frames r.leaves.ran (inside_of old.running.items w r.run r.leaves.ran) r.here
@@ -163,44 +156,4 @@ returns-else-starved-clause-room c = λ has.
           (λ k need asks. sym (r.asked k) ∙ asks_still mid.table new.table c.close.ensures.kept.stay k need asks)
           (ap (λ (x : FrameRooms). x.size) c.close.ensures.rooms ∙ r.size_is)
           (ap (λ (x : FrameRooms). x.slots.items) c.close.ensures.rooms ∙ r.slots_are);
-    }
-
-pub returns-then-starved-clause-live : goal.returns-then-starved-clause-live
-returns-then-starved-clause-live c = λ live after key was. let starves = c.if-starved.true in absurd (cc)
-
-pub returns-else-starved-clause-live : goal.returns-else-starved-clause-live
-returns-else-starved-clause-live c = λ live after key was.
-    let old = c.args.core.now in
-    let w = c.args.worker in
-    let mid = c.take_back-row.new.core in
-    let new = c.close.new.core in
-    let P = MayComeBack key c.args.frame c.args.answer (IsOk c.args.answer) in
-    let may = subst (λ (b : Bool). MayLeave key old b w P (Some c.args.frame.places)) c.if-starved.false was in
-    let laws : FinishLaws key = record {
-      held = c.boards_keep.ensures.held;
-      begin = c.boards_keep.ensures.finish;
-      entered = c.journals_grow.ensures.finish;
-      one = c.entries_tell_steps.ensures.answers;
-      tell = c.entries_tell_steps.ensures.steps;
-      suit = c.tables_suit.ensures.finish;
-      marks = c.tables_suit.ensures.marks;
-      lawful = c.rules_are_lawful.ensures key.graphs may.keeps.is_key.valid.valid;
-    } in
-    let runs = runs_at laws.tell key old false may.keeps w P may.runs in
-    let a = mine laws.held key laws.lawful false old may.keeps w may.runs.is_worker may.runs.work runs in
-    let b = is_back key (state_after key may.keeps.taken) old w may.runs.work a c.args.frame c.args.answer mid c.take_back-row.result c.take_back-row.ensures.returns in
-    let leaves = c.take_back-row.ensures.returns.leaves in
-    let answer = answer_with (Some (Work may.runs.work)) c.args.frame c.args.answer in
-    let is_err : is_err c.close.result ≡ true = sym c.is_err.ensures.value ∙ after in
-    let closes = when_err c.close.result ((d : IsClosingFrom mid.table c.take_back-row.result) → ClosesLong d) is_err c.close.ensures.long in
-    let moved = subst (λ (k : ℕ). (d : IsClosingFrom mid.table k) → ClosesLong d) b.row_is closes in
-    let g = long_closing key laws old may.keeps w may.runs.is_worker may.runs.work runs answer may.runs.so.answered mid b.marks b.lends leaves.running_are leaves.journal_is moved in
-    let end = starves_new key laws old false may.keeps w may.runs.is_worker may.runs.work runs answer may.runs.so.answered mid b.marks b.lends leaves.running_are leaves.journal_is new c.close.ensures.kept in
-    record {
-      taken = may.keeps.taken ++ steps.Finish w answer ∷ [];
-      at = record { legal = end.legal; entered = end.entered };
-      place = g.place;
-      answer = g.answer;
-      done = g.done;
-      is_long = g.is_long;
     }

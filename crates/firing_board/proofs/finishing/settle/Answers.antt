@@ -6,8 +6,6 @@ use Rattle.firing_board.specs.FrameRooms.{FitsNeed}
 use Rattle.firing_board.specs.Table.View.{room_by, room_in}
 use Rattle.firing_board.specs.declared.frame_rooms.FrameRooms.{FrameRooms}
 use Rattle.firing_board.specs.declared.state.Core.{Core}
-use Rattle.firing_board.proofs.FrameSteps.{ok_with}
-use Rattle.firing_board.proofs.Openings.{if_ok}
 use Rattle.firing_board.proofs.finishing.settle.Goals as goal
 
 pub returns-clause-closed : goal.returns-clause-closed
@@ -15,9 +13,8 @@ returns-clause-closed c =
     let old = c.args.core.now in
     let mid : Core = record old { rooms = c.fit_rooms.new.rooms } in
     let new = c.close.new.core in
-    if_ok c.close.result (λ done. ClosesOn mid c.args.row new) (λ done. ClosesOn old c.args.row new)
-    (λ done closes. record { end = closes.end; closes = closes.closes; end_is = closes.end_is })
-    c.close.ensures.closed
+    let closes : ClosesOn mid c.args.row new = c.close.ensures.closed in
+    record { end = closes.end; closes = closes.closes; end_is = closes.end_is }
 
 pub returns-clause-kept : goal.returns-clause-kept
 returns-clause-kept c =
@@ -30,5 +27,4 @@ returns-clause-fits c =
     let h = c.job.ensures in
     let need : c.room_size-need.result ≡ room_in old.table c.args.row = c.room_size-need.ensures ∙ (ap (λ (j : OpenView). j.room) h.2 ∙ sym (ap room_by h.1)) in
     let fits = subst (λ (o : Option RoomSize). FitsNeed o old.rooms c.fit_rooms.new.rooms) need c.in_ok-fit_rooms.ensures.fits in
-    ok_with c.close.result (FitsNeed (room_in old.table c.args.row) old.rooms c.close.new.core.rooms)
-    (subst (λ (x : FrameRooms). FitsNeed (room_in old.table c.args.row) old.rooms x) (sym c.close.ensures.rooms) fits)
+    subst (λ (x : FrameRooms). FitsNeed (room_in old.table c.args.row) old.rooms x) (sym c.close.ensures.rooms) fits

@@ -1,4 +1,4 @@
-use Rattle.std.proofs.Common.{◌≡◌, ℕ, IsOk, Some, [], ◌∷◌, true, refl, sym, subst}
+use Rattle.std.proofs.Common.{◌≡◌, ℕ, IsOk, Some, [], ◌∷◌, true, refl, sym, subst, ◌∙◌}
 use Rattle.kernel_gate.specs.Signed.{unnamed}
 use Rattle.kernel_gate.specs.Value.{FrameView}
 use Rattle.nested_jobs.specs.Rules as nested
@@ -45,7 +45,7 @@ returns g c =
     let back = fires_back p c.args.frame frame answer c.requires.claimed c.fire-answer.ensures.same c.fire-answer.ensures.value in
     let z = c.finish_fire.new.self in
     let finishes : Finishes y z p.number = subst (λ (n : ℕ). Finishes y z n) c.requires.ticket (subst (λ (b : BoardView). Finishes b z c.args.ticket.worker) c.deref_mut.ensures.value c.finish_fire.ensures.finishes) in
-    let starved : y.starved ≡ true → z.starved ≡ true = subst (λ (b : BoardView). b.starved ≡ true → z.starved ≡ true) c.deref_mut.ensures.value c.finish_fire.ensures.starved in
+    let starved : y.starved ≡ true → z.starved ≡ true = subst (λ (b : BoardView). b.starved ≡ true → z.starved ≡ true) c.deref_mut.ensures.value (λ is. c.finish_fire.ensures.starved ∙ is) in
     let changes = gives_back p y z (Some frame.places) (λ key. MayComeBack key frame answer (IsOk answer)) c.board_laws.ensures c.requires.found sound back (λ work may. (answer_with (Some (nested.Work work)) frame answer, may.answered)) finishes starved in
     record {
       turn = refl;

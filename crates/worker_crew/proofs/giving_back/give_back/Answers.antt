@@ -1,4 +1,4 @@
-use Rattle.std.proofs.Common.{◌≡◌, ℕ, IsOk, Some, [], ◌∷◌, true, sym, subst}
+use Rattle.std.proofs.Common.{◌≡◌, ℕ, IsOk, Some, [], ◌∷◌, true, sym, subst, ◌∙◌}
 use Rattle.nested_jobs.specs.Rules as nested
 use Rattle.job_preparing.specs.Handing.{answer_with}
 use Rattle.board_rules.specs.declared.entry.Entry.TheVariants.{Finish}
@@ -27,7 +27,7 @@ go_on-requires-clause-leave g c =
     let y = c.finish_fire.new.self in
     let sound : IsSound x = subst IsSound c.deref.ensures c.journal-journal.ensures.sound in
     let finishes : Finishes x y p.number = subst (λ (n : ℕ). Finishes x y n) c.requires.ticket (subst (λ (b : BoardView). Finishes b y c.args.ticket.worker) c.deref_mut.ensures.value c.finish_fire.ensures.finishes) in
-    let starved : x.starved ≡ true → y.starved ≡ true = subst (λ (b : BoardView). b.starved ≡ true → y.starved ≡ true) c.deref_mut.ensures.value c.finish_fire.ensures.starved in
+    let starved : x.starved ≡ true → y.starved ≡ true = subst (λ (b : BoardView). b.starved ≡ true → y.starved ≡ true) c.deref_mut.ensures.value (λ is. c.finish_fire.ensures.starved ∙ is) in
     let changes = gives_back p x y (Some c.args.frame.places) (λ key. MayComeBack key c.args.frame c.args.answer (IsOk c.args.answer)) c.board_laws.ensures c.enter-held.ensures.finds sound c.requires.claimed (λ work may. (answer_with (Some (nested.Work work)) c.args.frame c.args.answer, may.answered)) finishes starved in
     held_leaves p x y (Finish p.number ∷ []) c.enter-held.ensures.finds changes c.enter-held.result.turn.known c.enter-held.result.turn.found c.enter-held.ensures.known c.enter-held.ensures.found
 
@@ -38,7 +38,7 @@ go_on-requires-clause-found g c =
     let y = c.finish_fire.new.self in
     let sound : IsSound x = subst IsSound c.deref.ensures c.journal-journal.ensures.sound in
     let finishes : Finishes x y p.number = subst (λ (n : ℕ). Finishes x y n) c.requires.ticket (subst (λ (b : BoardView). Finishes b y c.args.ticket.worker) c.deref_mut.ensures.value c.finish_fire.ensures.finishes) in
-    let starved : x.starved ≡ true → y.starved ≡ true = subst (λ (b : BoardView). b.starved ≡ true → y.starved ≡ true) c.deref_mut.ensures.value c.finish_fire.ensures.starved in
+    let starved : x.starved ≡ true → y.starved ≡ true = subst (λ (b : BoardView). b.starved ≡ true → y.starved ≡ true) c.deref_mut.ensures.value (λ is. c.finish_fire.ensures.starved ∙ is) in
     let changes = gives_back p x y (Some c.args.frame.places) (λ key. MayComeBack key c.args.frame c.args.answer (IsOk c.args.answer)) c.board_laws.ensures c.enter-held.ensures.finds sound c.requires.claimed (λ work may. (answer_with (Some (nested.Work work)) c.args.frame c.args.answer, may.answered)) finishes starved in
     held_found p x y (Finish p.number ∷ []) c.enter-held.ensures.finds changes c.enter-held.result.turn.known c.enter-held.result.turn.found c.enter-held.ensures.known c.enter-held.ensures.found
 
@@ -49,7 +49,7 @@ go_on-requires-clause-may g c =
     let y = c.finish_fire.new.self in
     let sound : IsSound x = subst IsSound c.deref.ensures c.journal-journal.ensures.sound in
     let finishes : Finishes x y p.number = subst (λ (n : ℕ). Finishes x y n) c.requires.ticket (subst (λ (b : BoardView). Finishes b y c.args.ticket.worker) c.deref_mut.ensures.value c.finish_fire.ensures.finishes) in
-    let starved : x.starved ≡ true → y.starved ≡ true = subst (λ (b : BoardView). b.starved ≡ true → y.starved ≡ true) c.deref_mut.ensures.value c.finish_fire.ensures.starved in
+    let starved : x.starved ≡ true → y.starved ≡ true = subst (λ (b : BoardView). b.starved ≡ true → y.starved ≡ true) c.deref_mut.ensures.value (λ is. c.finish_fire.ensures.starved ∙ is) in
     let changes = gives_back p x y (Some c.args.frame.places) (λ key. MayComeBack key c.args.frame c.args.answer (IsOk c.args.answer)) c.board_laws.ensures c.enter-held.ensures.finds sound c.requires.claimed (λ work may. (answer_with (Some (nested.Work work)) c.args.frame c.args.answer, may.answered)) finishes starved in
     let added = held_added p x y (Finish p.number ∷ []) c.enter-held.ensures.finds changes c.enter-held.result.turn.known c.enter-held.result.turn.found c.enter-held.ensures.known c.enter-held.ensures.found in
     let may = claimed_may p (Some c.args.frame.places) (λ key. MayComeBack key c.args.frame c.args.answer (IsOk c.args.answer)) c.requires.claimed in
@@ -62,7 +62,7 @@ go_on-requires-clause-idle g c =
     let y = c.finish_fire.new.self in
     let sound : IsSound x = subst IsSound c.deref.ensures c.journal-journal.ensures.sound in
     let finishes : Finishes x y p.number = subst (λ (n : ℕ). Finishes x y n) c.requires.ticket (subst (λ (b : BoardView). Finishes b y c.args.ticket.worker) c.deref_mut.ensures.value c.finish_fire.ensures.finishes) in
-    let starved : x.starved ≡ true → y.starved ≡ true = subst (λ (b : BoardView). b.starved ≡ true → y.starved ≡ true) c.deref_mut.ensures.value c.finish_fire.ensures.starved in
+    let starved : x.starved ≡ true → y.starved ≡ true = subst (λ (b : BoardView). b.starved ≡ true → y.starved ≡ true) c.deref_mut.ensures.value (λ is. c.finish_fire.ensures.starved ∙ is) in
     let changes = gives_back p x y (Some c.args.frame.places) (λ key. MayComeBack key c.args.frame c.args.answer (IsOk c.args.answer)) c.board_laws.ensures c.enter-held.ensures.finds sound c.requires.claimed (λ work may. (answer_with (Some (nested.Work work)) c.args.frame c.args.answer, may.answered)) finishes starved in
     finished_idle p _ c.requires.claimed.some (held_added p x y (Finish p.number ∷ []) c.enter-held.ensures.finds changes c.enter-held.result.turn.known c.enter-held.result.turn.found c.enter-held.ensures.known c.enter-held.ensures.found)
 
@@ -73,6 +73,6 @@ returns-clause-asked g c =
     let y = c.finish_fire.new.self in
     let sound : IsSound x = subst IsSound c.deref.ensures c.journal-journal.ensures.sound in
     let finishes : Finishes x y p.number = subst (λ (n : ℕ). Finishes x y n) c.requires.ticket (subst (λ (b : BoardView). Finishes b y c.args.ticket.worker) c.deref_mut.ensures.value c.finish_fire.ensures.finishes) in
-    let starved : x.starved ≡ true → y.starved ≡ true = subst (λ (b : BoardView). b.starved ≡ true → y.starved ≡ true) c.deref_mut.ensures.value c.finish_fire.ensures.starved in
+    let starved : x.starved ≡ true → y.starved ≡ true = subst (λ (b : BoardView). b.starved ≡ true → y.starved ≡ true) c.deref_mut.ensures.value (λ is. c.finish_fire.ensures.starved ∙ is) in
     let changes = gives_back p x y (Some c.args.frame.places) (λ key. MayComeBack key c.args.frame c.args.answer (IsOk c.args.answer)) c.board_laws.ensures c.enter-held.ensures.finds sound c.requires.claimed (λ work may. (answer_with (Some (nested.Work work)) c.args.frame c.args.answer, may.answered)) finishes starved in
     record { after = _; added = held_added p x y (Finish p.number ∷ []) c.enter-held.ensures.finds changes c.enter-held.result.turn.known c.enter-held.result.turn.found c.enter-held.ensures.known c.enter-held.ensures.found; asked = c.go_on.ensures.asked }

@@ -1,21 +1,19 @@
 use Rattle.std.proofs.Common.{◌≡◌, ◌∙◌, Bool, true, false, Some, sym, ap, subst}
 use Rattle.std.specs.Prelude.{IsOk, is_some}
 use Rattle.board_rules.specs.Keys.{Key}
-use Rattle.firing_board.specs.Ends.{HasLongTraces}
 use Rattle.firing_board.specs.Table.View.{firings_of}
 use Rattle.firing_board.specs.Firings.{FiringsGoOn}
 use Rattle.firing_board.specs.Finishes.{Finishes, MayComeBack}
-use Rattle.firing_board.specs.OnCore.{MayLeave}
 use Rattle.firing_board.specs.Kept.{Keeps, key_of, key_with, view_of, view_with}
 use Rattle.firing_board.specs.Runs.{Runs}
 use Rattle.firing_board.specs.View.{BoardView, lent_to}
 use Rattle.firing_board.proofs.Fields.{key_same}
-use Rattle.firing_board.proofs.KeptViews.{finishes_as, keeping, long_as, runs_as}
+use Rattle.firing_board.proofs.KeptViews.{finishes_as, keeping, runs_as}
 use Rattle.firing_board.proofs.RoomSteps.{room_unless}
 use Rattle.firing_board.proofs.board.Board.finish_fire.Goals as goal
 
-pub finish_frame-self-inside-requires-clause-may : goal.finish_frame-self-inside-requires-clause-may
-finish_frame-self-inside-requires-clause-may c =
+pub finish_frame-requires-clause-may : goal.finish_frame-requires-clause-may
+finish_frame-requires-clause-may c =
     let i = c.self.inside in
     let key = key_of i in
     let w = c.args.ticket.worker in (
@@ -32,73 +30,45 @@ invariant_of-self c =
     let i = c.self.inside in
     let key = key_of i in
     let w = c.args.ticket.worker in
-    let new = c.finish_frame-self-inside.new.core in
-    let after = c.finish_frame-self-inside.result in
-    let kept = c.finish_frame-self-inside.ensures.kept in
-    let f = c.finish_frame-self-inside.ensures.finished key record {
+    let new = c.finish_frame.new.core in
+    let after = i.starved in
+    let kept = c.finish_frame.ensures.kept in
+    let f = c.finish_frame.ensures.finished key record {
       keeps = c.self.invariant.0;
       runs = runs_as false (view_of i) w (MayComeBack key c.args.frame c.args.answer (IsOk c.args.answer)) (subst (λ (b : BoardView). Runs b w (MayComeBack b.key c.args.frame c.args.answer (IsOk c.args.answer))) (sym c.self.view_is) c.requires.runs);
       lent = ap (λ (b : BoardView). lent_to b w) c.self.view_is ∙ c.requires.lent;
     } in
     let same = key_same i.signatures.counts i.top.value i.core new kept in
-    (subst (λ (k : Key). Keeps k new after) (sym same) f.keeps, c.self.invariant.1 ∙ sym kept.one_each, room_unless i.starved after i.core new f.stays c.self.invariant.2 (λ live has. c.finish_frame-self-inside.ensures.room has), kept.slots_each ∙ (c.self.invariant.3 ∙ sym kept.one_each))
+    (subst (λ (k : Key). Keeps k new after) (sym same) f.keeps, c.self.invariant.1 ∙ sym kept.one_each, room_unless i.starved after i.core new f.stays c.self.invariant.2 (λ live has. c.finish_frame.ensures.room has), kept.slots_each ∙ (c.self.invariant.3 ∙ sym kept.one_each))
 
 pub returns-clause-finishes : goal.returns-clause-finishes
 returns-clause-finishes c =
     let i = c.self.inside in
     let key = key_of i in
     let w = c.args.ticket.worker in
-    let new = c.finish_frame-self-inside.new.core in
-    let after = c.finish_frame-self-inside.result in
-    let f = c.finish_frame-self-inside.ensures.finished key record {
+    let new = c.finish_frame.new.core in
+    let after = i.starved in
+    let f = c.finish_frame.ensures.finished key record {
       keeps = c.self.invariant.0;
       runs = runs_as false (view_of i) w (MayComeBack key c.args.frame c.args.answer (IsOk c.args.answer)) (subst (λ (b : BoardView). Runs b w (MayComeBack b.key c.args.frame c.args.answer (IsOk c.args.answer))) (sym c.self.view_is) c.requires.runs);
       lent = ap (λ (b : BoardView). lent_to b w) c.self.view_is ∙ c.requires.lent;
     } in
-    let same = key_same i.signatures.counts i.top.value i.core new c.finish_frame-self-inside.ensures.kept in
+    let same = key_same i.signatures.counts i.top.value i.core new c.finish_frame.ensures.kept in
     let has = is_some i.kept in
     let whole = finishes_as has (view_with key i.core i.starved) (view_with key new after) w f.finishes in
     subst (λ (b : BoardView). Finishes b (keeping has (view_with (key_with i.signatures.counts i.top.value new) new after)) w) c.self.view_is
     (subst (λ (k : Key). Finishes (view_of i) (keeping has (view_with k new after)) w) (sym same) whole)
 
 pub returns-clause-starved : goal.returns-clause-starved
-returns-clause-starved c = λ is.
-    let i = c.self.inside in
-    let key = key_of i in
-    let w = c.args.ticket.worker in
-    let f = c.finish_frame-self-inside.ensures.finished key record {
-      keeps = c.self.invariant.0;
-      runs = runs_as false (view_of i) w (MayComeBack key c.args.frame c.args.answer (IsOk c.args.answer)) (subst (λ (b : BoardView). Runs b w (MayComeBack b.key c.args.frame c.args.answer (IsOk c.args.answer))) (sym c.self.view_is) c.requires.runs);
-      lent = ap (λ (b : BoardView). lent_to b w) c.self.view_is ∙ c.requires.lent;
-    } in
-    f.stays (ap (λ (b : BoardView). b.starved) c.self.view_is ∙ is)
-
-pub returns-clause-live : goal.returns-clause-live
-returns-clause-live c = λ live starves.
-    let i = c.self.inside in
-    let key = key_of i in
-    let w = c.args.ticket.worker in
-    let new = c.finish_frame-self-inside.new.core in
-    let after = c.finish_frame-self-inside.result in
-    let may : MayLeave key i.core i.starved w (MayComeBack key c.args.frame c.args.answer (IsOk c.args.answer)) (Some c.args.frame.places) = record {
-      keeps = c.self.invariant.0;
-      runs = runs_as false (view_of i) w (MayComeBack key c.args.frame c.args.answer (IsOk c.args.answer)) (subst (λ (b : BoardView). Runs b w (MayComeBack b.key c.args.frame c.args.answer (IsOk c.args.answer))) (sym c.self.view_is) c.requires.runs);
-      lent = ap (λ (b : BoardView). lent_to b w) c.self.view_is ∙ c.requires.lent;
-    } in
-    let same = key_same i.signatures.counts i.top.value i.core new c.finish_frame-self-inside.ensures.kept in
-    let has = is_some i.kept in
-    let was : i.starved ≡ false = ap (λ (b : BoardView). b.starved) c.self.view_is ∙ live in
-    let long = long_as has (view_with key new true) (c.finish_frame-self-inside.ensures.live was starves key may) in
-    subst (λ (s : Bool). HasLongTraces (keeping has (view_with (key_with i.signatures.counts i.top.value new) new s))) (sym starves)
-    (subst (λ (k : Key). HasLongTraces (keeping has (view_with k new true))) (sym same) long)
+returns-clause-starved c = ap (λ (b : BoardView). b.starved) c.self.view_is
 
 pub returns-clause-firings : goal.returns-clause-firings
 returns-clause-firings c =
     let i = c.self.inside in
     let key = key_of i in
     let w = c.args.ticket.worker in
-    let new = c.finish_frame-self-inside.new.core in
-    let f = c.finish_frame-self-inside.ensures.finished key record {
+    let new = c.finish_frame.new.core in
+    let f = c.finish_frame.ensures.finished key record {
       keeps = c.self.invariant.0;
       runs = runs_as false (view_of i) w (MayComeBack key c.args.frame c.args.answer (IsOk c.args.answer)) (subst (λ (b : BoardView). Runs b w (MayComeBack b.key c.args.frame c.args.answer (IsOk c.args.answer))) (sym c.self.view_is) c.requires.runs);
       lent = ap (λ (b : BoardView). lent_to b w) c.self.view_is ∙ c.requires.lent;

@@ -1,5 +1,4 @@
 use Rattle.std.proofs.Common.{◌≡◌, ℕ, Some, None, get_or, set, length, slice_index, sym, ap, ◌∙◌, subst, arith}
-use Rattle.std.proofs.lemmas.Result.{IfOk-weaker}
 use Rattle.std.specs.Arc.{arc_value}
 use Rattle.job_preparing.specs.Handing.{EndSuits, end_of, mark_at}
 use Rattle.job_rules.specs.Words.{answer_of}
@@ -7,7 +6,7 @@ use Rattle.nested_jobs.specs.Marks.{Done, Open}
 use Rattle.graph_firing.specs.Calls as job
 use Rattle.graph_firing.specs.View.{IsQuiet, OpenView}
 use Rattle.pisdf_meaning.specs.declared.firing.Firing.{Firing}
-use Rattle.firing_board.specs.Table.Closing.{ClosesLong, IsClosingFrom}
+use Rattle.firing_board.specs.Table.Closing.{IsClosingFrom}
 use Rattle.firing_board.specs.Table.Slots.{InSlot, change_row}
 use Rattle.firing_board.specs.Table.View.{TableView, free_items, row_at}
 use Rattle.firing_board.specs.declared.table.row.Row.{Row}
@@ -15,8 +14,6 @@ use Rattle.firing_board.proofs.OfTable.Closings.{AllLawful, none_busy_at, rows_l
 use Rattle.firing_board.proofs.OfTable.CloseSteps.{HasClosed, closes_on, ends, falls, may_finish, mid, mid_free, next, place_some, quiet_by, rest_stays, stays_on, stops, unquiet_by, upper_inside}
 use Rattle.firing_board.proofs.OfTable.Freeing.{less_free}
 use Rattle.firing_board.proofs.OfTable.LentJobs.{job_has, job_written, left_with, there_in}
-use Rattle.firing_board.proofs.OfTable.LongTraces.{closes_long}
-use Rattle.firing_board.proofs.OfTable.Methods.{on_err_by, on_err_weaker}
 use Rattle.firing_board.proofs.OfTable.Rows.{inside_of, the_same}
 use Rattle.firing_board.proofs.OfTable.Writes.{slot_row}
 use Rattle.firing_board.proofs.table.JobTable.+close_from.Goals as goal
@@ -30,8 +27,8 @@ returns-then-not-is_quiet-clause-closed t c =
     stops (λ key is. c.rules_are_lawful.ensures key.graphs is.valid.valid) c.boards_keep.ensures.stop now k c.requires.row c.requires.here
     (unquiet_by c.requires.row c.index.result.now c.is_quiet.result is c.is_quiet.ensures (λ e. let f = c.if-not-is_quiet.true in cc))
 
-pub outcome-requires : goal.outcome-requires
-outcome-requires t c =
+pub outcome-end-requires : goal.outcome-end-requires
+outcome-end-requires t c =
     let now = c.args.self.now in
     let k = c.args.row in
     let e = c.self.view_is in
@@ -43,27 +40,6 @@ outcome-requires t c =
     let first = c.index.result.now in
     let quiet = quiet_by row first c.is_quiet.result (slot_row now k row first here (c.index.ensures ∙ ap (λ (x : TableView). get_or x.rows k first) e)) c.is_quiet.ensures c.if-not-is_quiet.false in
     quiet
-
-pub returns-in_err-end-clause-stay : goal.returns-in_err-end-clause-stay
-returns-in_err-end-clause-stay t c =
-    let now = c.args.self.now in
-    let k = c.args.row in
-    let e = c.self.view_is in
-    let s = c.self.inside in
-    let slot = c.index_mut.result.now in
-    let read : slot ≡ get_or now.rows k slot = c.index_mut.ensures.value ∙ ap (λ (x : TableView). get_or x.rows k slot) e in
-    let row = c.take_row-job.result in
-    let here : row_at now k ≡ Some row = c.requires.here ∙ (sym (slot_row now k c.requires.row slot c.requires.here read) ∙ c.take_row-job.ensures.taken) in
-    let first = c.index.result.now in
-    let quiet = quiet_by row first c.is_quiet.result (slot_row now k row first here (c.index.ensures ∙ ap (λ (x : TableView). get_or x.rows k first) e)) c.is_quiet.ensures c.if-not-is_quiet.false in
-    let lawful : AllLawful = λ key is. c.rules_are_lawful.ensures key.graphs is.valid.valid in
-    let rest : TableView = record { graphs = arc_value s.graphs; workers = s.workers; rows = set s.rows.items k c.take_row-job.new.slot } in
-    let graphs : rest.graphs ≡ now.graphs = ap (λ (x : TableView). x.graphs) e in
-    let workers : rest.workers ≡ now.workers = ap (λ (x : TableView). x.workers) e in
-    let less : rest.rows ≡ set now.rows k None = ap (λ (x : TableView). set x.rows k c.take_row-job.new.slot) e ∙ ap (set now.rows k) c.take_row-job.ensures.rest in
-    let own = the_same (row_at now k) row c.requires.row here c.requires.here in
-    let idle = none_busy_at lawful now k c.requires (subst (λ (r : Row). IsQuiet r.job) own quiet) in
-    rows_less now rest k graphs workers less (inside_of now.rows k row here) idle
 
 pub returns-in-None-clause-closed : goal.returns-in-None-clause-closed
 returns-in-None-clause-closed t c =
@@ -82,8 +58,8 @@ returns-in-None-clause-closed t c =
     let graphs : rest.graphs ≡ now.graphs = ap (λ (x : TableView). x.graphs) e in
     let workers : rest.workers ≡ now.workers = ap (λ (x : TableView). x.workers) e in
     let less : rest.rows ≡ set now.rows k None = ap (λ (x : TableView). set x.rows k c.take_row-job.new.slot) e ∙ ap (set now.rows k) c.take_row-job.ensures.rest in
-    let end = c.in_ok-end.end in
-    let closed : HasClosed now k row end rest = record { here = here; quiet = quiet; outcome = c.in_ok-end.ensures.outcome; suits = c.in_ok-end.ensures.suits; graphs_are = graphs; workers_are = workers; rows_are = less } in
+    let end = c.outcome-end.result in
+    let closed : HasClosed now k row end rest = record { here = here; quiet = quiet; outcome = c.outcome-end.ensures.outcome; suits = c.outcome-end.ensures.suits; graphs_are = graphs; workers_are = workers; rows_are = less } in
     ends lawful now k row end rest closed c.boards_keep.ensures.end c.in-None.is
 
 pub returns-in-None-clause-stay : goal.returns-in-None-clause-stay
@@ -103,8 +79,8 @@ returns-in-None-clause-stay t c =
     let graphs : rest.graphs ≡ now.graphs = ap (λ (x : TableView). x.graphs) e in
     let workers : rest.workers ≡ now.workers = ap (λ (x : TableView). x.workers) e in
     let less : rest.rows ≡ set now.rows k None = ap (λ (x : TableView). set x.rows k c.take_row-job.new.slot) e ∙ ap (set now.rows k) c.take_row-job.ensures.rest in
-    let end = c.in_ok-end.end in
-    let closed : HasClosed now k row end rest = record { here = here; quiet = quiet; outcome = c.in_ok-end.ensures.outcome; suits = c.in_ok-end.ensures.suits; graphs_are = graphs; workers_are = workers; rows_are = less } in
+    let end = c.outcome-end.result in
+    let closed : HasClosed now k row end rest = record { here = here; quiet = quiet; outcome = c.outcome-end.ensures.outcome; suits = c.outcome-end.ensures.suits; graphs_are = graphs; workers_are = workers; rows_are = less } in
     rest_stays lawful now k row end rest closed c.requires
 
 pub index_mut-requires-in-Some : goal.index_mut-requires-in-Some
@@ -124,8 +100,8 @@ index_mut-requires-in-Some t c =
     let graphs : rest.graphs ≡ now.graphs = ap (λ (x : TableView). x.graphs) e in
     let workers : rest.workers ≡ now.workers = ap (λ (x : TableView). x.workers) e in
     let less : rest.rows ≡ set now.rows k None = ap (λ (x : TableView). set x.rows k c.take_row-job.new.slot) e ∙ ap (set now.rows k) c.take_row-job.ensures.rest in
-    let end = c.in_ok-end.end in
-    let closed : HasClosed now k row end rest = record { here = here; quiet = quiet; outcome = c.in_ok-end.ensures.outcome; suits = c.in_ok-end.ensures.suits; graphs_are = graphs; workers_are = workers; rows_are = less } in
+    let end = c.outcome-end.result in
+    let closed : HasClosed now k row end rest = record { here = here; quiet = quiet; outcome = c.outcome-end.ensures.outcome; suits = c.outcome-end.ensures.suits; graphs_are = graphs; workers_are = workers; rows_are = less } in
     let go_on = c.boards_keep.ensures.go_on in
     let l = c.in-Some.upper in
     let below = c.in-Some.is in
@@ -151,8 +127,8 @@ calling_item-requires t c =
     let graphs : rest.graphs ≡ now.graphs = ap (λ (x : TableView). x.graphs) e in
     let workers : rest.workers ≡ now.workers = ap (λ (x : TableView). x.workers) e in
     let less : rest.rows ≡ set now.rows k None = ap (λ (x : TableView). set x.rows k c.take_row-job.new.slot) e ∙ ap (set now.rows k) c.take_row-job.ensures.rest in
-    let end = c.in_ok-end.end in
-    let closed : HasClosed now k row end rest = record { here = here; quiet = quiet; outcome = c.in_ok-end.ensures.outcome; suits = c.in_ok-end.ensures.suits; graphs_are = graphs; workers_are = workers; rows_are = less } in
+    let end = c.outcome-end.result in
+    let closed : HasClosed now k row end rest = record { here = here; quiet = quiet; outcome = c.outcome-end.ensures.outcome; suits = c.outcome-end.ensures.suits; graphs_are = graphs; workers_are = workers; rows_are = less } in
     let go_on = c.boards_keep.ensures.go_on in
     let l = c.in-Some.upper in
     let below = c.in-Some.is in
@@ -175,8 +151,8 @@ job_in-requires t c =
     let graphs : rest.graphs ≡ now.graphs = ap (λ (x : TableView). x.graphs) e in
     let workers : rest.workers ≡ now.workers = ap (λ (x : TableView). x.workers) e in
     let less : rest.rows ≡ set now.rows k None = ap (λ (x : TableView). set x.rows k c.take_row-job.new.slot) e ∙ ap (set now.rows k) c.take_row-job.ensures.rest in
-    let end = c.in_ok-end.end in
-    let closed : HasClosed now k row end rest = record { here = here; quiet = quiet; outcome = c.in_ok-end.ensures.outcome; suits = c.in_ok-end.ensures.suits; graphs_are = graphs; workers_are = workers; rows_are = less } in
+    let end = c.outcome-end.result in
+    let closed : HasClosed now k row end rest = record { here = here; quiet = quiet; outcome = c.outcome-end.ensures.outcome; suits = c.outcome-end.ensures.suits; graphs_are = graphs; workers_are = workers; rows_are = less } in
     let go_on = c.boards_keep.ensures.go_on in
     let l = c.in-Some.upper in
     let below = c.in-Some.is in
@@ -201,8 +177,8 @@ finish_call-requires t c =
     let graphs : rest.graphs ≡ now.graphs = ap (λ (x : TableView). x.graphs) e in
     let workers : rest.workers ≡ now.workers = ap (λ (x : TableView). x.workers) e in
     let less : rest.rows ≡ set now.rows k None = ap (λ (x : TableView). set x.rows k c.take_row-job.new.slot) e ∙ ap (set now.rows k) c.take_row-job.ensures.rest in
-    let end = c.in_ok-end.end in
-    let closed : HasClosed now k row end rest = record { here = here; quiet = quiet; outcome = c.in_ok-end.ensures.outcome; suits = c.in_ok-end.ensures.suits; graphs_are = graphs; workers_are = workers; rows_are = less } in
+    let end = c.outcome-end.result in
+    let closed : HasClosed now k row end rest = record { here = here; quiet = quiet; outcome = c.outcome-end.ensures.outcome; suits = c.outcome-end.ensures.suits; graphs_are = graphs; workers_are = workers; rows_are = less } in
     let go_on = c.boards_keep.ensures.go_on in
     let l = c.in-Some.upper in
     let below = c.in-Some.is in
@@ -228,8 +204,8 @@ close_from-requires t c =
     let graphs : rest.graphs ≡ now.graphs = ap (λ (x : TableView). x.graphs) e in
     let workers : rest.workers ≡ now.workers = ap (λ (x : TableView). x.workers) e in
     let less : rest.rows ≡ set now.rows k None = ap (λ (x : TableView). set x.rows k c.take_row-job.new.slot) e ∙ ap (set now.rows k) c.take_row-job.ensures.rest in
-    let end = c.in_ok-end.end in
-    let closed : HasClosed now k row end rest = record { here = here; quiet = quiet; outcome = c.in_ok-end.ensures.outcome; suits = c.in_ok-end.ensures.suits; graphs_are = graphs; workers_are = workers; rows_are = less } in
+    let end = c.outcome-end.result in
+    let closed : HasClosed now k row end rest = record { here = here; quiet = quiet; outcome = c.outcome-end.ensures.outcome; suits = c.outcome-end.ensures.suits; graphs_are = graphs; workers_are = workers; rows_are = less } in
     let go_on = c.boards_keep.ensures.go_on in
     let l = c.in-Some.upper in
     let below = c.in-Some.is in
@@ -256,8 +232,8 @@ returns-clause-closed t c =
     let graphs : rest.graphs ≡ now.graphs = ap (λ (x : TableView). x.graphs) e in
     let workers : rest.workers ≡ now.workers = ap (λ (x : TableView). x.workers) e in
     let less : rest.rows ≡ set now.rows k None = ap (λ (x : TableView). set x.rows k c.take_row-job.new.slot) e ∙ ap (set now.rows k) c.take_row-job.ensures.rest in
-    let end = c.in_ok-end.end in
-    let closed : HasClosed now k row end rest = record { here = here; quiet = quiet; outcome = c.in_ok-end.ensures.outcome; suits = c.in_ok-end.ensures.suits; graphs_are = graphs; workers_are = workers; rows_are = less } in
+    let end = c.outcome-end.result in
+    let closed : HasClosed now k row end rest = record { here = here; quiet = quiet; outcome = c.outcome-end.ensures.outcome; suits = c.outcome-end.ensures.suits; graphs_are = graphs; workers_are = workers; rows_are = less } in
     let go_on = c.boards_keep.ensures.go_on in
     let l = c.in-Some.upper in
     let below = c.in-Some.is in
@@ -265,7 +241,7 @@ returns-clause-closed t c =
     let other_read = c.index_mut-in-Some.ensures.value in
     let written : left_with c.finish_call.new.self other ≡ change_row (λ (j : OpenView). job.with_mark j (slice_index row.place 0) (Done (answer_of (end_of end)))) other =
     job_written other c.job_in.result.now c.finish_call.new.self (λ (j : OpenView). job.with_mark j c.calling_item.result (Done (answer_of (end_of end)))) c.job_in.ensures.value c.finish_call.ensures ∙ ap (λ i. change_row (λ (j : OpenView). job.with_mark j i (Done (answer_of (end_of end)))) other) c.calling_item.ensures in
-    IfOk-weaker c.close_from.result _ _ (λ o closes. closes_on lawful now k row end rest closed go_on l below other (left_with c.finish_call.new.self other) other_read written c.close_from.new.self o closes) c.close_from.ensures.closed
+    closes_on lawful now k row end rest closed go_on l below other (left_with c.finish_call.new.self other) other_read written c.close_from.new.self c.close_from.result c.close_from.ensures.closed
 
 pub returns-clause-stay : goal.returns-clause-stay
 returns-clause-stay t c =
@@ -284,8 +260,8 @@ returns-clause-stay t c =
     let graphs : rest.graphs ≡ now.graphs = ap (λ (x : TableView). x.graphs) e in
     let workers : rest.workers ≡ now.workers = ap (λ (x : TableView). x.workers) e in
     let less : rest.rows ≡ set now.rows k None = ap (λ (x : TableView). set x.rows k c.take_row-job.new.slot) e ∙ ap (set now.rows k) c.take_row-job.ensures.rest in
-    let end = c.in_ok-end.end in
-    let closed : HasClosed now k row end rest = record { here = here; quiet = quiet; outcome = c.in_ok-end.ensures.outcome; suits = c.in_ok-end.ensures.suits; graphs_are = graphs; workers_are = workers; rows_are = less } in
+    let end = c.outcome-end.result in
+    let closed : HasClosed now k row end rest = record { here = here; quiet = quiet; outcome = c.outcome-end.ensures.outcome; suits = c.outcome-end.ensures.suits; graphs_are = graphs; workers_are = workers; rows_are = less } in
     let go_on = c.boards_keep.ensures.go_on in
     let l = c.in-Some.upper in
     let below = c.in-Some.is in
@@ -297,25 +273,6 @@ returns-clause-stay t c =
 
 pub returns-then-not-is_quiet-clause-fewer : goal.returns-then-not-is_quiet-clause-fewer
 returns-then-not-is_quiet-clause-fewer t c = let same = ap free_items c.self.view_is in omega (arith, same)
-
-pub returns-in_err-end-clause-fewer : goal.returns-in_err-end-clause-fewer
-returns-in_err-end-clause-fewer t c =
-    let now = c.args.self.now in
-    let k = c.args.row in
-    let e = c.self.view_is in
-    let s = c.self.inside in
-    let slot = c.index_mut.result.now in
-    let read : slot ≡ get_or now.rows k slot = c.index_mut.ensures.value ∙ ap (λ (x : TableView). get_or x.rows k slot) e in
-    let row = c.take_row-job.result in
-    let here : row_at now k ≡ Some row = c.requires.here ∙ (sym (slot_row now k c.requires.row slot c.requires.here read) ∙ c.take_row-job.ensures.taken) in
-    let first = c.index.result.now in
-    let quiet = quiet_by row first c.is_quiet.result (slot_row now k row first here (c.index.ensures ∙ ap (λ (x : TableView). get_or x.rows k first) e)) c.is_quiet.ensures c.if-not-is_quiet.false in
-    let lawful : AllLawful = λ key is. c.rules_are_lawful.ensures key.graphs is.valid.valid in
-    let rest : TableView = record { graphs = arc_value s.graphs; workers = s.workers; rows = set s.rows.items k c.take_row-job.new.slot } in
-    let graphs : rest.graphs ≡ now.graphs = ap (λ (x : TableView). x.graphs) e in
-    let workers : rest.workers ≡ now.workers = ap (λ (x : TableView). x.workers) e in
-    let less : rest.rows ≡ set now.rows k None = ap (λ (x : TableView). set x.rows k c.take_row-job.new.slot) e ∙ ap (set now.rows k) c.take_row-job.ensures.rest in
-    less_free now rest k row here (inside_of now.rows k row here) less
 
 pub returns-in-None-clause-fewer : goal.returns-in-None-clause-fewer
 returns-in-None-clause-fewer t c =
@@ -353,8 +310,8 @@ returns-clause-fewer t c =
     let graphs : rest.graphs ≡ now.graphs = ap (λ (x : TableView). x.graphs) e in
     let workers : rest.workers ≡ now.workers = ap (λ (x : TableView). x.workers) e in
     let less : rest.rows ≡ set now.rows k None = ap (λ (x : TableView). set x.rows k c.take_row-job.new.slot) e ∙ ap (set now.rows k) c.take_row-job.ensures.rest in
-    let end = c.in_ok-end.end in
-    let closed : HasClosed now k row end rest = record { here = here; quiet = quiet; outcome = c.in_ok-end.ensures.outcome; suits = c.in_ok-end.ensures.suits; graphs_are = graphs; workers_are = workers; rows_are = less } in
+    let end = c.outcome-end.result in
+    let closed : HasClosed now k row end rest = record { here = here; quiet = quiet; outcome = c.outcome-end.ensures.outcome; suits = c.outcome-end.ensures.suits; graphs_are = graphs; workers_are = workers; rows_are = less } in
     let go_on = c.boards_keep.ensures.go_on in
     let l = c.in-Some.upper in
     let below = c.in-Some.is in
@@ -365,50 +322,3 @@ returns-clause-fewer t c =
     let less = mid_free lawful now k row end rest closed go_on l below c.requires other (left_with c.finish_call.new.self other) other_read written in
     let after = c.close_from.ensures.fewer in
     omega (arith, less, after)
-
-pub returns-in_err-end-clause-long : goal.returns-in_err-end-clause-long
-returns-in_err-end-clause-long t c =
-    let now = c.args.self.now in
-    let k = c.args.row in
-    let e = c.self.view_is in
-    let s = c.self.inside in
-    let slot = c.index_mut.result.now in
-    let read : slot ≡ get_or now.rows k slot = c.index_mut.ensures.value ∙ ap (λ (x : TableView). get_or x.rows k slot) e in
-    let row = c.take_row-job.result in
-    let here : row_at now k ≡ Some row = c.requires.here ∙ (sym (slot_row now k c.requires.row slot c.requires.here read) ∙ c.take_row-job.ensures.taken) in
-    let first = c.index.result.now in
-    let quiet = quiet_by row first c.is_quiet.result (slot_row now k row first here (c.index.ensures ∙ ap (λ (x : TableView). get_or x.rows k first) e)) c.is_quiet.ensures c.if-not-is_quiet.false in
-    on_err_by c.from_residual.result ((c' : IsClosingFrom now k) → ClosesLong c') (closes_long now k row here quiet c.in_err-end.ensures.long)
-
-pub returns-clause-long : goal.returns-clause-long
-returns-clause-long t c =
-    let now = c.args.self.now in
-    let k = c.args.row in
-    let e = c.self.view_is in
-    let s = c.self.inside in
-    let slot = c.index_mut.result.now in
-    let read : slot ≡ get_or now.rows k slot = c.index_mut.ensures.value ∙ ap (λ (x : TableView). get_or x.rows k slot) e in
-    let row = c.take_row-job.result in
-    let here : row_at now k ≡ Some row = c.requires.here ∙ (sym (slot_row now k c.requires.row slot c.requires.here read) ∙ c.take_row-job.ensures.taken) in
-    let first = c.index.result.now in
-    let quiet = quiet_by row first c.is_quiet.result (slot_row now k row first here (c.index.ensures ∙ ap (λ (x : TableView). get_or x.rows k first) e)) c.is_quiet.ensures c.if-not-is_quiet.false in
-    let lawful : AllLawful = λ key is. c.rules_are_lawful.ensures key.graphs is.valid.valid in
-    let rest : TableView = record { graphs = arc_value s.graphs; workers = s.workers; rows = set s.rows.items k c.take_row-job.new.slot } in
-    let graphs : rest.graphs ≡ now.graphs = ap (λ (x : TableView). x.graphs) e in
-    let workers : rest.workers ≡ now.workers = ap (λ (x : TableView). x.workers) e in
-    let less : rest.rows ≡ set now.rows k None = ap (λ (x : TableView). set x.rows k c.take_row-job.new.slot) e ∙ ap (set now.rows k) c.take_row-job.ensures.rest in
-    let end = c.in_ok-end.end in
-    let closed : HasClosed now k row end rest = record { here = here; quiet = quiet; outcome = c.in_ok-end.ensures.outcome; suits = c.in_ok-end.ensures.suits; graphs_are = graphs; workers_are = workers; rows_are = less } in
-    let go_on = c.boards_keep.ensures.go_on in
-    let l = c.in-Some.upper in
-    let below = c.in-Some.is in
-    let other = c.index_mut-in-Some.result.now in
-    let other_read = c.index_mut-in-Some.ensures.value in
-    let written : left_with c.finish_call.new.self other ≡ change_row (λ (j : OpenView). job.with_mark j (slice_index row.place 0) (Done (answer_of (end_of end)))) other =
-    job_written other c.job_in.result.now c.finish_call.new.self (λ (j : OpenView). job.with_mark j c.calling_item.result (Done (answer_of (end_of end)))) c.job_in.ensures.value c.finish_call.ensures ∙ ap (λ i. change_row (λ (j : OpenView). job.with_mark j i (Done (answer_of (end_of end)))) other) c.calling_item.ensures in
-    let after : TableView = record { graphs = rest.graphs; workers = rest.workers; rows = set rest.rows l (left_with c.finish_call.new.self other) } in
-    on_err_weaker c.close_from.result ((c' : IsClosingFrom after l) → ClosesLong c') ((c' : IsClosingFrom now k) → ClosesLong c')
-    (λ (h : (c' : IsClosingFrom after l) → ClosesLong c') (c' : IsClosingFrom now k).
-    let g = h (next lawful now k row end rest closed go_on l below c' other (left_with c.finish_call.new.self other) other_read written) in
-    record { place = g.place; answer = g.answer; done = g.done; is_long = g.is_long })
-    c.close_from.ensures.long

@@ -1,5 +1,6 @@
 use Rattle.std.proofs.Common.{◌∙◌}
-use Rattle.graph_firing.proofs.Methods.{compiling_unquiet, left_nodes, nodes_long, nodes_outcome_ok, nodes_suits, quiet_nodes, ready_nodes, refused_outcome, waiting_outcome, waiting_refused}
+use Rattle.job_preparing.specs.Handing.{end_of}
+use Rattle.graph_firing.proofs.Methods.{compiling_unquiet, left_nodes, nodes_outcome, nodes_suits, quiet_nodes, ready_nodes, refused_outcome, waiting_outcome, waiting_refused}
 use Rattle.graph_firing.proofs.job.OpenJob.outcome.Goals as goal
 
 pub refused_early-requires : goal.refused_early-requires
@@ -60,14 +61,9 @@ outcome-requires-clause-left c =
 pub returns-in-Nodes-clause-outcome : goal.returns-in-Nodes-clause-outcome
 returns-in-Nodes-clause-outcome c =
     let i = c.self.inside in
-    nodes_outcome_ok i.configuring i.workers i.stage c.self.invariant c.args.self c.self.view_is c.in-Nodes.running c.outcome.result c.in-Nodes.is c.outcome.ensures.end
+    nodes_outcome i.configuring i.workers i.stage c.self.invariant c.args.self c.self.view_is c.in-Nodes.running (end_of c.outcome.result) c.in-Nodes.is c.outcome.ensures.end
 
 pub returns-in-Nodes-clause-suits : goal.returns-in-Nodes-clause-suits
 returns-in-Nodes-clause-suits c =
     let i = c.self.inside in
     nodes_suits i.configuring i.workers i.stage c.self.invariant c.args.self c.self.view_is c.in-Nodes.running c.outcome.result c.in-Nodes.is c.outcome.ensures.suits
-
-pub returns-in-Nodes-clause-long : goal.returns-in-Nodes-clause-long
-returns-in-Nodes-clause-long c =
-    let i = c.self.inside in
-    nodes_long i.configuring i.workers i.stage c.self.invariant c.args.self c.self.view_is c.in-Nodes.running c.outcome.result c.in-Nodes.is c.outcome.ensures.long

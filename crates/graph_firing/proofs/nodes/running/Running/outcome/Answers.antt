@@ -13,9 +13,8 @@ use Rattle.pisdf_meaning.specs.Running.{child_rows, state_after}
 use Rattle.pisdf_model.specs.declared.graph.Graph.{Graph}
 use Rattle.pisdf_model.specs.declared.graph.Graphs.{Graphs}
 use Rattle.sdf_level.specs.declared.node.Node.{Node}
-use Rattle.graph_firing.specs.Nodes.Calls.{HasLongTrace}
 use Rattle.graph_firing.specs.Nodes.Kept.{fixed_of, view_of}
-use Rattle.graph_firing.specs.Nodes.Parts.{IsLong, fired}
+use Rattle.graph_firing.specs.Nodes.Parts.{fired}
 use Rattle.graph_firing.specs.Nodes.View.{RunningView, is_quiet, outcome_of, traces_of}
 use Rattle.graph_firing.proofs.OfNodes.EndedFiring.{have_traces, none_held}
 use Rattle.graph_firing.proofs.OfNodes.FiringEnds.{ends_done, failed_fires, failed_there, given_end, refused_here}
@@ -78,44 +77,28 @@ job_given-requires-clause-many c =
     let here : c.index-items-place.result ≡ fired (fixed_of i) = graph_is (fixed_of i).graphs.graphs (fixed_of i).firing c.self.invariant.set_up.fit c.items-in-Done.result.now (c.items-in-Done.ensures ∙ ap (λ (x : Graphs). x.graphs) c.deref-in-Done.ensures) i.place c.self.invariant.parts.place_is c.index-items-place.result c.index-items-place.is in
     ap length c.self.invariant.parts.keeps_are ∙ length-map (acting (fired (fixed_of i))) (has_state (fixed_of i).graphs.graphs) ∙ ap (λ (g : Graph). length (acting g)) (sym here)
 
-pub returns-in-Ok-clause-end : goal.returns-in-Ok-clause-end
-returns-in-Ok-clause-end c =
+pub returns-in-Done-clause-end : goal.returns-in-Done-clause-end
+returns-in-Done-clause-end c =
     let i = c.self.inside in
     let here : c.index-items-place.result ≡ fired (fixed_of i) = graph_is (fixed_of i).graphs.graphs (fixed_of i).firing c.self.invariant.set_up.fit c.items-in-Done.result.now (c.items-in-Done.ensures ∙ ap (λ (x : Graphs). x.graphs) c.deref-in-Done.ensures) i.place c.self.invariant.parts.place_is c.index-items-place.result c.index-items-place.is in
     let done = ends_done (failure (leased.graph_of i.job) (one.values i.job.marks)) (ended (leased.graph_of i.job) (one.values i.job.marks)) c.in-Done.outs c.in-Done.stored (sym c.in-Done.is ∙ c.outcome.ensures) in
     let left_is = c.requires.left.all ∙ ap (λ (v : RunningView). v.prepared.left) (sym c.self.view_is) in
     let kept = c.self.invariant.parts.keeps_are ∙ ap (λ (g : Graph). map (has_state (fixed_of i).graphs.graphs) (acting g)) (sym here) in
-    let state_is = c.in-Ok.ensures.state (fixed_of i).graphs.graphs kept ∙ ap (λ (g : Graph). state_after (fixed_of i).graphs.graphs g c.args.left.configured c.in-Done.stored) here in
-    let trace_is = c.in-Ok.ensures.trace (fixed_of i).compilation.counts (traces_of (view_of i)) c.requires.left.traced (have_traces (fixed_of i) i.stages i.held.items i.ending.traces.items i.job c.self.invariant c.graphs_numbered.ensures.found c.graphs_numbered.ensures.firings) ∙ ap (λ (g : Graph). i.ending.rows ++ child_rows (fixed_of i).compilation.counts (traces_of (view_of i)) 0 g.actors (with_traces c.args.left.configured c.args.left.traces)) here in
-    given_end (fixed_of i) i.stages i.held.items i.ending.traces.items i.job c.self.invariant c.faults_renamed.ensures.failure c.faults_renamed.ensures.ended done.none c.in-Ok.given.outs c.in-Done.stored (c.in-Ok.ensures.same.0 ∙ done.outs_are) done.stored_are c.args.left.configured c.args.left.traces left_is c.in-Ok.given.state state_is c.in-Ok.given.trace trace_is c.in-Ok.given.exports c.in-Ok.ensures.same.1
+    let state_is = c.job_given.ensures.state (fixed_of i).graphs.graphs kept ∙ ap (λ (g : Graph). state_after (fixed_of i).graphs.graphs g c.args.left.configured c.in-Done.stored) here in
+    let trace_is = c.job_given.ensures.trace (fixed_of i).compilation.counts (traces_of (view_of i)) c.requires.left.traced (have_traces (fixed_of i) i.stages i.held.items i.ending.traces.items i.job c.self.invariant c.graphs_numbered.ensures.found c.graphs_numbered.ensures.firings) ∙ ap (λ (g : Graph). i.ending.rows ++ child_rows (fixed_of i).compilation.counts (traces_of (view_of i)) 0 g.actors (with_traces c.args.left.configured c.args.left.traces)) here in
+    given_end (fixed_of i) i.stages i.held.items i.ending.traces.items i.job c.self.invariant c.faults_renamed.ensures.failure c.faults_renamed.ensures.ended done.none c.job_given.result.outs c.in-Done.stored (c.job_given.ensures.same.0 ∙ done.outs_are) done.stored_are c.args.left.configured c.args.left.traces left_is c.job_given.result.state state_is c.job_given.result.trace trace_is c.job_given.result.exports c.job_given.ensures.same.1
     ∙ ap outcome_of c.self.view_is
 
-pub returns-in-Ok-clause-suits : goal.returns-in-Ok-clause-suits
-returns-in-Ok-clause-suits c =
+pub returns-in-Done-clause-suits : goal.returns-in-Done-clause-suits
+returns-in-Done-clause-suits c =
     let i = c.self.inside in
     let here : c.index-items-place.result ≡ fired (fixed_of i) = graph_is (fixed_of i).graphs.graphs (fixed_of i).firing c.self.invariant.set_up.fit c.items-in-Done.result.now (c.items-in-Done.ensures ∙ ap (λ (x : Graphs). x.graphs) c.deref-in-Done.ensures) i.place c.self.invariant.parts.place_is c.index-items-place.result c.index-items-place.is in
     let quiet = told_quiet (fixed_of i) i.stages i.held.items i.ending.traces.items i.job c.self.invariant c.graphs_numbered.ensures.all c.graphs_numbered.ensures.in_order c.faults_renamed.ensures.ready c.faults_renamed.ensures.inputs (ap is_quiet c.self.view_is ∙ c.requires.quiet) in
     let done = ends_done (failure (leased.graph_of i.job) (one.values i.job.marks)) (ended (leased.graph_of i.job) (one.values i.job.marks)) c.in-Done.outs c.in-Done.stored (sym c.in-Done.is ∙ c.outcome.ensures) in
     let left_is = c.requires.left.all ∙ ap (λ (v : RunningView). v.prepared.left) (sym c.self.view_is) in
     let kept = c.self.invariant.parts.keeps_are ∙ ap (λ (g : Graph). map (has_state (fixed_of i).graphs.graphs) (acting g)) (sym here) in
-    let state_is = c.in-Ok.ensures.state (fixed_of i).graphs.graphs kept ∙ ap (λ (g : Graph). state_after (fixed_of i).graphs.graphs g c.args.left.configured c.in-Done.stored) here in
+    let state_is = c.job_given.ensures.state (fixed_of i).graphs.graphs kept ∙ ap (λ (g : Graph). state_after (fixed_of i).graphs.graphs g c.args.left.configured c.in-Done.stored) here in
     let n = c.graphs_numbered.ensures in
     let laws : GraphLaws = record { found = n.found; once = n.once; there = n.firings; stands = n.in_order; all = n.all; stages = n.stages; ends = n.ends; tokens = n.tokens; names_fit = n.names; ports = n.ports; used = n.used } in
-    subst (λ (v : RunningView). SuitsCall v.graphs.graphs v.firing (given_of c.in-Ok.given)) c.self.view_is
-    (end_suits (fixed_of i) i.stages i.held.items i.ending.traces.items i.job c.self.invariant laws c.tokens_delivered.ensures.one_flow c.tokens_delivered.ensures.delivers quiet done.none c.in-Ok.given.outs c.in-Done.stored (c.in-Ok.ensures.same.0 ∙ done.outs_are) done.stored_are c.args.left.configured c.args.left.traces left_is c.in-Ok.given.state state_is c.in-Ok.given.trace c.in-Ok.given.exports c.in-Ok.ensures.same.1)
-
-pub returns-clause-long : goal.returns-clause-long
-returns-clause-long c =
-    let i = c.self.inside in
-    let f = fixed_of i in
-    let here : c.index-items-place.result ≡ fired f = graph_is f.graphs.graphs f.firing c.self.invariant.set_up.fit c.items-in-Done.result.now (c.items-in-Done.ensures ∙ ap (λ (x : Graphs). x.graphs) c.deref-in-Done.ensures) i.place c.self.invariant.parts.place_is c.index-items-place.result c.index-items-place.is in
-    let done = ends_done (failure (leased.graph_of i.job) (one.values i.job.marks)) (ended (leased.graph_of i.job) (one.values i.job.marks)) c.in-Done.outs c.in-Done.stored (sym c.in-Done.is ∙ c.outcome.ensures) in
-    let left_is = c.requires.left.all ∙ ap (λ (v : RunningView). v.prepared.left) (sym c.self.view_is) in
-    let last = ended (leased.graph_of i.job) (one.values i.job.marks) in
-    let rows = i.ending.rows ++ child_rows f.compilation.counts (traces_of (view_of i)) 0 (fired f).actors (with_traces c.args.left.configured c.args.left.traces) in
-    let is_long : IsLong rows = subst (λ (g : Graph). IsLong (i.ending.rows ++ child_rows f.compilation.counts (traces_of (view_of i)) 0 g.actors (with_traces c.args.left.configured c.args.left.traces))) here
-    (c.in-Err.ensures.long f.compilation.counts (traces_of (view_of i)) c.requires.left.traced (have_traces f i.stages i.held.items i.ending.traces.items i.job c.self.invariant c.graphs_numbered.ensures.found c.graphs_numbered.ensures.firings)) in
-    let end = given_end f i.stages i.held.items i.ending.traces.items i.job c.self.invariant c.faults_renamed.ensures.failure c.faults_renamed.ensures.ended done.none last.outs last.left refl refl c.args.left.configured c.args.left.traces left_is
-    (state_after f.graphs.graphs (fired f) c.args.left.configured last.left) refl rows refl f.exports refl
-    ∙ ap outcome_of c.self.view_is in
-    subst HasLongTrace end is_long
+    subst (λ (v : RunningView). SuitsCall v.graphs.graphs v.firing (given_of c.job_given.result)) c.self.view_is
+    (end_suits (fixed_of i) i.stages i.held.items i.ending.traces.items i.job c.self.invariant laws c.tokens_delivered.ensures.one_flow c.tokens_delivered.ensures.delivers quiet done.none c.job_given.result.outs c.in-Done.stored (c.job_given.ensures.same.0 ∙ done.outs_are) done.stored_are c.args.left.configured c.args.left.traces left_is c.job_given.result.state state_is c.job_given.result.trace c.job_given.result.exports c.job_given.ensures.same.1)

@@ -1,5 +1,5 @@
 use Rattle.std.proofs.Common.{◌≡◌, ◌++◌, length}
-use Rattle.firing_board.proofs.ending.list_of.Given as goal
+use Rattle.job_preparing.proofs.trace.Trace.into_list.Given as goal
 
 abbrev pub invariant-loop-row : goal.invariant-loop-row
 invariant-loop-row l = l.list.items ++ l.rows ≡ l.initial.rows
