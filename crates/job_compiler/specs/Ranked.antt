@@ -1,6 +1,6 @@
 -- The order in which the nodes of each home go.
-use Rattle.std.specs.Prelude.{◌≡◌, ℕ, ◌+◌, ◌*◌, ◌<◌, List, length, slice_index}
-use Rattle.ready_heap.specs.Groups.{RankingView}
+use Rattle.std.specs.Prelude.{◌≡◌, ℕ, ◌+◌, ◌*◌, ◌<◌, ◌≤◌, List, length, slice_index}
+use Rattle.ready_heap.specs.Groups.{RankingView, group_count}
 use Rattle.worker_mapping.specs.declared.mapping.Mapping.{Mapping}
 
 -- node n's key is the lesser, the greater its priority, and then the lesser its number
@@ -11,7 +11,8 @@ pub record AreKeys (priority keys : List ℕ) : Type 0 where
   pub long : length keys ≡ length priority
   pub each : (n : ℕ) → n < length priority → IsKey (slice_index priority n) n (slice_index keys n)
 
--- each home is a group, in the order of the keys
+-- each home is a group, in the order of the keys, and there are no more groups than up to the greatest home
 pub record IsRankingOf (mapping : Mapping) (ranking : RankingView) : Type 0 where
   pub homes : ranking.groups ≡ mapping.home
   pub keys : AreKeys mapping.priority ranking.keys
+  pub few : (home : ℕ) → home < group_count ranking → (n : ℕ) × (n < length mapping.home) × (home ≤ slice_index mapping.home n)

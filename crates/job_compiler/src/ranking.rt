@@ -1,5 +1,5 @@
 // The order in which the nodes of each home go.
-ghost use Rattle.std.specs.Prelude.{◌≡◌, ◌<◌, ◌^◌, EachIndex, length, slice_index, IfOk};
+ghost use Rattle.std.specs.Prelude.{◌≡◌, ℕ, ◌<◌, ◌≤◌, ◌^◌, EachIndex, length, slice_index, IfOk};
 ghost use Rattle.std.specs.Arc.{arc_value};
 ghost use Rattle.job_compiler.specs.Ranked.{AreKeys, IsRankingOf};
 
@@ -10,7 +10,8 @@ use worker_mapping::Mapping;
 
 /// One more than the greatest home, 0 where there is none.
 fn count_of(homes: &[u32]) -> usize
-    ensures { EachIndex homes.now (λ n. slice_index homes.now n < result) }
+    ensures below { EachIndex homes.now (λ n. slice_index homes.now n < result) }
+    ensures least { (home : ℕ) → home < result → (n : ℕ) × (n < length homes.now) × (home ≤ slice_index homes.now n) }
 {
     let mut count = 0;
     for home in homes {

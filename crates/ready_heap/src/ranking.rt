@@ -88,7 +88,7 @@ pub(crate) fn starts_of(alloc: Global, rows: &[Row], count: usize) -> Result<Vec
     ensures long { IfOk result (λ v. length v.items ≡ count + 1) }
     ensures starts { IfOk result (λ v. AreStartsIn rows.now v.items) }
 {
-    let mut starts = Vec::with_capacity(alloc, count)?;
+    let mut starts = Vec::with_capacity(alloc, count.saturating_add(1))?;
     let mut start = 0;
     for group in 0..count {
         start = start_from(rows, group, start);
