@@ -6,7 +6,7 @@ use Rattle.std.proofs.lemmas.Bool.{eq-eqb, le-ltb, lt-ltb, ne_eqb}
 use Rattle.board_rules.specs.Entries.{item_of}
 use Rattle.board_rules.specs.Keys.{Key}
 use Rattle.board_rules.specs.Picks.{step_of_item}
-use Rattle.board_rules.specs.declared.entry.Item.TheVariants as item
+use Rattle.board_rules.specs.declared.entry.ItemName.TheVariants as item
 use Rattle.job_flow.specs.Frames.{inputs, lens}
 use Rattle.job_flow.specs.Graphs.{node_at}
 use Rattle.job_rules.specs.Items.{Prepared, compile_number, compile_rule, graph_of, left_in, node_base, nodes_in, prepared_in, rule, step_of_node}

@@ -12,23 +12,23 @@ ghost use Rattle.audit_job.specs.Marks.{answers};
 ghost use Rattle.audit_job.specs.Naming.{IsValidJob};
 
 use crate::job::Job;
-use board_rules::Item;
+use board_rules::ItemName;
 use param_resolver::level_by_actor;
 use sdf_level::Node;
 
 /// An item of a job, as the journal names it.
-pub fn item_of(job: &Job, item: usize) -> Item
+pub fn item_of(job: &Job, item: usize) -> ItemName
     requires valid { IsValidJob job.now }
     requires inside { item < length job.now.marks.items }
     ensures { (graphs : Seq GraphView) (workers : ℕ) → IsJob graphs workers job.now → result ≡ item_of (graph_of graphs job.now.firing) item }
 {
     let base = job.places.len();
     if item < base {
-        Item::Configure(job.places[item] as u32)
+        ItemName::Configure(job.places[item] as u32)
     } else if item == base {
-        Item::Compile
+        ItemName::Compile
     } else {
-        Item::Node((item - base - 1) as u32)
+        ItemName::Node((item - base - 1) as u32)
     }
 }
 

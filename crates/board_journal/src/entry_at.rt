@@ -1,4 +1,4 @@
-use board_rules::Item;
+use board_rules::ItemName;
 use pisdf_meaning::Path;
 
 /// An entry of a journal, which the journal keeps.
@@ -8,7 +8,7 @@ pub enum EntryAt<'a> {
     Claim {
         worker: u32,
         path: &'a Path,
-        item: Item,
+        item: ItemName,
     },
     /// The worker finishes the item that it runs.
     Finish {

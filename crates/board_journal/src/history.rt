@@ -2,7 +2,7 @@
 ghost use Rattle.std.specs.Prelude.{◌≡◌, [], ◌∷◌, ◌++◌};
 
 use crate::line::Line;
-use board_rules::Item;
+use board_rules::ItemName;
 use pisdf_meaning::Path;
 use std::marker::Model;
 use std::snapshot::Snapshot;
@@ -57,7 +57,7 @@ impl History {
     }
 
     /// Enters that a worker claims an item of the job with the path of this number.
-    pub(crate) fn claim(&mut self, worker: u32, path: usize, item: Item)
+    pub(crate) fn claim(&mut self, worker: u32, path: usize, item: ItemName)
         ensures { self.new ≡ record self.old { entries = self.old.entries ++ entry.Claim worker (path_at self.old.paths path) item ∷ [] } }
     {
         let past = Snapshot::of(&self.past);

@@ -4,7 +4,7 @@ use crate::entry_at::EntryAt;
 use crate::history::History;
 use crate::keeping::{keep_claim, keep_finish, keep_path, keep_room};
 use crate::kept::Entries;
-use board_rules::Item;
+use board_rules::ItemName;
 use pisdf_meaning::Path;
 use std::alloc::{AllocError, Global};
 use std::marker::Model;
@@ -127,7 +127,7 @@ impl Journal {
     }
 
     /// Enters that a worker claims an item of the job with the path of this number.
-    pub fn claim(&mut self, worker: u32, path: usize, item: Item)
+    pub fn claim(&mut self, worker: u32, path: usize, item: ItemName)
         requires path { path < length self.old.paths }
         requires room { 0 < self.old.room }
         ensures { self.new ≡ record self.old { entries = self.old.entries ++ entry.Claim worker (path_at self.old.paths path) item ∷ []; room = self.old.room - 1 } }

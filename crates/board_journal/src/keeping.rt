@@ -5,7 +5,7 @@ ghost use Rattle.board_rules.specs.declared.entry.Entry.TheVariants as entry;
 ghost use Rattle.board_journal.specs.View.{EntriesView, path_at};
 
 use crate::kept::Entries;
-use board_rules::Item;
+use board_rules::ItemName;
 use pisdf_meaning::Path;
 use std::alloc::AllocError;
 
@@ -40,7 +40,7 @@ pub(crate) fn keep_room(kept: &mut Option<Entries>, room: usize) -> Result<(), A
 }
 
 /// Enters that a worker claims an item of the job with the path of this number.
-pub(crate) fn keep_claim(kept: &mut Option<Entries>, worker: u32, path: usize, item: Item)
+pub(crate) fn keep_claim(kept: &mut Option<Entries>, worker: u32, path: usize, item: ItemName)
     requires path { IfSome kept.old (λ e. path < length e.paths) }
     requires room { IfSome kept.old (λ e. 0 < e.room) }
     ensures { kept.new ≡ option_map (λ (e : EntriesView). record e { entries = e.entries ++ entry.Claim worker (path_at e.paths path) item ∷ []; room = e.room - 1 }) kept.old }

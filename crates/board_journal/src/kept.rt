@@ -3,7 +3,7 @@ ghost use Rattle.std.specs.Prelude.{◌≡◌, ◌-◌, ◌<◌, [], ◌∷◌, 
 
 use crate::entry_at::EntryAt;
 use crate::line::Line;
-use board_rules::Item;
+use board_rules::ItemName;
 use pisdf_meaning::Path;
 use std::alloc::{AllocError, Global};
 use std::marker::Model;
@@ -74,7 +74,7 @@ impl Entries {
     }
 
     /// Enters that a worker claims an item of the job with the path of this number.
-    pub(crate) fn claim(&mut self, worker: u32, path: usize, item: Item)
+    pub(crate) fn claim(&mut self, worker: u32, path: usize, item: ItemName)
         requires path { path < length self.old.paths }
         requires room { 0 < self.old.room }
         ensures { self.new ≡ record self.old { entries = self.old.entries ++ entry.Claim worker (path_at self.old.paths path) item ∷ []; room = self.old.room - 1 } }

@@ -1,4 +1,4 @@
-use board_rules::Item;
+use board_rules::ItemName;
 
 /// An entry, whose path is told by its number among the journal's paths.
 #[derive(Clone, Copy, Drop)]
@@ -6,7 +6,7 @@ pub(crate) enum Line {
     Claim {
         worker: u32,
         path: usize,
-        item: Item,
+        item: ItemName,
     },
     Finish {
         worker: u32,

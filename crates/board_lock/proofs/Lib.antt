@@ -1,5 +1,5 @@
 pub mod Entries
-pub mod Stages
+pub mod Phases
 pub mod Views
 pub mod Steps
 pub mod Parts

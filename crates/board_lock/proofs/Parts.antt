@@ -9,12 +9,12 @@ use native.Mathlib.Decide.{dec_le, ℕ_discrete}
 use Rattle.std.specs.Global.{Box}
 use Rattle.atomic_table.specs.Table.{State, Splits, Joins}
 use Rattle.atomic_table.proofs.Lists.{at_set, set_here, set_else, at_longer, at_last}
-use Rattle.board_lock.specs.declared.view.Stage.TheVariants.{Open, Spent}
+use Rattle.board_lock.specs.declared.view.Phase.TheVariants.{Open, Spent}
 use Rattle.board_lock.specs.declared.view.View.{View}
 use Rattle.board_lock.specs.Meant.{Meant, entries_of, Begins}
 use Rattle.board_lock.specs.Rule.{Has, Told, Fits, Shares, AtHome, Out, Running, Kept, first_view_part, second_view_part, joined_view, spent_view}
 use Rattle.board_lock.proofs.Entries.{entries_within}
-use Rattle.board_lock.proofs.Stages.{open_spent, open_holding, starting_open, at_within}
+use Rattle.board_lock.proofs.Phases.{open_spent, open_holding, starting_open, at_within}
 use Rattle.board_lock.proofs.Views.{fit_of, fresh_starting, apart_set}
 
 snoc_cases : {A : Type 0} (l : List A) (a b : A) (j : ℕ) → get_elem? (l ++ a ∷ []) j ≡ some b → (get_elem? l j ≡ some b) ⊎ ((j ≡ length l) × (a ≡ b))
@@ -51,7 +51,7 @@ module _ {S K E P : Type 0} (m : Meant S K E P) where
     never_both : (n : ℕ) → Has (first_view_part at v) n → Has (second_view_part at v) n → ⊥
     never_both n l r = let a = l.2 in let b = r.1 in let len = length-take at v.known.own in omega arith
 
-    left_fits : (t : Told K E P) → v.stage ≡ Open → Fits m t v → Fits m t (first_view_part at v)
+    left_fits : (t : Told K E P) → v.phase ≡ Open → Fits m t v → Fits m t (first_view_part at v)
     left_fits t opened f =
         let len = length-take at v.known.own in
         let len' = length-take at v.known.lent in
@@ -76,7 +76,7 @@ module _ {S K E P : Type 0} (m : Meant S K E P) where
           found_is = λ e. absurd (open_holding (sym opened ∙ e));
         }
 
-    right_fits : (t : Told K E P) → v.stage ≡ Open → Fits m t v → Fits m t (second_view_part at v)
+    right_fits : (t : Told K E P) → v.phase ≡ Open → Fits m t v → Fits m t (second_view_part at v)
     right_fits t opened f =
         let len = length-drop at v.known.own in
         let len' = length-drop at v.known.lent in
@@ -102,23 +102,23 @@ module _ {S K E P : Type 0} (m : Meant S K E P) where
         }
 
   -- where an open view is cut in two, the state stays where it is
-  cut_place : (t : Told K E P) (s : State (Option (Box S)) (View S K E P)) (id : ℕ) (v left right : View S K E P) → get_elem? s.views id ≡ some v → v.stage ≡ Open → left.stage ≡ Open → right.stage ≡ Open
+  cut_place : (t : Told K E P) (s : State (Option (Box S)) (View S K E P)) (id : ℕ) (v left right : View S K E P) → get_elem? s.views id ≡ some v → v.phase ≡ Open → left.phase ≡ Open → right.phase ≡ Open
       → AtHome m t s ⊎ Out m s → let after : State (Option (Box S)) (View S K E P) = record { words = s.words; homes = s.homes; views = set s.views id left ++ right ∷ [] } in AtHome m t after ⊎ Out m after
   cut_place t s id v left right at opened l r (inl h) = inl record {
     state = h.state;
     words_is = h.words_is;
     homes_is = h.homes_is;
     shows = h.shows;
-    free = λ i u e. ⊎_elim (λ a. ⊎_elim (λ q. inl (sym (ap (λ (y : View S K E P). y.stage) q.1) ∙ l)) (λ q. h.free i u q.1) (at_set s.views id i left u a)) (λ a. inl (sym (ap (λ (y : View S K E P). y.stage) a.1) ∙ r)) (snoc_cases (set s.views id left) right u i e);
+    free = λ i u e. ⊎_elim (λ a. ⊎_elim (λ q. inl (sym (ap (λ (y : View S K E P). y.phase) q.1) ∙ l)) (λ q. h.free i u q.1) (at_set s.views id i left u a)) (λ a. inl (sym (ap (λ (y : View S K E P). y.phase) a.1) ∙ r)) (snoc_cases (set s.views id left) right u i e);
   }
   cut_place t s id v left right at opened l r (inr o) =
-      let other : o.holder ≢ id = λ e. open_holding (sym opened ∙ (ap (λ (y : View S K E P). y.stage) (some-injective v o.held.0 (sym at ∙ (ap (get_elem? s.views) (sym e) ∙ o.held.1))) ∙ o.held.2)) in
+      let other : o.holder ≢ id = λ e. open_holding (sym opened ∙ (ap (λ (y : View S K E P). y.phase) (some-injective v o.held.0 (sym at ∙ (ap (get_elem? s.views) (sym e) ∙ o.held.1))) ∙ o.held.2)) in
       inr record {
         holder = o.holder;
         held = (o.held.0, at_longer (set s.views id left) (right ∷ []) o.holder o.held.0 (set_else s.views id o.holder left other ∙ o.held.1), o.held.2);
         words_is = o.words_is;
         homes_is = o.homes_is;
-        alone = λ i u e. ⊎_elim (λ a. ⊎_elim (λ q. inl (sym (ap (λ (y : View S K E P). y.stage) q.1) ∙ l)) (λ q. o.alone i u q.1) (at_set s.views id i left u a)) (λ a. inl (sym (ap (λ (y : View S K E P). y.stage) a.1) ∙ r)) (snoc_cases (set s.views id left) right u i e);
+        alone = λ i u e. ⊎_elim (λ a. ⊎_elim (λ q. inl (sym (ap (λ (y : View S K E P). y.phase) q.1) ∙ l)) (λ q. o.alone i u q.1) (at_set s.views id i left u a)) (λ a. inl (sym (ap (λ (y : View S K E P). y.phase) a.1) ∙ r)) (snoc_cases (set s.views id left) right u i e);
       }
 
   -- a number of the right part stands nowhere else
@@ -147,12 +147,12 @@ module _ {S K E P : Type 0} (m : Meant S K E P) where
         | no other ↦ (e.0, e.1, at_longer (set views id left) (right ∷ []) e.0 e.1 (set_else views id e.0 left other ∙ e.2), e.3)
       ]
 
-  pub cuts : (about : S) (workers id at : ℕ) (v : View S K E P) → v.stage ≡ Open → 0 < at → at < length v.known.own → Splits (Kept m about workers) id v (first_view_part at v) (second_view_part at v)
+  pub cuts : (about : S) (workers id at : ℕ) (v : View S K E P) → v.phase ≡ Open → 0 < at → at < length v.known.own → Splits (Kept m about workers) id v (first_view_part at v) (second_view_part at v)
   cuts about workers id at v opened positive inside s holds there =
       elim holds [
         | inl fresh ↦ absurd (starting_open (sym (fresh_starting m about workers s id v fresh there) ∙ opened))
         | inr r ↦
-            let live : v.stage ≡ Spent → ⊥ = λ e. open_spent (sym opened ∙ e) in
+            let live : v.phase ≡ Spent → ⊥ = λ e. open_spent (sym opened ∙ e) in
             let f = fit_of m r.told s.views id v r.shares there live in
             let left : View S K E P = first_view_part at v in
             let right : View S K E P = second_view_part at v in
@@ -184,7 +184,7 @@ module _ {S K E P : Type 0} (m : Meant S K E P) where
       ]
 
   module _ (v w : View S K E P) (beside : v.known.number + length v.known.own ≡ w.known.number) where
-    merged_has : (n : ℕ) → v.stage ≡ Open → w.stage ≡ Open → Has (joined_view v w) n → Has v n ⊎ Has w n
+    merged_has : (n : ℕ) → v.phase ≡ Open → w.phase ≡ Open → Has (joined_view v w) n → Has v n ⊎ Has w n
     merged_has n ov ow has =
         let a = has.1 in
         let b = has.2 in
@@ -194,7 +194,7 @@ module _ {S K E P : Type 0} (m : Meant S K E P) where
     first_has : (n : ℕ) → Has v n → Has (joined_view v w) n
     first_has n has = let a = has.1 in let b = has.2 in let len = length-append v.known.own w.known.own in (has.0, a, omega arith)
 
-    second_has : (n : ℕ) → v.stage ≡ Open → Has w n → Has (joined_view v w) n
+    second_has : (n : ℕ) → v.phase ≡ Open → Has w n → Has (joined_view v w) n
     second_has n ov has = let a = has.1 in let b = has.2 in let len = length-append v.known.own w.known.own in ((λ e. open_spent (sym ov ∙ e)), omega arith, omega arith)
 
     -- the longer of two journals that were seen has the own entries of all numbers of both
@@ -225,7 +225,7 @@ module _ {S K E P : Type 0} (m : Meant S K E P) where
               )
         ]
 
-    merged_fits : (t : Told K E P) → v.stage ≡ Open → Fits m t v → Fits m t w → Fits m t (joined_view v w)
+    merged_fits : (t : Told K E P) → v.phase ≡ Open → Fits m t v → Fits m t w → Fits m t (joined_view v w)
     merged_fits t opened f g =
         let len = length-append v.known.own w.known.own in
         let len' = length-append v.known.lent w.known.lent in
@@ -260,24 +260,24 @@ module _ {S K E P : Type 0} (m : Meant S K E P) where
           found_is = λ e. absurd (open_holding (sym opened ∙ e));
         }
 
-  merge_place : (t : Told K E P) (s : State (Option (Box S)) (View S K E P)) (id other : ℕ) (v w both : View S K E P) → get_elem? s.views id ≡ some v → get_elem? s.views other ≡ some w → v.stage ≡ Open → w.stage ≡ Open → both.stage ≡ Open
+  merge_place : (t : Told K E P) (s : State (Option (Box S)) (View S K E P)) (id other : ℕ) (v w both : View S K E P) → get_elem? s.views id ≡ some v → get_elem? s.views other ≡ some w → v.phase ≡ Open → w.phase ≡ Open → both.phase ≡ Open
       → AtHome m t s ⊎ Out m s → let after : State (Option (Box S)) (View S K E P) = record { words = s.words; homes = s.homes; views = set (set s.views id both) other spent_view } in AtHome m t after ⊎ Out m after
   merge_place t s id other v w both at at' ov ow ob (inl h) = inl record {
     state = h.state;
     words_is = h.words_is;
     homes_is = h.homes_is;
     shows = h.shows;
-    free = λ i u e. ⊎_elim (λ a. inr (sym (ap (λ (y : View S K E P). y.stage) a.1))) (λ a. ⊎_elim (λ q. inl (sym (ap (λ (y : View S K E P). y.stage) q.1) ∙ ob)) (λ q. h.free i u q.1) (at_set s.views id i both u a.1)) (at_set (set s.views id both) other i spent_view u e);
+    free = λ i u e. ⊎_elim (λ a. inr (sym (ap (λ (y : View S K E P). y.phase) a.1))) (λ a. ⊎_elim (λ q. inl (sym (ap (λ (y : View S K E P). y.phase) q.1) ∙ ob)) (λ q. h.free i u q.1) (at_set s.views id i both u a.1)) (at_set (set s.views id both) other i spent_view u e);
   }
   merge_place t s id other v w both at at' ov ow ob (inr o) =
-      let not_id : o.holder ≢ id = λ e. open_holding (sym ov ∙ (ap (λ (y : View S K E P). y.stage) (some-injective v o.held.0 (sym at ∙ (ap (get_elem? s.views) (sym e) ∙ o.held.1))) ∙ o.held.2)) in
-      let not_other : o.holder ≢ other = λ e. open_holding (sym ow ∙ (ap (λ (y : View S K E P). y.stage) (some-injective w o.held.0 (sym at' ∙ (ap (get_elem? s.views) (sym e) ∙ o.held.1))) ∙ o.held.2)) in
+      let not_id : o.holder ≢ id = λ e. open_holding (sym ov ∙ (ap (λ (y : View S K E P). y.phase) (some-injective v o.held.0 (sym at ∙ (ap (get_elem? s.views) (sym e) ∙ o.held.1))) ∙ o.held.2)) in
+      let not_other : o.holder ≢ other = λ e. open_holding (sym ow ∙ (ap (λ (y : View S K E P). y.phase) (some-injective w o.held.0 (sym at' ∙ (ap (get_elem? s.views) (sym e) ∙ o.held.1))) ∙ o.held.2)) in
       inr record {
         holder = o.holder;
         held = (o.held.0, set_else (set s.views id both) other o.holder spent_view not_other ∙ (set_else s.views id o.holder both not_id ∙ o.held.1), o.held.2);
         words_is = o.words_is;
         homes_is = o.homes_is;
-        alone = λ i u e. ⊎_elim (λ a. inr (inl (sym (ap (λ (y : View S K E P). y.stage) a.1)))) (λ a. ⊎_elim (λ q. inl (sym (ap (λ (y : View S K E P). y.stage) q.1) ∙ ob)) (λ q. o.alone i u q.1) (at_set s.views id i both u a.1)) (at_set (set s.views id both) other i spent_view u e);
+        alone = λ i u e. ⊎_elim (λ a. inr (inl (sym (ap (λ (y : View S K E P). y.phase) a.1)))) (λ a. ⊎_elim (λ q. inl (sym (ap (λ (y : View S K E P). y.phase) q.1) ∙ ob)) (λ q. o.alone i u q.1) (at_set s.views id i both u a.1)) (at_set (set s.views id both) other i spent_view u e);
       }
 
   -- a live view of the joined table, with where it or its numbers stood before
@@ -285,12 +285,12 @@ module _ {S K E P : Type 0} (m : Meant S K E P) where
       → ((i ≡ id) × Has both n) ⊎ ((i ≢ id) × ((i ≢ other) × (get_elem? s.views i ≡ some u)))
   merged_at s id other both i n u e has =
       ⊎_elim
-      (λ a. absurd (has.0 (sym (ap (λ (y : View S K E P). y.stage) a.1))))
+      (λ a. absurd (has.0 (sym (ap (λ (y : View S K E P). y.phase) a.1))))
       (λ a. ⊎_elim (λ q. inl (q.0, subst (λ (y : View S K E P). Has y n) (sym q.1) has)) (λ q. inr (q.0, (a.0, q.1))) (at_set s.views id i both u a.1))
       (at_set (set s.views id both) other i spent_view u e)
 
   -- each number of the two stands in the joined view, and each other one where it stood
-  merge_each : (t : Told K E P) (views : List (View S K E P)) (id other : ℕ) (v w : View S K E P) → v.stage ≡ Open → v.known.number + length v.known.own ≡ w.known.number → Shares m t views → get_elem? views id ≡ some v → get_elem? views other ≡ some w → other ≢ id
+  merge_each : (t : Told K E P) (views : List (View S K E P)) (id other : ℕ) (v w : View S K E P) → v.phase ≡ Open → v.known.number + length v.known.own ≡ w.known.number → Shares m t views → get_elem? views id ≡ some v → get_elem? views other ≡ some w → other ≢ id
       → (n : ℕ) → n < t.workers → (i : ℕ) × (u : View S K E P) × (get_elem? (set (set views id (joined_view v w)) other spent_view) i ≡ some u) × Has u n
   merge_each t views id other v w ov beside h at at' differ n below =
       let both : View S K E P = joined_view v w in
@@ -304,7 +304,7 @@ module _ {S K E P : Type 0} (m : Meant S K E P) where
         ]
       ]
 
-  pub merges : (about : S) (workers id other : ℕ) (v w : View S K E P) → v.stage ≡ Open → w.stage ≡ Open → v.known.number + length v.known.own ≡ w.known.number → Joins (Kept m about workers) id v other w (joined_view v w) spent_view
+  pub merges : (about : S) (workers id other : ℕ) (v w : View S K E P) → v.phase ≡ Open → w.phase ≡ Open → v.known.number + length v.known.own ≡ w.known.number → Joins (Kept m about workers) id v other w (joined_view v w) spent_view
   merges about workers id other v w ov ow beside s holds at apart_is at_other =
       elim holds [
         | inl fresh ↦ absurd (starting_open (sym (fresh_starting m about workers s id v fresh at) ∙ ov))
@@ -319,7 +319,7 @@ module _ {S K E P : Type 0} (m : Meant S K E P) where
               shares = record {
                 fits = λ i u e.
                     ⊎_elim
-                    (λ a. inl (sym (ap (λ (y : View S K E P). y.stage) a.1)))
+                    (λ a. inl (sym (ap (λ (y : View S K E P). y.phase) a.1)))
                     (λ a. ⊎_elim (λ q. inr (subst (λ (y : View S K E P). Fits m r.told y) q.1 (merged_fits v w beside r.told ov f g))) (λ q. r.shares.fits i u q.1) (at_set s.views id i both u a.1))
                     (at_set (set s.views id both) other i spent_view u e);
                 apart = λ i j n u x e k hu hx.
@@ -340,5 +340,5 @@ module _ {S K E P : Type 0} (m : Meant S K E P) where
             }
       ]
 
-  pub cuts_at : (about : S) (workers id at n : ℕ) (v : View S K E P) → n ≡ at → v.stage ≡ Open → 0 < at → at < length v.known.own → Splits (Kept m about workers) id v (first_view_part n v) (second_view_part n v)
+  pub cuts_at : (about : S) (workers id at n : ℕ) (v : View S K E P) → n ≡ at → v.phase ≡ Open → 0 < at → at < length v.known.own → Splits (Kept m about workers) id v (first_view_part n v) (second_view_part n v)
   cuts_at about workers id at n v same opened positive inside = subst (λ (k : ℕ). Splits (Kept m about workers) id v (first_view_part k v) (second_view_part k v)) (sym same) (cuts about workers id at v opened positive inside)

@@ -9,14 +9,14 @@ use lib.ListN.{get_elem?}
 use prog.Atomic.{either}
 use Rattle.atomic_table.specs.Table.{Step, takes, keeps, gives, Allows, Final, Seen}
 use Rattle.atomic_table.proofs.Lists.{at_set, set_again, set_here}
-use Rattle.board_lock.specs.declared.view.Stage.TheVariants.{Starting, Open, Holding, Spent}
+use Rattle.board_lock.specs.declared.view.Phase.TheVariants.{Starting, Open, Holding, Spent}
 use Rattle.board_lock.specs.declared.view.View.{View}
 use Rattle.board_lock.specs.Meant.{Meant, entries_of}
 use Rattle.board_lock.specs.Passes.{LendsNothing, Finds, MayLeave, unseen, first_gains, first_becomes, first_known, known_after}
 use Rattle.board_lock.specs.Rule.{Told, Shows, Fits, Shares, Kept, first_view}
 use Rattle.board_lock.specs.Plays.{Sat, started, tried, left, holding_view, left_view}
 use Rattle.board_lock.proofs.Entries.{entries-append, entries_mine, entries_other}
-use Rattle.board_lock.proofs.Stages.{open_spent, open_holding, holding_spent, starting_open, starting_spent, starting_holding, some_is, at_within, only_one, first_value}
+use Rattle.board_lock.proofs.Phases.{open_spent, open_holding, holding_spent, starting_open, starting_spent, starting_holding, some_is, at_within, only_one, first_value}
 use Rattle.board_lock.proofs.Views.{told_after, fit_of, fresh_starting, finds_of, shares_set, shares_grow}
 
 -- the lists of places after a step of the first number
@@ -36,13 +36,13 @@ length-first_becomes (l ∷ ls) places = refl
 
 module _ {S K E P : Type 0} (m : Meant S K E P) where
   -- a try
-  pub tries : (about : S) (workers slots id : ℕ) (v : View S K E P) (st : Step (Option (Box S))) → v.stage ≡ Open → Allows (Kept m about workers) slots id (v, []) 0 (λ n. either (eqb n 0) 1 n) (tried m st (v, []))
+  pub tries : (about : S) (workers slots id : ℕ) (v : View S K E P) (st : Step (Option (Box S))) → v.phase ≡ Open → Allows (Kept m about workers) slots id (v, []) 0 (λ n. either (eqb n 0) 1 n) (tried m st (v, []))
   tries about workers slots id v st opened s holds len at bound =
       elim holds [
         | inl fresh ↦ absurd (starting_open (sym (fresh_starting m about workers s id v fresh at) ∙ opened))
         | inr r ↦
             let t = r.told in
-            let live : v.stage ≡ Spent → ⊥ = λ e. open_spent (sym opened ∙ e) in
+            let live : v.phase ≡ Spent → ⊥ = λ e. open_spent (sym opened ∙ e) in
             let f = fit_of m t s.views id v r.shares at live in
             elim r.place [
               | inl h ↦
@@ -76,7 +76,7 @@ module _ {S K E P : Type 0} (m : Meant S K E P) where
                         held = (w, set_here s.views id w (at_within s.views id v at), refl);
                         words_is = ap (λ (ws : List ℕ). slice_set ws 0 (either (eqb (slice_index ws 0) 0) 1 (slice_index ws 0))) h.words_is;
                         homes_is = ap (λ (hs : List _). slice_set hs 0 none) h.homes_is;
-                        alone = λ i u e. ⊎_elim (λ a. inr (inr (sym (ap (λ (y : View S K E P). y.stage) a.1), a.0))) (λ a. ⊎_elim (λ o. inl o) (λ o. inr (inl o)) (h.free i u a.1)) (at_set s.views id i w u e);
+                        alone = λ i u e. ⊎_elim (λ a. inr (inr (sym (ap (λ (y : View S K E P). y.phase) a.1), a.0))) (λ a. ⊎_elim (λ o. inl o) (λ o. inr (inl o)) (h.free i u a.1)) (at_set s.views id i w u e);
                       };
                       shares = shares_set m t s.views id v w r.shares at fit (λ n has. (live, has.1, has.2)) (λ n has. (holding_spent, has.1, has.2));
                     },
@@ -90,10 +90,10 @@ module _ {S K E P : Type 0} (m : Meant S K E P) where
                   told = t;
                   place = inr record {
                     holder = o.holder;
-                    held = subst (λ (vs : List (View S K E P)). (u : View S K E P) × (get_elem? vs o.holder ≡ some u) × (u.stage ≡ Holding)) (sym (set_again s.views id v at)) o.held;
+                    held = subst (λ (vs : List (View S K E P)). (u : View S K E P) × (get_elem? vs o.holder ≡ some u) × (u.phase ≡ Holding)) (sym (set_again s.views id v at)) o.held;
                     words_is = ap (λ (ws : List ℕ). slice_set ws 0 (either (eqb (slice_index ws 0) 0) 1 (slice_index ws 0))) o.words_is;
                     homes_is = o.homes_is;
-                    alone = subst (λ (vs : List (View S K E P)). (i : ℕ) (u : View S K E P) → get_elem? vs i ≡ some u → (u.stage ≡ Open) ⊎ ((u.stage ≡ Spent) ⊎ ((u.stage ≡ Holding) × (i ≡ o.holder)))) (sym (set_again s.views id v at)) o.alone;
+                    alone = subst (λ (vs : List (View S K E P)). (i : ℕ) (u : View S K E P) → get_elem? vs i ≡ some u → (u.phase ≡ Open) ⊎ ((u.phase ≡ Spent) ⊎ ((u.phase ≡ Holding) × (i ≡ o.holder)))) (sym (set_again s.views id v at)) o.alone;
                   };
                   shares = subst (λ (vs : List (View S K E P)). Shares m t vs) (sym (set_again s.views id v at)) r.shares;
                 },
@@ -151,13 +151,13 @@ module _ {S K E P : Type 0} (m : Meant S K E P) where
       }
 
   -- the state goes home
-  pub leaves : (about : S) (workers slots id : ℕ) (v : View S K E P) (b : Box S) (st : Step (Option (Box S))) → v.stage ≡ Holding → MayLeave m v.known v.found b.value → Allows (Kept m about workers) slots id (v, (0, Some b) ∷ []) 0 (λ _. 0) (λ _. left m st (v, (0, Some b) ∷ []) 0)
+  pub leaves : (about : S) (workers slots id : ℕ) (v : View S K E P) (b : Box S) (st : Step (Option (Box S))) → v.phase ≡ Holding → MayLeave m v.known v.found b.value → Allows (Kept m about workers) slots id (v, (0, Some b) ∷ []) 0 (λ _. 0) (λ _. left m st (v, (0, Some b) ∷ []) 0)
   leaves about workers slots id v b st holding may s holds len at bound =
       elim holds [
         | inl fresh ↦ absurd (starting_holding (sym (fresh_starting m about workers s id v fresh at) ∙ holding))
         | inr r ↦
             let t = r.told in
-            let live : v.stage ≡ Spent → ⊥ = λ e. holding_spent (sym holding ∙ e) in
+            let live : v.phase ≡ Spent → ⊥ = λ e. holding_spent (sym holding ∙ e) in
             let f = fit_of m t s.views id v r.shares at live in
             elim r.place [
               | inl h ↦ absurd (⊎_elim (λ e. open_holding (sym e ∙ holding)) (λ e. live e) (h.free id v at))
@@ -185,7 +185,7 @@ module _ {S K E P : Type 0} (m : Meant S K E P) where
                         words_is = ap (λ (ws : List ℕ). slice_set ws 0 0) o.words_is;
                         homes_is = ap (λ (hs : List _). slice_set hs 0 (some (Some b))) o.homes_is;
                         shows = record { key = key; journal = history; lent = λ n. refl; over = refl };
-                        free = λ i u e. ⊎_elim (λ a. inl (sym (ap (λ (y : View S K E P). y.stage) a.1))) (λ a. ⊎_elim (λ q. inl q) (λ q. ⊎_elim (λ spent. inr spent) (λ z. absurd (a.0 (z.1 ∙ sym holder))) q) (o.alone i u a.1)) (at_set s.views id i w u e);
+                        free = λ i u e. ⊎_elim (λ a. inl (sym (ap (λ (y : View S K E P). y.phase) a.1))) (λ a. ⊎_elim (λ q. inl q) (λ q. ⊎_elim (λ spent. inr spent) (λ z. absurd (a.0 (z.1 ∙ sym holder))) q) (o.alone i u a.1)) (at_set s.views id i w u e);
                       };
                       shares = shares_grow m t added (m.lent x) (m.over x) s.views id v w r.shares at
                           (live, omega arith, omega arith)
@@ -204,7 +204,7 @@ module _ {S K E P : Type 0} (m : Meant S K E P) where
       ]
 
   -- the first seat takes the empty slot
-  pub starts : (about : S) (workers slots id : ℕ) (v : View S K E P) (st : Step (Option (Box S))) → 0 < workers → LendsNothing m about → v.stage ≡ Starting → Allows (Kept m about workers) slots id (v, []) 0 (λ n. n) (started st (v, []))
+  pub starts : (about : S) (workers slots id : ℕ) (v : View S K E P) (st : Step (Option (Box S))) → 0 < workers → LendsNothing m about → v.phase ≡ Starting → Allows (Kept m about workers) slots id (v, []) 0 (λ n. n) (started st (v, []))
   starts about workers slots id v st positive nothing starting s holds len at bound =
       elim holds [
         | inr r ↦ absurd (⊎_elim
@@ -215,9 +215,9 @@ module _ {S K E P : Type 0} (m : Meant S K E P) where
             let first : View S K E P = first_view m about workers in
             let t : Told K E P = record { workers = workers; key = m.key about; opening = m.journal about; tail = []; lent = m.lent about; over = m.over about } in
             let only = only_one first id v (ap (λ (vs : List (View S K E P)). get_elem? vs id) (sym fresh.views_is) ∙ at) in
-            let w : View S K E P = record v { stage = Holding } in
-            let w' : View S K E P = record first { stage = Holding } in
-            let same : w' ≡ w = ap (λ (x : View S K E P). record x { stage = Holding }) only.1 in
+            let w : View S K E P = record v { phase = Holding } in
+            let w' : View S K E P = record first { phase = Holding } in
+            let same : w' ≡ w = ap (λ (x : View S K E P). record x { phase = Holding }) only.1 in
             let views : set s.views id w ≡ w' ∷ [] = ap (λ (vs : List (View S K E P)). set vs id w) fresh.views_is ∙ (ap (λ (i : ℕ). set (first ∷ []) i w) only.0 ∙ ap (λ (x : View S K E P). x ∷ []) (sym same)) in
             let wide : length w'.known.own ≡ workers = length-replicate workers [] in
             let wide' : length w'.known.lent ≡ workers = length-replicate workers [] in
@@ -250,7 +250,7 @@ module _ {S K E P : Type 0} (m : Meant S K E P) where
                   held = (w', ap (λ (vs : List (View S K E P)). get_elem? vs 0) views, refl);
                   words_is = ap (λ (ws : List ℕ). slice_set ws 0 (slice_index ws 0)) fresh.words_is;
                   homes_is = ap (λ (hs : List _). slice_set hs 0 none) fresh.homes_is;
-                  alone = λ i u e. let a = only_one w' i u (ap (λ (vs : List (View S K E P)). get_elem? vs i) (sym views) ∙ e) in inr (inr (sym (ap (λ (y : View S K E P). y.stage) a.1), a.0));
+                  alone = λ i u e. let a = only_one w' i u (ap (λ (vs : List (View S K E P)). get_elem? vs i) (sym views) ∙ e) in inr (inr (sym (ap (λ (y : View S K E P). y.phase) a.1), a.0));
                 };
                 shares = subst (λ (vs : List (View S K E P)). Shares m t vs) (sym views) record {
                   fits = λ i u e. inr (subst (λ (x : View S K E P). Fits m t x) (only_one w' i u e).1 fit);
@@ -265,7 +265,7 @@ module _ {S K E P : Type 0} (m : Meant S K E P) where
       ]
 
   -- at the end the one pass that is left finds the state at home
-  pub closes : (about : S) (workers id : ℕ) (v : View S K E P) (ws : List ℕ) (xs : List (Option (Box S))) → v.stage ≡ Open → v.known.number ≡ 0 → length v.known.own ≡ v.known.workers
+  pub closes : (about : S) (workers id : ℕ) (v : View S K E P) (ws : List ℕ) (xs : List (Option (Box S))) → v.phase ≡ Open → v.known.number ≡ 0 → length v.known.own ≡ v.known.workers
       → Final (Seen (Kept m about workers) id v) ws xs → (b : Box S) × (get_elem? xs 0 ≡ some (Some b)) × Finds m v.known b.value
   closes about workers id v ws xs opened low all final =
       let s = final.0 in
@@ -274,7 +274,7 @@ module _ {S K E P : Type 0} (m : Meant S K E P) where
         | inl fresh ↦ absurd (starting_open (sym (fresh_starting m about workers s id v fresh at) ∙ opened))
         | inr r ↦
             let t = r.told in
-            let live : v.stage ≡ Spent → ⊥ = λ e. open_spent (sym opened ∙ e) in
+            let live : v.phase ≡ Spent → ⊥ = λ e. open_spent (sym opened ∙ e) in
             let f = fit_of m t s.views id v r.shares at live in
             elim r.place [
               | inl h ↦ (
@@ -284,8 +284,8 @@ module _ {S K E P : Type 0} (m : Meant S K E P) where
               )
               | inr o ↦
                   let u : View S K E P = o.held.0 in
-                  let holding : u.stage ≡ Holding = o.held.2 in
-                  let live' : u.stage ≡ Spent → ⊥ = λ e. holding_spent (sym holding ∙ e) in
+                  let holding : u.phase ≡ Holding = o.held.2 in
+                  let live' : u.phase ≡ Spent → ⊥ = λ e. holding_spent (sym holding ∙ e) in
                   let g = fit_of m t s.views o.holder u r.shares o.held.1 live' in
                   let wide = f.workers_is in
                   let nonempty = g.sound_is.some in
@@ -293,20 +293,20 @@ module _ {S K E P : Type 0} (m : Meant S K E P) where
                   let wide' = g.workers_is in
                   let here : id ≡ o.holder = r.shares.apart id o.holder u.known.number v u at o.held.1 (live, omega arith, omega arith) (live', omega arith, omega arith) in
                   let same : v ≡ u = some-injective v u (sym at ∙ (ap (get_elem? s.views) here ∙ o.held.1)) in
-                  absurd (open_holding (sym opened ∙ (ap (λ (y : View S K E P). y.stage) same ∙ holding)))
+                  absurd (open_holding (sym opened ∙ (ap (λ (y : View S K E P). y.phase) same ∙ holding)))
             ]
       ]
 
   -- the same, at a seat
-  pub tries_at : (about : S) (workers slots id : ℕ) (me : Sat S K E P) (st : Step (Option (Box S))) → me.0.stage ≡ Open → me.1 ≡ [] → Allows (Kept m about workers) slots id me 0 (λ n. either (eqb n 0) 1 n) (tried m st me)
+  pub tries_at : (about : S) (workers slots id : ℕ) (me : Sat S K E P) (st : Step (Option (Box S))) → me.0.phase ≡ Open → me.1 ≡ [] → Allows (Kept m about workers) slots id me 0 (λ n. either (eqb n 0) 1 n) (tried m st me)
   tries_at about workers slots id me st opened empty =
       subst (λ (l : List (ℕ × Option (Box S))). Allows (Kept m about workers) slots id (me.0, l) 0 (λ n. either (eqb n 0) 1 n) (tried m st (me.0, l))) (sym empty) (tries about workers slots id me.0 st opened)
 
-  pub leaves_at : (about : S) (workers slots id : ℕ) (me : Sat S K E P) (b : Box S) (st : Step (Option (Box S))) → me.0.stage ≡ Holding → me.1 ≡ (0, Some b) ∷ [] → MayLeave m me.0.known me.0.found b.value → Allows (Kept m about workers) slots id me 0 (λ _. 0) (λ _. left m st me 0)
+  pub leaves_at : (about : S) (workers slots id : ℕ) (me : Sat S K E P) (b : Box S) (st : Step (Option (Box S))) → me.0.phase ≡ Holding → me.1 ≡ (0, Some b) ∷ [] → MayLeave m me.0.known me.0.found b.value → Allows (Kept m about workers) slots id me 0 (λ _. 0) (λ _. left m st me 0)
   leaves_at about workers slots id me b st holding full may =
       subst (λ (l : List (ℕ × Option (Box S))). Allows (Kept m about workers) slots id (me.0, l) 0 (λ _. 0) (λ _. left m st (me.0, l) 0)) (sym full) (leaves about workers slots id me.0 b st holding may)
 
-  pub starts_at : (about : S) (workers slots id : ℕ) (me : Sat S K E P) (st : Step (Option (Box S))) → 0 < workers → LendsNothing m about → me.0.stage ≡ Starting → me.1 ≡ [] → Allows (Kept m about workers) slots id me 0 (λ n. n) (started st me)
+  pub starts_at : (about : S) (workers slots id : ℕ) (me : Sat S K E P) (st : Step (Option (Box S))) → 0 < workers → LendsNothing m about → me.0.phase ≡ Starting → me.1 ≡ [] → Allows (Kept m about workers) slots id me 0 (λ n. n) (started st me)
   starts_at about workers slots id me st positive nothing starting empty =
       subst (λ (l : List (ℕ × Option (Box S))). Allows (Kept m about workers) slots id (me.0, l) 0 (λ n. n) (started st (me.0, l))) (sym empty) (starts about workers slots id me.0 st positive nothing starting)
 

@@ -6,13 +6,13 @@ use native.Mathlib.Decide.{ℕ_discrete}
 use Rattle.std.specs.Global.{Box}
 use Rattle.atomic_table.specs.Table.{State}
 use Rattle.atomic_table.proofs.Lists.{at_set, set_here, set_else}
-use Rattle.board_lock.specs.declared.view.Stage.TheVariants.{Starting, Holding, Spent}
+use Rattle.board_lock.specs.declared.view.Phase.TheVariants.{Starting, Holding, Spent}
 use Rattle.board_lock.specs.declared.view.View.{View}
 use Rattle.board_lock.specs.Meant.{Meant, entries_of, Begins}
 use Rattle.board_lock.specs.Passes.{Finds}
 use Rattle.board_lock.specs.Rule.{Has, Told, Shows, Fits, Shares, Fresh, first_view}
 use Rattle.board_lock.proofs.Entries.{entries-append, entries_other, begins_more}
-use Rattle.board_lock.proofs.Stages.{stage_cases, only_one, at_within}
+use Rattle.board_lock.proofs.Phases.{phase_cases, only_one, at_within}
 
 -- what is told after a step of one number
 abbrev pub told_after : {K E P : Type 0} → Told K E P → List E → (ℕ → List P) → Bool → Told K E P
@@ -20,11 +20,11 @@ told_after t added lent over = record t { tail = t.tail ++ added; lent = lent; o
 
 module _ {S K E P : Type 0} (m : Meant S K E P) where
   -- what a view that isn't spent knows
-  pub fit_of : (t : Told K E P) (views : List (View S K E P)) (id : ℕ) (v : View S K E P) → Shares m t views → get_elem? views id ≡ some v → (v.stage ≡ Spent → ⊥) → Fits m t v
+  pub fit_of : (t : Told K E P) (views : List (View S K E P)) (id : ℕ) (v : View S K E P) → Shares m t views → get_elem? views id ≡ some v → (v.phase ≡ Spent → ⊥) → Fits m t v
   fit_of t views id v h at live = ⊎_elim (λ spent. absurd (live spent)) (λ f. f) (h.fits id v at)
 
-  pub fresh_starting : (about : S) (workers : ℕ) (s : State (Option (Box S)) (View S K E P)) (id : ℕ) (v : View S K E P) → Fresh m about workers s → get_elem? s.views id ≡ some v → v.stage ≡ Starting
-  fresh_starting about workers s id v h at = sym (ap (λ (x : View S K E P). x.stage) (only_one (first_view m about workers) id v (ap (λ (vs : List (View S K E P)). get_elem? vs id) (sym h.views_is) ∙ at)).1)
+  pub fresh_starting : (about : S) (workers : ℕ) (s : State (Option (Box S)) (View S K E P)) (id : ℕ) (v : View S K E P) → Fresh m about workers s → get_elem? s.views id ≡ some v → v.phase ≡ Starting
+  fresh_starting about workers s id v h at = sym (ap (λ (x : View S K E P). x.phase) (only_one (first_view m about workers) id v (ap (λ (vs : List (View S K E P)). get_elem? vs id) (sym h.views_is) ∙ at)).1)
 
   -- a state that is what was told is found so by each view
   pub finds_of : (t : Told K E P) (views : List (View S K E P)) (v : View S K E P) (x : S) → Shares m t views → Fits m t v → Shows m t x → Finds m v.known x
@@ -75,7 +75,7 @@ module _ {S K E P : Type 0} (m : Meant S K E P) where
   -- what an idle view knows stays true after a step of a number that it hasn't
   fits_after : (t : Told K E P) (low : ℕ) (added : List E) (lent : ℕ → List P) (over : Bool) (u : View S K E P) → Fits m t u
       → All (λ e. m.worker e ≡ low) added → (t.over ≡ true → over ≡ true) → ((n : ℕ) → n ≢ low → lent n ≡ t.lent n)
-      → ((n : ℕ) → u.known.number ≤ n → n < u.known.number + length u.known.own → n ≢ low) → (u.stage ≡ Holding → ⊥) → Fits m (told_after t added lent over) u
+      → ((n : ℕ) → u.known.number ≤ n → n < u.known.number + length u.known.own → n ≢ low) → (u.phase ≡ Holding → ⊥) → Fits m (told_after t added lent over) u
   fits_after t low added lent over u f mine still same others idle =
       record {
         key_is = f.key_is;
@@ -98,13 +98,13 @@ module _ {S K E P : Type 0} (m : Meant S K E P) where
   -- one number takes a step, of which the other views know nothing
   pub shares_grow : (t : Told K E P) (added : List E) (lent : ℕ → List P) (over : Bool) (views : List (View S K E P)) (id : ℕ) (v w : View S K E P) → Shares m t views → get_elem? views id ≡ some v
       → Has v v.known.number → v.known.number < t.workers → All (λ e. m.worker e ≡ v.known.number) added → (t.over ≡ true → over ≡ true) → ((n : ℕ) → n ≢ v.known.number → lent n ≡ t.lent n)
-      → ((i : ℕ) (u : View S K E P) → i ≢ id → get_elem? views i ≡ some u → u.stage ≢ Holding)
+      → ((i : ℕ) (u : View S K E P) → i ≢ id → get_elem? views i ≡ some u → u.phase ≢ Holding)
       → Fits m (told_after t added lent over) w → ((n : ℕ) → Has w n → Has v n) → ((n : ℕ) → Has v n → Has w n) → Shares m (told_after t added lent over) (set views id w)
   shares_grow t added lent over views id v w h at low inside mine still same alone fit fewer more = record {
     fits = λ i u e.
         ⊎_elim
         (λ a. inr (subst (λ (x : View S K E P). Fits m (told_after t added lent over) x) a.1 fit))
-        (λ a. elim (stage_cases u.stage) [
+        (λ a. elim (phase_cases u.phase) [
           | inl spent ↦ inl spent
           | inr live ↦
               let f = fit_of t views i u h a.1 live in

@@ -6,12 +6,12 @@ use lib.ListN.{get_elem?}
 use Rattle.atomic_table.specs.Table.{State}
 use Rattle.board_lock.specs.Meant.{Meant, entries_of, Begins}
 use Rattle.board_lock.specs.Passes.{Sound, first_known, first_part, second_part, joined}
-use Rattle.board_lock.specs.declared.view.Stage.TheVariants.{Starting, Open, Holding, Spent}
+use Rattle.board_lock.specs.declared.view.Phase.TheVariants.{Starting, Open, Holding, Spent}
 use Rattle.board_lock.specs.declared.view.View.{View}
 
 -- the seat's view has number n, and isn't spent
 abbrev pub Has : {S K E P : Type 0} → View S K E P → ℕ → Type 0
-Has v n = (v.stage ≡ Spent → ⊥) × (v.known.number ≤ n) × (n < v.known.number + length v.known.own)
+Has v n = (v.phase ≡ Spent → ⊥) × (v.known.number ≤ n) × (n < v.known.number + length v.known.own)
 
 -- what the state was at its last unlock: all of it that passes know
 pub record Told (K E P : Type 0) : Type 0 where
@@ -24,7 +24,7 @@ pub record Told (K E P : Type 0) : Type 0 where
 
 -- the view of a seat that was joined to another
 abbrev pub spent_view : {S K E P : Type 0} → View S K E P
-spent_view = record { stage = Spent; found = None; known = record { key = None; opening = []; seen = []; over = false; number = 0; own = []; lent = []; workers = 0 } }
+spent_view = record { phase = Spent; found = None; known = record { key = None; opening = []; seen = []; over = false; number = 0; own = []; lent = []; workers = 0 } }
 
 abbrev pub first_view_part : {S K E P : Type 0} → ℕ → View S K E P → View S K E P
 first_view_part at v = record v { known = first_part at v.known }
@@ -38,7 +38,7 @@ joined_view v w = record v { known = joined v.known w.known }
 module _ {S K E P : Type 0} (m : Meant S K E P) where
   -- the view of the first seat
   abbrev pub first_view : S → ℕ → View S K E P
-  first_view x workers = record { stage = Starting; found = Some x; known = first_known m x workers }
+  first_view x workers = record { phase = Starting; found = Some x; known = first_known m x workers }
 
   -- the state is what was told
   pub record Shows (t : Told K E P) (x : S) : Type 0 where
@@ -57,7 +57,7 @@ module _ {S K E P : Type 0} (m : Meant S K E P) where
     pub own_is : (k : ℕ) → k < length v.known.own → slice_index_or v.known.own k [] ≡ entries_of m.worker (v.known.number + k) t.tail
     pub lent_is : (k : ℕ) → k < length v.known.own → slice_index_or v.known.lent k [] ≡ t.lent (v.known.number + k)
     pub over_is : v.known.over ≡ true → t.over ≡ true
-    pub found_is : v.stage ≡ Holding → (x : S) × (v.found ≡ Some x) × Shows t x × (v.known.seen ≡ t.opening ++ t.tail) × (v.known.over ≡ t.over)
+    pub found_is : v.phase ≡ Holding → (x : S) × (v.found ≡ Some x) × Shows t x × (v.known.seen ≡ t.opening ++ t.tail) × (v.known.over ≡ t.over)
 
   -- the state is at home, and nobody holds it
   pub record AtHome (t : Told K E P) (s : State (Option (Box S)) (View S K E P)) : Type 0 where
@@ -65,19 +65,19 @@ module _ {S K E P : Type 0} (m : Meant S K E P) where
     pub words_is : s.words ≡ 0 ∷ []
     pub homes_is : s.homes ≡ some (Some state) ∷ []
     pub shows : Shows t state.value
-    pub free : (i : ℕ) (v : View S K E P) → get_elem? s.views i ≡ some v → (v.stage ≡ Open) ⊎ (v.stage ≡ Spent)
+    pub free : (i : ℕ) (v : View S K E P) → get_elem? s.views i ≡ some v → (v.phase ≡ Open) ⊎ (v.phase ≡ Spent)
 
   -- one view holds the state
   pub record Out (s : State (Option (Box S)) (View S K E P)) : Type 0 where
     pub holder : ℕ
-    pub held : (v : View S K E P) × (get_elem? s.views holder ≡ some v) × (v.stage ≡ Holding)
+    pub held : (v : View S K E P) × (get_elem? s.views holder ≡ some v) × (v.phase ≡ Holding)
     pub words_is : s.words ≡ 1 ∷ []
     pub homes_is : s.homes ≡ none ∷ []
-    pub alone : (i : ℕ) (v : View S K E P) → get_elem? s.views i ≡ some v → (v.stage ≡ Open) ⊎ ((v.stage ≡ Spent) ⊎ ((v.stage ≡ Holding) × (i ≡ holder)))
+    pub alone : (i : ℕ) (v : View S K E P) → get_elem? s.views i ≡ some v → (v.phase ≡ Open) ⊎ ((v.phase ≡ Spent) ⊎ ((v.phase ≡ Holding) × (i ≡ holder)))
 
   -- all views know what was told, each worker's number stands in exactly one of them, and a number that is no worker's has no entry and nothing lent
   pub record Shares (t : Told K E P) (views : List (View S K E P)) : Type 0 where
-    pub fits : (i : ℕ) (v : View S K E P) → get_elem? views i ≡ some v → (v.stage ≡ Spent) ⊎ Fits t v
+    pub fits : (i : ℕ) (v : View S K E P) → get_elem? views i ≡ some v → (v.phase ≡ Spent) ⊎ Fits t v
     pub apart : (i j n : ℕ) (v w : View S K E P) → get_elem? views i ≡ some v → get_elem? views j ≡ some w → Has v n → Has w n → i ≡ j
     pub each : (n : ℕ) → n < t.workers → (i : ℕ) × (v : View S K E P) × (get_elem? views i ≡ some v) × Has v n
     pub none_above : (n : ℕ) → t.workers ≤ n → entries_of m.worker n t.tail ≡ []

@@ -30,11 +30,11 @@ impl<S: Locked> Model for Pass<S> {
     ghost Value = { PassView S.Key S.Entry S.Place };
 
     ghost use Rattle.std.specs.Prelude.{◌≡◌, ◌+◌, ◌<◌, ◌^◌, [], length};
-    ghost use Rattle.board_lock.specs.declared.view.Stage.TheVariants.{Open};
+    ghost use Rattle.board_lock.specs.declared.view.Phase.TheVariants.{Open};
 
     ghost view = { λ p. record { lock = p.seat.table_id; known = p.seat.me.0.known } };
 
-    ghost invariant = { λ p. (p.number ≡ p.seat.me.0.known.number) × (p.count ≡ length p.seat.me.0.known.own) × (p.number + p.count < 2 ^ 32) × (p.seat.me.0.stage ≡ Open) × (p.seat.me.1 ≡ []) };
+    ghost invariant = { λ p. (p.number ≡ p.seat.me.0.known.number) × (p.count ≡ length p.seat.me.0.known.own) × (p.number + p.count < 2 ^ 32) × (p.seat.me.0.phase ≡ Open) × (p.seat.me.1 ≡ []) };
 }
 
 impl<S: Locked> Pass<S> {
@@ -74,11 +74,11 @@ impl<'a, S: Locked> Model for Turn<'a, S> {
     ghost Value = { TurnView S S.Key S.Entry S.Place };
 
     ghost use Rattle.std.specs.Prelude.{◌≡◌, ◌+◌, ◌<◌, ◌^◌, [], ◌∷◌, None, length};
-    ghost use Rattle.board_lock.specs.declared.view.Stage.TheVariants.{Holding};
+    ghost use Rattle.board_lock.specs.declared.view.Phase.TheVariants.{Holding};
 
     ghost view = { λ t. record { lock = t.seat.table_id; known = t.seat.me.0.known; found = t.seat.me.0.found } };
 
-    ghost invariant = { λ t. (t.seat.table_id ≡ t.lock.now) × (t.number ≡ t.seat.me.0.known.number) × (t.count ≡ length t.seat.me.0.known.own) × (t.number + t.count < 2 ^ 32) × (t.seat.me.0.stage ≡ Holding) × (t.seat.me.1 ≡ (0, None) ∷ []) };
+    ghost invariant = { λ t. (t.seat.table_id ≡ t.lock.now) × (t.number ≡ t.seat.me.0.known.number) × (t.count ≡ length t.seat.me.0.known.own) × (t.number + t.count < 2 ^ 32) × (t.seat.me.0.phase ≡ Holding) × (t.seat.me.1 ≡ (0, None) ∷ []) };
 }
 
 impl<'a, S: Locked> Held<'a, S> {

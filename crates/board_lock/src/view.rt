@@ -1,7 +1,7 @@
 use std::collections::LinkedList;
 
 /// What a seat of the table is doing.
-pub enum Stage {
+pub enum Phase {
     Starting,
     Open,
     Holding,
@@ -25,7 +25,7 @@ pub struct Known<K, E, P> {
 /// The view of a seat: what it is doing, the state as it was found, while it is held, and what its pass knows. No value
 /// of it is made.
 pub struct View<S, K, E, P> {
-    pub stage: Stage,
+    pub phase: Phase,
     pub found: Option<S>,
     pub known: Known<K, E, P>,
 }

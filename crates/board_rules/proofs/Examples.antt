@@ -16,7 +16,7 @@ use Rattle.board_rules.specs.Entries.{Step}
 use Rattle.board_rules.specs.Legal.{journal_of, state_after}
 use Rattle.board_rules.specs.Picks.{Standing, goes_before}
 use Rattle.board_rules.specs.declared.entry.Entry.TheVariants.{Claim, Finish}
-use Rattle.board_rules.specs.declared.entry.Item.TheVariants.{Compile, Node}
+use Rattle.board_rules.specs.declared.entry.ItemName.TheVariants.{Compile, Node}
 
 abbrev key : Key
 key = record { graphs = record { version = 1; top = 0; graphs = passes ∷ [] }; signatures = []; delays = [] ∷ [] ∷ [] ∷ []; ins = (pos 5 ∷ []) ∷ []; workers = 1 }

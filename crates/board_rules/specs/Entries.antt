@@ -12,8 +12,8 @@ use Rattle.job_rules.specs.Words.{Answer}
 use Rattle.board_rules.specs.Keys.{Key, rules}
 use Rattle.board_rules.specs.declared.entry.Entry.{Entry}
 use Rattle.board_rules.specs.declared.entry.Entry.TheVariants.{Claim, Finish}
-use Rattle.board_rules.specs.declared.entry.Item.{Item}
-use Rattle.board_rules.specs.declared.entry.Item.TheVariants.{Configure, Compile, Node}
+use Rattle.board_rules.specs.declared.entry.ItemName.{ItemName}
+use Rattle.board_rules.specs.declared.entry.ItemName.TheVariants.{Configure, Compile, Node}
 
 -- a step of a worker: the claim of the item at a place, or the finish of the item that it runs, with its answer
 abbrev pub Step : Type 0
@@ -23,7 +23,7 @@ abbrev pub BoardState : Type 0
 BoardState = State Firing Answer
 
 -- an item of a job of this graph, by its number
-abbrev pub item_of : Graph → ℕ → Item
+abbrev pub item_of : Graph → ℕ → ItemName
 item_of g i =
     if nat_lt i (compile_number g) then Configure (slice_index (map (λ (c : Configuration). c.place) (configurations g)) i)
     else (if i == compile_number g then Compile else Node (i - node_base g))

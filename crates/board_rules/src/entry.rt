@@ -2,7 +2,7 @@ use pisdf_meaning::Path;
 
 /// An item of a job.
 #[derive(Debug, Clone, Copy, PartialEq, Eq, Drop)]
-pub enum Item {
+pub enum ItemName {
     /// A configuration actor that fires a kernel, by its place among the actors of its graph.
     Configure(u32),
     /// The compilation.
@@ -15,7 +15,7 @@ pub enum Item {
 #[derive(Drop)]
 pub enum Entry {
     /// The worker claims an item of the job with this path.
-    Claim { worker: u32, path: Path, item: Item },
+    Claim { worker: u32, path: Path, item: ItemName },
     /// The worker finishes the item that it runs.
     Finish { worker: u32 },
 }

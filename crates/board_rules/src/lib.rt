@@ -5,7 +5,7 @@
 mod entry;
 mod laws;
 
-pub use entry::{Entry, Item};
+pub use entry::{Entry, ItemName};
 pub use laws::{
     boards_end, boards_keep, closed_jobs_have_finished, entries_tell_steps, few_jobs_are_open,
     jobs_are_asked, journals_grow, journals_tell_one_thread, paths_stay, rows_are_asked,

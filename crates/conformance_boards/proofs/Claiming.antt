@@ -8,7 +8,7 @@ use Rattle.board_rules.specs.Keys.{Key}
 use Rattle.board_rules.specs.Legal.{AreLegal, journal_of, state_after}
 use Rattle.board_rules.specs.declared.entry.Entry.{Entry}
 use Rattle.board_rules.specs.declared.entry.Entry.TheVariants.{Claim as claim_entry}
-use Rattle.board_rules.specs.declared.entry.Item.{Item}
+use Rattle.board_rules.specs.declared.entry.ItemName.{ItemName}
 use Rattle.firing_board.specs.Claims.{Claims, IsTicket, Picks, Stays}
 use Rattle.firing_board.specs.Ends.{HasFinished, IsOver}
 use Rattle.firing_board.specs.Runs.{IsIdle, IsSound, RunsWork}
@@ -35,7 +35,7 @@ module _ (laws : BoardsHaveLaws) (fits : WorkFits) (x y : BoardView) (w : ℕ) (
     then_legal : AreLegal x.key then
     then_legal = subst (λ (k : Key). AreLegal k then) key_is picks.after.legal
 
-    entered : (path : List ℕ) × (item : Item) × (journal_of x.key then ≡ journal_of x.key picks.taken ++ claim_entry w path item ∷ [])
+    entered : (path : List ℕ) × (item : ItemName) × (journal_of x.key then ≡ journal_of x.key picks.taken ++ claim_entry w path item ∷ [])
     entered = (laws x.key sound.is_key).claims picks.taken w (picks.item ∷ picks.place) picks.before.legal then_legal
 
     abbrev entry : Entry

@@ -1,6 +1,6 @@
 // Lines of iterations, refusals and journals, as the program writes them.
 use board_journal::{EntryAt, Journal};
-use board_rules::Item;
+use board_rules::ItemName;
 use case_rows::Trouble;
 use job_compiler::What;
 use param_resolver::Why;
@@ -112,9 +112,9 @@ pub(crate) fn push_journal(
             EntryAt::Claim { worker, path, item } => {
                 write!(text, "claim,{number},{worker},{},", path.text().text())?;
                 match item {
-                    Item::Configure(actor) => write!(text, "configure,{actor}\n")?,
-                    Item::Compile => text.push_str("compile,0\n")?,
-                    Item::Node(node) => write!(text, "node,{node}\n")?,
+                    ItemName::Configure(actor) => write!(text, "configure,{actor}\n")?,
+                    ItemName::Compile => text.push_str("compile,0\n")?,
+                    ItemName::Node(node) => write!(text, "node,{node}\n")?,
                 }
             }
             EntryAt::Finish { worker } => write!(text, "finish,{number},{worker}\n")?,

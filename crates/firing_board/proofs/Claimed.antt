@@ -28,7 +28,7 @@ use Rattle.board_rules.specs.Keys.{Key, rules, top_job}
 use Rattle.board_rules.specs.Legal.{HasEnded, journal_of, state_after}
 use Rattle.board_rules.specs.declared.entry.Entry.TheVariants as entry
 use Rattle.board_rules.specs.declared.entry.Entry.{Entry}
-use Rattle.board_rules.specs.declared.entry.Item.{Item}
+use Rattle.board_rules.specs.declared.entry.ItemName.{ItemName}
 use Rattle.firing_board.specs.Table.Calls.{LendsItem, MarksItem}
 use Rattle.firing_board.specs.Table.Laws.{ClaimsSuit, TablesMark}
 use Rattle.firing_board.specs.Table.Suits.{Suits}
@@ -117,7 +117,7 @@ module _ (laws : ClaimLaws) (key : Key) (old : Core) (w : ℕ) (may : MayClaim k
         absurd (omega arith))
         (Rattle.std.proofs.lemmas.Bool.cases_lt v key.workers)
 
-    module _ (new : Core) (item : Item) (ticket : Ticket)
+    module _ (new : Core) (item : ItemName) (ticket : Ticket)
         (item_is : item ≡ item_of (graph_in found.row.job) run.item) (marks : MarksItem run.row run.item Busy mid.table new.table) (frame : Option Places) (lends : LendsItem run.row run.item frame mid.table new.table)
         (t : Took mid w run item ticket new) where
       abbrev place : Place
@@ -173,7 +173,7 @@ module _ (laws : ClaimLaws) (key : Key) (old : Core) (w : ℕ) (may : MayClaim k
           let named : item ≡ item_of (graph_of key.graphs.graphs row.job) run.item = item_is ∙ ap (λ (g : Graphs). item_of (graph_of g.graphs row.job) run.item) graphs in
           let law = laws.entered key taken (table_of old.table) w run.row run.item row (table_of mid.table) found.marks s.suits.is_key found.opened here in
           t.entries_are ∙ (ap (λ (es : List Entry). es ++ entry.Claim w (path_in mid run.row) item ∷ []) (kept.entries_are ∙ s.entered)
-          ∙ (ap (λ (p : List ℕ). journal_of key taken ++ entry.Claim w p item ∷ []) numbered.path_is ∙ (ap (λ (i : Item). journal_of key taken ++ entry.Claim w row.job.path i ∷ []) named ∙ sym law)))
+          ∙ (ap (λ (p : List ℕ). journal_of key taken ++ entry.Claim w p item ∷ []) numbered.path_is ∙ (ap (λ (i : ItemName). journal_of key taken ++ entry.Claim w row.job.path i ∷ []) named ∙ sym law)))
 
       numbered_next : AreNumbered new.table new.numbers.items new.journal.paths
       numbered_next = λ k after now.

@@ -12,7 +12,7 @@ use Rattle.job_rules.specs.Words.{Answer}
 use Rattle.nested_jobs.specs.Marks.{Mark}
 use Rattle.pisdf_meaning.specs.declared.firing.Firing.{Firing}
 use Rattle.graph_firing.specs.Rooms.{HasRoomFor, TakesRoom, is_node, slot_after}
-use Rattle.board_rules.specs.declared.entry.Item.{Item}
+use Rattle.board_rules.specs.declared.entry.ItemName.{ItemName}
 use Rattle.firing_board.specs.Core.{HasFrameRooms, HoldsRoom, IsOut, RowsGoOn, RunsNode, lent_of, lent_with}
 use Rattle.firing_board.specs.FrameRooms.{AreAllOf, FitsNeed, IsWithin, larger, size_with, slot_at}
 use Rattle.firing_board.specs.Handing.{Enters}
@@ -187,7 +187,7 @@ set_back (s ∷ slots) (suc w) = ap (λ l. s ∷ l) (set_back slots w)
 
 -- ---- a worker that ran nothing runs something
 
-module _ (old mid new : Core) (w : ℕ) (run : Run) (item : Item) (ticket : Ticket) (has : HasFrameRooms old) (running : mid.running ≡ old.running) (asked : AsksAsBefore old.table mid.table) (size_is : mid.rooms.size ≡ old.rooms.size)
+module _ (old mid new : Core) (w : ℕ) (run : Run) (item : ItemName) (ticket : Ticket) (has : HasFrameRooms old) (running : mid.running ≡ old.running) (asked : AsksAsBefore old.table mid.table) (size_is : mid.rooms.size ≡ old.rooms.size)
     (slot : Option RoomSize) (slots : mid.rooms.slots.items ≡ set old.rooms.slots.items w slot) (lt : w < length old.running.items) (e : Enters mid w run item ticket new) where
   pub rooms_entered : ((size : RoomSize) → old.rooms.size ≡ Some size → HoldsRoom size mid.table (Some run) slot)
       → ((u : ℕ) (size : RoomSize) → u < length old.running.items → old.rooms.size ≡ Some size → HoldsRoom size mid.table (get_or old.running.items u None) (slot_at old.rooms.slots.items u)) → HasFrameRooms new
@@ -303,7 +303,7 @@ asks_still mid new stay k need is =
 -- ---- the whole of a claim
 
 -- a frame is handed out
-pub rooms_claimed : (old mid new : Core) (w : ℕ) (run : Run) (item : Item) (ticket : Ticket) (places : Places) (row : Row) (slot : Option RoomSize) → HasFrameRooms old → w < length old.running.items → get_or old.running.items w None ≡ None
+pub rooms_claimed : (old mid new : Core) (w : ℕ) (run : Run) (item : ItemName) (ticket : Ticket) (places : Places) (row : Row) (slot : Option RoomSize) → HasFrameRooms old → w < length old.running.items → get_or old.running.items w None ≡ None
     → row_at old.table run.row ≡ Some row → mid.running ≡ old.running → RowsGoOn old.table mid.table → LendsItem run.row run.item (Some places) old.table mid.table → AsksAsBefore old.table mid.table → mid.rooms.size ≡ old.rooms.size
     → mid.rooms.slots.items ≡ set old.rooms.slots.items w slot → TakesRoom (is_node row.job run.item) (slot_at old.rooms.slots.items w) places slot → Enters mid w run item ticket new → HasFrameRooms new
 rooms_claimed old mid new w run item ticket places row slot has lt idle here running rows lends asked size_is slots takes e =
@@ -314,7 +314,7 @@ rooms_claimed old mid new w run item ticket places row slot has lt idle here run
     (room_enough old.table mid.table run places rows lends row here size (slot_at old.rooms.slots.items w) slot (held size is) takes) (has.each u size inside is))
 
 -- a compilation is handed out
-pub rooms_kept : (old mid new : Core) (w : ℕ) (run : Run) (item : Item) (ticket : Ticket) → HasFrameRooms old → w < length old.running.items → get_or old.running.items w None ≡ None
+pub rooms_kept : (old mid new : Core) (w : ℕ) (run : Run) (item : ItemName) (ticket : Ticket) → HasFrameRooms old → w < length old.running.items → get_or old.running.items w None ≡ None
     → mid.running ≡ old.running → RowsGoOn old.table mid.table → LendsAsBefore old.table mid.table → AsksAsBefore old.table mid.table → mid.rooms ≡ old.rooms → Enters mid w run item ticket new → HasFrameRooms new
 rooms_kept old mid new w run item ticket has lt idle running rows lends asked rooms e =
     let slots : mid.rooms.slots.items ≡ set old.rooms.slots.items w (slot_at old.rooms.slots.items w) = ap (λ (r : FrameRooms). r.slots.items) rooms ∙ sym (set_back old.rooms.slots.items w) in

@@ -24,8 +24,8 @@ use Rattle.board_rules.specs.Keys.{Key}
 use Rattle.board_rules.specs.Legal.{state_after}
 use Rattle.board_rules.specs.declared.entry.Entry.{Entry}
 use Rattle.board_rules.specs.declared.entry.Entry.TheVariants as entry
-use Rattle.board_rules.specs.declared.entry.Item.{Item}
-use Rattle.board_rules.specs.declared.entry.Item.TheVariants as items
+use Rattle.board_rules.specs.declared.entry.ItemName.{ItemName}
+use Rattle.board_rules.specs.declared.entry.ItemName.TheVariants as items
 use Rattle.firing_board.specs.Table.Calls.{LendsItem, MarksItem, StaysAs}
 use Rattle.firing_board.specs.Table.View.{TableView, firings_of, lent_by, lent_in, job_row, row_at, table_of}
 use Rattle.firing_board.specs.declared.table.row.Row.{Row}
@@ -153,7 +153,7 @@ none_if None not = refl
 none_if (Some places) not = absurd (not places refl)
 
 module _ (laws : ClaimLaws) (key : Key) (old : Core) (w : ℕ) (may : MayClaim key old w) (mid : Core) (run : Run) (found : IsFound key may.keeps.taken old w mid run) (kept : KeepsRuns old mid) (new : Core) where
-  picks : (item : Item) (ticket : Ticket) (item_is : item ≡ item_of (graph_in found.row.job) run.item) (marks : MarksItem run.row run.item Busy mid.table new.table) (frame : Option Places)
+  picks : (item : ItemName) (ticket : Ticket) (item_is : item ≡ item_of (graph_in found.row.job) run.item) (marks : MarksItem run.row run.item Busy mid.table new.table) (frame : Option Places)
       (lends : LendsItem run.row run.item frame mid.table new.table) (t : Took mid w run item ticket new) → Picks (view_with key old false) (view_with key new false) w found.offered.work frame
   picks item ticket item_is marks frame lends t =
       let next = kept_next laws key old w may mid run found kept new item ticket item_is marks frame lends t in
@@ -172,7 +172,7 @@ module _ (laws : ClaimLaws) (key : Key) (old : Core) (w : ℕ) (may : MayClaim k
   firings_claimed : MarksItem run.row run.item Busy mid.table new.table → FiringsGoOn (firings_of old.table) (firings_of new.table)
   firings_claimed marks = firings_go_on old.table new.table (last_go_on old.table new.table (rows_on old.table mid.table new.table kept.rows (marks_rows run.row run.item Busy mid.table new.table marks)))
 
-  entered_in : (item : Item) (ticket : Ticket) → Took mid w run item ticket new → EntersItem old.journal.entries new.journal.entries w item
+  entered_in : (item : ItemName) (ticket : Ticket) → Took mid w run item ticket new → EntersItem old.journal.entries new.journal.entries w item
   entered_in item ticket t = record { path = path_in mid run.row; entered = t.entries_are ∙ ap (λ (es : List Entry). es ++ entry.Claim w (path_in mid run.row) item ∷ []) kept.entries_are }
 
   -- where it is the compilation, its work is to compile
@@ -212,7 +212,7 @@ module _ (laws : ClaimLaws) (key : Key) (old : Core) (w : ℕ) (may : MayClaim k
     is_row : h.row ≡ found.row
     is_row = the_same (row_at mid.table run.row) h.row found.row h.here found.here
 
-    abbrev item : Item
+    abbrev item : ItemName
     item = item_of (graph_in h.row.job) run.item
 
     item_is : item ≡ item_of (graph_in found.row.job) run.item

@@ -1,7 +1,7 @@
 -- Room in the journal for the entries that may come.
 use Rattle.std.proofs.Common.{◌≡◌, ℕ, ◌+◌, ◌-◌, ◌≤◌, Bool, true, false, set, Some, refl, ap, ◌∙◌, arith}
 use Rattle.board_journal.specs.View.{JournalView}
-use Rattle.board_rules.specs.declared.entry.Item.{Item}
+use Rattle.board_rules.specs.declared.entry.ItemName.{ItemName}
 use Rattle.firing_board.specs.Table.View.{free_items}
 use Rattle.firing_board.specs.Closing.{KeepsJournal}
 use Rattle.firing_board.specs.Core.{HasJournalRoom, HasMemory, runners}
@@ -14,7 +14,7 @@ use Rattle.firing_board.specs.declared.state.Core.{Core}
 use Rattle.firing_board.proofs.Runners.{runners_less, runners_more}
 
 -- an item that was free is claimed
-pub entered_room : (old mid new : Core) (w : ℕ) (run : Run) (item : Item) (ticket : Ticket) → HasJournalRoom old → mid.running ≡ old.running → mid.journal ≡ old.journal → free_items old.table ≡ free_items mid.table + 1
+pub entered_room : (old mid new : Core) (w : ℕ) (run : Run) (item : ItemName) (ticket : Ticket) → HasJournalRoom old → mid.running ≡ old.running → mid.journal ≡ old.journal → free_items old.table ≡ free_items mid.table + 1
     → Enters mid w run item ticket new → HasJournalRoom new
 entered_room old mid new w run item ticket has running journal fewer e =
     let more = runners_more mid.running.items w run in

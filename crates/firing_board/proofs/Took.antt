@@ -4,7 +4,7 @@ use Rattle.std.specs.Prelude.{slice_index_or, slice_set}
 use Rattle.kernel_gate.specs.Value.{Places}
 use Rattle.nested_jobs.specs.Marks.{Busy}
 use Rattle.board_rules.specs.declared.entry.Entry.TheVariants as entry
-use Rattle.board_rules.specs.declared.entry.Item.{Item}
+use Rattle.board_rules.specs.declared.entry.ItemName.{ItemName}
 use Rattle.board_journal.specs.View.{JournalView}
 use Rattle.firing_board.specs.Table.Calls.{LendsAsBefore, LendsItem, MarksItem}
 use Rattle.firing_board.specs.Table.View.{TableView}
@@ -15,7 +15,7 @@ use Rattle.firing_board.specs.declared.state.Core.{Core}
 use Rattle.firing_board.specs.declared.run.Run.{Run}
 
 -- the claim of an item is entered, and the worker runs it
-pub record Took (mid : Core) (w : ℕ) (run : Run) (item : Item) (ticket : Ticket) (new : Core) : Type 0 where
+pub record Took (mid : Core) (w : ℕ) (run : Run) (item : ItemName) (ticket : Ticket) (new : Core) : Type 0 where
   pub running_are : new.running.items ≡ slice_set mid.running.items w (Some run)
   pub numbers_are : new.numbers.items ≡ mid.numbers.items
   pub paths_are : new.journal.paths ≡ mid.journal.paths
@@ -24,7 +24,7 @@ pub record Took (mid : Core) (w : ℕ) (run : Run) (item : Item) (ticket : Ticke
   pub end_is : new.end ≡ mid.end
   pub ticket_is : ticket ≡ record { worker = w; entry = length mid.journal.entries }
 
-pub took : (mid claimed new : Core) (w : ℕ) (run : Run) (item : Item) (ticket : Ticket) → claimed.running ≡ mid.running → claimed.numbers ≡ mid.numbers
+pub took : (mid claimed new : Core) (w : ℕ) (run : Run) (item : ItemName) (ticket : Ticket) → claimed.running ≡ mid.running → claimed.numbers ≡ mid.numbers
     → claimed.journal ≡ mid.journal → claimed.end ≡ mid.end → HasMemory new → Enters claimed w run item ticket new → Took mid w run item ticket new
 took mid claimed new w run item ticket running numbers journal end room e =
     let paths : claimed.journal.paths ≡ mid.journal.paths = ap (λ (j : JournalView). j.paths) journal in

@@ -11,8 +11,8 @@ use Rattle.board_rules.specs.Legal.{HasEnded, state_after}
 use Rattle.board_rules.specs.Picks.{IsPick}
 use Rattle.board_rules.specs.declared.entry.Entry.{Entry}
 use Rattle.board_rules.specs.declared.entry.Entry.TheVariants as entry
-use Rattle.board_rules.specs.declared.entry.Item.{Item}
-use Rattle.board_rules.specs.declared.entry.Item.TheVariants as items
+use Rattle.board_rules.specs.declared.entry.ItemName.{ItemName}
+use Rattle.board_rules.specs.declared.entry.ItemName.TheVariants as items
 use Rattle.firing_board.specs.Runs.{RunsWork}
 use Rattle.firing_board.specs.View.{BoardView, IsAt}
 use Rattle.firing_board.specs.declared.claim.Claim.{Claim}
@@ -60,7 +60,7 @@ Claims old new w claim.Starved = new ≡ record old { starved = true; firings = 
 -- ---- what is entered
 
 -- the claim of this item is entered, in the job of some path
-pub record EntersItem (old new : List Entry) (w : ℕ) (item : Item) : Type 0 where
+pub record EntersItem (old new : List Entry) (w : ℕ) (item : ItemName) : Type 0 where
   pub path : List ℕ
   pub entered : new ≡ old ++ entry.Claim w path item ∷ []
 

@@ -11,8 +11,8 @@ use Rattle.graph_firing.specs.declared.handed.Handed.{Handed}
 use Rattle.graph_firing.specs.declared.handed.Handed.TheVariants as handed
 use Rattle.board_rules.specs.Entries.{item_of}
 use Rattle.board_rules.specs.declared.entry.Entry.TheVariants as entry
-use Rattle.board_rules.specs.declared.entry.Item.{Item}
-use Rattle.board_rules.specs.declared.entry.Item.TheVariants as items
+use Rattle.board_rules.specs.declared.entry.ItemName.{ItemName}
+use Rattle.board_rules.specs.declared.entry.ItemName.TheVariants as items
 use Rattle.board_journal.specs.View.{JournalView, path_at}
 use Rattle.firing_board.specs.Table.Calls.{LendsAsBefore, LendsItem, MarksItem}
 use Rattle.firing_board.specs.Table.View.{row_at}
@@ -34,11 +34,11 @@ abbrev pub path_in : Core → ℕ → List ℕ
 path_in c k = path_at c.journal.paths (slice_index_or c.numbers.items k 0)
 
 -- the journal with the claim of an item in the job of this path
-abbrev pub with_claim : JournalView → ℕ → List ℕ → Item → JournalView
+abbrev pub with_claim : JournalView → ℕ → List ℕ → ItemName → JournalView
 with_claim j w path item = record j { entries = j.entries ++ entry.Claim w path item ∷ []; room = j.room - 1 }
 
 -- the claim is entered, and the worker runs the item
-pub record Enters (old : Core) (w : ℕ) (run : Run) (item : Item) (ticket : Ticket) (new : Core) : Type 0 where
+pub record Enters (old : Core) (w : ℕ) (run : Run) (item : ItemName) (ticket : Ticket) (new : Core) : Type 0 where
   pub ticket_is : ticket ≡ record { worker = w; entry = length old.journal.entries }
   pub table_is : new.table ≡ old.table
   pub running_are : new.running.items ≡ slice_set old.running.items w (Some run)
@@ -54,7 +54,7 @@ pub record MayEnter (c : Core) (w : ℕ) (run : Run) : Type 0 where
   pub known : slice_index_or c.numbers.items run.row 0 < length c.journal.paths
 
 -- a frame is handed out with an item, whose claim is entered
-pub record HandsFrame (old : Core) (w : ℕ) (run : Run) (item : Item) (new : Core) (result : Claim) : Type 0 where
+pub record HandsFrame (old : Core) (w : ℕ) (run : Run) (item : ItemName) (new : Core) (result : Claim) : Type 0 where
   pub row : Row
   pub here : row_at old.table run.row ≡ Some row
   pub handed : Handed

@@ -24,7 +24,7 @@ use crate::numbering::number_of;
 use crate::run::Run;
 use crate::state::Core;
 use crate::table::JobTable;
-use board_rules::{Item, boards_end, boards_keep, journals_grow};
+use board_rules::{ItemName, boards_end, boards_keep, journals_grow};
 use graph_firing::{Handed, OpenJob};
 use job_compiler::{Compiled, Kept, Key};
 use job_rules::rules_are_lawful;
@@ -32,21 +32,21 @@ use std::alloc::{AllocError, Global};
 use std::sync::Arc;
 
 /// An item other than the compilation, as the journal names it.
-fn item_at(job: &OpenJob, item: usize) -> Item
+fn item_at(job: &OpenJob, item: usize) -> ItemName
     requires offered { IsOfferedWork job.now item }
     requires framed { item ≢ compilation_of job.now }
     ensures { result ≡ item_of (graph_in job.now) item }
 {
     let number = job.number(item);
     if item < job.compilation() {
-        Item::Configure(number)
+        ItemName::Configure(number)
     } else {
-        Item::Node(number)
+        ItemName::Node(number)
     }
 }
 
 /// Enters that a worker claims an item, which it then runs.
-fn enter(core: &mut Core, worker: u32, run: Run, item: Item) -> Ticket
+fn enter(core: &mut Core, worker: u32, run: Run, item: ItemName) -> Ticket
     requires enter { MayEnter core.old worker run }
     requires room { 0 < core.old.journal.room }
     ensures { Enters core.old worker run item result core.new }
@@ -85,7 +85,7 @@ fn claim_item(table: &mut JobTable, rooms: &mut FrameRooms, worker: u32, run: Ru
 }
 
 /// Hands out the frame of an item other than a compilation. That of a node is made in the room of the worker.
-fn hand_frame(core: &mut Core, worker: u32, run: Run, item: Item) -> Claim
+fn hand_frame(core: &mut Core, worker: u32, run: Run, item: ItemName) -> Claim
     requires enter { MayEnter core.old worker run }
     requires room { HasMemory core.old }
     requires offered { HasJob (λ job. IsOfferedWork job run.item × (run.item ≢ compilation_of job)) core.old.table run.row }
@@ -121,7 +121,7 @@ fn hand_compilation(
     ensures refused { OnErr result (core.new ≡ core.old) }
 {
     let task = core.table.claim_compile(alloc, run.row, compiled)?;
-    let ticket = enter(core, worker, run, Item::Compile);
+    let ticket = enter(core, worker, run, ItemName::Compile);
     Ok(Claim::Compile(ticket, task))
 }
 

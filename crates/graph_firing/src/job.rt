@@ -334,7 +334,7 @@ impl OpenJob {
                 configuring.end();
                 Err(refusal)
             }
-            Stage::Nodes(running) => running.outcome(configuring.into_left()),
+            Stage::Nodes(running) => running.outcome(configuring.into_configured()),
         }
     }
 

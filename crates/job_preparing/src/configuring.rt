@@ -2,7 +2,7 @@
 use crate::asking::{config_call, line_for};
 use crate::compile_task::{CompileTask, Parts};
 use crate::ending::{keep, kernel_given};
-use crate::handing::{JobGiven, Left};
+use crate::handing::{JobGiven, ConfiguredFiring};
 use crate::kept_one::key_for;
 use crate::slim::{slim_firing, slim_left};
 use crate::stage::{
@@ -23,7 +23,7 @@ use std::snapshot::Snapshot;
 use std::sync::Arc;
 
 /// The configuration actors of one firing of a graph, numbered in file order. Each is claimed or called once, and finished
-/// once. It is neither `Drop` nor `Clone`: it is given up by `refusal`, `into_left` or `end`.
+/// once. It is neither `Drop` nor `Clone`: it is given up by `refusal`, `into_configured` or `end`.
 pub struct Configuring {
     pub(crate) graphs: Arc<Graphs>,
     pub(crate) firing: Firing,
@@ -319,7 +319,7 @@ impl Configuring {
     }
 
     /// The firing, and what the configuration actors left.
-    pub fn into_left(self) -> Left
+    pub fn into_configured(self) -> ConfiguredFiring
         requires { IsReady self }
         ensures firing { result.firing ≡ self.firing }
         ensures left { with_traces result.configured result.traces ≡ left_by self }
@@ -338,7 +338,7 @@ impl Configuring {
             alloc: _,
         } = self;
         spend_frames(frames);
-        Left {
+        ConfiguredFiring {
             firing,
             configured: List::new(left),
             traces: List::new(traces),

@@ -17,7 +17,7 @@ pub struct JobGiven {
 
 /// A firing whose configuration actors all gave something.
 #[derive(Drop)]
-pub struct Left {
+pub struct ConfiguredFiring {
     pub firing: Firing,
     /// What each configuration actor left, in file order, without its trace.
     pub configured: List<Configured>,

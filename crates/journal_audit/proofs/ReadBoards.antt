@@ -10,7 +10,7 @@ use Rattle.board_rules.specs.Keys.{Key}
 use Rattle.board_rules.specs.Legal.{journal_of, state_after}
 use Rattle.board_rules.specs.declared.entry.Entry.{Entry}
 use Rattle.board_rules.specs.declared.entry.Entry.TheVariants.{Claim, Finish}
-use Rattle.board_rules.specs.declared.entry.Item.TheVariants.{Configure, Compile, Node}
+use Rattle.board_rules.specs.declared.entry.ItemName.TheVariants.{Configure, Compile, Node}
 use Rattle.quiescent_driver.specs.Journals.{entry_line, journal_text}
 use Rattle.journal_laws.proofs.Joining.{text-append}
 use Rattle.audit_job.specs.declared.answer.Answer.{Answer as Own}

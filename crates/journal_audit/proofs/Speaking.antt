@@ -11,7 +11,7 @@ use Rattle.board_rules.specs.Keys.{Key, rules}
 use Rattle.board_rules.specs.Legal.{AreLegal, journal_of, state_after}
 use Rattle.board_rules.specs.declared.entry.Entry.{Entry}
 use Rattle.board_rules.specs.declared.entry.Entry.TheVariants.{Claim, Finish}
-use Rattle.board_rules.specs.declared.entry.Item.TheVariants.{Compile}
+use Rattle.board_rules.specs.declared.entry.ItemName.TheVariants.{Compile}
 use Rattle.worker_crew.specs.Laws.{BoardLaws}
 use Rattle.quiescent_driver.specs.Journals.{entry_line}
 use Rattle.journal_laws.specs.Lines.{AreAlike, BeginningsTell, HasSmallWorker, LinesBegin, claim_begin, entry_begin}

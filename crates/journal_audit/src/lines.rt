@@ -5,7 +5,7 @@ ghost use Rattle.journal_laws.specs.Lines.{claim_begin};
 ghost use Rattle.quiescent_driver.specs.Journals.{entry_line};
 ghost use Rattle.journal_audit.specs.Reading.{first_line};
 
-use board_rules::Item;
+use board_rules::ItemName;
 use pisdf_meaning::Path;
 use std::alloc::{AllocError, Global};
 use std::fmt::Write;
@@ -28,20 +28,20 @@ pub(crate) fn claim_line(
     number: u32,
     worker: u32,
     path: &Path,
-    item: Item,
+    item: ItemName,
 ) -> Result<String, AllocError>
     ensures { IfOk result (λ s. string_bytes s ≡ entry_line number (entry.Claim worker path.now item)) }
 {
     let path = path.text().text();
     let mut text = String::new(alloc);
     match item {
-        Item::Configure(place) => {
+        ItemName::Configure(place) => {
             write!(text, "claim,{number},{worker},{path},configure,{place}\n")?;
         }
-        Item::Compile => {
+        ItemName::Compile => {
             write!(text, "claim,{number},{worker},{path},compile,0\n")?;
         }
-        Item::Node(node) => {
+        ItemName::Node(node) => {
             write!(text, "claim,{number},{worker},{path},node,{node}\n")?;
         }
     }

@@ -5,20 +5,20 @@ use Rattle.std.proofs.lemmas.List.{append-nil, append_cancel_left}
 use Rattle.std.specs.Fmt.{decimal}
 use Rattle.board_rules.specs.declared.entry.Entry.{Entry}
 use Rattle.board_rules.specs.declared.entry.Entry.TheVariants.{Claim, Finish}
-use Rattle.board_rules.specs.declared.entry.Item.{Item}
-use Rattle.board_rules.specs.declared.entry.Item.TheVariants.{Configure, Compile, Node}
+use Rattle.board_rules.specs.declared.entry.ItemName.{ItemName}
+use Rattle.board_rules.specs.declared.entry.ItemName.TheVariants.{Configure, Compile, Node}
 use Rattle.quiescent_driver.specs.Journals.{entry_line, journal_text}
 use Rattle.journal_laws.specs.Lines.{AreAlike, HasPlainPath, HasSmallNumbers, HasSmallWorker, HavePlainPaths, claim_begin, entry_begin, lines, number_of}
 use Rattle.journal_laws.proofs.Bytes.{Above, IsLine, above_more, above_so, decimal_above, feed_line, longer_line, same_fields, same_lines}
 
 -- what stands after the comma that ends the path
-abbrev item_text : Item → List ℕ
+abbrev item_text : ItemName → List ℕ
 item_text (Configure place) = codes "configure," ++ (decimal place ++ 10 ∷ [])
 item_text Compile = codes "compile,0" ++ 10 ∷ []
 item_text (Node node) = codes "node," ++ (decimal node ++ 10 ∷ [])
 
 -- the lines, piece by piece
-claim_line : (n worker : ℕ) (path : List ℕ) (item : Item) → entry_line n (Claim worker path item) ≡ codes "claim," ++ (decimal n ++ 44 ∷ (decimal worker ++ 44 ∷ (path ++ 44 ∷ item_text item)))
+claim_line : (n worker : ℕ) (path : List ℕ) (item : ItemName) → entry_line n (Claim worker path item) ≡ codes "claim," ++ (decimal n ++ 44 ∷ (decimal worker ++ 44 ∷ (path ++ 44 ∷ item_text item)))
 claim_line n worker path (Configure place) = refl
 claim_line n worker path Compile = refl
 claim_line n worker path (Node node) = refl
@@ -26,7 +26,7 @@ claim_line n worker path (Node node) = refl
 small : (n : ℕ) → Above 10 (decimal n)
 small n = above_more 10 44 (decimal n) (omega arith) (decimal_above n)
 
-item_line : (item : Item) → IsLine (item_text item)
+item_line : (item : ItemName) → IsLine (item_text item)
 item_line (Configure place) = longer_line (codes "configure,") (decimal place ++ 10 ∷ []) (above_so 10 (codes "configure,") refl) (longer_line (decimal place) (10 ∷ []) (small place) feed_line)
 item_line Compile = longer_line (codes "compile,0") (10 ∷ []) (above_so 10 (codes "compile,0") refl) feed_line
 item_line (Node node) = longer_line (codes "node,") (decimal node ++ 10 ∷ []) (above_so 10 (codes "node,") refl) (longer_line (decimal node) (10 ∷ []) (small node) feed_line)
@@ -104,7 +104,7 @@ module _ (n m : ℕ) (n_small : n < 2 ^ 32) (m_small : m < 2 ^ 32) where
 
   -- ---- what they tell
 
-  items_same : (one other : Item) → number_of one < 2 ^ 32 → number_of other < 2 ^ 32 → item_text one ≡ item_text other → one ≡ other
+  items_same : (one other : ItemName) → number_of one < 2 ^ 32 → number_of other < 2 ^ 32 → item_text one ≡ item_text other → one ≡ other
   items_same (Configure p) (Configure q) p_small q_small e =
       let inner = append_cancel_left (codes "configure,") (decimal p ++ 10 ∷ []) (decimal q ++ 10 ∷ []) e in
       ap Configure (numbers_same p q p_small q_small (same_lines (decimal p) [] (decimal q) [] (small p) (small q) inner).first)

@@ -7,8 +7,8 @@ use Rattle.board_rules.specs.Keys.{IsKey, Key}
 use Rattle.board_rules.specs.Legal.{AreLegal, journal_of}
 use Rattle.board_rules.specs.declared.entry.Entry.{Entry}
 use Rattle.board_rules.specs.declared.entry.Entry.TheVariants.{Claim, Finish}
-use Rattle.board_rules.specs.declared.entry.Item.{Item}
-use Rattle.board_rules.specs.declared.entry.Item.TheVariants.{Configure, Compile, Node}
+use Rattle.board_rules.specs.declared.entry.ItemName.{ItemName}
+use Rattle.board_rules.specs.declared.entry.ItemName.TheVariants.{Configure, Compile, Node}
 use Rattle.quiescent_driver.specs.Journals.{entry_line, journal_text}
 use Rattle.quiescent_driver.specs.Texts.{joined}
 
@@ -72,7 +72,7 @@ AreAlike (Claim w path item) (Finish v) = ⊥
 AreAlike (Finish w) (Claim v path item) = ⊥
 AreAlike (Finish w) (Finish v) = w ≡ v
 
-abbrev pub number_of : Item → ℕ
+abbrev pub number_of : ItemName → ℕ
 number_of (Configure place) = place
 number_of Compile = 0
 number_of (Node node) = node

@@ -5,7 +5,7 @@ ghost use Rattle.board_rules.specs.declared.entry.Entry.TheVariants as entry;
 ghost use Rattle.quiescent_driver.specs.Journals.{entry_line, journal_text};
 
 use board_journal::{EntryAt, Journal};
-use board_rules::Item;
+use board_rules::ItemName;
 use pisdf_meaning::Path;
 use std::alloc::{AllocError, Global};
 use std::fmt::Write;
@@ -15,17 +15,17 @@ fn push_claim(
     number: u32,
     worker: u32,
     path: &Path,
-    item: Item,
+    item: ItemName,
 ) -> Result<(), AllocError>
     ensures { OnOk result (string_bytes text.new ≡ string_bytes text.old ++ entry_line number (entry.Claim worker path.now item)) }
 {
     let path = path.text().text();
     match item {
-        Item::Configure(place) => {
+        ItemName::Configure(place) => {
             write!(text, "claim,{number},{worker},{path},configure,{place}\n")
         }
-        Item::Compile => write!(text, "claim,{number},{worker},{path},compile,0\n"),
-        Item::Node(node) => write!(text, "claim,{number},{worker},{path},node,{node}\n"),
+        ItemName::Compile => write!(text, "claim,{number},{worker},{path},compile,0\n"),
+        ItemName::Node(node) => write!(text, "claim,{number},{worker},{path},node,{node}\n"),
     }
 }
 

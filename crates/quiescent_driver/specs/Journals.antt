@@ -9,7 +9,7 @@ use Rattle.pisdf_meaning.specs.declared.outcome.Iteration.{Iteration}
 use Rattle.board_rules.specs.Keys.{Key}
 use Rattle.board_rules.specs.declared.entry.Entry.{Entry}
 use Rattle.board_rules.specs.declared.entry.Entry.TheVariants.{Claim, Finish}
-use Rattle.board_rules.specs.declared.entry.Item.TheVariants.{Configure, Compile, Node}
+use Rattle.board_rules.specs.declared.entry.ItemName.TheVariants.{Configure, Compile, Node}
 use Rattle.quiescent_driver.specs.Endings.{IsWhole}
 use Rattle.quiescent_driver.specs.Given.{key_with}
 use Rattle.quiescent_driver.specs.Iterated.{HaveIterated}

@@ -9,7 +9,7 @@ use Rattle.board_rules.specs.Keys.{Key}
 use Rattle.board_rules.specs.Legal.{AreLegal, journal_of}
 use Rattle.board_rules.specs.declared.entry.Entry.{Entry}
 use Rattle.board_rules.specs.declared.entry.Entry.TheVariants.{Claim as claim_entry}
-use Rattle.board_rules.specs.declared.entry.Item.{Item}
+use Rattle.board_rules.specs.declared.entry.ItemName.{ItemName}
 use Rattle.firing_board.specs.Claims.{Claims, IsTicket, Picks, Stays}
 use Rattle.firing_board.specs.Locking.{board_meant, places_of, worker_of}
 use Rattle.firing_board.specs.Runs.{IsSound}
@@ -70,7 +70,7 @@ module _ (laws : BoardsHaveLaws) (fits : WorkFits) (p : BoardPass) (x y : BoardV
     then_entered : y.journal ≡ journal_of x.key then
     then_entered = picks.after.entered ∙ ap (λ (k : Key). journal_of k then) key_is
 
-    entered : (path : List ℕ) × (item : Item) × (journal_of x.key then ≡ journal_of x.key picks.taken ++ claim_entry w path item ∷ [])
+    entered : (path : List ℕ) × (item : ItemName) × (journal_of x.key then ≡ journal_of x.key picks.taken ++ claim_entry w path item ∷ [])
     entered = (laws x.key sound.is_key).claims picks.taken w (picks.item ∷ picks.place) picks.before.legal then_legal
 
     abbrev entry : Entry

@@ -27,7 +27,7 @@ use Rattle.board_rules.specs.Legal.{AreLegal, ArePickedFrom, HasEnded, entries_f
 use Rattle.board_rules.specs.Laws.{JournalsTellSteps}
 use Rattle.board_rules.specs.declared.entry.Entry.{Entry}
 use Rattle.board_rules.specs.declared.entry.Entry.TheVariants.{Claim, Finish}
-use Rattle.board_rules.specs.declared.entry.Item.{Item}
+use Rattle.board_rules.specs.declared.entry.ItemName.{ItemName}
 use Rattle.firing_board.specs.Locking.{worker_of}
 use Rattle.firing_board.specs.Runs.{RunsWork}
 use Rattle.worker_crew.specs.Passes.{last_claims}
@@ -227,7 +227,7 @@ module _ (key : Key) (lawful : Lawful (rules key) (rank key.graphs.graphs)) (tel
   last_allowed s (x ∷ es) e legal = last_allowed (after R s x) es e legal.1
 
   -- a claim appends itself
-  pub claim_entered : (taken : List Step) (w : ℕ) (a : Place) → AreLegal key taken → AreLegal key (taken ++ steps.Claim w a ∷ []) → (path : List ℕ) × (item : Item) × (journal_of key (taken ++ steps.Claim w a ∷ []) ≡ journal_of key taken ++ Claim w path item ∷ [])
+  pub claim_entered : (taken : List Step) (w : ℕ) (a : Place) → AreLegal key taken → AreLegal key (taken ++ steps.Claim w a ∷ []) → (path : List ℕ) × (item : ItemName) × (journal_of key (taken ++ steps.Claim w a ∷ []) ≡ journal_of key taken ++ Claim w path item ∷ [])
   claim_entered taken w [] legal more = absurd (let may = last_allowed (start (top_job key)) taken (steps.Claim w []) more.allowed in let free = may.enabled.0 in let busy = may.enabled.1 in cc)
   claim_entered taken w (i ∷ p) legal more =
       let s : BoardState = state_after key taken in

@@ -16,7 +16,7 @@ use Rattle.board_rules.specs.Keys.{IsKey, Key}
 use Rattle.board_rules.specs.Legal.{AreLegal, HasEnded, journal_of, state_after}
 use Rattle.board_rules.specs.declared.entry.Entry.{Entry}
 use Rattle.board_rules.specs.declared.entry.Entry.TheVariants.{Claim, Finish}
-use Rattle.board_rules.specs.declared.entry.Item.{Item}
+use Rattle.board_rules.specs.declared.entry.ItemName.{ItemName}
 use Rattle.firing_board.specs.Locking.{worker_of}
 use Rattle.firing_board.specs.Runs.{RunsWork}
 use Rattle.worker_crew.specs.Passes.{last_claims}
@@ -44,7 +44,7 @@ EndsLast key =
 abbrev pub ClaimsAreEntered : Key → Type 0
 ClaimsAreEntered key =
     (taken : List Step) (w : ℕ) (a : Place) → AreLegal key taken → AreLegal key (taken ++ steps.Claim w a ∷ []) →
-    (path : List ℕ) × (item : Item) × (journal_of key (taken ++ steps.Claim w a ∷ []) ≡ journal_of key taken ++ Claim w path item ∷ [])
+    (path : List ℕ) × (item : ItemName) × (journal_of key (taken ++ steps.Claim w a ∷ []) ≡ journal_of key taken ++ Claim w path item ∷ [])
 
 abbrev pub FinishesAreEntered : Key → Type 0
 FinishesAreEntered key = (taken : List Step) (w : ℕ) (answer : Answer) → journal_of key (taken ++ steps.Finish w answer ∷ []) ≡ journal_of key taken ++ Finish w ∷ []

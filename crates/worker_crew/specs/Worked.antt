@@ -3,7 +3,7 @@ use Rattle.std.specs.Prelude.{◌≡◌, ℕ, ◌+◌, ◌<◌, List, [], ◌∷
 use Rattle.board_lock.specs.Passes.{Later, first_gains}
 use Rattle.board_rules.specs.declared.entry.Entry.{Entry}
 use Rattle.board_rules.specs.declared.entry.Entry.TheVariants.{Claim, Finish}
-use Rattle.board_rules.specs.declared.entry.Item.{Item}
+use Rattle.board_rules.specs.declared.entry.ItemName.{ItemName}
 use Rattle.worker_crew.specs.Passes.{BoardPass}
 
 -- the pass later, whose first number has these entries more, and no other any
@@ -13,7 +13,7 @@ pub record HasAdded (p q : BoardPass) (more : List Entry) : Type 0 where
 
 -- that is one claim
 abbrev pub AddsClaim : BoardPass → BoardPass → Type 0
-AddsClaim p q = (path : List ℕ) × (item : Item) × HasAdded p q (Claim p.number path item ∷ [])
+AddsClaim p q = (path : List ℕ) × (item : ItemName) × HasAdded p q (Claim p.number path item ∷ [])
 
 -- claims of a worker, each with its finish
 abbrev pub AreFinished : ℕ → List Entry → Type 0

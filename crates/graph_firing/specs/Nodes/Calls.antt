@@ -10,7 +10,7 @@ use Rattle.sdf_level.specs.declared.node.Node.TheVariants as node
 use Rattle.job_rules.specs.Words as words
 use Rattle.job_preparing.specs.Handing.{AsksFor, CopiesIn, EndSuits, end_of, mark_at, with_traces}
 use Rattle.job_preparing.specs.declared.handing.JobGiven.{JobGiven}
-use Rattle.job_preparing.specs.declared.handing.Left.{Left}
+use Rattle.job_preparing.specs.declared.handing.ConfiguredFiring.{ConfiguredFiring}
 use Rattle.graph_firing.specs.Nodes.View.{RunningView}
 use Rattle.graph_firing.specs.declared.nodes.handed.Handed.{Handed}
 use Rattle.graph_firing.specs.declared.nodes.handed.Handed.TheVariants.{Fire, Copy}
@@ -59,6 +59,6 @@ pub record IsEndOfCall (v : RunningView) (n : ℕ) (end : Result JobGiven Refusa
   pub suits : EndSuits v.graphs.graphs job (end_of end)
 
 -- what is handed in at the end is what the configuration actors left
-pub record IsLeft (v : RunningView) (left : Left) : Type 0 where
+pub record IsLeft (v : RunningView) (left : ConfiguredFiring) : Type 0 where
   pub traced : length left.traces ≡ length left.configured
   pub all : with_traces left.configured left.traces ≡ v.prepared.left

@@ -11,7 +11,7 @@ ghost use Rattle.one_job.specs.View.{IsFiring};
 ghost use Rattle.pisdf_model.specs.declared.actor.Actor.{Actor as ActorView};
 
 use crate::nodes::tracing::append_traces;
-use job_preparing::{JobGiven, Left, Trace};
+use job_preparing::{JobGiven, ConfiguredFiring, Trace};
 use param_expr::Name;
 use pisdf_meaning::{Cause, Configured, Path, Refusal, next_list, push_fifo_states};
 use pisdf_model::{Graph, is_configuration};
@@ -109,7 +109,7 @@ pub(crate) fn job_given(
     alloc: Global,
     graph: &Graph,
     own: Ending,
-    left: Left,
+    left: ConfiguredFiring,
     outs: List<List<i64>>,
     stored: List<List<i64>>,
 ) -> JobGiven
@@ -127,7 +127,7 @@ pub(crate) fn job_given(
         state,
         traces: own_traces,
     } = own;
-    let Left {
+    let ConfiguredFiring {
         firing: _,
         configured,
         traces,

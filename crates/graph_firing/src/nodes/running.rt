@@ -21,7 +21,7 @@ use crate::nodes::told::{ToldBefore, ToldBlock};
 use crate::nodes::writing::write_child;
 use job_compiler::Compiled;
 use job_flow::{faults_renamed, ready_stays};
-use job_preparing::{JobGiven, Left};
+use job_preparing::{JobGiven, ConfiguredFiring};
 use kernel_gate::{Frame, KernelFault, Room, RoomSize, told_of};
 use one_job::{Job, JobEnd};
 use param_expr::Name;
@@ -277,7 +277,7 @@ impl Running {
 
     /// How the firing ends: with the refusal that stands first in the order of one thread, else with what it gives. It is
     /// given what its configuration actors left. It takes no memory.
-    pub(crate) fn outcome(self, left: Left) -> Result<JobGiven, Refusal>
+    pub(crate) fn outcome(self, left: ConfiguredFiring) -> Result<JobGiven, Refusal>
         requires quiet { is_quiet self ≡ true }
         requires left { IsLeft self left }
         ensures end { end_of result ≡ outcome_of self }

@@ -1,6 +1,6 @@
 use Rattle.std.proofs.Common.{◌<◌, length, ap, ◌∙◌, arith}
 use Rattle.std.proofs.lemmas.List.{get_or_read}
-use Rattle.board_rules.specs.declared.entry.Item.TheVariants.{Configure}
+use Rattle.board_rules.specs.declared.entry.ItemName.TheVariants.{Configure}
 use Rattle.audit_job.proofs.NamedItems.{names_actor, place_few}
 use Rattle.audit_job.proofs.naming.item_of.Goals as goal
 

@@ -7,7 +7,7 @@ use Rattle.graph_firing.specs.View.{compilation_of}
 use Rattle.firing_board.specs.Table.Calls.{MarksItem}
 use Rattle.firing_board.specs.Table.View.{row_at}
 use Rattle.firing_board.specs.declared.table.row.Row.{Row}
-use Rattle.board_rules.specs.declared.entry.Item.TheVariants as items
+use Rattle.board_rules.specs.declared.entry.ItemName.TheVariants as items
 use Rattle.firing_board.specs.declared.claim.Claim.TheVariants as claim
 use Rattle.firing_board.specs.declared.state.Core.{Core}
 use Rattle.firing_board.proofs.FrameSteps.{rooms_kept}

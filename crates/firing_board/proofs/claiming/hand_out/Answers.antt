@@ -1,6 +1,6 @@
 use Rattle.std.proofs.Common.{◌≡◌, ◌∙◌, length, inl, inr, ap, subst}
 use Rattle.board_rules.specs.Entries.{item_of}
-use Rattle.board_rules.specs.declared.entry.Item.{Item}
+use Rattle.board_rules.specs.declared.entry.ItemName.{ItemName}
 use Rattle.graph_firing.proofs.OfferedCompilation.{may_compile}
 use Rattle.graph_firing.specs.View.{IsOfferedWork, OpenView, compilation_of, graph_in}
 use Rattle.firing_board.specs.Table.View.{HasJob, row_at}
@@ -47,7 +47,7 @@ returns-else-run-compilation-clause-handed c =
     record {
       row = o.0;
       here = o.1;
-      handed = inl (subst (λ (i : Item). HandsFrame old c.args.worker c.args.run i c.hand_frame.new.core c.hand_frame.result) named c.hand_frame.ensures.handed);
+      handed = inl (subst (λ (i : ItemName). HandsFrame old c.args.worker c.args.run i c.hand_frame.new.core c.hand_frame.result) named c.hand_frame.ensures.handed);
     }
 
 pub returns-then-run-compilation-clause-slots : goal.returns-then-run-compilation-clause-slots

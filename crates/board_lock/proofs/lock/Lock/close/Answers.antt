@@ -1,6 +1,6 @@
 use Rattle.std.proofs.Common.{◌≡◌, length, sym, ap, ◌∙◌, subst}
 use Rattle.board_lock.specs.Passes.{Finds}
-use Rattle.board_lock.proofs.Stages.{taken, none_some, some_is}
+use Rattle.board_lock.proofs.Phases.{taken, none_some, some_is}
 use Rattle.board_lock.proofs.Steps.{closes}
 use Rattle.board_lock.proofs.lock.Lock.close.Goals as goal
 

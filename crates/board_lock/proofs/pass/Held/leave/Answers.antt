@@ -14,6 +14,6 @@ store-requires g c =
     let may = subst (λ h. MayLeave g.S.Locked.meant h.known h.found b.value) (sym c.turn.view_is) c.requires in (
       c.exchange-none.ensures.0 ∙ own,
       omega arith,
-      leaves_at g.S.Locked.meant _ _ _ _ _ b (step 1 0 0 0 none) (ap (λ me. me.0.stage) after ∙ c.turn.invariant.4) (ap (λ me. me.1) after)
+      leaves_at g.S.Locked.meant _ _ _ _ _ b (step 1 0 0 0 none) (ap (λ me. me.0.phase) after ∙ c.turn.invariant.4) (ap (λ me. me.1) after)
           (subst (λ v. MayLeave g.S.Locked.meant v.known v.found b.value) (sym (ap (λ me. me.0) after)) may),
     )

@@ -43,8 +43,8 @@ returns-in-Refused-clause-suits c =
     let i = c.self.inside in
     tt
 
-pub into_left-requires : goal.into_left-requires
-into_left-requires c =
+pub into_configured-requires : goal.into_configured-requires
+into_configured-requires c =
     let i = c.self.inside in
     ready_nodes i.configuring i.workers i.stage c.self.invariant c.args.self c.self.view_is c.in-Nodes.running c.in-Nodes.is
 
@@ -56,7 +56,7 @@ outcome-requires-clause-quiet c =
 pub outcome-requires-clause-left : goal.outcome-requires-clause-left
 outcome-requires-clause-left c =
     let i = c.self.inside in
-    record { traced = c.into_left.ensures.one_trace; all = c.into_left.ensures.left ∙ left_nodes i.configuring i.workers i.stage c.self.invariant c.args.self c.self.view_is c.in-Nodes.running c.in-Nodes.is }
+    record { traced = c.into_configured.ensures.one_trace; all = c.into_configured.ensures.left ∙ left_nodes i.configuring i.workers i.stage c.self.invariant c.args.self c.self.view_is c.in-Nodes.running c.in-Nodes.is }
 
 pub returns-in-Nodes-clause-outcome : goal.returns-in-Nodes-clause-outcome
 returns-in-Nodes-clause-outcome c =

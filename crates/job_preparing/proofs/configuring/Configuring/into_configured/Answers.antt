@@ -4,7 +4,7 @@ use Rattle.pisdf_meaning.specs.declared.firing.Configured.{Configured}
 use Rattle.job_preparing.specs.Handing.{with_traces, without_trace}
 use Rattle.job_preparing.specs.View.{ConfiguringView, IsReady, left_by}
 use Rattle.job_preparing.proofs.Readied.{left_is, slim}
-use Rattle.job_preparing.proofs.configuring.Configuring.into_left.Goals as goal
+use Rattle.job_preparing.proofs.configuring.Configuring.into_configured.Goals as goal
 
 pub returns-clause-left : goal.returns-clause-left
 returns-clause-left c =

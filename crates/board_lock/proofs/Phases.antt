@@ -1,33 +1,33 @@
--- The stages of a seat, and lists with one element.
+-- The phases of a seat, and lists with one element.
 use Rattle.std.proofs.Common.{◌≡◌, ℕ, zero, suc, ◌<◌, ◌⊎◌, inl, inr, Option, Some, None, List, [], ◌∷◌, length, refl, sym, ◌∙◌, ap, arith}
 use mathlib.Core.Option.{some, some-injective, some-ne-none}
 use lib.ListN.{get_elem?}
 use Rattle.atomic_table.specs.Table.{rest}
-use Rattle.board_lock.specs.declared.view.Stage.{Stage}
-use Rattle.board_lock.specs.declared.view.Stage.TheVariants.{Starting, Open, Holding, Spent}
+use Rattle.board_lock.specs.declared.view.Phase.{Phase}
+use Rattle.board_lock.specs.declared.view.Phase.TheVariants.{Starting, Open, Holding, Spent}
 
-pub stage_cases : (s : Stage) → (s ≡ Spent) ⊎ (s ≡ Spent → ⊥)
-stage_cases Starting = inr (λ h. cc)
-stage_cases Open = inr (λ h. cc)
-stage_cases Holding = inr (λ h. cc)
-stage_cases Spent = inl refl
+pub phase_cases : (s : Phase) → (s ≡ Spent) ⊎ (s ≡ Spent → ⊥)
+phase_cases Starting = inr (λ h. cc)
+phase_cases Open = inr (λ h. cc)
+phase_cases Holding = inr (λ h. cc)
+phase_cases Spent = inl refl
 
-pub holding_spent : ◌≡◌ {A = Stage} Holding Spent → ⊥
+pub holding_spent : ◌≡◌ {A = Phase} Holding Spent → ⊥
 holding_spent h = cc
 
-pub open_spent : ◌≡◌ {A = Stage} Open Spent → ⊥
+pub open_spent : ◌≡◌ {A = Phase} Open Spent → ⊥
 open_spent h = cc
 
-pub open_holding : ◌≡◌ {A = Stage} Open Holding → ⊥
+pub open_holding : ◌≡◌ {A = Phase} Open Holding → ⊥
 open_holding h = cc
 
-pub starting_open : ◌≡◌ {A = Stage} Starting Open → ⊥
+pub starting_open : ◌≡◌ {A = Phase} Starting Open → ⊥
 starting_open h = cc
 
-pub starting_spent : ◌≡◌ {A = Stage} Starting Spent → ⊥
+pub starting_spent : ◌≡◌ {A = Phase} Starting Spent → ⊥
 starting_spent h = cc
 
-pub starting_holding : ◌≡◌ {A = Stage} Starting Holding → ⊥
+pub starting_holding : ◌≡◌ {A = Phase} Starting Holding → ⊥
 starting_holding h = cc
 
 pub some_is : {A : Type 0} (x y : A) → Some x ≡ Some y → x ≡ y
