@@ -22,7 +22,7 @@ use Rattle.audit_job.specs.declared.job.Job.{Job}
 use Rattle.audit_job.specs.declared.job.Nodes.{Nodes}
 use Rattle.audit_job.specs.declared.offering.Offer.{Offer}
 use Rattle.audit_job.proofs.Answered.{unprepared}
-use Rattle.audit_job.proofs.Compiled as compiled
+use Rattle.job_preparing.proofs.Compiled as compiled
 use Rattle.audit_job.proofs.ListedItems.{listed}
 
 one_item : (b : Bool) (nodes : Nodes) (w n i : ℕ) → (if b then node_offer nodes w n i else early_offer i).item ≡ i

@@ -12,7 +12,6 @@ pub mod Frames
 pub mod Leaving
 pub mod KindTasks
 pub mod Refusals
-pub mod Compiled
 pub mod Sinking
 pub mod OutletPlaces
 pub mod FiringPlaces

@@ -28,7 +28,7 @@ use Rattle.audit_job.specs.Working.{task_at}
 use Rattle.audit_job.specs.declared.answer.Mark.{Mark}
 use Rattle.audit_job.specs.declared.answer.Mark.TheVariants as stands
 use Rattle.audit_job.specs.declared.job.Nodes.{Nodes}
-use Rattle.audit_job.proofs.Compiled as compiled
+use Rattle.job_preparing.proofs.Compiled as compiled
 
 -- the answers of the items from a number on
 pub shifted : (marks : List Mark) (k n : ℕ) → answers (drop k marks) n ≡ answers marks (k + n)

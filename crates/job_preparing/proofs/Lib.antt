@@ -13,3 +13,4 @@ pub mod Readied
 pub mod Started
 pub mod Marked
 pub mod OwnBlocks
+pub mod Compiled

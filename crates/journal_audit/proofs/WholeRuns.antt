@@ -15,6 +15,7 @@ use Rattle.quiescent_driver.specs.Iterated.{Checks, HaveIterated}
 use Rattle.quiescent_driver.specs.Journals.{AreJournals, IsWholeText, boards, boards_at_end}
 use Rattle.quiescent_driver.specs.Streams.{rest_of}
 use Rattle.quiescent_driver.specs.Texts.{joined}
+use Rattle.journal_laws.proofs.Earlier.{back}
 use Rattle.journal_laws.proofs.Iterations.{needs, rest_first, rest_next}
 
 checked_none : {T : Type 0} (graphs : List Graph) (g : Graph) (path : List ℕ) (faults : List part.Refusal) (value : T) (refusal other : Refusal) → unless_refused graphs g path faults value ≡ Err refusal → boards_at_end faults (run.Refused other) ≡ 0
@@ -39,30 +40,6 @@ module _ (graphs : Graphs) (kernels : List SignatureView) (streams : List (List 
   abbrev faults : List part.Refusal
   faults = early_faults graphs.graphs graphs.top []
 
-  -- ---- the iterations before
-
-  record Before (k m : ℕ) (r : Run) : Type 0 where
-    all_of : Run
-    runs : RunsFrom graphs (k + m) (initial graphs.graphs graphs.top) (rest 0) all_of
-    more : boards graphs all_of ≡ k + boards graphs r
-
-  back : (k m : ℕ) (before : List Iteration) (state : State) (r : Run) → HaveIterated graphs streams k before state → RunsFrom graphs m state (rest k) r → Before k m r
-  back zero m before state r done runs =
-      let number : m ≡ 0 + m = omega arith in
-      record { all_of = r; runs = subst (λ (n : ℕ). RunsFrom graphs n (initial graphs.graphs graphs.top) (rest 0) r) number (subst (λ (s : State). RunsFrom graphs m s (rest 0) r) done.1 runs); more = omega arith }
-  back (suc k) m before state r done runs =
-      let checks = done.4.checks in
-      let gives = done.4.gives in
-      let at_given : RunsFrom graphs m gives.given.state (rest (suc k)) r = subst (λ (s : State). RunsFrom graphs m s (rest (suc k)) r) gives.state_is runs in
-      let runs_on : RunsFrom graphs m gives.given.state (left_by (needs graphs) (rest k)) r = subst (λ (s : State). RunsFrom graphs m gives.given.state s r) (sym (rest_next k (needs graphs) streams)) at_given in
-      let whole : Run = after (iteration_of gives.given) r in
-      let one : RunsFrom graphs (suc m) done.1 (rest k) whole =
-      (checks.top, checks.top_is, subst (λ x. AfterCheck graphs (RunsFrom graphs m) done.1 (rest k) x whole) (sym checks.finds) (Ok gives.given, gives.ends, (r, runs_on, refl))) in
-      let b = back k (suc m) done.0 done.1 whole done.3 one in
-      let more = b.more in
-      let number : k + suc m ≡ suc k + m = omega arith in
-      record { all_of = b.all_of; runs = subst (λ (n : ℕ). RunsFrom graphs n (initial graphs.graphs graphs.top) (rest 0) b.all_of) number b.runs; more = omega arith }
-
   -- the journals of so many boards are all of them, where the run goes on so from there
   pub record IsAll (texts : List (List ℕ)) : Type 0 where
     pub whole : IsWholeText graphs kernels streams iterations workers (joined texts)
@@ -71,7 +48,7 @@ module _ (graphs : Graphs) (kernels : List SignatureView) (streams : List (List 
   all_by : (k m : ℕ) (before : List Iteration) (state : State) (r : Run) → HaveIterated graphs streams k before state → RunsFrom graphs m state (rest k) r → k + m ≡ iterations →
       (texts : List (List ℕ)) → length texts ≡ k + boards graphs r → AreJournals graphs kernels streams workers 0 texts → IsAll texts
   all_by k m before state r done runs number texts many journals =
-      let b = back k m before state r done runs in
+      let b = back graphs streams k m before state r done runs in
       record {
         whole = record {
           r = b.all_of;

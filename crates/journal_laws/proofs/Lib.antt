@@ -14,6 +14,7 @@ pub mod EntryLines
 pub mod Paths
 pub mod Plain
 pub mod Iterations
+pub mod Earlier
 pub mod Onward
 pub mod Joining
 pub mod Common

@@ -23,6 +23,7 @@ use Rattle.quiescent_driver.specs.Journals.{AreJournals, IsJournalText, boards, 
 use Rattle.quiescent_driver.specs.Streams.{rest_of}
 use Rattle.journal_laws.specs.Steps.{BringsToEnd, LegalJournalsEnd}
 use Rattle.journal_laws.specs.Texts.{HasCome, MayRun}
+use Rattle.journal_laws.proofs.Earlier.{back}
 use Rattle.journal_laws.proofs.Iterations.{key_so, needs, none_lacks, rest_first, rest_next, sound_by, top_state}
 
 -- what a run is given
@@ -156,30 +157,6 @@ module _ (graphs : Graphs) (kernels : List SignatureView) (streams : List (List 
     onward zero = λ k before state done. no_more zero k state (run.Done (map (λ (tokens : List ℤ). length tokens) (rest k))) refl refl
     onward (suc m) = λ k before state done. onward_so m (onward m) k before state done (first_lack 0 (needs graphs) (rest k)) refl
 
-  -- ---- the iterations before
-
-  record Before (k m : ℕ) (r : Run) : Type 0 where
-    all_of : Run
-    runs : RunsFrom graphs (k + m) (initial graphs.graphs graphs.top) (rest 0) all_of
-    more : boards graphs all_of ≡ k + boards graphs r
-
-  back : (k m : ℕ) (before : List Iteration) (state : State) (r : Run) → HaveIterated graphs streams k before state → RunsFrom graphs m state (rest k) r → Before k m r
-  back zero m before state r done runs =
-      let number : m ≡ 0 + m = omega arith in
-      record { all_of = r; runs = subst (λ (n : ℕ). RunsFrom graphs n (initial graphs.graphs graphs.top) (rest 0) r) number (subst (λ (s : State). RunsFrom graphs m s (rest 0) r) done.1 runs); more = omega arith }
-  back (suc k) m before state r done runs =
-      let checks = done.4.checks in
-      let gives = done.4.gives in
-      let at_given : RunsFrom graphs m gives.given.state (rest (suc k)) r = subst (λ (s : State). RunsFrom graphs m s (rest (suc k)) r) gives.state_is runs in
-      let runs_on : RunsFrom graphs m gives.given.state (left_by (needs graphs) (rest k)) r = subst (λ (s : State). RunsFrom graphs m gives.given.state s r) (sym (rest_next k (needs graphs) streams)) at_given in
-      let whole : Run = after (iteration_of gives.given) r in
-      let one : RunsFrom graphs (suc m) done.1 (rest k) whole =
-      (checks.top, checks.top_is, subst (λ x. AfterCheck graphs (RunsFrom graphs m) done.1 (rest k) x whole) (sym checks.finds) (Ok gives.given, gives.ends, (r, runs_on, refl))) in
-      let b = back k (suc m) done.0 done.1 whole done.3 one in
-      let more = b.more in
-      let number : k + suc m ≡ suc k + m = omega arith in
-      record { all_of = b.all_of; runs = subst (λ (n : ℕ). RunsFrom graphs n (initial graphs.graphs graphs.top) (rest 0) b.all_of) number b.runs; more = omega arith }
-
   -- ---- a run that has come so far
 
   pub record ComesTo (texts : List (List ℕ)) (state : State) (first : List Step) : Type 0 where
@@ -200,7 +177,7 @@ module _ (graphs : Graphs) (kernels : List SignatureView) (streams : List (List 
       let number : k + suc m ≡ iterations = omega arith in
       let sound = sound_by graphs (rest k) come.checks in
       let b = board come.checks.top come.checks.top_is sound m (onward come.checks.top come.checks.top_is sound m) k come.before state come.done (lacks_none come.checks) first come.legal in
-      let whole = back k (suc m) come.before state b.r come.done b.runs in
+      let whole = back graphs streams k (suc m) come.before state b.r come.done b.runs in
       let more = whole.more in
       let all = b.all in
       record {

@@ -8,7 +8,7 @@ use Rattle.level_schedule.specs.declared.scheduling.LevelSchedule.{LevelSchedule
 use Rattle.pisdf_meaning.specs.declared.firing.Configured.{Configured}
 use Rattle.pisdf_model.specs.declared.graph.Graph.{Graph}
 use Rattle.audit_job.specs.Compiling.{IsNew}
-use Rattle.audit_job.proofs.Compiled.{schedules_here}
+use Rattle.job_preparing.proofs.Compiled.{schedules_here}
 use Rattle.audit_job.proofs.compiling.compile.Goals as goal
 
 pub returns-in-Ok : goal.returns-in-Ok

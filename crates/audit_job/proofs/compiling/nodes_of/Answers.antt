@@ -8,7 +8,7 @@ use Rattle.sdf_level.specs.declared.single_rate.Edge.{Edge}
 use Rattle.param_resolver.specs.Numbering.{acting, has_state}
 use Rattle.sdf_level.specs.Lists.{lists_of}
 use Rattle.audit_job.specs.declared.rows.Side.TheVariants.{Head, Tail}
-use Rattle.audit_job.proofs.Compiled.{nodes_are}
+use Rattle.job_preparing.proofs.Compiled.{nodes_are}
 use Rattle.audit_job.proofs.EdgeRows.{made_rows}
 use Rattle.audit_job.proofs.compiling.nodes_of.Goals as goal
 

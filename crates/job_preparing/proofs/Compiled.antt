@@ -1,6 +1,5 @@
 -- What a compilation tells of its firing.
 use Rattle.std.proofs.Common.{◌≡◌, ℕ, ℤ, List, [], ◌∷◌, map, Some, Result, Ok, refl, sym, ap, ◌∙◌, subst, slice_get}
-use Rattle.std.proofs.lemmas.Option.{get_or_from_slice_get}
 use Rattle.job_compiler.specs.Compilation.{Compilation, IsMapped}
 use Rattle.param_resolver.specs.Assignment.{numbers, param_faults, values_of}
 use Rattle.param_resolver.specs.EarlyCheck.{as_refusal}
@@ -18,8 +17,7 @@ use Rattle.pisdf_meaning.specs.declared.firing.Configured.{Configured}
 use Rattle.pisdf_meaning.specs.declared.firing.Firing.{Firing}
 use Rattle.pisdf_meaning.specs.declared.refusal.Refusal.{Refusal}
 use Rattle.job_rules.specs.Doing as doing
-use Rattle.job_rules.specs.Items.{Prepared, edges_in, graph_of, no_graph, nodes_in, values_in}
-use Rattle.job_rules.specs.Meant.{IsFit}
+use Rattle.job_rules.specs.Items.{Prepared, edges_in, graph_of, nodes_in, values_in}
 use Rattle.job_rules.specs.Words as words
 use Rattle.job_preparing.specs.CompileTasks.{IsReadyWith, schedule_of}
 
@@ -56,22 +54,6 @@ module _ (graphs : List Graph) (workers : ℕ) (firing : Firing) (left : List Co
       subst W ready.workers_are (subst E edges_are (subst N nodes_are start))
 
   -- what the compilation answers
-  pub schedules_so : IsFit graphs firing → doing.IsCompiled graphs firing left (words.Schedules (schedule_of c))
-  schedules_so fit =
-      let V : Result (List ℤ) Refusal → Type 0 = λ r. Then (λ vs end. Then (λ ws end. Schedules g firing (level_in graphs g firing ws) end) (rated graphs g firing vs) end) r (Ok (schedule_of c)) in
-      let R : Result (List ℤ) Refusal → Type 0 = λ r. Then (λ ws end. Schedules g firing (level_in graphs g firing ws) end) r (Ok (schedule_of c)) in
-      let L : LevelView → Type 0 = λ level. Schedules g firing level (Ok (schedule_of c)) in
-      let scheduled : L c.level = record { repetition = ready.compiled.repetition; within = ready.compiled.within; order = ready.compiled.order_is } in
-      let level : c.level ≡ level_in graphs g firing values = ready.level_is ∙ ready.set_is.level in
-      record {
-        g = g;
-        here = fit.here ∙ ap Some (sym (get_or_from_slice_get graphs firing.graph fit.g no_graph fit.here));
-        end = Ok (schedule_of c);
-        leads = subst V (sym ready.values_are) (subst R (sym ready.rated_so) (subst L level scheduled));
-        answer_is = refl;
-      }
-
-  -- the nodes are those of the job  -- what the compilation answers
   pub schedules_here : slice_get graphs firing.graph ≡ Some g → doing.IsCompiled graphs firing left (words.Schedules (schedule_of c))
   schedules_here here =
       let V : Result (List ℤ) Refusal → Type 0 = λ r. Then (λ vs end. Then (λ ws end. Schedules g firing (level_in graphs g firing ws) end) (rated graphs g firing vs) end) r (Ok (schedule_of c)) in
