@@ -1,5 +1,5 @@
 // Hands out the item that is picked for a worker.
-ghost use Rattle.std.specs.Prelude.{ℕ, List as Seq, ◌≡◌, ◌≢◌, ◌+◌, ◌<◌, ◌≤◌, ◌⊎◌, ◌↔◌, All, IfOk, IsTrue, None, OnErr, OnOk, Some, false, is_some, length, slice_index_or};
+ghost use Rattle.std.specs.Prelude.{ℕ, List as Seq, ◌≡◌, ◌≢◌, ◌+◌, ◌<◌, ◌↔◌, All, IfOk, IsTrue, None, OnErr, OnOk, Some, false, is_some, length, slice_index_or};
 ghost use Rattle.board_rules.specs.Entries.{item_of};
 ghost use Rattle.board_rules.specs.Keys.{Key as BoardKey};
 ghost use Rattle.firing_board.specs.FrameRooms.{TakesSlot, slot_at};

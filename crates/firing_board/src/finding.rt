@@ -1,5 +1,5 @@
 // Finds the item that is picked for a worker, and opens the jobs on its way.
-ghost use Rattle.std.specs.Prelude.{◌≡◌, ◌<◌, List as Seq, IfOk, OnErr, OnOk};
+ghost use Rattle.std.specs.Prelude.{◌<◌, List as Seq, IfOk, OnErr, OnOk};
 ghost use Rattle.board_rules.specs.Entries.{Step};
 ghost use Rattle.board_rules.specs.Keys.{Key};
 ghost use Rattle.board_rules.specs.Legal.{state_after};

@@ -1,7 +1,6 @@
 -- What the calls of a job do to its view, stage by stage.
-use Rattle.std.proofs.Common.{◌≡◌, ◌≢◌, ℕ, ◌+◌, ◌<◌, Bool, true, false, ℤ, List, [], slice_get, Option, Some, None, is_some, unwrap_or, Result, Ok, Err, IfOk, OnErr, refl, sym, ap, ◌∙◌, subst, arith}
+use Rattle.std.proofs.Common.{◌≡◌, ◌≢◌, ℕ, ◌+◌, ◌<◌, Bool, true, false, ℤ, List, [], slice_get, Option, Some, None, is_some, unwrap_or, Result, refl, sym, ap, ◌∙◌, subst, arith}
 use Rattle.std.proofs.lemmas.Bool.{le-ltb, lt-ltb}
-use Rattle.std.specs.declared.alloc.AllocError.{AllocError}
 use Rattle.kernel_gate.specs.Value.{FrameView, Places}
 use Rattle.level_schedule.specs.declared.scheduling.LevelSchedule.{LevelSchedule}
 use Rattle.nested_jobs.specs.Marks as mark

@@ -55,11 +55,11 @@ impl Model for Configuring {
 }
 
 impl Configuring {
-    ghost use Rattle.std.specs.Prelude.{◌≡◌, ◌≢◌, ◌<◌, ◌≤◌, ◌↔◌, ◌++◌, ◌∷◌, [], ℕ, Some, None, length, map, slice_get, slice_set, IfOk, IsTrue, OnErr, OnOk, option_map};
+    ghost use Rattle.std.specs.Prelude.{◌≡◌, ◌<◌, ◌≤◌, ◌↔◌, Some, None, length, map, slice_set, IfOk, IsTrue, OnErr, option_map};
     ghost use Rattle.std.specs.Arc.{arc_value};
-    ghost use Rattle.std.specs.List.{flat_map};
+
     ghost use Rattle.kernel_gate.specs.Value.{lengths};
-    ghost use Rattle.nested_jobs.specs.Marks.{Busy, Done, Free, Open};
+    ghost use Rattle.nested_jobs.specs.Marks.{Busy, Done, Open};
     ghost use Rattle.nested_jobs.specs.Rules.{Call};
     ghost use Rattle.param_resolver.specs.LevelOf.{sources_of};
     ghost use Rattle.pisdf_meaning.specs.Configuring.{early_in};

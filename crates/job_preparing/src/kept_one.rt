@@ -1,6 +1,6 @@
 // The compilation of a level: the one that is kept, if it is of this level and these workers, else a new one; and what it is
 // kept by.
-ghost use Rattle.std.specs.Prelude.{◌≡◌, ◌≤◌, ◌⊎◌, ◌↔◌, IfOk, IfErr, IsTrue};
+ghost use Rattle.std.specs.Prelude.{◌≡◌, ◌≤◌, ◌↔◌, IfOk, IfErr, IsTrue};
 ghost use Rattle.std.specs.Arc.{arc_value};
 ghost use Rattle.job_compiler.specs.Compilation.{IsCompiled};
 ghost use Rattle.level_schedule.specs.Schedules.{IsUnscheduled};

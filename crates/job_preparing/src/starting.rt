@@ -1,5 +1,5 @@
 // The configuration actors of a firing at its start.
-ghost use Rattle.std.specs.Prelude.{◌≡◌, ◌<◌, ◌≤◌, [], length, map, replicate, slice_get, Some, None, IfOk, All};
+ghost use Rattle.std.specs.Prelude.{◌≡◌, ◌<◌, [], length, replicate, slice_get, Some, None, IfOk, All};
 ghost use Rattle.std.specs.Arc.{arc_value};
 ghost use Rattle.nested_jobs.specs.Marks.{Free};
 ghost use Rattle.pisdf_model.specs.Valid.{AreValid};

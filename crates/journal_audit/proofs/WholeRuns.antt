@@ -1,5 +1,5 @@
 -- The text of the boards of a run that is over.
-use Rattle.std.proofs.Common.{◌≡◌, ℕ, zero, suc, ◌+◌, ◌-◌, ◌<◌, ℤ, List, [], ◌∷◌, length, map, slice_get, Option, Some, None, Result, Ok, Err, refl, sym, ap, ◌∙◌, subst, arith}
+use Rattle.std.proofs.Common.{◌≡◌, ℕ, suc, ◌+◌, ◌-◌, ◌<◌, ℤ, List, [], ◌∷◌, length, map, slice_get, Option, Some, None, Result, Ok, Err, refl, sym, ap, ◌∙◌, subst, arith}
 use Rattle.kernel_gate.specs.Signed.{SignatureView}
 use Rattle.param_resolver.specs.EarlyCheck.{early_faults}
 use Rattle.param_resolver.specs.Refusal as part
@@ -8,7 +8,7 @@ use Rattle.pisdf_model.specs.declared.graph.Graph.{Graph}
 use Rattle.pisdf_model.specs.declared.graph.Graphs.{Graphs}
 use Rattle.pisdf_meaning.specs.Causes.{unless_refused}
 use Rattle.pisdf_meaning.specs.Run as run
-use Rattle.pisdf_meaning.specs.Run.{AfterCheck, IterationEnds, Lack, Run, RunsFrom, after, after_early, ended, first_lack, iteration_of, left_by, taken}
+use Rattle.pisdf_meaning.specs.Run.{AfterCheck, IterationEnds, Lack, Run, RunsFrom, after_early, ended, first_lack, taken}
 use Rattle.pisdf_meaning.specs.declared.outcome.Iteration.{Iteration}
 use Rattle.pisdf_meaning.specs.declared.refusal.Refusal.{Refusal}
 use Rattle.quiescent_driver.specs.Iterated.{Checks, HaveIterated}
@@ -16,7 +16,7 @@ use Rattle.quiescent_driver.specs.Journals.{AreJournals, IsWholeText, boards, bo
 use Rattle.quiescent_driver.specs.Streams.{rest_of}
 use Rattle.quiescent_driver.specs.Texts.{joined}
 use Rattle.journal_laws.proofs.Earlier.{back}
-use Rattle.journal_laws.proofs.Iterations.{needs, rest_first, rest_next}
+use Rattle.journal_laws.proofs.Iterations.{needs, rest_first}
 
 checked_none : {T : Type 0} (graphs : List Graph) (g : Graph) (path : List ℕ) (faults : List part.Refusal) (value : T) (refusal other : Refusal) → unless_refused graphs g path faults value ≡ Err refusal → boards_at_end faults (run.Refused other) ≡ 0
 checked_none graphs g path [] value refusal other e = absurd (cc)

@@ -4,7 +4,7 @@ use Rattle.std.proofs.lemmas.Bool.{cases_lt}
 use Rattle.std.proofs.lemmas.List.{get_or_past}
 use Rattle.std.specs.Option.{option_map}
 use Rattle.board_rules.specs.Asking as board
-use Rattle.board_rules.specs.Asking.{GivesWay, IsFirstIn, IsFirstOfAll, IsOffered, JobRow, NoRowOffers}
+use Rattle.board_rules.specs.Asking.{GivesWay, IsFirstIn, IsOffered, JobRow}
 use Rattle.board_rules.specs.Keys.{Key}
 use Rattle.board_rules.specs.Picks.{Standing, goes_before, steps_to}
 use Rattle.board_rules.proofs.Ordering.{standings_ordered}

@@ -1,5 +1,5 @@
 -- What the calls of a running firing give and take.
-use Rattle.std.specs.Prelude.{◌≡◌, ℕ, length, Option, Some, None, Result, Ok, Err}
+use Rattle.std.specs.Prelude.{◌≡◌, ℕ, length, Option, Some, None, Result}
 use Rattle.kernel_gate.specs.Value.{FrameView}
 use Rattle.nested_jobs.specs.Marks.{Open}
 use Rattle.nested_jobs.specs.Rules.{Task, Work, Call}

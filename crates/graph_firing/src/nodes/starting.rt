@@ -1,5 +1,5 @@
 // A running firing at its start.
-ghost use Rattle.std.specs.Prelude.{ℕ, ℤ, true, List as Seq, ◌≡◌, ◌+◌, ◌<◌, ◌≤◌, ◌^◌, ◌++◌, [], map, length, replicate, None, Ok, IfOk, OnOk, slice_index, vec_capacity, vec_len};
+ghost use Rattle.std.specs.Prelude.{ℕ, true, ◌≡◌, ◌+◌, ◌<◌, ◌≤◌, ◌^◌, ◌++◌, [], map, length, replicate, None, Ok, IfOk, OnOk, vec_capacity, vec_len};
 ghost use Rattle.std.specs.Arc.{arc_value};
 ghost use Rattle.sdf_level.specs.Lists.{lists_of};
 ghost use Rattle.sdf_level.specs.LevelRun.{HaveDelays};

@@ -1,6 +1,6 @@
 // The trace of a firing.
-ghost use Rattle.std.specs.Prelude.{ℕ, ◌≡◌, ◌++◌, List as Seq, [], drop, length, slice_index, slice_index_or};
-ghost use Rattle.pisdf_meaning.specs.Running.{Traces, child_rows, traces_below, trace_of_first};
+ghost use Rattle.std.specs.Prelude.{ℕ, ◌≡◌, ◌++◌, List as Seq, [], drop, length, slice_index_or};
+ghost use Rattle.pisdf_meaning.specs.Running.{Traces, child_rows};
 ghost use Rattle.pisdf_meaning.specs.declared.firing.Configured.{Configured as ConfiguredView};
 ghost use Rattle.job_preparing.specs.Handing.{with_traces};
 ghost use Rattle.graph_firing.specs.Nodes.Parts.{HaveTraces, flat, row_at};

@@ -1,4 +1,4 @@
-use Rattle.std.proofs.Common.{◌≡◌, ℕ, ◌<◌, ◌≤◌, List, length, slice_index, sym, ◌∙◌, subst}
+use Rattle.std.proofs.Common.{ℕ, ◌<◌, ◌≤◌, List, length, slice_index, sym, ◌∙◌, subst}
 use Rattle.ready_heap.specs.Groups.{RankingView, group_count}
 use Rattle.job_compiler.specs.Ranked.{AreKeys, IsRankingOf}
 use Rattle.job_compiler.proofs.ranking.rank_nodes.Goals as goal

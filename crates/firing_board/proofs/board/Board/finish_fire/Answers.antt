@@ -1,4 +1,4 @@
-use Rattle.std.proofs.Common.{◌≡◌, ◌∙◌, Bool, true, false, Some, sym, ap, subst}
+use Rattle.std.proofs.Common.{◌∙◌, false, sym, ap, subst}
 use Rattle.std.specs.Prelude.{IsOk, is_some}
 use Rattle.board_rules.specs.Keys.{Key}
 use Rattle.firing_board.specs.Table.View.{firings_of}

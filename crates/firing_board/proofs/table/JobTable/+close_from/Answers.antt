@@ -4,17 +4,15 @@ use Rattle.job_preparing.specs.Handing.{EndSuits, end_of, mark_at}
 use Rattle.job_rules.specs.Words.{answer_of}
 use Rattle.nested_jobs.specs.Marks.{Done, Open}
 use Rattle.graph_firing.specs.Calls as job
-use Rattle.graph_firing.specs.View.{IsQuiet, OpenView}
+use Rattle.graph_firing.specs.View.{OpenView}
 use Rattle.pisdf_meaning.specs.declared.firing.Firing.{Firing}
-use Rattle.firing_board.specs.Table.Closing.{IsClosingFrom}
 use Rattle.firing_board.specs.Table.Slots.{InSlot, change_row}
 use Rattle.firing_board.specs.Table.View.{TableView, free_items, row_at}
-use Rattle.firing_board.specs.declared.table.row.Row.{Row}
-use Rattle.firing_board.proofs.OfTable.Closings.{AllLawful, none_busy_at, rows_less, rows_through}
+use Rattle.firing_board.proofs.OfTable.Closings.{AllLawful, rows_through}
 use Rattle.firing_board.proofs.OfTable.CloseSteps.{HasClosed, closes_on, ends, falls, may_finish, mid, mid_free, next, place_some, quiet_by, rest_stays, stays_on, stops, unquiet_by, upper_inside}
 use Rattle.firing_board.proofs.OfTable.Freeing.{less_free}
 use Rattle.firing_board.proofs.OfTable.LentJobs.{job_has, job_written, left_with, there_in}
-use Rattle.firing_board.proofs.OfTable.Rows.{inside_of, the_same}
+use Rattle.firing_board.proofs.OfTable.Rows.{inside_of}
 use Rattle.firing_board.proofs.OfTable.Writes.{slot_row}
 use Rattle.firing_board.proofs.table.JobTable.+close_from.Goals as goal
 

@@ -1,7 +1,7 @@
-use Rattle.std.proofs.Common.{◌+◌, ◌++◌, get_or, [], drop, length, refl, sym, ap, ◌∙◌, subst}
+use Rattle.std.proofs.Common.{◌+◌, get_or, [], drop, sym, ap, ◌∙◌}
 use Rattle.std.proofs.lemmas.List.{drop-drop}
 use Rattle.job_preparing.specs.Handing.{with_traces}
-use Rattle.graph_firing.specs.Nodes.Parts.{HaveTraces, flat}
+use Rattle.graph_firing.specs.Nodes.Parts.{flat}
 use Rattle.graph_firing.proofs.OfNodes.GivenStates.{config_rows, level_rows, rows_here, trace_at}
 use Rattle.graph_firing.proofs.nodes.tracing.append_traces.Goals as goal
 use Rattle.graph_firing.proofs.nodes.tracing.append_traces.Goals.{then-is_configuration, else-is_configuration}

@@ -1,6 +1,5 @@
-use Rattle.std.proofs.Common.{List, map, sym, ap, ◌∙◌, subst}
+use Rattle.std.proofs.Common.{map, sym, ap, ◌∙◌, subst}
 use Rattle.std.specs.Arc.{arc_value}
-use Rattle.pisdf_meaning.specs.declared.firing.Configured.{Configured}
 use Rattle.job_preparing.specs.Handing.{with_traces, without_trace}
 use Rattle.job_preparing.specs.View.{ConfiguringView, IsReady, left_by}
 use Rattle.job_preparing.proofs.Readied.{left_is, slim}

@@ -1,12 +1,10 @@
-use Rattle.std.proofs.Common.{◌≡◌, ◌++◌, ℤ, List, map, sym, ap, ◌∙◌, subst}
+use Rattle.std.proofs.Common.{◌≡◌, ◌++◌, ℤ, List, sym, ap, ◌∙◌, subst}
 use Rattle.std.proofs.lemmas.Result.{IfOk-weaker}
 use Rattle.std.specs.Arc.{arc_value}
-use Rattle.pisdf_model.specs.declared.graph.Graph.{Graph}
 use Rattle.pisdf_model.specs.declared.graph.Graphs.{Graphs}
 use Rattle.pisdf_meaning.specs.Preparing.{chosen_values}
 use Rattle.job_compiler.specs.declared.key.Key.{Key}
 use Rattle.job_rules.specs.Items.{graph_of}
-use Rattle.job_preparing.specs.Handing.{without_trace}
 use Rattle.job_preparing.specs.Kept.{view_of}
 use Rattle.job_preparing.specs.View.{ConfiguringView, IsReady, graph_in, key_of, left_by}
 use Rattle.job_preparing.proofs.Asked.{graph_at}
