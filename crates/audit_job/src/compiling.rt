@@ -21,9 +21,7 @@ use job_compiler::{Compiled, Kept};
 use job_preparing::{Made, keeps_at, key_for, make};
 use level_schedule::LevelSchedule;
 use param_resolver::{Early, LevelSet};
-use pisdf_meaning::{
-    Configured, Firing, PlainFault, link_starts, source_tokens,
-};
+use pisdf_meaning::{Configured, Firing, PlainFault, link_starts, source_tokens};
 use pisdf_model::{Graph, Graphs};
 use sdf_level::{List, Turn};
 use std::alloc::{AllocError, Global};

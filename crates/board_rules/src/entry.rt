@@ -15,7 +15,13 @@ pub enum ItemName {
 #[derive(Drop)]
 pub enum Entry {
     /// The worker claims an item of the job with this path.
-    Claim { worker: u32, path: Path, item: ItemName },
+    Claim {
+        worker: u32,
+        path: Path,
+        item: ItemName,
+    },
     /// The worker finishes the item that it runs.
-    Finish { worker: u32 },
+    Finish {
+        worker: u32,
+    },
 }

@@ -53,7 +53,6 @@ impl Model for CompileTask {
 
 impl CompileTask {
     ghost use Rattle.std.specs.Prelude.{◌⊎◌, ℤ, List as Seq, is_some};
-
     ghost use Rattle.job_compiler.specs.Compilation.{Compilation};
     ghost use Rattle.param_resolver.specs.declared.level_set.LevelSet.{LevelSet as SetOfLevel};
     ghost use Rattle.pisdf_meaning.specs.declared.refusal.Cause.{Cause};

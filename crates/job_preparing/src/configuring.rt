@@ -2,7 +2,7 @@
 use crate::asking::{config_call, line_for};
 use crate::compile_task::{CompileTask, Parts};
 use crate::ending::{keep, kernel_given};
-use crate::handing::{JobGiven, ConfiguredFiring};
+use crate::handing::{ConfiguredFiring, JobGiven};
 use crate::kept_one::key_for;
 use crate::slim::{slim_firing, slim_left};
 use crate::stage::{
@@ -57,7 +57,6 @@ impl Model for Configuring {
 impl Configuring {
     ghost use Rattle.std.specs.Prelude.{◌≡◌, ◌<◌, ◌≤◌, ◌↔◌, Some, None, length, map, slice_set, IfOk, IsTrue, OnErr, option_map};
     ghost use Rattle.std.specs.Arc.{arc_value};
-
     ghost use Rattle.kernel_gate.specs.Value.{lengths};
     ghost use Rattle.nested_jobs.specs.Marks.{Busy, Done, Open};
     ghost use Rattle.nested_jobs.specs.Rules.{Call};

@@ -20,7 +20,7 @@ pub use asking::{config_call, config_places, early_for};
 pub use compile_task::CompileTask;
 pub use compiling::{CompileEnd, Made, make};
 pub use configuring::Configuring;
-pub use handing::{JobGiven, ConfiguredFiring};
+pub use handing::{ConfiguredFiring, JobGiven};
 pub use kept_one::key_for;
 pub use starting::configure;
 pub use trace::Trace;

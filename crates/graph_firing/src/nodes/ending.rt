@@ -11,7 +11,7 @@ ghost use Rattle.one_job.specs.View.{IsFiring};
 ghost use Rattle.pisdf_model.specs.declared.actor.Actor.{Actor as ActorView};
 
 use crate::nodes::tracing::append_traces;
-use job_preparing::{JobGiven, ConfiguredFiring, Trace};
+use job_preparing::{ConfiguredFiring, JobGiven, Trace};
 use param_expr::Name;
 use pisdf_meaning::{Cause, Configured, Path, Refusal, next_list, push_fifo_states};
 use pisdf_model::{Graph, is_configuration};

@@ -47,12 +47,7 @@ pub(crate) fn empty_rows(
 }
 
 /// Keeps the trace of an actor's firing.
-pub(crate) fn put_trace(
-    rows: &mut [Vec<Trace>],
-    actor: u32,
-    turn: u32,
-    trace: Trace,
-)
+pub(crate) fn put_trace(rows: &mut [Vec<Trace>], actor: u32, turn: u32, trace: Trace)
     requires actor { actor < length rows.old }
     requires turn { turn < length (row_at rows.old actor) }
     ensures { lists_of rows.new ≡ slice_set (lists_of rows.old) actor (slice_set (row_at rows.old actor) turn trace) }

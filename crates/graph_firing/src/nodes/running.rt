@@ -21,7 +21,7 @@ use crate::nodes::told::{ToldBefore, ToldBlock};
 use crate::nodes::writing::write_child;
 use job_compiler::Compiled;
 use job_flow::{faults_renamed, ready_stays};
-use job_preparing::{JobGiven, ConfiguredFiring};
+use job_preparing::{ConfiguredFiring, JobGiven};
 use kernel_gate::{Frame, KernelFault, Room, RoomSize, told_of};
 use one_job::{Job, JobEnd};
 use param_expr::Name;
