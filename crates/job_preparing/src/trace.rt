@@ -32,6 +32,8 @@ impl Model for Trace {
 
     ghost Value = { Seq Row };
 
+    ghost use Rattle.job_preparing.specs.Traces.{IsWhole, rows_of};
+
     ghost view = { λ t. rows_of t.rows };
 
     ghost invariant = { λ t. IsWhole t.rows };
