@@ -1,6 +1,6 @@
 use pisdf_meaning::Path;
 
-/// An item of a job.
+/// An item of a job, as a journal names it.
 #[derive(Debug, Clone, Copy, PartialEq, Eq, Drop)]
 pub enum ItemName {
     /// A configuration actor that fires a kernel, by its place among the actors of its graph.

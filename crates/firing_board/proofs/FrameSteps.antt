@@ -387,7 +387,3 @@ asks_or k item mark old mid m row row_is j asked is = ⊎_elim
 pub on_ok_by : {X E : Type 0} (r : Result X E) (P : Type 0) → is_err r ≡ false → OnOk r P → P
 on_ok_by (Ok x) P live is = is
 on_ok_by (Err e) P live is = absurd (cc)
-
-pub ok_with : {X E : Type 0} (r : Result X E) (P : Type 0) → P → OnOk r P
-ok_with (Ok x) P so = so
-ok_with (Err e) P so = tt

@@ -24,11 +24,11 @@ pub record TakesSlot (node : Bool) (w : ℕ) (places : Places) (old new : FrameR
 abbrev pub IsWithin : RoomSize → Option RoomSize → Type 0
 IsWithin need size = (s : RoomSize) × (size ≡ Some s) × Suffices need s
 
--- the least size that suffices where one of these is asked for
+-- the least size that suffices wherever one of these two does
 abbrev pub larger : (one other : RoomSize) → RoomSize
 larger one other = record { inputs = max one.inputs other.inputs; outputs = max one.outputs other.outputs; args = max one.args other.args }
 
--- that of what is needed, and of what was needed before
+-- the least size for what is needed, and for what was needed before
 abbrev pub size_with : (need : RoomSize) (before : Option RoomSize) → RoomSize
 size_with need None = need
 size_with need (Some size) = larger need size

@@ -38,7 +38,7 @@ pub record Keeps (key : Key) (c : Core) (starved : Bool) : Type 0 where
   pub taken : List Step
   pub at : StandsOrStarves starved key taken c
 
--- unless memory was wanted, so has each entry that may come, and each frame
+-- unless memory was wanted, each entry that may come and each frame has its room
 abbrev pub HasMemoryUnless : Bool → Core → Type 0
 HasMemoryUnless false c = HasMemory c
 HasMemoryUnless true c = Unit {0}

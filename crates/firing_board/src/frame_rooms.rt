@@ -63,7 +63,7 @@ fn suffices(least: RoomSize, size: RoomSize) -> bool
     least.inputs <= size.inputs && least.outputs <= size.outputs && least.args <= size.args
 }
 
-/// The least size that suffices where one of these is asked for.
+/// The least size that suffices wherever one of these two does.
 fn larger(one: RoomSize, other: RoomSize) -> RoomSize
     ensures { result ≡ larger one other }
 {

@@ -6,7 +6,6 @@ use Rattle.job_compiler.specs.Compilation.{Compilation, IsMapped}
 use Rattle.nested_jobs.specs.Marks.{Free}
 use Rattle.param_resolver.specs.declared.level_set.LevelSet.{LevelSet}
 use Rattle.pisdf_model.specs.declared.graph.Graph.{Graph}
-use Rattle.single_rate.specs.Expanded.{edges, nodes}
 use Rattle.worker_mapping.specs.declared.mapping.Mapping.{Mapping}
 use Rattle.pisdf_meaning.specs.declared.firing.Configured.{Configured}
 use Rattle.pisdf_meaning.specs.declared.firing.Firing.{Firing}

@@ -11,7 +11,7 @@ pub record AreKeys (priority keys : List ℕ) : Type 0 where
   pub long : length keys ≡ length priority
   pub each : (n : ℕ) → n < length priority → IsKey (slice_index priority n) n (slice_index keys n)
 
--- each home is a group, in the order of the keys, and there are no more groups than up to the greatest home
+-- each home is a group, in the order of the keys, and no group lies beyond the greatest home
 pub record IsRankingOf (mapping : Mapping) (ranking : RankingView) : Type 0 where
   pub homes : ranking.groups ≡ mapping.home
   pub keys : AreKeys mapping.priority ranking.keys

@@ -21,6 +21,6 @@ rows_by = fold-Rows RowsView rows_next
 abbrev pub rows_of : Rows → List TraceRow
 rows_of rows = (rows_by rows).rows
 
--- a list holds them, unless no list holds so many
-abbrev pub IsWhole : Rows → Type 0
-IsWhole rows = (rows_by rows).held ≡ false → 2 ^ 63 ≤ length (rows_of rows)
+-- a list holds them, unless they are so many that none does
+abbrev pub IsHeldIfShort : Rows → Type 0
+IsHeldIfShort rows = (rows_by rows).held ≡ false → 2 ^ 63 ≤ length (rows_of rows)

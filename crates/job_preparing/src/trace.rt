@@ -1,6 +1,6 @@
 // The trace of a firing, as it is moved from job to job.
 ghost use Rattle.std.specs.Prelude.{◌≡◌, ◌^◌, ◌≤◌, ◌++◌, [], length, true, false, IfOk};
-ghost use Rattle.job_preparing.specs.Traces.{IsWhole, rows_of};
+ghost use Rattle.job_preparing.specs.Traces.{IsHeldIfShort, rows_of};
 
 use pisdf_meaning::TraceRow;
 use sdf_level::List;
@@ -32,20 +32,20 @@ impl Model for Trace {
 
     ghost Value = { Seq Row };
 
-    ghost use Rattle.job_preparing.specs.Traces.{IsWhole, rows_of};
+    ghost use Rattle.job_preparing.specs.Traces.{IsHeldIfShort, rows_of};
 
     ghost view = { λ t. rows_of t.rows };
 
-    ghost invariant = { λ t. IsWhole t.rows };
+    ghost invariant = { λ t. IsHeldIfShort t.rows };
 }
 
-/// Moves rows to the end of others, unless no list holds them all: then the others stay as they are.
+/// Moves rows to the end of others. It answers false, and moves none, where no list holds them all.
 fn join(rows: &mut Rows, more: Rows) -> bool
-    requires whole { IsWhole rows.old }
-    requires more { IsWhole more }
+    requires rows { IsHeldIfShort rows.old }
+    requires more { IsHeldIfShort more }
     ensures joined { result ≡ true → rows_of rows.new ≡ rows_of rows.old ++ rows_of more }
     ensures lost { result ≡ false → 2 ^ 63 ≤ length (rows_of rows.old ++ rows_of more) }
-    ensures whole { IsWhole rows.new }
+    ensures held { IsHeldIfShort rows.new }
 {
     match rows {
         Rows::Held(rows) => match more {

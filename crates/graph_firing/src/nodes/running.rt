@@ -49,7 +49,8 @@ pub(crate) struct Running {
     pub(crate) set: LevelSet,
     // The name of each actor of the level.
     pub(crate) names: Vec<Name>,
-    // Its list of states is empty. Of each actor that fires graphs it has a trace for each firing, of another none.
+    // What is moved at the end. The list of states in it is empty. Of each actor that fires graphs there is a trace for each
+    // firing, of another none.
     pub(crate) ending: Ending,
     pub(crate) stages: Stages,
     // At the number of each node that fires a graph: as long as the last such node asks, and empty where no node fires one.
