@@ -21,9 +21,6 @@ no_edge = record { tail = 0; tail_port = 0; head = 0; head_port = 0; size = 0 }
 -- ---- edge by edge
 
 module _ (side : Side) (nodes : ℕ) where
-  pub no_rows : (lists : List (List Edge)) → length lists ≡ nodes → ((n : ℕ) → get_or lists n [] ≡ []) → AreRows side nodes [] lists
-  no_rows lists many empty = record { one_each = many; each = λ n below. empty n }
-
   module _ (edges : List Edge) (e : Edge) (lists : List (List Edge)) (are : AreRows side nodes edges lists) (there : end_of side e < nodes) where
     abbrev at : ℕ
     at = end_of side e

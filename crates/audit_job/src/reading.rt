@@ -13,10 +13,9 @@ ghost use Rattle.audit_job.specs.Rows.{HasRows};
 
 use crate::answer::{Answer, Mark};
 use crate::job::Nodes;
-use crate::rows::empty_lists;
 use crate::wires::{edges_into, keeps_state, links_into};
 use pisdf_meaning::{Given, copy_tokens, tokens_at};
-use sdf_level::{Edge, List, Node};
+use sdf_level::{Edge, List, Node, empty_lists};
 use std::alloc::{AllocError, Global};
 
 /// Adds the tokens of all these lists.

@@ -1,10 +1,10 @@
 // The edges of a graph by their nodes.
-ghost use Rattle.std.specs.Prelude.{◌≡◌, ◌<◌, ℕ, [], All, IfOk, length, slice_index_or};
+ghost use Rattle.std.specs.Prelude.{◌≡◌, ◌<◌, All, IfOk};
 ghost use Rattle.sdf_level.specs.Lists.{lists_of};
 ghost use Rattle.sdf_level.specs.declared.single_rate.Edge.{Edge as EdgeView};
 ghost use Rattle.audit_job.specs.Rows.{AreRows, end_of};
 
-use sdf_level::Edge;
+use sdf_level::{Edge, empty_lists};
 use std::alloc::{AllocError, Global};
 
 /// An end of an edge.
@@ -22,18 +22,6 @@ fn end_of(edge: &Edge, side: Side) -> u32
         Side::Tail => edge.tail,
         Side::Head => edge.head,
     }
-}
-
-/// So many empty lists.
-pub(crate) fn empty_lists<T: Drop>(alloc: Global, count: usize) -> Result<Vec<Vec<T>>, AllocError>
-    ensures many { IfOk result (λ lists. length lists.items ≡ count) }
-    ensures empty { IfOk result (λ lists. (n : ℕ) → slice_index_or (lists_of lists.items) n [] ≡ []) }
-{
-    let mut lists = Vec::with_capacity(alloc, count)?;
-    for n in 0..count {
-        lists.push(Vec::new(alloc))?;
-    }
-    Ok(lists)
 }
 
 /// For each of so many nodes the edges that have it at this end, in their order.

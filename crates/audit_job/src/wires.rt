@@ -1,7 +1,7 @@
 // What the edges and the links of a job say of its nodes.
 ghost use Rattle.std.specs.Prelude.{◌≡◌, ◌<◌, ◌≤◌, ◌^◌, ◌+◌, ℕ, All, IfOk, length, slice_index, vec_capacity};
 ghost use Rattle.job_flow.specs.Frames as flow;
-ghost use Rattle.sdf_level.specs.Kept.{how_many};
+ghost use Rattle.sdf_level.specs.Invariants.{how_many};
 ghost use Rattle.sdf_level.specs.Run.{is_into_actor};
 ghost use Rattle.sdf_level.specs.declared.single_rate.Edge.{Edge as EdgeView};
 ghost use Rattle.audit_job.specs.Candidates.{Adds, IsReleased, waiting_in};

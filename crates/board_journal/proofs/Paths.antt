@@ -4,7 +4,7 @@ use Rattle.std.specs.List.{All}
 use Rattle.std.proofs.lemmas.List.{get_or_append_left}
 use Rattle.std.proofs.lemmas.List.Elements.{All-head, All-tail, All-weaker}
 use Rattle.board_rules.specs.declared.entry.Entry.TheVariants as entry
-use Rattle.board_journal.specs.Kept.{NamePaths, NamesPath, entries_of, entry_of}
+use Rattle.board_journal.specs.Invariants.{NamePaths, NamesPath, entries_of, entry_of}
 use Rattle.board_journal.specs.declared.line.Line.{Line}
 use Rattle.board_journal.specs.declared.line.Line.TheVariants.{Claim, Finish}
 

@@ -1,6 +1,6 @@
 -- What a past tells.
 use Rattle.std.specs.Prelude.{[], ◌∷◌, ◌++◌}
-use Rattle.board_journal.specs.Kept.{entry_of}
+use Rattle.board_journal.specs.Invariants.{entry_of}
 use Rattle.board_journal.specs.View.{HistoryView}
 use Rattle.board_journal.specs.declared.history.Past.{Past}
 use Rattle.board_journal.specs.declared.history.Past.TheOpen.{Past-F}

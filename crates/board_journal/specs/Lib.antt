@@ -1,4 +1,4 @@
 pub mod View
-pub mod Kept
+pub mod Invariants
 pub mod History
 pub mod Journals

@@ -22,7 +22,7 @@ impl Model for Entries {
 
     ghost Value = { EntriesView };
 
-    ghost use Rattle.board_journal.specs.Kept.{view_of, AreEntries};
+    ghost use Rattle.board_journal.specs.Invariants.{view_of, AreEntries};
 
     ghost view = { λ e. view_of e };
 

@@ -5,7 +5,7 @@ use Rattle.std.proofs.lemmas.List.{reverse-append, reverse-reverse}
 use Rattle.pisdf_meaning.specs.declared.firing.Firing.{Firing}
 use Rattle.nested_jobs.specs.Rules.{Call, Place, Task, Work}
 use Rattle.nested_jobs.specs.Marks.{Busy, Done, Free, Mark, Marks, Open, put, values}
-use Rattle.nested_jobs.specs.Kept.{InJob}
+use Rattle.nested_jobs.specs.Invariants.{InJob}
 use Rattle.nested_jobs.specs.Pick.{outer}
 use Rattle.nested_jobs.specs.Steps.{IsEnabled, begins, opened, opens, task_at}
 use Rattle.nested_jobs.proofs.Finding.{opened_open}

@@ -13,12 +13,12 @@ use Rattle.job_flow.specs.Laws.{JobsFinish}
 use Rattle.job_rules.specs.Doing.{Answers}
 use Rattle.job_rules.specs.Meant.{meanings, rank}
 use Rattle.job_rules.specs.Words.{Gives}
+use Rattle.job_rules.proofs.Settling.{finished}
 use Rattle.std.proofs.Common.{ℤ}
 use Rattle.board_rules.specs.Keys.{IsKey, Key, rules, top_job}
 use Rattle.board_rules.specs.Entries.{BoardState, Step}
 use Rattle.board_rules.specs.Laws.{HasFinished}
 use Rattle.board_rules.specs.Legal.{AreLegal, state_after}
-use Rattle.board_rules.proofs.Finishing.{finished}
 use Rattle.board_rules.proofs.Growing.{last_allowed}
 use Rattle.board_rules.proofs.Known.{BoardLaws, known, shallow_top, tells}
 
@@ -32,6 +32,6 @@ module _ (key : Key) (is : IsKey key) (laws : BoardLaws key) (finish : JobsFinis
       (tells key is laws taken legal)
       (allowed_answered (rules key) (Answers key.graphs.graphs) key.workers s e (last_allowed key (start (top_job key)) taken e more.allowed))
       o done_so in
-      let all = finished laws.jobs finish key.signatures key.graphs is.valid.valid.in_range is.valid.valid.well_formed laws.fit is.lengths (8 - suc (length p)) c (values (after (rules key) s e).marks p)
-      ((known key is laws taken legal).fits p c o) closed.settled given (sym closed.outcome_is) in
+      let all = finished laws.jobs key.signatures key.graphs is.valid.valid.in_range is.valid.valid.well_formed laws.fit is.lengths (8 - suc (length p)) c (values (after (rules key) s e).marks p)
+      ((known key is laws taken legal).fits p c o) closed.settled finish given (sym closed.outcome_is) in
       subst (λ (z : BoardState). HasFinished key z.marks p c) (sym next) record { prepared = all.p; prepared_so = all.prepared_so; each = all.each_item }

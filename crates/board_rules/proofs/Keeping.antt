@@ -6,7 +6,7 @@ use Rattle.nested_jobs.specs.Rules.{Call, Place, Work}
 use Rattle.nested_jobs.specs.Marks.{Busy, Done, Free, Mark, Marks, Open, put, values}
 use Rattle.nested_jobs.specs.Journals as steps
 use Rattle.nested_jobs.specs.Journals.{Allowed, MayClaim, MayFinish, after, assign, start, task_of}
-use Rattle.nested_jobs.specs.Kept.{InJob, Keeps}
+use Rattle.nested_jobs.specs.Invariants.{InJob, Keeps}
 use Rattle.nested_jobs.specs.Steps.{claimed, is_quiet}
 use Rattle.nested_jobs.specs.Tables.{IsRow, Row, StandsFor, answers_in, fresh_row, is_quiet_row, put_row, with_mark}
 use Rattle.nested_jobs.proofs.Appending.{state-snoc}

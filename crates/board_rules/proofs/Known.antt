@@ -3,13 +3,13 @@
 use Rattle.std.proofs.Common.{◌≡◌, ℕ, suc, ◌-◌, ◌<◌, List, length, arith}
 use Rattle.std.proofs.lemmas.Option.{slice_get_within}
 use Rattle.param_resolver.proofs.Sound.{nested}
-use Rattle.single_rate.specs.Stages.{EndsAreThere}
+use Rattle.single_rate.specs.Tiers.{EndsAreThere}
 use Rattle.pisdf_meaning.specs.Sound.{AllFit}
 use Rattle.pisdf_meaning.specs.declared.firing.Firing.{Firing}
 use Rattle.nested_jobs.specs.Rules.{Place}
 use Rattle.nested_jobs.specs.Marks.{Marks, Open, values}
 use Rattle.nested_jobs.specs.Journals.{start}
-use Rattle.nested_jobs.specs.Kept.{Keeps, Nested}
+use Rattle.nested_jobs.specs.Invariants.{Keeps, Nested}
 use Rattle.nested_jobs.specs.Meanings.{Lawful, Meant, Sound}
 use Rattle.nested_jobs.proofs.Running.{journal_keeps}
 use Rattle.nested_jobs.proofs.Telling.{Tells, journal_tells, legal_answered}
@@ -36,7 +36,7 @@ board_laws key l = record {
   lawful = l.lawful;
   meant = l.meant;
   fit = l.fit;
-  jobs = record { all = l.all; in_order = l.in_order; stages = l.stages; ready = l.ready; inputs_stay = l.inputs_stay; once = l.once; lens_are = l.lens_are; rates_are = l.rates_are };
+  jobs = record { all = l.all; in_order = l.in_order; tiers = l.tiers; ready = l.ready; inputs_stay = l.inputs_stay; once = l.once; lens_are = l.lens_are; rates_are = l.rates_are };
   ends = l.ends_there;
 }
 

@@ -12,7 +12,6 @@ pub mod Answering
 pub mod Entering
 pub mod Keeping
 pub mod Growing
-pub mod Finishing
 pub mod Closed
 pub mod Rows
 pub mod Staying

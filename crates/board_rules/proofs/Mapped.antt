@@ -5,12 +5,12 @@ use Rattle.std.proofs.lemmas.List.{ext_get_or}
 use Rattle.std.proofs.lemmas.List.Elements.{All-map}
 use Rattle.std.proofs.lemmas.List.FromFn.{get_or-map-range_with_len}
 use Rattle.sdf_level.specs.View.{LevelView}
-use Rattle.sdf_level.specs.Kept.{IsLevel}
+use Rattle.sdf_level.specs.Invariants.{IsLevel}
 use Rattle.sdf_level.specs.Orders.{IsTurnOrder}
 use Rattle.sdf_level.specs.declared.single_rate.Edge.{Edge}
 use Rattle.sdf_level.specs.declared.turn.Turn.{Turn}
 use Rattle.single_rate.specs.Expanded.{nodes, edges}
-use Rattle.single_rate.specs.Stages.{EndsAreThere, GraphsHaveStages}
+use Rattle.single_rate.specs.Tiers.{EndsAreThere, GraphsHaveTiers}
 use Rattle.worker_mapping.specs.Costs.{AreCosts, pairs_of}
 use Rattle.worker_mapping.specs.Graph.{AreThere, IsPriority, Rise, graph_of}
 use Rattle.worker_mapping.specs.Schedule.{AreHomes}
@@ -24,7 +24,7 @@ costs_once : (count : ℕ) (es : List Edge) (one other : List ℕ) → AreCosts 
 costs_once count es one other a b = ext_get_or 0 one other (a.one_each ∙ sym b.one_each)
     (λ n inside. let below : n < count = (let l = a.one_each in omega arith) in a.each n below ∙ sym (b.each n below))
 
-module _ (there_so : EndsAreThere) (stages_so : GraphsHaveStages) (level : LevelView) (q : List ℕ) (turns : List Turn) (level_kept : IsLevel level) (order : IsTurnOrder level q turns) where
+module _ (there_so : EndsAreThere) (tiers_so : GraphsHaveTiers) (level : LevelView) (q : List ℕ) (turns : List Turn) (level_kept : IsLevel level) (order : IsTurnOrder level q turns) where
   abbrev count : ℕ
   count = length (nodes level q turns)
 
@@ -35,10 +35,10 @@ module _ (there_so : EndsAreThere) (stages_so : GraphsHaveStages) (level : Level
   pairs = pairs_of es
 
   abbrev ranks : List ℕ
-  ranks = map (stages_so level q turns level_kept order).stage (range_with_len 0 count)
+  ranks = map (tiers_so level q turns level_kept order).tier (range_with_len 0 count)
 
-  rank_is : (n : ℕ) → n < count → slice_index ranks n ≡ (stages_so level q turns level_kept order).stage n
-  rank_is n inside = get_or-map-range_with_len (stages_so level q turns level_kept order).stage 0 count n n 0 inside (let e : 0 + n ≡ n = omega arith in e)
+  rank_is : (n : ℕ) → n < count → slice_index ranks n ≡ (tiers_so level q turns level_kept order).tier n
+  rank_is n inside = get_or-map-range_with_len (tiers_so level q turns level_kept order).tier 0 count n n 0 inside (let e : 0 + n ≡ n = omega arith in e)
 
   pub there : AreThere count pairs
   there = All-map (λ (e : ℕ × ℕ). (e.0 < count) × (e.1 < count)) (λ (e : Edge). (e.tail, e.head)) es (there_so level q turns level_kept order)
@@ -46,7 +46,7 @@ module _ (there_so : EndsAreThere) (stages_so : GraphsHaveStages) (level : Level
   rising : All (λ (e : Edge). slice_index ranks e.tail < slice_index ranks e.head) es
   rising k d inside =
       let ends = there_so level q turns level_kept order k d inside in
-      let rise = (stages_so level q turns level_kept order).rising k d inside in
+      let rise = (tiers_so level q turns level_kept order).rising k d inside in
       let tail = rank_is _ ends.0 in
       let head = rank_is _ ends.1 in
       rw (tail, head) rise

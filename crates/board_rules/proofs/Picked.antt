@@ -9,7 +9,7 @@ use Rattle.nested_jobs.specs.Marks.{Mark, Free, Busy, Open, Done, Marks, values}
 use Rattle.nested_jobs.specs.Steps.{IsEnabled}
 use Rattle.nested_jobs.specs.Journals as steps
 use Rattle.nested_jobs.specs.Journals.{start, after, state, Legal}
-use Rattle.nested_jobs.specs.Kept.{InJob, Nested}
+use Rattle.nested_jobs.specs.Invariants.{InJob, Nested}
 use Rattle.nested_jobs.specs.Meanings.{Lawful, Meant}
 use Rattle.nested_jobs.specs.Pick.{Few, ArePreferredFrom, IsPreferred, Prefers, outer}
 use Rattle.nested_jobs.proofs.Counting.{journal_few}

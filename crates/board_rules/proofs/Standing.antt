@@ -109,13 +109,13 @@ module _ (key : Key) (is : IsKey key) (laws : BoardLaws key) (m : Marks Firing A
   node_once : (c : Firing) (q : Place) (o : m q ≡ Open c) (p : Prepared) (e : prepared_so q c ≡ Some p) (one other : Mapping) → IsMappingOf key (graph_so c) c p one → IsMappingOf key (graph_so c) c p other → one ≡ other
   node_once c q o p e one other a b =
       let job = is_job laws.jobs key.signatures key.graphs is.valid.valid.in_range is.valid.valid.well_formed laws.fit is.lengths (known.levels q) c (values m q) (known.fits q c o) (known.sound q c o) p e in
-      mapping_once laws.ends laws.jobs.stages _ p.schedule.counts p.schedule.order job.level_kept job.order key.workers one other a b
+      mapping_once laws.ends laws.jobs.tiers _ p.schedule.counts p.schedule.order job.level_kept job.order key.workers one other a b
 
   -- each job that is compiled has a list schedule
   pub mapped_so : AreMapped key m
   mapped_so q c p o e =
       let job = is_job laws.jobs key.signatures key.graphs is.valid.valid.in_range is.valid.valid.well_formed laws.fit is.lengths (known.levels q) c (values m q) (known.fits q c o) (known.sound q c o) p e in
-      mapping_made laws.ends laws.jobs.stages _ p.schedule.counts p.schedule.order job.level_kept job.order key.workers is.some
+      mapping_made laws.ends laws.jobs.tiers _ p.schedule.counts p.schedule.order job.level_kept job.order key.workers is.some
 
   pub record Alike (s u : Standing) : Type 0 where
     pub away : s.away ≡ u.away

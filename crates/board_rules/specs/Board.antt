@@ -5,7 +5,7 @@ use Rattle.nested_jobs.specs.Rules.{Place}
 use Rattle.nested_jobs.specs.Marks.{Busy, Marks}
 use Rattle.nested_jobs.specs.Journals as steps
 use Rattle.nested_jobs.specs.Journals.{after}
-use Rattle.nested_jobs.specs.Kept.{Nested}
+use Rattle.nested_jobs.specs.Invariants.{Nested}
 use Rattle.nested_jobs.specs.Steps.{IsEnabled, claimed, closed}
 use Rattle.nested_jobs.specs.Tables.{Row, StandsFor, Table}
 use Rattle.job_rules.specs.Words.{Answer}

@@ -1,6 +1,6 @@
 -- The laws of the jobs of a board that its own laws rest on, in one.
 use Rattle.std.specs.Prelude.{ℤ, ℕ}
-use Rattle.single_rate.specs.Stages.{EndsAreThere, FiringsAreAll, FiringsStandInOrder, GraphsHaveStages}
+use Rattle.single_rate.specs.Tiers.{EndsAreThere, FiringsAreAll, FiringsStandInOrder, GraphsHaveTiers}
 use Rattle.pisdf_meaning.specs.Sound.{AllFit}
 use Rattle.pisdf_meaning.specs.declared.refusal.Refusal.{Refusal}
 use Rattle.nested_jobs.specs.Meanings.{Lawful, Meant}
@@ -14,7 +14,7 @@ pub record JobLaws (key : Key) : Type 0 where
   pub fit : AllFit key.signatures key.graphs.graphs
   pub all : FiringsAreAll
   pub in_order : FiringsStandInOrder
-  pub stages : GraphsHaveStages
+  pub tiers : GraphsHaveTiers
   pub ends_there : EndsAreThere
   pub ready : ReadyStays ℤ Refusal
   pub inputs_stay : InputsStay ℤ Refusal

@@ -11,7 +11,7 @@ use Rattle.sdf_level.specs.declared.link.Head.{Head}
 use Rattle.sdf_level.specs.declared.link.Tail.TheVariants as tail
 use Rattle.sdf_level.specs.declared.link.Head.TheVariants as head
 use Rattle.sdf_level.specs.View.{LevelView}
-use Rattle.sdf_level.specs.Kept.{TailIsThere, HeadIsThere, TouchesActor, HasSoundDelay, HasTailRateWithin, HasHeadRateWithin, how_many, is_from_source, is_into_sink, is_from_port, is_into_port, IsLevel}
+use Rattle.sdf_level.specs.Invariants.{TailIsThere, HeadIsThere, TouchesActor, HasSoundDelay, HasTailRateWithin, HasHeadRateWithin, how_many, is_from_source, is_into_sink, is_from_port, is_into_port, IsLevel}
 use Rattle.case_rows.specs.Numbering.{NextTail, NextHead, AreSoundEnds, IsSoundIn}
 
 -- the ports of an actor are taken once each up to its count, and no others

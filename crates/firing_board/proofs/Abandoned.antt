@@ -21,7 +21,7 @@ use Rattle.firing_board.specs.Table.View.{TableView, lent_in, row_at}
 use Rattle.firing_board.specs.declared.table.row.Row.{Row}
 use Rattle.firing_board.specs.Core.{lent_of, lent_with}
 use Rattle.firing_board.specs.Finishes.{MayEnd}
-use Rattle.firing_board.specs.Kept.{Keeps}
+use Rattle.firing_board.specs.Invariants.{Keeps}
 use Rattle.firing_board.specs.OnCore.{FinishesOn}
 use Rattle.firing_board.specs.Returning.{Compiles, HasFinish, MayCompile, RunsItem}
 use Rattle.firing_board.specs.Runs.{RunsWork}

@@ -1,6 +1,6 @@
 -- Which items are enabled where no open job offers work.
 use Rattle.std.proofs.Common.{◌≡◌, ℕ, false, List, [], ◌∷◌, ◌++◌, Option, Some, refl, sym, ap, ap₂, ◌∙◌, subst}
-use Rattle.nested_jobs.specs.Kept.{InJob, Nested}
+use Rattle.nested_jobs.specs.Invariants.{InJob, Nested}
 use Rattle.nested_jobs.specs.Marks.{Busy, Free, Mark, Marks, answer_of, values}
 use Rattle.nested_jobs.specs.Meanings.{Lawful}
 use Rattle.nested_jobs.specs.Rules.{Call, Place, Task, Values, Work}

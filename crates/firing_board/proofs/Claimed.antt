@@ -37,7 +37,7 @@ use Rattle.firing_board.specs.declared.table.row.Row.{Row}
 use Rattle.firing_board.specs.Core.{AreNumbered, HasEnd, IsLentToRunners, IsNumbered, RowsHaveOwners, StandsAt, held_of, lent_of}
 use Rattle.firing_board.specs.Finding.{IsFound}
 use Rattle.firing_board.specs.Handing.{path_in}
-use Rattle.firing_board.specs.Kept.{Keeps}
+use Rattle.firing_board.specs.Invariants.{Keeps}
 use Rattle.firing_board.specs.OnCore.{MayClaim}
 use Rattle.firing_board.specs.Opening.{KeepsRuns}
 use Rattle.firing_board.specs.Runs.{RunsWork}

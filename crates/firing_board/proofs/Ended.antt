@@ -18,7 +18,7 @@ use Rattle.board_rules.specs.Legal.{HasEnded, state_after}
 use Rattle.firing_board.specs.Beginning.{EndsWith}
 use Rattle.firing_board.specs.Core.{IsEndFor}
 use Rattle.firing_board.specs.Ends.{EndsAs, HasFinished, IsOver}
-use Rattle.firing_board.specs.Kept.{Keeps, view_with}
+use Rattle.firing_board.specs.Invariants.{Keeps, view_with}
 use Rattle.firing_board.specs.Runs.{AreAllIdle}
 use Rattle.firing_board.specs.declared.state.Core.{Core}
 use Rattle.firing_board.specs.declared.ending.BoardEnd.{BoardEnd}

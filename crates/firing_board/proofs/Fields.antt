@@ -8,7 +8,7 @@ use Rattle.board_rules.specs.Keys.{Key}
 use Rattle.board_rules.specs.Laws.{JournalsTellSteps}
 use Rattle.board_rules.specs.Legal.{AreLegal, journal_of, state_after}
 use Rattle.firing_board.specs.Table.View.{NothingIsLent, lent_in, table_of}
-use Rattle.firing_board.specs.Kept.{Keeps, StandsOrStarves, key_with, view_with}
+use Rattle.firing_board.specs.Invariants.{Keeps, StandsOrStarves, key_with, view_with}
 use Rattle.firing_board.specs.OnCore.{KeepsKey, MayClaim}
 use Rattle.firing_board.specs.Runs.{AreAllIdle, IsIdle}
 use Rattle.firing_board.specs.Starved.{StillRuns}

@@ -34,7 +34,7 @@ use Rattle.firing_board.specs.declared.table.row.Row.{Row}
 use Rattle.firing_board.specs.Closing.{ClosesOn, KeepsJournal, latest}
 use Rattle.firing_board.specs.Core.{AreNumbered, HasEnd, IsEndFor, IsNumbered, RowsGoOn, RowsLast, held_of, lent_of, lent_with}
 use Rattle.firing_board.specs.Finishes.{Finishes}
-use Rattle.firing_board.specs.Kept.{Keeps, StandsOrStarves, view_with}
+use Rattle.firing_board.specs.Invariants.{Keeps, StandsOrStarves, view_with}
 use Rattle.firing_board.specs.OnCore.{FinishesOn}
 use Rattle.firing_board.specs.Returning.{HasFinish, MayReturn, Returns, RunsItem}
 use Rattle.firing_board.specs.Runs.{Runs, RunsWork}

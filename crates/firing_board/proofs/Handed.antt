@@ -34,7 +34,7 @@ use Rattle.firing_board.specs.Core.{HasMemory, held_of}
 use Rattle.firing_board.specs.Firings.{FiringsGoOn, LeasesFrame, LeasesNode}
 use Rattle.firing_board.specs.Finding.{IsFound}
 use Rattle.firing_board.specs.Handing.{HandsCompilation, HandsFrame, HandsOut, claim_of, path_in}
-use Rattle.firing_board.specs.Kept.{view_with}
+use Rattle.firing_board.specs.Invariants.{view_with}
 use Rattle.firing_board.specs.OnCore.{ClaimsOn, MayClaim}
 use Rattle.firing_board.specs.Opening.{KeepsRuns}
 use Rattle.firing_board.specs.View.{BoardView}

@@ -8,7 +8,7 @@ use Rattle.firing_board.specs.Claims.{Claims, EntersAs, Picks, Stays}
 use Rattle.firing_board.specs.Ends.{EndsAs, HasFinished, IsOver}
 use Rattle.firing_board.specs.Finishes.{Finishes}
 use Rattle.firing_board.specs.Firings.{LeasesFrame, LeasesNode}
-use Rattle.firing_board.specs.Kept.{IsBoard, Keeps, key_of, view_of, view_with}
+use Rattle.firing_board.specs.Invariants.{IsBoard, Keeps, key_of, view_of, view_with}
 use Rattle.firing_board.specs.OnCore.{MayClaim}
 use Rattle.firing_board.specs.Runs.{AreAllIdle, IsIdle, IsSound, Runs}
 use Rattle.firing_board.specs.View.{BoardView, IsAt}

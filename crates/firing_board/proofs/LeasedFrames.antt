@@ -21,7 +21,7 @@ use Rattle.firing_board.specs.Table.Suits.{Suits}
 use Rattle.firing_board.specs.Table.View.{firing_of, job_row, row_at, table_of}
 use Rattle.firing_board.specs.declared.table.row.Row.{Row}
 use Rattle.firing_board.specs.Firings.{AreCellsOf, LeasesNode}
-use Rattle.firing_board.specs.Kept.{view_with}
+use Rattle.firing_board.specs.Invariants.{view_with}
 use Rattle.firing_board.specs.declared.state.Core.{Core}
 use Rattle.firing_board.proofs.Rows.{firing_in, in_table}
 

@@ -11,7 +11,7 @@ use Rattle.job_rules.specs.Words as words
 use Rattle.job_rules.specs.Words.{Answer}
 use Rattle.nested_jobs.specs.Journals as steps
 use Rattle.nested_jobs.specs.Journals.{after, assign, start, task_of}
-use Rattle.nested_jobs.specs.Kept as kept
+use Rattle.nested_jobs.specs.Invariants as kept
 use Rattle.nested_jobs.specs.Marks.{Busy}
 use Rattle.nested_jobs.specs.Meanings.{Lawful}
 use Rattle.nested_jobs.specs.Rules.{Place, Task, Work}
@@ -32,7 +32,7 @@ use Rattle.firing_board.specs.Table.View.{TableView, firings_of, lent_in, row_at
 use Rattle.firing_board.specs.declared.table.row.Row.{Row}
 use Rattle.firing_board.specs.Core.{IsLentToRunners, RowsGoOn, held_of, lent_of, lent_with, runners}
 use Rattle.firing_board.specs.Finishes.{Finishes}
-use Rattle.firing_board.specs.Kept.{Keeps, StandsOrStarves, view_with}
+use Rattle.firing_board.specs.Invariants.{Keeps, StandsOrStarves, view_with}
 use Rattle.firing_board.specs.Returning.{HasFinish}
 use Rattle.firing_board.specs.Runs.{RunsWork}
 use Rattle.firing_board.specs.Starved.{IsStillRun, Lasts, StarvesAt, StillRuns}

@@ -6,7 +6,7 @@ use Rattle.firing_board.specs.Table.View.{free_items}
 use Rattle.firing_board.specs.Closing.{KeepsJournal}
 use Rattle.firing_board.specs.Core.{HasJournalRoom, HasMemory, runners}
 use Rattle.firing_board.specs.Handing.{Enters}
-use Rattle.firing_board.specs.Kept.{HasMemoryUnless}
+use Rattle.firing_board.specs.Invariants.{HasMemoryUnless}
 use Rattle.firing_board.specs.Returning.{Leaves}
 use Rattle.firing_board.specs.declared.claim.Ticket.{Ticket}
 use Rattle.firing_board.specs.declared.run.Run.{Run}

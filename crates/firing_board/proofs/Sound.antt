@@ -6,7 +6,7 @@ use Rattle.kernel_gate.specs.Value.{Places}
 use Rattle.job_rules.specs.Doing.{Answers}
 use Rattle.job_rules.specs.Meant.{rank}
 use Rattle.job_rules.specs.Words.{Answer}
-use Rattle.nested_jobs.specs.Kept as kept
+use Rattle.nested_jobs.specs.Invariants as kept
 use Rattle.nested_jobs.specs.Marks.{Marks}
 use Rattle.nested_jobs.specs.Meanings.{Lawful}
 use Rattle.nested_jobs.specs.Rules.{Place}
@@ -25,7 +25,7 @@ use Rattle.firing_board.specs.Table.View.{FiringView, TableView, firing_of, firi
 use Rattle.firing_board.specs.declared.table.row.Row.{Row}
 use Rattle.firing_board.specs.Core.{RowsHaveOwners, held_of, lent_of, lent_with}
 use Rattle.firing_board.specs.Firings.{AreOpen, OneOwnerOfAll}
-use Rattle.firing_board.specs.Kept.{Keeps, StandsOrStarves, view_with}
+use Rattle.firing_board.specs.Invariants.{Keeps, StandsOrStarves, view_with}
 use Rattle.firing_board.specs.Runs.{IsSound}
 use Rattle.firing_board.specs.Starved.{StillRuns}
 use Rattle.firing_board.specs.View.{IsAt}

@@ -19,7 +19,7 @@ use Rattle.firing_board.specs.Table.View.{NothingIsLent, TableView, firing_of, f
 use Rattle.firing_board.specs.declared.table.row.Row.{Row}
 use Rattle.firing_board.specs.Beginning.{IsStartedOn}
 use Rattle.firing_board.specs.Core.{AreNumbered, IsLentToRunners, StandsAt, held_of, lent_of, runners}
-use Rattle.firing_board.specs.Kept.{Keeps}
+use Rattle.firing_board.specs.Invariants.{Keeps}
 use Rattle.firing_board.specs.declared.state.Core.{Core}
 use Rattle.firing_board.specs.declared.run.Run.{Run}
 use Rattle.firing_board.proofs.Rows.{the_same}

@@ -19,7 +19,7 @@ use Rattle.board_rules.specs.declared.entry.Entry.{Entry}
 use Rattle.firing_board.specs.Table.Calls.{LendsAsBefore}
 use Rattle.firing_board.specs.Table.View.{TableView, firings_of, row_at, table_of}
 use Rattle.firing_board.specs.Core.{RowsLast, StandsAt, held_of, lent_of, runners}
-use Rattle.firing_board.specs.Kept.{Keeps}
+use Rattle.firing_board.specs.Invariants.{Keeps}
 use Rattle.firing_board.specs.OnCore.{StarvesOn}
 use Rattle.firing_board.specs.Starved.{Lasts, StillRuns}
 use Rattle.firing_board.specs.declared.state.Core.{Core}

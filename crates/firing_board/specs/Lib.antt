@@ -3,6 +3,7 @@ pub mod FrameRooms
 pub mod View
 pub mod Firings
 pub mod Starts
+pub mod Signatures
 pub mod Runs
 pub mod Claims
 pub mod Wanting
@@ -16,6 +17,6 @@ pub mod Handing
 pub mod Returning
 pub mod Beginning
 pub mod Closing
-pub mod Kept
+pub mod Invariants
 pub mod OnCore
 pub mod Locking

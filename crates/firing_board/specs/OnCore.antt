@@ -7,7 +7,7 @@ use Rattle.firing_board.specs.Claims.{Claims, EntersAs}
 use Rattle.firing_board.specs.Table.View.{firings_of}
 use Rattle.firing_board.specs.Finishes.{Finishes}
 use Rattle.firing_board.specs.Firings.{FiringsGoOn, LeasesFrame}
-use Rattle.firing_board.specs.Kept.{Keeps, view_with}
+use Rattle.firing_board.specs.Invariants.{Keeps, view_with}
 use Rattle.firing_board.specs.Runs.{Runs}
 use Rattle.firing_board.specs.View.{lent_to}
 use Rattle.firing_board.specs.declared.claim.Claim.{Claim}

@@ -8,9 +8,9 @@ use crate::ending::{BoardEnd, end_core, outcome_of};
 use crate::finishing::{finish_compilation, finish_frame, unless_wanted};
 use crate::keeping::{keep_ready, take_key};
 use crate::laws::tables_suit;
+use crate::signatures::Signatures;
 use crate::starting::{nothing_compiles, start_core};
 use crate::state::Core;
-use crate::told::{ToldSignatures, told_signatures};
 use board_journal::Journal;
 use board_rules::{boards_end, boards_keep, entries_tell_steps, few_jobs_are_open};
 use job_compiler::{Kept, Key};
@@ -29,7 +29,7 @@ use std::sync::Arc;
 /// A run of one firing of the top graph by several workers: the open jobs, what each worker runs of them, and the journal of
 /// their claims and finishes. It is neither `Drop` nor `Clone`: it is given up by `outcome` or `end`.
 pub struct Board {
-    pub(crate) signatures: ToldSignatures,
+    pub(crate) signatures: Signatures,
     pub(crate) top: Snapshot<Firing>,
     pub(crate) core: Core,
     /// The compilations that are kept from one board to the next.
@@ -50,7 +50,7 @@ impl Model for Board {
 
     ghost coded = { Prim.hlevel (codes, tree_code) };
 
-    ghost use Rattle.firing_board.specs.Kept.{IsBoard, view_of};
+    ghost use Rattle.firing_board.specs.Invariants.{IsBoard, view_of};
 
     ghost view = { view_of };
 
@@ -115,7 +115,7 @@ impl Board {
         let top = &graphs.graphs.items()[graphs.top as usize];
         let firing = top_firing(alloc, top, graphs.top, delays, ins)?;
         let top = Snapshot::of(&firing);
-        let signatures = told_signatures(signatures);
+        let signatures = Signatures::of(signatures);
         let compiling = nothing_compiles(alloc, workers)?;
         let core = start_core(alloc, graphs, workers, firing, journal)?;
         Ok(Board {

@@ -11,7 +11,7 @@ ghost use Rattle.nested_jobs.specs.Marks.{Busy};
 ghost use Rattle.graph_firing.specs.View.{IsOfferedCompilation, IsOfferedWork, compilation_of, graph_in};
 ghost use Rattle.firing_board.specs.Core.{HasMemory, IsNumbered};
 ghost use Rattle.firing_board.specs.Handing.{Enters, HandsCompilation, HandsFrame, HandsOut, MayEnter, claim_of};
-ghost use Rattle.firing_board.specs.Kept.{view_with};
+ghost use Rattle.firing_board.specs.Invariants.{view_with};
 ghost use Rattle.firing_board.specs.OnCore.{ClaimsOn, KeepsKey, MayClaim, StarvesOn};
 ghost use Rattle.firing_board.specs.Wanting.{MayStarve};
 

@@ -15,10 +15,10 @@ mod laws;
 mod locked;
 mod numbering;
 mod run;
+mod signatures;
 mod starting;
 mod state;
 mod table;
-mod told;
 
 pub use board::Board;
 pub use claim::{Claim, Ticket};

@@ -3,7 +3,7 @@ use Rattle.std.proofs.Common.{◌≡◌, ℕ, zero, suc, ◌+◌, Bool, true, fa
 use Rattle.std.specs.List.{AllByRecursion}
 use Rattle.level_schedule.specs.Schedules.{IsScheduled}
 use Rattle.level_schedule.specs.declared.scheduling.LevelSchedule.{LevelSchedule}
-use Rattle.param_resolver.specs.Assignment.{given_to, numbers, param_faults, values_of}
+use Rattle.param_resolver.specs.Assignment.{supplied_to, numbers, param_faults, values_of}
 use Rattle.param_resolver.specs.EarlyCheck.{as_refusal}
 use Rattle.param_resolver.specs.LevelOf.{level_faults}
 use Rattle.param_resolver.specs.Refusal as part
@@ -130,7 +130,7 @@ module _ (top : ℕ) (one other : List Graph) (differ : DifferAt top one other) 
         let step = gone (ResolvedOne configured) (resolved one g firing configured) given goes in
         let m = rated_moved step.one given step.goes in
         let chosen : chosen_values g more ≡ chosen_values g configured = ap (λ (sets : List (ℕ × ℤ)). chosen_from sets 0 g.params) (sets_same firing.path path (configurations g) configured more left) in
-        let known : List ℤ → List (Option ℤ) = λ values. given_to g.params firing.inherited values in
+        let known : List ℤ → List (Option ℤ) = λ values. supplied_to g.params firing.inherited values in
         let is : resolved other g there more ≡ Ok step.one =
         ap (λ (values : List ℤ). unless_refused other g path (map as_refusal (param_faults g.params (known values))) (numbers (values_of g.params (known values)))) chosen
         ∙ not_refused one other g firing.path path (map as_refusal (param_faults g.params (known (chosen_values g configured)))) (numbers (values_of g.params (known (chosen_values g configured)))) step.one step.is in

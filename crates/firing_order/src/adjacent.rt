@@ -38,7 +38,7 @@ pub(crate) fn links_at(
     requires { All (IsBetween actors) links.now }
     ensures { IfOk result (λ lists. AreAt actors links.now (lists_of lists.items)) }
 {
-    let mut lists = empty_lists(alloc, actors)?;
+    let mut lists = empty_lists(alloc, actors as usize)?;
     for link in links {
         add(&mut lists, *link)?;
     }

@@ -1,6 +1,6 @@
 // Graphs as a short text, in which `#2` is the parameter at place 2.
 use case_rows::Trouble;
-use param_expr::{Expr, Node, Op};
+use param_expr::{Expr, ExprForm, Op};
 use pisdf_model::{Actor, Body, End, Fifo, Graph, Graphs, Life, Param, ParamKind, Port};
 use std::alloc::Global;
 use std::fmt::Write;
@@ -18,14 +18,14 @@ fn sign(op: Op) -> &'static str {
 }
 
 fn show_expr(text: &mut String, expr: &Expr) -> Result<(), Trouble> {
-    match &expr.node {
-        Node::Number(value) => write!(text, "{value}")?,
-        Node::Param(place) => write!(text, "#{place}")?,
-        Node::Binary(op, left, right) => {
+    match &expr.form {
+        ExprForm::Number(value) => write!(text, "{value}")?,
+        ExprForm::Param(place) => write!(text, "#{place}")?,
+        ExprForm::Binary(op, lhs, rhs) => {
             text.push_str("(")?;
-            show_expr(text, left)?;
+            show_expr(text, lhs)?;
             text.push_str(sign(*op))?;
-            show_expr(text, right)?;
+            show_expr(text, rhs)?;
             text.push_str(")")?;
         }
     }

@@ -18,7 +18,7 @@ use Rattle.job_preparing.specs.View.{ConfiguringView, HasInherited}
 use Rattle.job_preparing.specs.declared.handing.JobGiven.{JobGiven}
 use Rattle.graph_firing.specs.View.{OpenView, task}
 use Rattle.graph_firing.specs.Calls.{with_item, with_mark}
-use Rattle.graph_firing.specs.Kept.{KeepsWith, view_with}
+use Rattle.graph_firing.specs.Invariants.{KeepsWith, view_with}
 use Rattle.graph_firing.specs.declared.stage.Stage.{Stage}
 use Rattle.graph_firing.proofs.Methods as methods
 use Rattle.graph_firing.proofs.Steps as steps

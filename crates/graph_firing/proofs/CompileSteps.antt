@@ -26,7 +26,7 @@ use Rattle.job_preparing.specs.declared.compiling.CompileEnd.TheVariants as comp
 use Rattle.graph_firing.specs.Nodes.View as running
 use Rattle.graph_firing.specs.View.{OpenView, compilation_of, free_in, free_one, key_in, left_by, left_if_ready}
 use Rattle.graph_firing.specs.Calls.{FinishesCompilation, IsPlacedBy, compile_answer, nodes_by, with_mark}
-use Rattle.graph_firing.specs.Kept.{KeepsWith, StageFits, compile_mark, node_lent, node_marks, stage_cells, view_with}
+use Rattle.graph_firing.specs.Invariants.{KeepsWith, StageFits, compile_mark, node_lent, node_marks, stage_cells, view_with}
 use Rattle.graph_firing.specs.Stages.{GoesOnWith, HasNoNodes}
 use Rattle.graph_firing.specs.declared.stage.Stage.{Stage}
 use Rattle.graph_firing.specs.declared.stage.Stage.TheVariants.{Waiting, Compiling, Refused, Nodes}

@@ -7,7 +7,7 @@ use Rattle.job_preparing.specs.Handing.{mark_at}
 use Rattle.job_preparing.specs.View as preparing
 use Rattle.job_preparing.specs.View.{ConfiguringView}
 use Rattle.graph_firing.specs.View.{IsOfferedCall, IsOfferedWork, OpenView, answered, left_if_ready, task}
-use Rattle.graph_firing.specs.Kept.{compile_mark, node_marks, view_with}
+use Rattle.graph_firing.specs.Invariants.{compile_mark, node_marks, view_with}
 use Rattle.graph_firing.specs.declared.stage.Stage.{Stage}
 use Rattle.graph_firing.proofs.Cut.{read_before, read_seam, read_after}
 use Rattle.graph_firing.proofs.Rules as rules

@@ -26,7 +26,7 @@ use Rattle.job_preparing.specs.Handing.{answers, mark_at}
 use Rattle.job_preparing.specs.View as preparing
 use Rattle.job_preparing.specs.View.{ConfiguringView, task_of}
 use Rattle.graph_firing.specs.View.{IsQuiet, OpenView, answered, count_of, outcome_in, task}
-use Rattle.graph_firing.specs.Kept.{KeepsWith, compile_mark, node_marks, view_with}
+use Rattle.graph_firing.specs.Invariants.{KeepsWith, compile_mark, node_marks, view_with}
 use Rattle.graph_firing.specs.declared.stage.Stage.{Stage}
 use Rattle.graph_firing.proofs.Cut.{all_from}
 use Rattle.graph_firing.proofs.Early as early

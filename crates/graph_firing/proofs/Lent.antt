@@ -15,7 +15,7 @@ use Rattle.job_preparing.specs.View as preparing
 use Rattle.job_preparing.specs.View.{ConfiguringView}
 use Rattle.graph_firing.specs.Nodes.Leases.{LendsNodes, as_nodes}
 use Rattle.graph_firing.specs.Nodes.View.{RunningView}
-use Rattle.graph_firing.specs.Kept.{KeepsWith, compile_mark, node_lent as stage_lent, node_marks as stage_marks, stage_cells, view_with}
+use Rattle.graph_firing.specs.Invariants.{KeepsWith, compile_mark, node_lent as stage_lent, node_marks as stage_marks, stage_cells, view_with}
 use Rattle.graph_firing.specs.Leases.{IsCompilationOf, LendsAs, LendsItems, node_lent, node_marks}
 use Rattle.graph_firing.specs.View.{OpenView, answered, graph_in}
 use Rattle.graph_firing.specs.declared.stage.Stage.{Stage}

@@ -30,7 +30,7 @@ use Rattle.graph_firing.specs.Nodes.View.{RunningView}
 use Rattle.graph_firing.specs.View.{IsOfferedCall, IsOfferedWork, IsQuiet, OpenView, compilation_of, outcome_in, task}
 use Rattle.graph_firing.specs.Calls.{IsHanded, IsHandedFor, with_item, with_mark}
 use Rattle.graph_firing.specs.Offers.{IsPick}
-use Rattle.graph_firing.specs.Kept.{KeepsWith, node_lent, view_with}
+use Rattle.graph_firing.specs.Invariants.{KeepsWith, node_lent, view_with}
 use Rattle.graph_firing.specs.Rooms.{is_node}
 use Rattle.graph_firing.specs.Running.{RunsFor}
 use Rattle.graph_firing.specs.Stages.{IsFirstCallWaiting, IsFirstNode, IsFirstWaiting}

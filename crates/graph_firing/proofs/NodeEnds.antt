@@ -24,7 +24,7 @@ use Rattle.job_preparing.specs.View.{ConfiguringView}
 use Rattle.graph_firing.specs.Nodes.View as running
 use Rattle.graph_firing.specs.Nodes.View.{RunningView}
 use Rattle.graph_firing.specs.View.{IsQuiet, OpenView, answered, count_of, outcome_in, task}
-use Rattle.graph_firing.specs.Kept.{KeepsWith, compile_mark, view_with}
+use Rattle.graph_firing.specs.Invariants.{KeepsWith, compile_mark, view_with}
 use Rattle.graph_firing.specs.Running.{RunsFor}
 use Rattle.graph_firing.specs.declared.stage.Stage.TheVariants.{Nodes}
 use Rattle.graph_firing.proofs.Cut.{all_from, same_function}

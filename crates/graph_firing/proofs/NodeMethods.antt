@@ -18,7 +18,7 @@ use Rattle.job_preparing.specs.View.{ConfiguringView, HasInherited}
 use Rattle.job_preparing.specs.declared.handing.JobGiven.{JobGiven}
 use Rattle.graph_firing.specs.View.{IsOfferedCall, IsOfferedWork, OpenView, compilation_of, task}
 use Rattle.graph_firing.specs.Calls.{IsHanded, IsSoundFor, frame_of, with_item, with_mark}
-use Rattle.graph_firing.specs.Kept.{KeepsWith, compile_mark, node_lent, view_with}
+use Rattle.graph_firing.specs.Invariants.{KeepsWith, compile_mark, node_lent, view_with}
 use Rattle.graph_firing.specs.Stages.{CallsNode, ClaimsNode, FinishesCall, FinishesNode, HasNodes, HoldsFrames, MayAnswer, MayCall, MayClaim, MayFinish, NodesGoOn}
 use Rattle.graph_firing.specs.Rooms.{HasRoomFor, is_node}
 use Rattle.graph_firing.specs.declared.handed.Handed.{Handed}

@@ -17,7 +17,7 @@ use Rattle.job_preparing.specs.View.{ConfiguringView}
 use Rattle.graph_firing.specs.Nodes.View as running
 use Rattle.graph_firing.specs.Nodes.View.{RunningView}
 use Rattle.graph_firing.specs.View.{IsOfferedCall, IsOfferedWork, OpenView, answered, count_of, task}
-use Rattle.graph_firing.specs.Kept.{compile_mark, view_with}
+use Rattle.graph_firing.specs.Invariants.{compile_mark, view_with}
 use Rattle.graph_firing.specs.Running.{RunsFor}
 use Rattle.graph_firing.specs.declared.stage.Stage.TheVariants.{Nodes}
 use Rattle.graph_firing.proofs.Cut.{same_function}

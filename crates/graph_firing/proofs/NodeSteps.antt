@@ -27,7 +27,7 @@ use Rattle.graph_firing.specs.Nodes.View as running
 use Rattle.graph_firing.specs.Nodes.View.{RunningView}
 use Rattle.graph_firing.specs.View.{IsOfferedCall, IsOfferedWork, OpenView, task}
 use Rattle.graph_firing.specs.Calls.{IsHanded, IsHandedFor, IsSoundFor, frame_of, with_item, with_mark}
-use Rattle.graph_firing.specs.Kept.{KeepsWith, node_lent, node_marks, view_with}
+use Rattle.graph_firing.specs.Invariants.{KeepsWith, node_lent, node_marks, view_with}
 use Rattle.graph_firing.specs.Rooms.{HasRoomFor}
 use Rattle.graph_firing.specs.Running.{RunsFor}
 use Rattle.graph_firing.specs.Stages.{CallsNode, ClaimsNode, FinishesCall, FinishesNode, HasNodes, HoldsFrames, MayAnswer, MayCall, MayClaim, MayFinish, NodesGoOn, with_node, with_node_mark}

@@ -19,7 +19,7 @@ use Rattle.job_preparing.specs.View.{ConfiguringView, task_of}
 use Rattle.graph_firing.specs.Nodes.View as running
 use Rattle.graph_firing.specs.Nodes.View.{RunningView}
 use Rattle.graph_firing.specs.View.{IsOfferedCall, IsOfferedWork, OpenView, answered, task}
-use Rattle.graph_firing.specs.Kept.{compile_mark, node_marks, view_with}
+use Rattle.graph_firing.specs.Invariants.{compile_mark, node_marks, view_with}
 use Rattle.graph_firing.specs.Running.{RunsFor}
 use Rattle.graph_firing.specs.declared.stage.Stage.{Stage}
 use Rattle.graph_firing.specs.declared.stage.Stage.TheVariants.{Waiting, Nodes}

@@ -11,7 +11,7 @@ use Rattle.job_rules.specs.Words.{Schedules}
 use Rattle.job_preparing.specs.Handing.{ItemMarks, mark_at}
 use Rattle.job_preparing.specs.View as preparing
 use Rattle.job_preparing.specs.View.{ConfiguringView}
-use Rattle.graph_firing.specs.Kept.{KeepsWith}
+use Rattle.graph_firing.specs.Invariants.{KeepsWith}
 use Rattle.graph_firing.specs.declared.stage.Stage.TheVariants.{Waiting}
 use Rattle.graph_firing.proofs.CompileSteps.{read_copies}
 

@@ -21,7 +21,7 @@ use Rattle.graph_firing.specs.Nodes.View as running
 use Rattle.graph_firing.specs.View.{OpenView, answered, task}
 use Rattle.graph_firing.specs.Paths.{IsCall, step_of, step_of_item}
 use Rattle.graph_firing.specs.Places.{config_places, places_from}
-use Rattle.graph_firing.specs.Kept.{KeepsWith, view_with}
+use Rattle.graph_firing.specs.Invariants.{KeepsWith, view_with}
 use Rattle.graph_firing.specs.Running.{RunsFor}
 use Rattle.graph_firing.specs.Stages.{HasNodes, IsNode, IsNodeStep}
 use Rattle.graph_firing.specs.declared.stage.Stage.{Stage}

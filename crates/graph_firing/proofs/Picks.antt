@@ -12,7 +12,7 @@ use Rattle.worker_mapping.specs.Schedule.{GoesFirst}
 use Rattle.graph_firing.specs.View.{IsOfferedCall, IsOfferedWork, OpenView, answered}
 use Rattle.nested_jobs.specs.Pick.{decide}
 use Rattle.graph_firing.specs.Offers.{GoesBefore, IsFirst, IsPick, ItemStands, NodeStands, Stands, StandsAsNode}
-use Rattle.graph_firing.specs.Kept.{view_with}
+use Rattle.graph_firing.specs.Invariants.{view_with}
 use Rattle.graph_firing.specs.Running.{RunsFor}
 use Rattle.graph_firing.specs.Stages.{IsFirstActor, IsFirstCallWaiting, IsFirstNode, IsFirstWaiting, IsNodeFirst, early_offer, node_offer, offer_before}
 use Rattle.graph_firing.specs.declared.offer.Offer.{Offer}

@@ -14,7 +14,7 @@ use Rattle.job_preparing.specs.View.{ConfiguringView}
 use Rattle.graph_firing.specs.Nodes.View.{RunningView}
 use Rattle.graph_firing.specs.View.{OpenView}
 use Rattle.graph_firing.specs.Calls.{with_item, with_mark}
-use Rattle.graph_firing.specs.Kept.{KeepsWith, StageFits, compile_mark, node_lent, node_marks, view_with, stage_cells, stage_room}
+use Rattle.graph_firing.specs.Invariants.{KeepsWith, StageFits, compile_mark, node_lent, node_marks, view_with, stage_cells, stage_room}
 use Rattle.graph_firing.specs.Running.{RunsFor}
 use Rattle.graph_firing.specs.Stages.{with_node, with_node_mark}
 use Rattle.graph_firing.specs.declared.stage.Stage.{Stage}

@@ -9,7 +9,7 @@ use Rattle.job_preparing.specs.View as preparing
 use Rattle.job_preparing.specs.View.{ConfiguringView}
 use Rattle.graph_firing.specs.Nodes.View as running
 use Rattle.graph_firing.specs.View.{HasItem, OpenView, compilation_of, task}
-use Rattle.graph_firing.specs.Kept.{KeepsWith, compile_mark, node_lent, node_marks, view_with}
+use Rattle.graph_firing.specs.Invariants.{KeepsWith, compile_mark, node_lent, node_marks, view_with}
 use Rattle.graph_firing.specs.Running.{RunsFor}
 use Rattle.graph_firing.specs.declared.stage.Stage.{Stage}
 use Rattle.graph_firing.specs.declared.stage.Stage.TheVariants.{Waiting, Compiling, Refused, Nodes}

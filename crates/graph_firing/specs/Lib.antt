@@ -6,7 +6,7 @@ pub mod Calls
 pub mod Rooms
 pub mod Running
 pub mod Stages
-pub mod Kept
+pub mod Invariants
 pub mod Leases
 pub mod Lending
 pub mod Nodes

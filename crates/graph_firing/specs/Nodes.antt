@@ -5,5 +5,5 @@ pub mod Stages
 pub mod Told
 pub mod Sizes
 pub mod Parts
-pub mod Kept
+pub mod Invariants
 pub mod Leases

@@ -6,7 +6,7 @@ ghost use Rattle.job_preparing.specs.View as preparing;
 ghost use Rattle.job_rules.specs.Items.{compile_number, first_refusal};
 ghost use Rattle.job_rules.specs.Meant.{IsFit};
 ghost use Rattle.pisdf_model.specs.Valid.{AreValid};
-ghost use Rattle.graph_firing.specs.Kept.{node_lent};
+ghost use Rattle.graph_firing.specs.Invariants.{node_lent};
 ghost use Rattle.graph_firing.specs.Stages.{GoesOnWith, HasNoNodes};
 
 use crate::nodes::run;

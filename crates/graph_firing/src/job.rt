@@ -41,7 +41,7 @@ impl Model for OpenJob {
 
     ghost coded = { Prim.hlevel (codes, tree_code) };
 
-    ghost use Rattle.graph_firing.specs.Kept.{view_of, IsOpenJob};
+    ghost use Rattle.graph_firing.specs.Invariants.{view_of, IsOpenJob};
 
     ghost view = { view_of };
 

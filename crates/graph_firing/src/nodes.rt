@@ -9,7 +9,6 @@ mod running;
 mod stage;
 mod stages;
 mod starting;
-mod told;
 mod tracing;
 mod writing;
 

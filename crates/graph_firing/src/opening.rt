@@ -29,7 +29,7 @@ pub fn open(
     requires fit { IsFit (arc_value graphs).graphs firing }
     requires inherited { HasInherited (arc_value graphs).graphs firing }
     requires some { 1 ≤ workers }
-    ensures given { IfOk result (λ j. (j.graphs ≡ arc_value graphs) × (j.workers ≡ workers) × (j.firing ≡ firing)) }
+    ensures made_of { IfOk result (λ j. (j.graphs ≡ arc_value graphs) × (j.workers ≡ workers) × (j.firing ≡ firing)) }
     ensures unplaced { IfOk result (λ j. j.cells ≡ None) }
     ensures roomless { IfOk result (λ j. j.room ≡ None) }
     ensures free { IfOk result (λ j. j.marks ≡ replicate (compile_number (graph_of (arc_value graphs).graphs firing) + 1) Free) }

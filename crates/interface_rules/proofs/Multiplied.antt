@@ -2,7 +2,7 @@
 use Rattle.std.proofs.Common.{◌≡◌, ℕ, zero, suc, ◌+◌, ◌*◌, ◌<◌, List, [], ◌∷◌, length, slice_index, take, sym}
 use Rattle.std.specs.List.{AllByRecursion}
 use Rattle.sdf_level.specs.View.{LevelView}
-use Rattle.sdf_level.specs.Kept.{TailIsThere, HeadIsThere, IsLevel}
+use Rattle.sdf_level.specs.Invariants.{TailIsThere, HeadIsThere, IsLevel}
 use Rattle.sdf_level.specs.Links.{Outer, OfOuter, EachOuter}
 use Rattle.sdf_level.specs.Balance.{IsBase}
 use Rattle.sdf_level.specs.Components.{AreConnected}

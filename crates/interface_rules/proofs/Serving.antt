@@ -5,10 +5,10 @@ use Rattle.std.proofs.lemmas.Bool.{cases_eq}
 use Rattle.std.proofs.lemmas.List.{get_or-replicate, length-replicate, take_more}
 use Rattle.std.proofs.lemmas.List.Elements.{All-from_recursion}
 use Rattle.sdf_level.specs.View.{LevelView}
-use Rattle.sdf_level.specs.Kept.{TailIsThere, HeadIsThere, HasTailRateWithin, HasHeadRateWithin, IsLevel}
+use Rattle.sdf_level.specs.Invariants.{TailIsThere, HeadIsThere, HasTailRateWithin, HasHeadRateWithin, IsLevel}
 use Rattle.sdf_level.specs.Links.{Outer, OfOuter, EachOuter}
 use Rattle.sdf_level.specs.Repetition.{AgreesOnZero, IsFirstMismatch}
-use Rattle.sdf_level.specs.Kept.{rate_limit}
+use Rattle.sdf_level.specs.Invariants.{rate_limit}
 use Rattle.sdf_level.specs.declared.link.Link.{Link}
 use Rattle.sdf_level.specs.declared.link.Tail.{Tail}
 use Rattle.sdf_level.specs.declared.link.Head.{Head}

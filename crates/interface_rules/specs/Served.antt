@@ -1,10 +1,10 @@
 -- The least factors that serve the sources and sinks at some first links.
 use Rattle.std.specs.Prelude.{◌≡◌, ◌≢◌, ℕ, ◌*◌, ◌≤◌, ◌<◌, List, [], ◌∷◌, ◌++◌, length, slice_index, max}
 use Rattle.sdf_level.specs.View.{LevelView}
-use Rattle.sdf_level.specs.Kept.{TailIsThere, HeadIsThere, HasTailRateWithin, HasHeadRateWithin}
+use Rattle.sdf_level.specs.Invariants.{TailIsThere, HeadIsThere, HasTailRateWithin, HasHeadRateWithin}
 use Rattle.sdf_level.specs.Links.{Outer, OfOuter, EachOuter}
 use Rattle.sdf_level.specs.Repetition.{AgreesOnZero, HasEnough}
-use Rattle.sdf_level.specs.Kept.{rate_limit}
+use Rattle.sdf_level.specs.Invariants.{rate_limit}
 use Rattle.sdf_level.specs.Balance.{base_entry_limit}
 use Rattle.sdf_level.specs.declared.link.Link.{Link}
 

@@ -4,7 +4,7 @@ use Rattle.std.specs.Prelude.{◌≢◌, ◌==◌, Option, Some, None, slice_ind
 use Rattle.std.proofs.lemmas.Bool.{cases_lt, eq-eqb, false≢true}
 use Rattle.std.proofs.lemmas.List.{length-map, length-append, get_or-map, ext_get_or}
 use Rattle.std.proofs.lemmas.List.Elements.{All-from_get_or}
-use Rattle.sdf_level.specs.Kept.{IsLevel}
+use Rattle.sdf_level.specs.Invariants.{IsLevel}
 use Rattle.sdf_level.specs.LevelRun.{HaveDelays}
 use Rattle.sdf_level.specs.declared.link.Link.{Link}
 use Rattle.sdf_level.specs.declared.node.Node.{Node}
@@ -99,7 +99,7 @@ lengths_read_is g (node.Round l) n is = length-sizes_below g.edges n (ports_in g
 out_count_is : (g : JobGraph ℤ) (which : Node) (n : ℕ) → out_count g.level.links which (length (sizes_out g.edges n)) ≡ length (if writes_stored which then [] else lengths_written g which n)
 out_count_is g (node.Source s) n = refl
 out_count_is g (node.Init l) n = refl
-out_count_is g (node.Firing a k) n = sym (length-rates_below g.level.links a (Rattle.sdf_level.specs.Kept.how_many (Rattle.single_rate.specs.Names.is_from_actor a) g.level.links))
+out_count_is g (node.Firing a k) n = sym (length-rates_below g.level.links a (Rattle.sdf_level.specs.Invariants.how_many (Rattle.single_rate.specs.Names.is_from_actor a) g.level.links))
 out_count_is g (node.End l) n = refl
 out_count_is g (node.Sink t) n = refl
 out_count_is g (node.Broadcast l) n = refl

@@ -1,7 +1,7 @@
 -- What a compilation is, and what makes its parts those of its level.
 use Rattle.std.specs.Prelude.{◌≡◌, ℕ, ◌<◌, List, map, length, slice_index, All}
 use Rattle.sdf_level.specs.View.{LevelView}
-use Rattle.sdf_level.specs.Kept.{IsLevel}
+use Rattle.sdf_level.specs.Invariants.{IsLevel}
 use Rattle.sdf_level.specs.Limits.{IsWithinLimits}
 use Rattle.sdf_level.specs.Repetition.{IsRepetition}
 use Rattle.sdf_level.specs.Orders.{IsTurnOrder}

@@ -1,6 +1,6 @@
 // The ends of edges, counted and entered in rows of ports.
 ghost use Rattle.std.specs.Prelude.{◌≡◌, ◌+◌, ◌<◌, ◌^◌, ◌≤◌, slice_set, All, map, length, slice_index, IfOk};
-ghost use Rattle.sdf_level.specs.Kept.{how_many};
+ghost use Rattle.sdf_level.specs.Invariants.{how_many};
 ghost use Rattle.sdf_level.specs.Run.{is_into_actor};
 ghost use Rattle.single_rate.specs.Names.{is_from_actor};
 ghost use Rattle.job_compiler.specs.Ends.{head_of, tail_of, AreEndCounts, in_count, out_count, HaveRows, AreRows, AreCounts, AreLinkCounts};

@@ -10,7 +10,7 @@ use Rattle.single_rate.specs.declared.wire.Wire.{Wire}
 use Rattle.single_rate.specs.Nodes.{same}
 use Rattle.single_rate.specs.Flow.{EachEdge, gathered, arrives, leaves, arrives_at}
 use Rattle.single_rate.specs.Expanded.{place_of, wire_of, by_nodes}
-use Rattle.single_rate.specs.Stages.{node_at}
+use Rattle.single_rate.specs.Tiers.{node_at}
 use Rattle.single_rate.specs.Ports.{ports_into, ports_from, up_from}
 use Rattle.single_rate.proofs.Unique.{same-node, same-self, split}
 use Rattle.single_rate.proofs.Copies.{and-false}

@@ -3,7 +3,7 @@ use Rattle.std.proofs.Common.{◌≡◌, ℕ, zero, suc, ◌+◌, ◌<◌, ◌�
 use Rattle.std.specs.List.{AllByRecursion}
 use Rattle.std.proofs.lemmas.Bool.{cases_Bool, cases_eq, cases_lt}
 use Rattle.std.proofs.lemmas.List.{append-nil, length-append, length-map, get_or_past}
-use Rattle.sdf_level.specs.Kept.{how_many}
+use Rattle.sdf_level.specs.Invariants.{how_many}
 use Rattle.sdf_level.specs.Firings.{firings, actors_of, EachFiring}
 use Rattle.sdf_level.specs.Run.{Fire, is_into_actor}
 use Rattle.sdf_level.specs.Told.{Made}
@@ -19,7 +19,7 @@ use Rattle.single_rate.specs.Flow.{Given, IsFlow, arrives_at}
 use Rattle.single_rate.specs.Delivers.{arrivals, at_firing, at_sinks, at_ends, arrived}
 use Rattle.single_rate.specs.Laws.{AnswersTo}
 use Rattle.single_rate.specs.Expanded.{place_of, by_nodes}
-use Rattle.single_rate.specs.Stages.{node_at, first_firing, IsOfFiring}
+use Rattle.single_rate.specs.Tiers.{node_at, first_firing, IsOfFiring}
 use Rattle.single_rate.proofs.Unique.{same-node}
 use Rattle.job_flow.specs.Graphs.{JobGraph}
 use Rattle.job_flow.specs.Frames.{Values, given, on, arriving, arriving_below, arriving_size, sizes_below, reads, inputs, lengths_written}
@@ -52,17 +52,17 @@ module _ {T F : Type 0} (turns : List Turn) (job : JobGraph T) (num : IsNumbered
   abbrev E : List Edge
   E = job.edges
 
-  -- nodes of an earlier stage than this are done, where none of them failed
-  pub done-below : (top : ℕ) → ((n : ℕ) (fault : F) → n < length N → num.stage n < top → v n ≡ Some (Err fault) → ⊥) → (r n : ℕ) → n < length N → num.stage n < r → num.stage n < top → IsDone (v n)
+  -- nodes of an earlier tier than this are done, where none of them failed
+  pub done-below : (top : ℕ) → ((n : ℕ) (fault : F) → n < length N → num.tier n < top → v n ≡ Some (Err fault) → ⊥) → (r n : ℕ) → n < length N → num.tier n < r → num.tier n < top → IsDone (v n)
   done-below top none zero n inside below early = absurd (omega arith)
   done-below top none (suc r) n inside below early =
-      let before : AllByRecursion (λ e. e.head ≡ n → IsDone (v e.tail)) E = all-both (λ e. (e.tail < length N) × (e.head < length N)) (λ e. num.stage e.tail < num.stage e.head) (λ e. e.head ≡ n → IsDone (v e.tail))
-      (λ e ends rises own. let s : num.stage e.head ≡ num.stage n = ap num.stage own in done-below top none r e.tail ends.0 (omega arith) (omega arith)) E num.ends num.rising in
+      let before : AllByRecursion (λ e. e.head ≡ n → IsDone (v e.tail)) E = all-both (λ e. (e.tail < length N) × (e.head < length N)) (λ e. num.tier e.tail < num.tier e.head) (λ e. e.head ≡ n → IsDone (v e.tail))
+      (λ e ends rises own. let s : num.tier e.head ≡ num.tier n = ap num.tier own in done-below top none r e.tail ends.0 (omega arith) (omega arith)) E num.ends num.rising in
       finished-done (v n) (settled.quiet n record { there = inside; before = before }) (λ fault failed. none n fault inside early failed)
 
   -- without a failure all are
   pub all-done : NoneFailed v 0 (length N) → (n : ℕ) → n < length N → IsDone (v n)
-  all-done none n inside = done-below (suc (num.stage n)) (λ m fault there early failed. none m fault (omega arith) there failed) (suc (num.stage n)) n inside (omega arith) (omega arith)
+  all-done none n inside = done-below (suc (num.tier n)) (λ m fault there early failed. none m fault (omega arith) there failed) (suc (num.tier n)) n inside (omega arith) (omega arith)
 
   long : length (actors_of turns) ≡ length turns
   long = length-map turns (λ (t : Turn). t.actor)
@@ -76,14 +76,14 @@ module _ {T F : Type 0} (turns : List Turn) (job : JobGraph T) (num : IsNumbered
       (λ (ge : length N ≤ number before). absurd (let k : kind (node_at N (number before)) ≡ 2 = ap kind (num.stands before after b is) in let z : kind (node_at N (number before)) ≡ 0 = ap kind (get_or_past N (number before) (node.Source 0) ge) in omega arith))
       (cases_lt (number before) (length N))
 
-  -- the first failure stands at its firing, and the nodes of earlier stages are done
+  -- the first failure stands at its firing, and the nodes of earlier tiers are done
   pub record FailsAt (first : Failure F) : Type 0 where
     pub before : List ℕ
     pub actor : ℕ
     pub after : List ℕ
     pub list_is : actors_of turns ≡ before ++ actor ∷ after
     pub number_is : first.node ≡ number before
-    pub done : (n : ℕ) → n < length N → num.stage n < num.stage first.node → IsDone (v n)
+    pub done : (n : ℕ) → n < length N → num.tier n < num.tier first.node → IsDone (v n)
 
   pub fails-at : (first : Failure F) → IsFirst v 0 (length N) first → FailsAt first
   fails-at first is =
@@ -93,16 +93,16 @@ module _ {T F : Type 0} (turns : List Turn) (job : JobGraph T) (num : IsNumbered
       let place_length = s.place_is in
       let at = here.number in
       let few : here.place < length turns = let l = long in let a : length (actors_of turns) ≡ length s.before + length (s.actor ∷ s.after) = ap length s.list_is ∙ length-append s.before (s.actor ∷ s.after) in omega arith in
-      let top : ℕ = num.stage first.node in
-      let top_is : top ≡ num.stage (first_firing job.level + here.place) = ap num.stage at in
-      let none : (n : ℕ) (fault : F) → n < length N → num.stage n < top → v n ≡ Some (Err fault) → ⊥ = λ n fault inside early failed.
+      let top : ℕ = num.tier first.node in
+      let top_is : top ≡ num.tier (first_firing job.level + here.place) = ap num.tier at in
+      let none : (n : ℕ) (fault : F) → n < length N → num.tier n < top → v n ≡ Some (Err fault) → ⊥ = λ n fault inside early failed.
       let there = at-firing n fault failed in
       let at' = there.number in
-      let stage_is : num.stage n ≡ num.stage (first_firing job.level + there.place) = ap num.stage at' in
+      let tier_is : num.tier n ≡ num.tier (first_firing job.level + there.place) = ap num.tier at' in
       ⊎_elim
       (λ (lt : there.place < here.place). is.none n fault (omega arith) (omega arith) failed)
       (λ (ge : here.place ≤ there.place). ⊎_elim
-      (λ (same_place : there.place ≡ here.place). absurd (let e : num.stage n ≡ top = stage_is ∙ ap (λ i. num.stage (first_firing job.level + i)) same_place ∙ sym top_is in omega arith))
+      (λ (same_place : there.place ≡ here.place). absurd (let e : num.tier n ≡ top = tier_is ∙ ap (λ i. num.tier (first_firing job.level + i)) same_place ∙ sym top_is in omega arith))
       (λ (other : there.place ≡ here.place → ⊥).
       let t = there.stands in
       let p = t.place_is in
@@ -116,7 +116,7 @@ module _ {T F : Type 0} (turns : List Turn) (job : JobGraph T) (num : IsNumbered
         after = s.after;
         list_is = s.list_is;
         number_is = omega arith;
-        done = λ n inside early. done-below top none (suc (num.stage n)) n inside (omega arith) early;
+        done = λ n inside early. done-below top none (suc (num.tier n)) n inside (omega arith) early;
       }
 
   module _ (made : Made T) (made-is : (a k : ℕ) → place_of N (node.Firing a k) < length N → (outs : List (List T)) → v (place_of N (node.Firing a k)) ≡ Some (Ok outs) → made a k ≡ outs)
@@ -164,7 +164,7 @@ module _ {T F : Type 0} (turns : List Turn) (job : JobGraph T) (num : IsNumbered
         let l = long in
         let c : length (actors_of turns) ≡ length at.before + length (at.actor ∷ at.after) = ap length at.list_is ∙ length-append at.before (at.actor ∷ at.after) in
         let o = num.in_order (length before) (length at.before) (omega arith) (omega arith) in
-        let s : num.stage first.node ≡ num.stage (number at.before) = ap num.stage at.number_is in
+        let s : num.tier first.node ≡ num.tier (number at.before) = ap num.tier at.number_is in
         answers-at before (after ++ at.actor ∷ at.after) b all (at.done (number before) (firing-inside before (after ++ at.actor ∷ at.after) b all) (omega arith)))
 
     pub fails-so : (first : Failure F) (at : FailsAt first) → v first.node ≡ Some (Err first.fault) → fire at.actor (firings at.actor at.before) (at_firing job.level W on0 at.actor (firings at.actor at.before)) (Err first.fault)

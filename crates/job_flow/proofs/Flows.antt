@@ -16,7 +16,7 @@ use Rattle.special_actors.specs.Copying.{joined}
 use Rattle.single_rate.specs.Nodes.{kind}
 use Rattle.single_rate.specs.Flow.{Given, Sends, EachEdge, IsFlow, arrives, leaves}
 use Rattle.single_rate.specs.Expanded.{place_of, wire_of, by_nodes}
-use Rattle.single_rate.specs.Stages.{node_at, first_firing, IsOfFiring}
+use Rattle.single_rate.specs.Tiers.{node_at, first_firing, IsOfFiring}
 use Rattle.single_rate.specs.Ports.{ports_into, ports_from, up_from, AreCounted, IsAtMostOne, PortsAt}
 use Rattle.single_rate.proofs.Unique.{IsCopy, copies-same, and-left}
 use Rattle.job_flow.specs.Graphs.{JobGraph}
@@ -34,15 +34,15 @@ made_of None otherwise = otherwise
 made_of (Some (Ok outs)) otherwise = outs
 made_of (Some (Err fault)) otherwise = otherwise
 
--- a graph by its numbers: each node once, edges of later and later stages, and the firings in the order of one thread
+-- a graph by its numbers: each node once, edges of later and later tiers, and the firings in the order of one thread
 pub record IsNumbered (level : LevelView) (turns : List Turn) (list : List Node) (es : List Edge) : Type 0 where
   pub once : (n : ℕ) → n < length list → place_of list (node_at list n) ≡ n
   pub found : (m : Node) → place_of list m < length list → node_at list (place_of list m) ≡ m
   pub ends : AllByRecursion (λ e. (e.tail < length list) × (e.head < length list)) es
   pub ports : (n : ℕ) → n < length list → PortsAt level (node_at list n) (ports_into es n) (ports_from es n)
-  pub stage : ℕ → ℕ
-  pub rising : AllByRecursion (λ e. stage e.tail < stage e.head) es
-  pub in_order : (i j : ℕ) → i < j → j < length turns → stage (first_firing level + i) < stage (first_firing level + j)
+  pub tier : ℕ → ℕ
+  pub rising : AllByRecursion (λ e. tier e.tail < tier e.head) es
+  pub in_order : (i j : ℕ) → i < j → j < length turns → tier (first_firing level + i) < tier (first_firing level + j)
   pub stands : (before after : List ℕ) (b : ℕ) → actors_of turns ≡ before ++ b ∷ after → node_at list (first_firing level + length before) ≡ node.Firing b (firings b before)
   pub all : (n : ℕ) → kind (node_at list n) ≡ 2 → IsOfFiring level turns n
 
@@ -160,23 +160,23 @@ module _ {T F : Type 0} (turns : List Turn) (job : JobGraph T) (num : IsNumbered
       let answer = answered n (Ok outs.0) outs.1 in
       node-agrees n inside outs.0 outs.1 (node_at N n) refl answer.answers.allowed answer.answers.lengths (num.ports n inside) before
 
-  -- edges out of nodes that are done, of an earlier stage than this
+  -- edges out of nodes that are done, of an earlier tier than this
   abbrev Below : ℕ → Edge → Type 0
-  Below r e = (num.stage e.tail < r) × IsDone (v e.tail)
+  Below r e = (num.tier e.tail < r) × IsDone (v e.tail)
 
   agree-none : (es : List Edge) (ys : List (List T)) → Agree f (Below 0) es ys
   agree-none [] ys = tt
   agree-none (e ∷ es) [] = tt
   agree-none (e ∷ es) (y ∷ ys) = ((λ below. absurd (let b = below.0 in omega arith)), agree-none es ys)
 
-  agree-next : (r : ℕ) (es : List Edge) (ys : List (List T)) → AllByRecursion (λ e. (e.tail < length N) × (e.head < length N)) es → Agree f (Below r) es ys → ((n : ℕ) → n < length N → num.stage n ≡ r → IsDone (v n) → Agree f (λ e. e.tail ≡ n) es ys) → Agree f (Below (suc r)) es ys
+  agree-next : (r : ℕ) (es : List Edge) (ys : List (List T)) → AllByRecursion (λ e. (e.tail < length N) × (e.head < length N)) es → Agree f (Below r) es ys → ((n : ℕ) → n < length N → num.tier n ≡ r → IsDone (v n) → Agree f (λ e. e.tail ≡ n) es ys) → Agree f (Below (suc r)) es ys
   agree-next r [] ys ends below here = tt
   agree-next r (e ∷ es) [] ends below here = tt
   agree-next r (e ∷ es) (y ∷ ys) ends below here = (
     (λ at. ⊎_elim
-        (λ (early : num.stage e.tail < r). below.0 (early, at.1))
-        (λ (late : r ≤ num.stage e.tail). (here e.tail ends.0.0 (let b = at.0 in omega arith) at.1).0 refl)
-        (cases_lt (num.stage e.tail) r)),
+        (λ (early : num.tier e.tail < r). below.0 (early, at.1))
+        (λ (late : r ≤ num.tier e.tail). (here e.tail ends.0.0 (let b = at.0 in omega arith) at.1).0 refl)
+        (cases_lt (num.tier e.tail) r)),
     agree-next r es ys ends.1 below.1 (λ n inside at done. (here n inside at done).1),
   )
 
@@ -187,13 +187,13 @@ module _ {T F : Type 0} (turns : List Turn) (job : JobGraph T) (num : IsNumbered
       let outs = done-is (v n) done in
       let ready = (answered n (Ok outs.0) outs.1).ready in
       done-agrees n inside done (agree-less f (Below r) (λ e. e.head ≡ n) E on0
-      (all-both (λ e. num.stage e.tail < num.stage e.head) (λ e. e.head ≡ n → IsDone (v e.tail)) (λ e. e.head ≡ n → Below r e)
-      (λ e rises before own. let s : num.stage e.head ≡ num.stage n = ap num.stage own in (omega arith, before own)) E num.rising ready.before) earlier))
+      (all-both (λ e. num.tier e.tail < num.tier e.head) (λ e. e.head ≡ n → IsDone (v e.tail)) (λ e. e.head ≡ n → Below r e)
+      (λ e rises before own. let s : num.tier e.head ≡ num.tier n = ap num.tier own in (omega arith, before own)) E num.rising ready.before) earlier))
 
   agree-done : (es : List Edge) (ys : List (List T)) → ((r : ℕ) → Agree f (Below r) es ys) → Agree f (λ e. IsDone (v e.tail)) es ys
   agree-done [] ys all = tt
   agree-done (e ∷ es) [] all = tt
-  agree-done (e ∷ es) (y ∷ ys) all = ((λ done. (all (suc (num.stage e.tail))).0 (omega arith, done)), agree-done es ys (λ r. (all r).1))
+  agree-done (e ∷ es) (y ∷ ys) all = ((λ done. (all (suc (num.tier e.tail))).0 (omega arith, done)), agree-done es ys (λ r. (all r).1))
 
   -- what arrives at a ready node is what flows there
   pub arriving-flows : (n : ℕ) → IsReady job v n → (port : ℕ) → arriving E (on v E) n port ≡ arriving E on0 n port

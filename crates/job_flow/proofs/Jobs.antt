@@ -1,7 +1,7 @@
 -- A settled job ends as the run of one thread does.
 use Rattle.std.proofs.Common.{◌≡◌, ℕ, ◌+◌, ◌<◌, List, [], map, length, slice_index, Option, Some, None, Result, Ok, Err, refl, ap, sym, ◌∙◌, subst, arith}
 use Rattle.std.proofs.lemmas.List.Elements.{recursion_from_All}
-use Rattle.sdf_level.specs.Kept.{how_many}
+use Rattle.sdf_level.specs.Invariants.{how_many}
 use Rattle.sdf_level.specs.Firings.{EachFiring, actors_of, firings}
 use Rattle.sdf_level.specs.Told.{Made}
 use Rattle.sdf_level.specs.LevelRun.{IsLevelRun}
@@ -35,15 +35,15 @@ module _ (known : GraphLaws) {T : Type 0} (q : List ℕ) (turns : List Turn) (jo
 
   numbered-graph : IsNumbered job.level turns N E
   numbered-graph =
-      let stages = known.stages job.level q turns is.level_kept is.order in
+      let tiers = known.tiers job.level q turns is.level_kept is.order in
       record {
         once = λ n inside. known.once job.level q turns n is.order inside;
         found = λ m there. known.found N m there;
         ends = recursion_from_All (λ e. (e.tail < length N) × (e.head < length N)) E (known.ends job.level q turns is.level_kept is.order);
         ports = λ n inside. known.ports job.level q turns n is.level_kept is.order inside;
-        stage = stages.stage;
-        rising = recursion_from_All (λ e. stages.stage e.tail < stages.stage e.head) E stages.rising;
-        in_order = stages.in_order;
+        tier = tiers.tier;
+        rising = recursion_from_All (λ e. tiers.tier e.tail < tiers.tier e.head) E tiers.rising;
+        in_order = tiers.in_order;
         stands = λ before after b list_is. known.stands job.level q turns before after b is.order list_is;
         all = λ n kind_is. known.all job.level q turns n is.order kind_is;
       }

@@ -3,7 +3,7 @@ use Rattle.std.proofs.Common.{◌≡◌, ℕ, zero, suc, ◌+◌, ◌*◌, ◌<�
 use Rattle.std.proofs.lemmas.Bool.{cases_Bool, cases_lt, eqb-true}
 use Rattle.std.proofs.lemmas.List.{length-append, length-take, length-drop, get_or_past, map-append}
 use Rattle.sdf_level.specs.View.{LevelView}
-use Rattle.sdf_level.specs.Kept.{how_many, is_into_port}
+use Rattle.sdf_level.specs.Invariants.{how_many, is_into_port}
 use Rattle.sdf_level.specs.Links.{OfInner, EachInner, OfOuter, EachOuter}
 use Rattle.sdf_level.specs.Repetition.{AgreesOnZero}
 use Rattle.sdf_level.specs.Firings.{firings, actors_of, EachFiring, IsReady, CanFire}
@@ -26,7 +26,7 @@ use Rattle.single_rate.specs.Flow.{IsFlow}
 use Rattle.single_rate.specs.Delivers.{arrivals, at_firing}
 use Rattle.single_rate.specs.Expanded.{by_nodes}
 use Rattle.single_rate.specs.Laws.{HasOneFlow, IsGiven, GraphsHaveOneFlow, FlowsDeliver, graph}
-use Rattle.single_rate.specs.Stages.{node_at, first_firing}
+use Rattle.single_rate.specs.Tiers.{node_at, first_firing}
 use Rattle.single_rate.proofs.Given.{length-repeated}
 use Rattle.single_rate.proofs.Law.{next-firing}
 use Rattle.single_rate.proofs.Unique.{and-left}

@@ -5,7 +5,7 @@ use Rattle.std.proofs.lemmas.Bool.{cases_Bool, cases_eq, cases_lt, eq-eqb, ne_eq
 use Rattle.std.proofs.lemmas.List.{length-append, length-drop, get_or_past, map-append, get_or_push, get_or_append_left}
 use Rattle.std.proofs.lemmas.List.Elements.{recursion_from_All}
 use Rattle.std.proofs.lemmas.List.Sums.{sum_by-cons}
-use Rattle.sdf_level.specs.Kept.{how_many}
+use Rattle.sdf_level.specs.Invariants.{how_many}
 use Rattle.sdf_level.specs.Copying.{Copies}
 use Rattle.sdf_level.specs.Interfaces.{last}
 use Rattle.sdf_level.specs.Lists.{occurrences}
@@ -25,7 +25,7 @@ use Rattle.single_rate.specs.Names.{names, output_names, is_from_actor, output_r
 use Rattle.single_rate.specs.Flow.{Sends, EachEdge, IsFlow, arrives, leaves}
 use Rattle.single_rate.specs.Expanded.{wire_of, by_nodes, place_of, nodes, edges}
 use Rattle.single_rate.specs.Laws.{HasOneFlow, GraphsHaveOneFlow, graph}
-use Rattle.single_rate.specs.Stages.{node_at}
+use Rattle.single_rate.specs.Tiers.{node_at}
 use Rattle.single_rate.specs.Ports.{ports_into, ports_from, up_from, AreCounted, PortsAt, UsesPorts}
 use Rattle.single_rate.specs.Sizes.{HasTokens}
 use Rattle.single_rate.proofs.PortCounts.{one}

@@ -1,6 +1,6 @@
 -- What the nodes of a job read and write: for each port a list of tokens. Nodes and edges go by their numbers.
 use Rattle.std.specs.Prelude.{ℕ, zero, suc, ◌+◌, ◌==◌, ◌&&◌, List, [], ◌∷◌, ◌++◌, map, length, slice_index_or, Option, Some, None, Result, Ok, Err, if◌then◌else◌}
-use Rattle.sdf_level.specs.Kept.{how_many, is_into_port}
+use Rattle.sdf_level.specs.Invariants.{how_many, is_into_port}
 use Rattle.sdf_level.specs.Run.{is_into_actor, head_rate}
 use Rattle.sdf_level.specs.declared.link.Link.{Link}
 use Rattle.sdf_level.specs.declared.node.Node.{Node}

@@ -1,5 +1,5 @@
 -- The laws of single-rate graphs, by number, in one.
-use Rattle.single_rate.specs.Stages.{NodesAreFound, NodesStandOnce, FiringsAreThere, FiringsStandInOrder, FiringsAreAll, GraphsHaveStages, EndsAreThere, EdgesHaveTokens, NamesHaveLengths}
+use Rattle.single_rate.specs.Tiers.{NodesAreFound, NodesStandOnce, FiringsAreThere, FiringsStandInOrder, FiringsAreAll, GraphsHaveTiers, EndsAreThere, EdgesHaveTokens, NamesHaveLengths}
 use Rattle.single_rate.specs.Ports.{EdgesHavePorts, PortsAreUsed}
 
 pub record GraphLaws : Type 0 where
@@ -8,7 +8,7 @@ pub record GraphLaws : Type 0 where
   pub there : FiringsAreThere
   pub stands : FiringsStandInOrder
   pub all : FiringsAreAll
-  pub stages : GraphsHaveStages
+  pub tiers : GraphsHaveTiers
   pub ends : EndsAreThere
   pub tokens : EdgesHaveTokens
   pub names_fit : NamesHaveLengths

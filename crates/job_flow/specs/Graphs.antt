@@ -1,7 +1,7 @@
 -- What a job is made of. A job is one firing of one graph, expanded to its single-rate graph.
 use Rattle.std.specs.Prelude.{◌≡◌, ℕ, List, map, length}
 use Rattle.sdf_level.specs.View.{LevelView}
-use Rattle.sdf_level.specs.Kept.{IsLevel}
+use Rattle.sdf_level.specs.Invariants.{IsLevel}
 use Rattle.sdf_level.specs.Repetition.{IsRepetition}
 use Rattle.sdf_level.specs.Orders.{IsTurnOrder}
 use Rattle.sdf_level.specs.LevelRun.{HaveDelays}
@@ -9,7 +9,7 @@ use Rattle.sdf_level.specs.declared.node.Node.{Node}
 use Rattle.sdf_level.specs.declared.single_rate.Edge.{Edge}
 use Rattle.sdf_level.specs.declared.turn.Turn.{Turn}
 use Rattle.single_rate.specs.Expanded.{nodes, edges}
-pub use Rattle.single_rate.specs.Stages.{node_at}
+pub use Rattle.single_rate.specs.Tiers.{node_at}
 
 -- a level with its single-rate graph, what each source gives, and what each link holds at the start
 pub record JobGraph (T : Type 0) : Type 0 where

@@ -5,7 +5,7 @@ use Rattle.pisdf_model.specs.Ports.{sets_of}
 use Rattle.pisdf_model.specs.declared.graph.Graph.{Graph}
 use Rattle.job_compiler.specs.Compilation.{Compilation}
 use Rattle.sdf_level.specs.View.{LevelView}
-use Rattle.param_resolver.specs.Assignment.{given_to, numbers, param_faults, values_of}
+use Rattle.param_resolver.specs.Assignment.{supplied_to, numbers, param_faults, values_of}
 use Rattle.param_resolver.specs.EarlyCheck.{as_refusal}
 use Rattle.param_resolver.specs.declared.level_set.LevelSet.{LevelSet}
 use Rattle.level_schedule.specs.declared.scheduling.LevelSchedule.{LevelSchedule}
@@ -50,7 +50,7 @@ module _ (graphs : List Graph) (g : Graph) (firing : Firing) (left : List Config
 
   pub resolved_kept : resolved graphs g (slim_firing firing) (slim_left left) ≡ resolved graphs g firing left
   resolved_kept =
-      let given : List ℤ → List (Option ℤ) = λ chosen. given_to g.params firing.inherited chosen in
+      let given : List ℤ → List (Option ℤ) = λ chosen. supplied_to g.params firing.inherited chosen in
       ap (λ chosen. unless_refused graphs g firing.path (map as_refusal (param_faults g.params (given chosen))) (numbers (values_of g.params (given chosen)))) chosen_kept
 
 -- what is ready for the slim one is so for the whole

@@ -3,7 +3,7 @@ pub mod View
 pub mod CompileTasks
 pub mod Stages
 pub mod Standing
-pub mod Kept
+pub mod Invariants
 pub mod Slim
 pub mod Tasked
 pub mod Unclaimed

@@ -7,7 +7,6 @@ use Rattle.param_resolver.specs.EarlyCheck.{early_faults}
 use Rattle.pisdf_meaning.specs.Configuring.{early_in}
 use Rattle.job_rules.specs.Items.{graph_of}
 use Rattle.job_preparing.specs.CompileTasks.{CompileView}
-use Rattle.job_preparing.specs.Handing.{with_traces}
 use Rattle.job_preparing.specs.Slim.{slim_firing, slim_left}
 use Rattle.job_preparing.specs.declared.compile_task.Parts.{Parts}
 
@@ -16,7 +15,7 @@ task_view i = record {
   graphs = arc_value i.graphs;
   workers = i.workers;
   firing = i.whole.value;
-  left = with_traces i.left_by.value.items i.traces.value.items;
+  left = i.told;
   kept = option_map arc_value i.kept;
 }
 
@@ -27,4 +26,4 @@ pub record IsTask (i : Parts) : Type 0 where
   pub early_is : arc_value i.early ≡ early_in (arc_value i.graphs).graphs i.whole.value
   pub some_worker : 1 ≤ i.workers
   pub firing_is : i.firing ≡ slim_firing i.whole.value
-  pub left_is : i.left.items ≡ slim_left (with_traces i.left_by.value.items i.traces.value.items)
+  pub left_is : i.left.items ≡ slim_left i.told

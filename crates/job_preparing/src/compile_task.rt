@@ -2,7 +2,7 @@
 ghost use Rattle.std.specs.Prelude.{◌≡◌};
 
 use crate::compiling::{CompileEnd, Made, make};
-use crate::trace::Trace;
+use crate::left_told::LeftTold;
 use job_compiler::{Compiled, one_compilation};
 use param_resolver::Early;
 use pisdf_meaning::{Configured, Firing, PlainFault};
@@ -30,8 +30,7 @@ pub(crate) struct Parts {
     pub(crate) kept: Option<Arc<Compiled>>,
     // The firing itself and what its configuration actors left, of which the task has what it looks at.
     pub(crate) whole: Snapshot<Firing>,
-    pub(crate) left_by: Snapshot<Vec<Configured>>,
-    pub(crate) traces: Snapshot<Vec<Trace>>,
+    pub(crate) told: LeftTold,
 }
 
 impl Model for CompileTask {

@@ -4,6 +4,7 @@ use crate::compile_task::{CompileTask, Parts};
 use crate::ending::{keep, kernel_given};
 use crate::handing::{ConfiguredFiring, JobGiven};
 use crate::kept_one::key_for;
+use crate::left_told::LeftTold;
 use crate::slim::{slim_firing, slim_left};
 use crate::stage::{
     Stage, all_finished, all_gave, first_call, first_kernel, first_refused, line_of, put, spare_of,
@@ -47,7 +48,7 @@ impl Model for Configuring {
 
     ghost coded = { Prim.hlevel (codes, tree_code) };
 
-    ghost use Rattle.job_preparing.specs.Kept.{IsConfiguring, view_of};
+    ghost use Rattle.job_preparing.specs.Invariants.{IsConfiguring, view_of};
 
     ghost view = { view_of };
 
@@ -254,6 +255,17 @@ impl Configuring {
         &self.left
     }
 
+    /// What the configuration actors left, as data of the proofs alone.
+    pub fn told_left(&self) -> LeftTold
+        requires { IsReady self.now }
+        ensures { result ≡ left_by self.now }
+    {
+        LeftTold {
+            left: Snapshot::of(&self.left),
+            traces: Snapshot::of(&self.traces),
+        }
+    }
+
     /// What the compilation of the firing for so many workers is kept by.
     ///
     /// # Errors
@@ -290,8 +302,7 @@ impl Configuring {
             left: slim_left(alloc, &self.left)?,
             kept,
             whole: Snapshot::of(&self.firing),
-            left_by: Snapshot::of(&self.left),
-            traces: Snapshot::of(&self.traces),
+            told: self.told_left(),
         };
         Ok(CompileTask {
             parts: Box::new(alloc, parts)?,

@@ -115,7 +115,7 @@ pub fn configure(
     requires valid { AreValid (arc_value graphs) }
     requires fit { IsFit (arc_value graphs).graphs firing }
     requires inherited { HasInherited (arc_value graphs).graphs firing }
-    ensures given { IfOk result (λ v. (v.graphs ≡ arc_value graphs) × (v.firing ≡ firing)) }
+    ensures made_of { IfOk result (λ v. (v.graphs ≡ arc_value graphs) × (v.firing ≡ firing)) }
     ensures free { IfOk result (λ v. v.marks ≡ replicate (compile_number (graph_of (arc_value graphs).graphs firing)) Free) }
     ensures lent { IfOk result (λ v. v.lent ≡ replicate (compile_number (graph_of (arc_value graphs).graphs firing)) None) }
 {

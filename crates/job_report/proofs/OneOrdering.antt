@@ -20,7 +20,7 @@ use Rattle.order_memory.specs.Orders.{AreOrders, after_of, sizes_of}
 use Rattle.order_memory.specs.Runs.{Event, FinishesAll, IsOrderedRun, LiveAreApart}
 use Rattle.order_memory.specs.declared.tables.Ordered.{Ordered}
 use Rattle.job_compiler.specs.Compilation.{Compilation, IsCompiled, IsMapped}
-use Rattle.job_report.specs.Kept.{Holds, KeepsApart}
+use Rattle.job_report.specs.Holding.{Holds, KeepsApart}
 use Rattle.job_report.specs.Memory.{IsOrdering, memory_text}
 use Rattle.job_report.specs.Told.{Tells}
 use Rattle.job_report.specs.declared.names.JobNames.{JobNames}

@@ -21,7 +21,7 @@ use Rattle.schedule_bound.specs.declared.tables.Report.{Report}
 use Rattle.job_compiler.specs.Compilation.{Compilation, IsSound}
 use Rattle.job_compiler.proofs.SoundEdges.{pair_ends, pairs_rise}
 use Rattle.std.specs.Prelude.{OnOk}
-use Rattle.job_report.specs.Kept.{Bounds, Holds}
+use Rattle.job_report.specs.Holding.{Bounds, Holds}
 use Rattle.job_report.specs.Schedule.{IsReportOn, costed, schedule_text}
 use Rattle.job_report.specs.Told.{Tells}
 use Rattle.job_report.specs.declared.names.JobNames.{JobNames}

@@ -4,4 +4,4 @@ pub mod Plan
 pub mod Schedule
 pub mod Memory
 pub mod Told
-pub mod Kept
+pub mod Holding

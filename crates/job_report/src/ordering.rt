@@ -1,6 +1,6 @@
 // The orders of a job's workers, and the memory under them.
 ghost use Rattle.std.specs.Prelude.{◌≡◌, ◌≤◌, IfOk};
-ghost use Rattle.job_report.specs.Kept.{KeepsApart};
+ghost use Rattle.job_report.specs.Holding.{KeepsApart};
 ghost use Rattle.job_report.specs.Memory.{IsOrdering};
 ghost use Rattle.order_memory.specs.declared.tables.Ordered.{Ordered as AnyOrdered};
 

@@ -1,6 +1,6 @@
 // The report on the list schedule of a job.
 ghost use Rattle.std.specs.Prelude.{◌≡◌, ◌≤◌, IfOk};
-ghost use Rattle.job_report.specs.Kept.{Bounds};
+ghost use Rattle.job_report.specs.Holding.{Bounds};
 ghost use Rattle.job_report.specs.Schedule.{IsReportOn};
 ghost use Rattle.schedule_bound.specs.declared.tables.Report.{Report as AnyReport};
 

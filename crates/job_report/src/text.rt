@@ -1,5 +1,5 @@
 ghost use Rattle.std.specs.Prelude.{◌≡◌, ◌≤◌, ℕ, List as Seq, IfOk, OnOk, string_bytes};
-ghost use Rattle.job_report.specs.Kept.{Holds};
+ghost use Rattle.job_report.specs.Holding.{Holds};
 ghost use Rattle.job_report.specs.Names.{names_of};
 ghost use Rattle.job_report.specs.Told.{Tells};
 

@@ -14,12 +14,12 @@ use Rattle.pisdf_model.specs.WellFormed.{WellFormed}
 use Rattle.pisdf_model.specs.declared.actor.Actor.{Actor}
 use Rattle.pisdf_model.specs.declared.graph.Graph.{Graph}
 use Rattle.pisdf_model.specs.declared.graph.Graphs.{Graphs}
-use Rattle.sdf_level.specs.Kept.{IsLevel}
+use Rattle.sdf_level.specs.Invariants.{IsLevel}
 use Rattle.sdf_level.specs.Laws.{Firing as Made, among}
 use Rattle.sdf_level.specs.declared.node.Node.{Node}
 use Rattle.sdf_level.specs.declared.node.Node.TheVariants as node
 use Rattle.sdf_level.specs.declared.single_rate.Edge.{Edge}
-use Rattle.single_rate.specs.Stages.{FiringsAreAll, FiringsStandInOrder, GraphsHaveStages, HaveStages}
+use Rattle.single_rate.specs.Tiers.{FiringsAreAll, FiringsStandInOrder, GraphsHaveTiers, HaveTiers}
 use Rattle.pisdf_meaning.specs.Configuring.{configurations}
 use Rattle.pisdf_meaning.specs.Meaning.{MeansWithin}
 use Rattle.kernel_gate.specs.Laws.{GiveLengths}
@@ -50,7 +50,7 @@ use Rattle.job_rules.proofs.Sources.{fits, sources_fit}
 pub record Laws : Type 0 where
   pub all : FiringsAreAll
   pub in_order : FiringsStandInOrder
-  pub stages : GraphsHaveStages
+  pub tiers : GraphsHaveTiers
   pub ready : ReadyStays ℤ Refusal
   pub inputs_stay : InputsStay ℤ Refusal
   pub once : NodesStandOnce ℤ
@@ -212,47 +212,47 @@ module _ (laws : Laws) (signatures : List Counts) (graphs : Graphs) (range : InR
     pub does : (m : ℕ) (r : Result (List (List ℤ)) Refusal) → vs m ≡ Some r → Allows (among coded) (node_at job.nodes m) (inputs job vs m) r × (Reads m → HasLens (lens job m) r)
     does m r is = let s = told m r is in does_so m r is s.t s.a s.may s.ready (node_at job.nodes m) refl s.task s.result
 
-    -- ---- stage by stage
+    -- ---- by tiers
 
-    abbrev stages : HaveStages (level_of G g firing p) p.schedule.counts p.schedule.order
-    stages = laws.stages (level_of G g firing p) p.schedule.counts p.schedule.order is_level level_so.is_scheduled.order
+    abbrev tiers : HaveTiers (level_of G g firing p) p.schedule.counts p.schedule.order
+    tiers = laws.tiers (level_of G g firing p) p.schedule.counts p.schedule.order is_level level_so.is_scheduled.order
 
-    -- what is finished before a stage
+    -- what is finished before a tier
     abbrev before : ℕ → flow.Values ℤ Refusal
-    before s m = if nat_lt (stages.stage m) s then vs m else None
+    before s m = if nat_lt (tiers.tier m) s then vs m else None
 
-    within : (s m : ℕ) → stages.stage m < s → before s m ≡ vs m
-    within s m below = rw (lt-ltb (stages.stage m) s below) refl
+    within : (s m : ℕ) → tiers.tier m < s → before s m ≡ vs m
+    within s m below = rw (lt-ltb (tiers.tier m) s below) refl
 
-    of_stage : (s m : ℕ) (r : Result (List (List ℤ)) Refusal) → before s m ≡ Some r → (stages.stage m < s) × (vs m ≡ Some r)
-    of_stage s m r is = ⊎_elim
-        (λ (below : stages.stage m < s). (below, sym (within s m below) ∙ is))
-        (λ (past : s ≤ stages.stage m). absurd (let e : None ≡ Some r = rw (le-ltb (stages.stage m) s past) at is in cc))
-        (cases_lt (stages.stage m) s)
+    of_tier : (s m : ℕ) (r : Result (List (List ℤ)) Refusal) → before s m ≡ Some r → (tiers.tier m < s) × (vs m ≡ Some r)
+    of_tier s m r is = ⊎_elim
+        (λ (below : tiers.tier m < s). (below, sym (within s m below) ∙ is))
+        (λ (past : s ≤ tiers.tier m). absurd (let e : None ≡ Some r = rw (le-ltb (tiers.tier m) s past) at is in cc))
+        (cases_lt (tiers.tier m) s)
 
     grows : (s : ℕ) → Grows (before s) vs
-    grows s m r is = (of_stage s m r is).1
+    grows s m r is = (of_tier s m r is).1
 
-    edges_before : (s m : ℕ) (es : List Edge) → AllByRecursion (λ (e : Edge). stages.stage e.tail < stages.stage e.head) es → stages.stage m ≤ s → AllByRecursion (λ (e : Edge). e.head ≡ m → IsDone (vs e.tail)) es → AllByRecursion (λ (e : Edge). e.head ≡ m → IsDone (before s e.tail)) es
+    edges_before : (s m : ℕ) (es : List Edge) → AllByRecursion (λ (e : Edge). tiers.tier e.tail < tiers.tier e.head) es → tiers.tier m ≤ s → AllByRecursion (λ (e : Edge). e.head ≡ m → IsDone (vs e.tail)) es → AllByRecursion (λ (e : Edge). e.head ≡ m → IsDone (before s e.tail)) es
     edges_before s m [] rising low done = tt
     edges_before s m (e ∷ es) rising low done = (
-      (λ is. let up = rising.0 in let same = ap stages.stage is in let P : Option (Result (List (List ℤ)) Refusal) → Type 0 = λ o. IsDone o in subst P (sym (within s e.tail (omega arith))) (done.0 is)),
+      (λ is. let up = rising.0 in let same = ap tiers.tier is in let P : Option (Result (List (List ℤ)) Refusal) → Type 0 = λ o. IsDone o in subst P (sym (within s e.tail (omega arith))) (done.0 is)),
       edges_before s m es rising.1 low done.1,
     )
 
-    ready_before : (s m : ℕ) → stages.stage m ≤ s → IsReady job vs m → IsReady job (before s) m
-    ready_before s m low ready = record { there = ready.there; before = edges_before s m job.edges (recursion_from_All (λ (e : Edge). stages.stage e.tail < stages.stage e.head) job.edges stages.rising) low ready.before }
+    ready_before : (s m : ℕ) → tiers.tier m ≤ s → IsReady job vs m → IsReady job (before s) m
+    ready_before s m low ready = record { there = ready.there; before = edges_before s m job.edges (recursion_from_All (λ (e : Edge). tiers.tier e.tail < tiers.tier e.head) job.edges tiers.rising) low ready.before }
 
-    -- where what is finished before a stage is answered as it may be, the nodes of the stage read as much as they have to
-    reads_at : (s m : ℕ) → AreAnswered job (among coded) (before s) → stages.stage m ≤ s → IsReady job vs m → Reads m
+    -- where what is finished before a tier is answered as it may be, the nodes of the tier read as much as they have to
+    reads_at : (s m : ℕ) → AreAnswered job (among coded) (before s) → tiers.tier m ≤ s → IsReady job vs m → Reads m
     reads_at s m answered low ready =
         let early = ready_before s m low ready in
         ap (map length) (laws.inputs_stay job (before s) vs m (grows s) early) ∙ laws.lens_are p.schedule.counts p.schedule.order job coded (before s) m is_job answered early
 
     answered_before : (s : ℕ) → AreAnswered job (among coded) (before s)
-    answered_before zero m r is = absurd (let low = (of_stage zero m r is).0 in omega arith)
+    answered_before zero m r is = absurd (let low = (of_tier zero m r is).0 in omega arith)
     answered_before (suc s) m r is =
-        let at = of_stage (suc s) m r is in
+        let at = of_tier (suc s) m r is in
         let ready = (told m r at.1).ready in
         let reads = reads_at s m (answered_before s) (let low = at.0 in omega arith) ready in
         let does_it = does m r at.1 in
@@ -261,7 +261,7 @@ module _ (laws : Laws) (signatures : List Counts) (graphs : Graphs) (range : InR
         record { ready = early; answers = record { allowed = subst P (laws.inputs_stay job (before (suc s)) vs m (grows (suc s)) early) does_it.0; lengths = does_it.1 reads } }
 
     pub reads : (m : ℕ) → IsReady job vs m → Reads m
-    reads m ready = reads_at (stages.stage m) m (answered_before (stages.stage m)) (omega arith) ready
+    reads m ready = reads_at (tiers.tier m) m (answered_before (tiers.tier m)) (omega arith) ready
 
     pub answered : AreAnswered job (among coded) vs
     answered m r is =

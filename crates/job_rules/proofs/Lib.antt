@@ -12,7 +12,6 @@ pub mod OfActors
 pub mod Called
 pub mod Answered
 pub mod Settled
-pub mod Quiet
 pub mod Settling
 pub mod Calls
 pub mod Fitted

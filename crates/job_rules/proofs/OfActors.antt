@@ -9,7 +9,7 @@ use Rattle.sdf_level.specs.declared.turn.Turn.{Turn}
 use Rattle.sdf_level.proofs.FiringLists.{firings-own}
 use Rattle.single_rate.specs.Expanded.{nodes}
 use Rattle.single_rate.specs.Nodes.{kind}
-use Rattle.single_rate.specs.Stages.{FiringsAreAll, FiringsStandInOrder, first_firing, node_at}
+use Rattle.single_rate.specs.Tiers.{FiringsAreAll, FiringsStandInOrder, first_firing, node_at}
 
 stands : (b : ℕ) (before after : List ℕ) → firings b before < firings b (before ++ b ∷ after)
 stands b [] after = let one = firings-own b after in omega arith

@@ -7,7 +7,7 @@ use Rattle.job_rules.specs.Meant.{rank}
 use Rattle.job_rules.specs.Words.{Answer}
 use Rattle.nested_jobs.proofs.Nesting.{of_open}
 use Rattle.nested_jobs.proofs.Tabling.{answers_are}
-use Rattle.nested_jobs.specs.Kept.{InJob}
+use Rattle.nested_jobs.specs.Invariants.{InJob}
 use Rattle.nested_jobs.specs.Marks.{Mark, Marks, Open, values}
 use Rattle.nested_jobs.specs.Meanings.{Lawful}
 use Rattle.nested_jobs.specs.Rules.{Call, Place, Values}

@@ -1,6 +1,6 @@
 -- What the rows of a replay stand for.
 use Rattle.std.specs.Prelude.{◌≡◌, ℕ, List, [], ◌∷◌, Option, Some}
-use Rattle.nested_jobs.specs.Kept.{Nested}
+use Rattle.nested_jobs.specs.Invariants.{Nested}
 use Rattle.nested_jobs.specs.Marks.{Mark, Free, Busy, Open, Done, Marks, values}
 use Rattle.nested_jobs.specs.Rules.{Place}
 use Rattle.nested_jobs.specs.Tables.{StandsFor}

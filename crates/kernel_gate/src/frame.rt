@@ -53,7 +53,7 @@ impl Frame {
         outputs: &[u32],
         sets: u32,
     ) -> Result<Frame, AllocError>
-        ensures given { IfOk result (λ f. (f.kind ≡ kind) × (f.args ≡ args) × (f.inputs ≡ inputs)) }
+        ensures made_of { IfOk result (λ f. (f.kind ≡ kind) × (f.args ≡ args) × (f.inputs ≡ inputs)) }
         ensures zeros { IfOk result (λ f. (f.outputs ≡ map (λ n. replicate n (pos 0)) outputs.now) × (f.sets ≡ replicate sets (pos 0))) }
         ensures whole { IfOk result (λ f. AreWhole f.places) }
     {

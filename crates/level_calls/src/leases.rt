@@ -131,7 +131,7 @@ fn frame_over(
     output: Lease,
 ) -> Frame
     requires room { (1 ≤ room.inputs) × (1 ≤ room.outputs) }
-    ensures given { (result.kind ≡ kind) × (result.args ≡ args) × (result.sets ≡ sets) }
+    ensures made_of { (result.kind ≡ kind) × (result.args ≡ args) × (result.sets ≡ sets) }
     ensures cells { (result.inputs ≡ input.cells ∷ []) × (result.outputs ≡ output.cells ∷ []) }
     ensures inputs { result.places.inputs ≡ lease_place input ∷ [] }
     ensures outputs { result.places.outputs ≡ lease_place output ∷ [] }

@@ -12,7 +12,7 @@ use Rattle.sdf_level.specs.declared.link.Tail.{Tail}
 use Rattle.sdf_level.specs.declared.link.Head.{Head}
 use Rattle.sdf_level.specs.declared.link.Tail.TheVariants as tail
 use Rattle.sdf_level.specs.declared.link.Head.TheVariants as head
-use Rattle.sdf_level.specs.Kept.{is_into_port}
+use Rattle.sdf_level.specs.Invariants.{is_into_port}
 use Rattle.sdf_level.specs.Links.{OfOuter, EachOuter}
 use Rattle.sdf_level.specs.Interfaces.{repeated}
 use Rattle.sdf_level.specs.Run.{added, head_rate, input, inputs_below, put, read}

@@ -12,7 +12,7 @@ use Rattle.sdf_level.specs.declared.link.Head.{Head}
 use Rattle.sdf_level.specs.declared.link.Tail.TheVariants as tail
 use Rattle.sdf_level.specs.declared.link.Head.TheVariants as head
 use Rattle.sdf_level.specs.Interfaces.{last}
-use Rattle.sdf_level.specs.Kept.{HasSoundDelay, TouchesActor, how_many, is_into_sink}
+use Rattle.sdf_level.specs.Invariants.{HasSoundDelay, TouchesActor, how_many, is_into_sink}
 use Rattle.sdf_level.specs.Links.{OfOuter, EachOuter}
 use Rattle.sdf_level.specs.Firings.{firings}
 use Rattle.sdf_level.specs.Orders.{IsAdmissible}

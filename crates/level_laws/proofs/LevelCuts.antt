@@ -9,7 +9,7 @@ use Rattle.sdf_level.specs.declared.link.Head.{Head}
 use Rattle.sdf_level.specs.declared.link.Tail.TheVariants as tail
 use Rattle.sdf_level.specs.declared.link.Head.TheVariants as head
 use Rattle.sdf_level.specs.Interfaces.{last}
-use Rattle.sdf_level.specs.Kept.{HasSoundDelay, IsLevel}
+use Rattle.sdf_level.specs.Invariants.{HasSoundDelay, IsLevel}
 use Rattle.sdf_level.specs.Firings.{firings, actors_of}
 use Rattle.sdf_level.specs.Orders.{IsAdmissible}
 use Rattle.sdf_level.specs.Run.{Fire, Runs}

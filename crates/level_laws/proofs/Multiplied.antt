@@ -9,7 +9,7 @@ use Rattle.sdf_level.specs.declared.link.Tail.{Tail}
 use Rattle.sdf_level.specs.declared.link.Head.{Head}
 use Rattle.sdf_level.specs.declared.link.Tail.TheVariants as tail
 use Rattle.sdf_level.specs.declared.link.Head.TheVariants as head
-use Rattle.sdf_level.specs.Kept.{HeadIsThere, IsLevel, TailIsThere, rate_limit}
+use Rattle.sdf_level.specs.Invariants.{HeadIsThere, IsLevel, TailIsThere, rate_limit}
 use Rattle.sdf_level.specs.Links.{Outer, OfOuter, EachOuter}
 use Rattle.sdf_level.specs.Balance.{IsBase, Solves}
 use Rattle.sdf_level.specs.Components.{AreConnected}

@@ -2,7 +2,7 @@
 use Rattle.std.specs.Prelude.{◌≡◌, ℕ, suc, ◌≤◌, ◌↔◌, List, Result, Ok}
 use Rattle.std.specs.List.{AllByRecursion}
 use Rattle.sdf_level.specs.View.{LevelView}
-use Rattle.sdf_level.specs.Kept.{IsLevel, rate_limit}
+use Rattle.sdf_level.specs.Invariants.{IsLevel, rate_limit}
 use Rattle.sdf_level.specs.Repetition.{IsRepetition}
 use Rattle.sdf_level.specs.Limits.{IsWithinLimits}
 use Rattle.sdf_level.specs.Orders.{IsAdmissible}

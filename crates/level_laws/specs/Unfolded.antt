@@ -1,7 +1,7 @@
 -- The level of several iterations at once, which has the rates of its sources and sinks multiplied.
 use Rattle.std.specs.Prelude.{◌≡◌, ℕ, zero, suc, ◌*◌, ◌<◌, ◌⊎◌, List, [], ◌∷◌, ◌++◌, map, slice_index}
 use Rattle.sdf_level.specs.View.{LevelView}
-use Rattle.sdf_level.specs.Kept.{IsLevel}
+use Rattle.sdf_level.specs.Invariants.{IsLevel}
 use Rattle.sdf_level.specs.Links.{Outer, EachOuter}
 use Rattle.sdf_level.specs.Components.{AreConnected}
 use Rattle.sdf_level.specs.Repetition.{IsRepetition}

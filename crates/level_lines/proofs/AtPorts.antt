@@ -4,7 +4,7 @@ use Rattle.std.proofs.Math.Seq.{drop-nil}
 use Rattle.std.proofs.lemmas.Bool.{cases_Bool}
 use Rattle.std.proofs.lemmas.List.{append-nil, take_all}
 use Rattle.sdf_level.specs.Interfaces.{repeat, repeated}
-use Rattle.sdf_level.specs.Kept.{how_many, is_into_port}
+use Rattle.sdf_level.specs.Invariants.{how_many, is_into_port}
 use Rattle.sdf_level.specs.Run.{head_rate, input, inputs, inputs_below, read, is_into_actor}
 use Rattle.sdf_level.specs.declared.link.Link.{Link}
 use Rattle.sdf_level.specs.declared.link.Head.{Head}

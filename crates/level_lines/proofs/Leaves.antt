@@ -2,7 +2,7 @@
 use Rattle.std.proofs.Common.{◌≡◌, ℕ, ◌+◌, ◌<◌, true, false, List, [], ◌∷◌, ◌++◌, length, get_or, take, drop, drop-cons, add-one, refl, ap, sym, ◌∙◌, arith}
 use Rattle.std.proofs.lemmas.List.{take_more, length-take-le}
 use Rattle.sdf_level.specs.Interfaces.{last}
-use Rattle.sdf_level.specs.Kept.{is_into_sink}
+use Rattle.sdf_level.specs.Invariants.{is_into_sink}
 use Rattle.sdf_level.specs.LevelRun.{written, kept_at, left_on, left_of}
 use Rattle.sdf_level.specs.declared.link.Link.{Link}
 use Rattle.level_lines.specs.AtActors.{no_link}

@@ -2,7 +2,7 @@
 use Rattle.std.proofs.Common.{◌≡◌, ℕ, zero, suc, ◌+◌, ◌<◌, Bool, true, false, List, [], ◌∷◌, ◌++◌, length, get_or, take, refl, ap, sym, ◌∙◌, set, length-set, length-take-le, get_or-set_same, get_or-set_other, ⊎_elim, ◌≢◌, Option, Some, ne_eqb, eq-eqb, append_assoc, arith, if◌then◌else◌}
 use Rattle.std.proofs.lemmas.Bool.{cases_eq, cases_Bool}
 use Rattle.std.proofs.lemmas.List.{take_more, append-nil}
-use Rattle.sdf_level.specs.Kept.{how_many}
+use Rattle.sdf_level.specs.Invariants.{how_many}
 use Rattle.sdf_level.specs.declared.link.Link.{Link}
 use Rattle.level_lines.specs.AtActors.{no_link, places, stands_at, is_of, AreListed, IsListed}
 use Rattle.level_lines.specs.declared.ports.Side.{Side}

@@ -1,7 +1,7 @@
 // What a run leaves: at the sinks and on the links.
 ghost use Rattle.std.specs.Prelude.{ℕ, ℤ, ◌≡◌, ◌<◌, ◌≤◌, ◌+◌, ◌*◌, ◌^◌, List as Seq, [], drop, length, slice_index, IfOk};
 ghost use Rattle.sdf_level.specs.Interfaces.{last};
-ghost use Rattle.sdf_level.specs.Kept.{is_into_sink};
+ghost use Rattle.sdf_level.specs.Invariants.{is_into_sink};
 ghost use Rattle.sdf_level.specs.Lists.{lists_of};
 ghost use Rattle.sdf_level.specs.LevelRun.{kept as lines_kept, left_of, left_on, written};
 ghost use Rattle.level_lines.specs.Lines.{HasCount};

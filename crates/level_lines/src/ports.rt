@@ -86,7 +86,7 @@ fn listed(
     requires { length links.now < 2 ^ 32 }
     ensures { IfOk result (λ lists. AreListed actors side links.now (lists_of lists.items)) }
 {
-    let mut lists = empty_lists(alloc, actors)?;
+    let mut lists = empty_lists(alloc, actors as usize)?;
     for i in 0..links.len() as u32 {
         push(&mut lists, actor_at(&links[i as usize], side), i)?;
     }

@@ -1,6 +1,6 @@
 // What a firing reads.
 ghost use Rattle.std.specs.Prelude.{ℕ, ℤ, ◌≡◌, ◌<◌, ◌≤◌, ◌+◌, ◌*◌, ◌^◌, Bool, true, false, List as Seq, [], drop, take, length, slice_index_or, IfOk, IfSome, IfNone};
-ghost use Rattle.sdf_level.specs.Kept.{is_into_port};
+ghost use Rattle.sdf_level.specs.Invariants.{is_into_port};
 ghost use Rattle.sdf_level.specs.Interfaces.{repeated};
 ghost use Rattle.sdf_level.specs.Lists.{lists_of};
 ghost use Rattle.sdf_level.specs.Run.{head_rate, input, inputs, is_into_actor, read};

@@ -2,7 +2,7 @@
 use Rattle.std.proofs.Common.{ℕ, ◌<◌, ◌≤◌, ◌⊎◌, inl, inr, ⊎_elim, List, Ok, Err, refl}
 use Rattle.std.proofs.lemmas.Bool.{cases_lt}
 use Rattle.sdf_level.specs.View.{LevelView}
-use Rattle.sdf_level.specs.Kept.{IsLevel}
+use Rattle.sdf_level.specs.Invariants.{IsLevel}
 use Rattle.sdf_level.specs.Limits.{IsWithinLimits, firing_count, firings_limit, link_count, links_limit, token_count, tokens_limit}
 use Rattle.sdf_level.specs.Orders.{IsDeadlocked, IsLeft, IsTurnOrder}
 use Rattle.sdf_level.specs.Repetition.{HasNoRepetition, IsRepetition}

@@ -11,7 +11,7 @@ use Rattle.interface_rules.proofs.Multiplied.{is_repetition}
 use Rattle.sdf_level.specs.View.{LevelView}
 use Rattle.sdf_level.specs.Balance.{HasNoVector, IsBalanced, IsBase, Solves, base_entry_limit}
 use Rattle.sdf_level.specs.Groups.{AreUnited, united}
-use Rattle.sdf_level.specs.Kept.{HeadIsThere, IsLevel, TailIsThere, rate_limit}
+use Rattle.sdf_level.specs.Invariants.{HeadIsThere, IsLevel, TailIsThere, rate_limit}
 use Rattle.sdf_level.specs.Links.{Inner, Outer, OfInner, OfOuter, EachInner, EachOuter}
 use Rattle.sdf_level.specs.Repetition.{AgreesOnZero, HasNoRepetition, IsRepetition}
 use Rattle.sdf_level.specs.declared.link.Link.{Link}

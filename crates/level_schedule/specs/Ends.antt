@@ -1,6 +1,6 @@
 -- What is known of the links of a level beside its counts of firings.
 use Rattle.std.specs.Prelude.{ℕ, ◌<◌, List, length}
-use Rattle.sdf_level.specs.Kept.{rate_limit, HasTailRateWithin, HasHeadRateWithin}
+use Rattle.sdf_level.specs.Invariants.{rate_limit, HasTailRateWithin, HasHeadRateWithin}
 use Rattle.sdf_level.specs.declared.link.Link.{Link}
 use Rattle.sdf_level.specs.declared.link.Tail.{Tail}
 use Rattle.sdf_level.specs.declared.link.Head.{Head}

@@ -1,6 +1,6 @@
 // What the firings of a level come to: how many there are, and their links and tokens.
 ghost use Rattle.std.specs.Prelude.{ℕ, ◌≡◌, ◌≤◌, ◌<◌, ◌+◌, ◌*◌, ◌^◌, ◌↔◌, IsTrue, length};
-ghost use Rattle.sdf_level.specs.Kept.{rate_limit};
+ghost use Rattle.sdf_level.specs.Invariants.{rate_limit};
 ghost use Rattle.sdf_level.specs.Limits.{IsWithinLimits, tail_count, head_count, moved, firing_count, link_count, token_count, firings_limit, links_limit};
 ghost use Rattle.level_schedule.specs.Ends.{TailHasCount, HeadHasCount, HasEnds};
 

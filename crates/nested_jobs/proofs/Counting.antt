@@ -8,7 +8,7 @@ use Rattle.nested_jobs.specs.Marks.{Mark, Free, Busy, Open, Done, Marks, put, va
 use Rattle.nested_jobs.specs.Steps.{task_at, opens, begins, opened, claimed, ends, finished}
 use Rattle.nested_jobs.specs.Journals.{Entry, Claim, Finish, State, start_mark, start, finish_of, after, state_from, state, Allowed, LegalFrom, Legal}
 use Rattle.nested_jobs.specs.Meanings.{Lawful}
-use Rattle.nested_jobs.specs.Kept.{Nested, OpenUnsettled, Keeps}
+use Rattle.nested_jobs.specs.Invariants.{Nested, OpenUnsettled, Keeps}
 use Rattle.nested_jobs.specs.Pick.{outer_by, outer, Prefers, IsPreferred, ArePreferredFrom, NotIn, Distinct, AreOpen, Few}
 use Rattle.nested_jobs.proofs.Places.{same_tail, put_at}
 use Rattle.nested_jobs.proofs.Turns.{closed_keeps}

@@ -5,7 +5,7 @@ use Rattle.nested_jobs.specs.Marks.{Mark, Free, Busy, Open, Done}
 use Rattle.nested_jobs.specs.Steps.{IsEnabled, is_quiet}
 use Rattle.nested_jobs.specs.Journals.{State, IsEnded}
 use Rattle.nested_jobs.specs.Meanings.{Lawful}
-use Rattle.nested_jobs.specs.Kept.{Keeps}
+use Rattle.nested_jobs.specs.Invariants.{Keeps}
 use Rattle.nested_jobs.specs.Laws.{GoesOn}
 use Rattle.nested_jobs.proofs.Nesting.{top_open, of_busy, top_not_busy, top_not_free}
 use Rattle.nested_jobs.proofs.Unsettled.{unsettled_not_quiet}

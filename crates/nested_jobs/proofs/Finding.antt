@@ -4,7 +4,7 @@ use Rattle.nested_jobs.specs.Rules.{Place, Task, Work, Call, Rules}
 use Rattle.nested_jobs.specs.Marks.{Mark, Free, Busy, Open, Done, Marks, put, values}
 use Rattle.nested_jobs.specs.Steps.{task_at, opens, begins, open_one, begin_one, opened, claimed, IsEnabled, is_settled}
 use Rattle.nested_jobs.specs.Meanings.{Lawful}
-use Rattle.nested_jobs.specs.Kept.{InJob, Nested, Unsettled, OpenUnsettled}
+use Rattle.nested_jobs.specs.Invariants.{InJob, Nested, Unsettled, OpenUnsettled}
 use Rattle.nested_jobs.proofs.Places.{cons_ne, put_here, put_other, put_back, one_open}
 use Rattle.nested_jobs.proofs.Turns.{in_job, task_is}
 use Rattle.nested_jobs.proofs.Nesting.{of_open, of_busy, top_not_free, opened_nested, claimed_nested}

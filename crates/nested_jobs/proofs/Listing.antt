@@ -4,7 +4,7 @@ use Rattle.nested_jobs.specs.Rules.{Place, Task, Work, Call, Values, Rules}
 use Rattle.nested_jobs.specs.Marks.{Mark, Free, Busy, Open, Done, Marks, put, answer_of, values}
 use Rattle.nested_jobs.specs.Steps.{task_at, opens, begins, opened, IsEnabled}
 use Rattle.nested_jobs.specs.Meanings.{Lawful}
-use Rattle.nested_jobs.specs.Kept.{InJob, Nested}
+use Rattle.nested_jobs.specs.Invariants.{InJob, Nested}
 use Rattle.nested_jobs.specs.Pick.{IsIn}
 use Rattle.nested_jobs.proofs.Places.{cons_ne, put_other}
 use Rattle.nested_jobs.proofs.Nesting.{of_busy, of_open, top_not_free, deep, opened_nested, claimed_nested}

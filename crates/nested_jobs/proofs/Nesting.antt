@@ -5,7 +5,7 @@ use Rattle.nested_jobs.specs.Marks.{Mark, Free, Busy, Open, Done, Marks, put, an
 use Rattle.nested_jobs.specs.Steps.{opened, claimed, is_settled, all_below, is_quiet, finished}
 use Rattle.nested_jobs.specs.Journals.{Entry, Claim, Finish, State, start_mark, start, finish_of, after, state_from, state}
 use Rattle.nested_jobs.specs.Meanings.{Within, Lawful}
-use Rattle.nested_jobs.specs.Kept.{InJob, Fits, Nested}
+use Rattle.nested_jobs.specs.Invariants.{InJob, Fits, Nested}
 use Rattle.nested_jobs.proofs.Places.{both_true, cons_ne, tail_is, put_at, put_here, put_other, one_open}
 use Rattle.nested_jobs.proofs.Turns.{OpensKeep, BeginsKeep, ClosesKeep, opened_keeps, claimed_keeps, finished_keeps}
 

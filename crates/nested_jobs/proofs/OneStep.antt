@@ -5,7 +5,7 @@ use Rattle.nested_jobs.specs.Marks.{Mark, Free, Busy, Open, Done, Marks, put, an
 use Rattle.nested_jobs.specs.Steps.{open_one, begin_one, opened, claimed, IsEnabled, is_quiet, close_one, closed, ends, finished}
 use Rattle.nested_jobs.specs.Journals.{Entry, Claim, Finish, State, finish_of, after, task_of, Allowed}
 use Rattle.nested_jobs.specs.Meanings.{Lawful}
-use Rattle.nested_jobs.specs.Kept.{InJob, Nested, Keeps}
+use Rattle.nested_jobs.specs.Invariants.{InJob, Nested, Keeps}
 use Rattle.nested_jobs.specs.Pick.{outer_by, outer, Prefers}
 use Rattle.nested_jobs.proofs.Places.{tail_is, put_at, put_here, put_other, one_open}
 use Rattle.nested_jobs.proofs.Turns.{in_job, task_is, claimed_keeps, close_cases, finished_keeps}

@@ -6,7 +6,7 @@ use Rattle.nested_jobs.specs.Marks.{Mark, Free, Busy, Open, Done, Marks, put, va
 use Rattle.nested_jobs.specs.Steps.{opened, claimed, closed, ends, finished}
 use Rattle.nested_jobs.specs.Journals.{Entry, Claim, Finish, State, assign, start_mark, start, finish_of, after, state_from, state, MayClaim, Allowed, LegalFrom, Legal}
 use Rattle.nested_jobs.specs.Meanings.{Lawful}
-use Rattle.nested_jobs.specs.Kept.{Keeps}
+use Rattle.nested_jobs.specs.Invariants.{Keeps}
 use Rattle.nested_jobs.proofs.Places.{put_at, put_other}
 use Rattle.nested_jobs.proofs.Turns.{opened_keeps, claimed_keeps, closed_keeps}
 use Rattle.nested_jobs.proofs.Nesting.{top_not_busy, claimed_nested, finished_nested, start_nested}

@@ -6,7 +6,7 @@ use Rattle.nested_jobs.specs.Marks.{Mark, Free, Busy, Open, Done, Marks, put, an
 use Rattle.nested_jobs.specs.Steps.{IsEnabled, all_below, claimed, closed, is_quiet, is_settled}
 use Rattle.nested_jobs.specs.Journals.{start_mark}
 use Rattle.nested_jobs.specs.Meanings.{Lawful}
-use Rattle.nested_jobs.specs.Kept.{InJob, Nested}
+use Rattle.nested_jobs.specs.Invariants.{InJob, Nested}
 use Rattle.nested_jobs.specs.Tables.{Row, Table, HasRow, IsRow, StandsFor, answers_in, fresh_row, is_quiet_row, put_row, with_mark}
 use Rattle.nested_jobs.specs.TableLaws.{Closes, ClosesTop, Finishes, Opens}
 use Rattle.nested_jobs.proofs.Places.{cons_ne, head_is, put_here, put_other, put_at, tail_is}

@@ -5,7 +5,7 @@ use Rattle.nested_jobs.specs.Marks.{Mark, Free, Busy, Open, Done, Marks, put, an
 use Rattle.nested_jobs.specs.Steps.{is_settled, is_quiet}
 use Rattle.nested_jobs.specs.Journals.{Entry, Claim, Finish, State, start_mark, start, finish_of, after, state_from, state, task_of, Answered, AnsweredFrom, Allowed, Legal, LegalFrom, IsEnded}
 use Rattle.nested_jobs.specs.Meanings.{Meanings, MayAnswer, Sound, Settled, Lawful, Meant, among}
-use Rattle.nested_jobs.specs.Kept.{Nested}
+use Rattle.nested_jobs.specs.Invariants.{Nested}
 use Rattle.nested_jobs.proofs.Places.{cons_ne, tail_is, head_is, put_at, put_other, done_by, open_is, one_open}
 use Rattle.nested_jobs.proofs.Turns.{OpensKeep, BeginsKeep, ClosesKeep, task_is, claimed_keeps, finished_keeps}
 use Rattle.nested_jobs.proofs.Nesting.{below_all, grown, deep, of_open, of_busy, top_is, opens_nested, begins_nested, ends_nested, closes_nested, start_nested}

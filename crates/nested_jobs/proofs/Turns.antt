@@ -3,7 +3,7 @@ use Rattle.std.proofs.Common.{◌≡◌, ◌≢◌, ◌⊎◌, ℕ, Bool, true, 
 use Rattle.nested_jobs.specs.Rules.{Place, Task, Work, Call, Rules}
 use Rattle.nested_jobs.specs.Marks.{Mark, Free, Busy, Open, Done, Marks, put, values}
 use Rattle.nested_jobs.specs.Steps.{task_in, task_at, opens, begins, opened, claimed, is_quiet, close_as, close_one, closed, ends, finished}
-use Rattle.nested_jobs.specs.Kept.{InJob}
+use Rattle.nested_jobs.specs.Invariants.{InJob}
 use Rattle.nested_jobs.proofs.Places.{put_back}
 
 module _ {J W A : Type 0} (rs : Rules J W A) where

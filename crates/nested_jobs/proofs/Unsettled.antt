@@ -5,7 +5,7 @@ use Rattle.nested_jobs.specs.Marks.{Mark, Free, Busy, Open, Done, Marks, put, an
 use Rattle.nested_jobs.specs.Steps.{claimed, is_settled, all_below, is_quiet, close_one, closed, ends, finished}
 use Rattle.nested_jobs.specs.Journals.{start_mark}
 use Rattle.nested_jobs.specs.Meanings.{Lawful}
-use Rattle.nested_jobs.specs.Kept.{InJob, Nested, Unsettled, OpenUnsettled}
+use Rattle.nested_jobs.specs.Invariants.{InJob, Nested, Unsettled, OpenUnsettled}
 use Rattle.nested_jobs.proofs.Places.{place_cases, cons_ne, tail_is, put_at, put_here, put_other, put_back, one_open}
 use Rattle.nested_jobs.proofs.Turns.{OpensKeep, BeginsKeep, claimed_keeps, close_cases}
 use Rattle.nested_jobs.proofs.Nesting.{below_all, of_busy, of_open, opens_nested, begins_nested}

@@ -5,7 +5,7 @@ use Rattle.nested_jobs.specs.Marks.{Open, Done, Marks, values}
 use Rattle.nested_jobs.specs.Steps.{IsEnabled, is_quiet, closed}
 use Rattle.nested_jobs.specs.Journals.{Entry, State, start, after, state, task_of, Allowed, Legal, Runs, IsEnded, AnsweredFrom}
 use Rattle.nested_jobs.specs.Meanings.{Meanings, Sound, Settled, Lawful, Meant, Tellings, among, told}
-use Rattle.nested_jobs.specs.Kept.{Nested}
+use Rattle.nested_jobs.specs.Invariants.{Nested}
 use Rattle.nested_jobs.specs.Pick.{ArePreferredFrom, AreAllOpen, Distinct, Few, IsIn}
 
 -- every legal journal that has ended, whatever its order, leaves the top job done with an answer that it may have

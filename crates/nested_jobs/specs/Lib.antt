@@ -3,7 +3,7 @@ pub mod Marks
 pub mod Steps
 pub mod Journals
 pub mod Meanings
-pub mod Kept
+pub mod Invariants
 pub mod Pick
 pub mod Laws
 pub mod Tables

@@ -3,7 +3,7 @@ use Rattle.std.specs.Prelude.{◌≡◌, ℕ, Some, None, List, [], ◌∷◌, �
 use Rattle.nested_jobs.specs.Rules.{Rules}
 use Rattle.nested_jobs.specs.Marks.{Open, Done, Marks, put}
 use Rattle.nested_jobs.specs.Steps.{IsEnabled, claimed, closed, finished}
-use Rattle.nested_jobs.specs.Kept.{Nested}
+use Rattle.nested_jobs.specs.Invariants.{Nested}
 use Rattle.nested_jobs.specs.Tables.{Row, Table, StandsFor, answers_in, fresh_row, put_row, with_mark}
 
 -- an opening marks the item in its row, and adds a row; what is claimed below is claimed as if the job had been open

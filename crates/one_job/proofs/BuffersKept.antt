@@ -17,7 +17,7 @@ use Rattle.one_job.specs.Ports.{reads_stored, writes_stored, row_of, EachLeaves,
 use Rattle.one_job.specs.View.{JobView, graph_of}
 use Rattle.one_job.specs.Leased.{AreLeases, cells_of}
 use Rattle.one_job.specs.LiveLaws.{KeepsBuffers}
-use Rattle.one_job.specs.Kept.{Parts, Keeps}
+use Rattle.one_job.specs.Invariants.{Parts, Keeps}
 use Rattle.one_job.proofs.Phases.{inside_of, claimed_not_free}
 use Rattle.one_job.proofs.Order.{buffer_within}
 use Rattle.one_job.proofs.Wires.{laid_of, ports_of, enters_at}

@@ -12,7 +12,7 @@ use Rattle.one_job.specs.Places.{no_edge, edge_at}
 use Rattle.one_job.specs.Ports.{row_of}
 use Rattle.one_job.specs.View.{JobView, graph_of}
 use Rattle.one_job.specs.Calls.{finished_with}
-use Rattle.one_job.specs.Kept.{Parts, Keeps}
+use Rattle.one_job.specs.Invariants.{Parts, Keeps}
 use Rattle.sdf_level.specs.declared.node.Node.{Node}
 use Rattle.one_job.specs.Ready.{bit, is_child_at, is_claimed, claims, KeepsReady, Releases, CanRelease}
 use Rattle.one_job.specs.declared.ready.ReadyNodes.{ReadyNodes}

@@ -24,7 +24,7 @@ use Rattle.one_job.specs.Stock.{IsStock}
 use Rattle.one_job.specs.Taking.{Layout, taken, CanTake, IsStored, TakesBehind}
 use Rattle.one_job.specs.View.{JobView, IsEnabled, graph_of}
 use Rattle.one_job.specs.Calls.{LieAtBuffers}
-use Rattle.one_job.specs.Kept.{Parts, HasStock, LieRight, Keeps, stored_at}
+use Rattle.one_job.specs.Invariants.{Parts, HasStock, LieRight, Keeps, stored_at}
 use Rattle.one_job.proofs.Phases.{mark_there, mark_elsewhere, phase_there}
 use Rattle.one_job.proofs.Order.{CanClaim, IsLaid, buffer_within, claim_keeps_order}
 use Rattle.one_job.proofs.Lending.{EachEdge, EachEdge-weaker}
@@ -264,7 +264,7 @@ module _ (j : JobView) (p : Parts) (pool : PoolView) (outs left : List (List ℤ
       pub claim_keeps : Keeps later_job later_parts (record pool { out = taken place row_out (taken place row_in pool.out) }) outs left
       claim_keeps = record {
         compiled = keeps.compiled;
-        given = record { kinds = keeps.given.kinds; args = keeps.given.args; sources = keeps.given.sources; stored = keeps.given.stored };
+        lists = record { kinds = keeps.lists.kinds; args = keeps.lists.args; sources = keeps.lists.sources; stored = keeps.lists.stored };
         one_each = length-set j.marks n (Claimed places) ∙ keeps.one_each;
         wired = keeps.wired;
         order = claim_keeps_order j.compilation.graph.edges j.marks keeps.order n (Claimed places) can;

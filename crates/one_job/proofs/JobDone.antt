@@ -20,7 +20,7 @@ use Rattle.one_job.specs.Ports.{reads_stored, writes_stored, with_left, with_out
 use Rattle.one_job.specs.Taking.{Layout, AreDue, IsOne, with_leases}
 use Rattle.one_job.specs.View.{JobView, graph_of, IsFiring}
 use Rattle.one_job.specs.Calls.{finished_with}
-use Rattle.one_job.specs.Kept.{Parts, HasStock, LieRight, Keeps}
+use Rattle.one_job.specs.Invariants.{Parts, HasStock, LieRight, Keeps}
 use Rattle.one_job.specs.Staged.{mark_of, stage_with}
 use Rattle.kernel_gate.specs.declared.told.Told.{Told}
 use Rattle.one_job.proofs.Phases.{mark_elsewhere, phase_there, inside_of, claimed_not_free}
@@ -222,7 +222,7 @@ module _ (j : JobView) (p : Parts) (pool : PoolView) (outs left : List (List ℤ
     pub finish_keeps : Keeps later_job p last (with_out which kept outs) (with_left which kept left)
     finish_keeps = record {
       compiled = keeps.compiled;
-      given = record { kinds = keeps.given.kinds; args = keeps.given.args; sources = keeps.given.sources; stored = keeps.given.stored };
+      lists = record { kinds = keeps.lists.kinds; args = keeps.lists.args; sources = keeps.lists.sources; stored = keeps.lists.stored };
       one_each = length-set j.marks n end_mark ∙ keeps.one_each;
       wired = keeps.wired;
       order = finish_keeps_order j.compilation.graph.edges j.marks keeps.order n end_mark running;

@@ -6,7 +6,7 @@ use Rattle.sdf_level.specs.declared.single_rate.Edge.{Edge}
 use Rattle.split_block.specs.Places.{Place}
 use Rattle.cell_pool.specs.View.{PoolView}
 use Rattle.single_rate.specs.Expanded.{place_of}
-use Rattle.single_rate.specs.Stages.{NodesStandOnce}
+use Rattle.single_rate.specs.Tiers.{NodesStandOnce}
 use Rattle.job_compiler.specs.Compilation.{Compilation, IsCompiled}
 use Rattle.job_flow.specs.Graphs.{node_at}
 use Rattle.job_flow.specs.Events.{IsDone, IsReady, IsFinished, IsQuiet}
@@ -15,7 +15,7 @@ use Rattle.one_job.specs.Marks as marked
 use Rattle.one_job.specs.Places.{no_edge, edge_at}
 use Rattle.one_job.specs.Live.{IsLent, AreOut}
 use Rattle.one_job.specs.View.{JobView, graph_of}
-use Rattle.one_job.specs.Kept.{Parts, Keeps}
+use Rattle.one_job.specs.Invariants.{Parts, Keeps}
 use Rattle.one_job.proofs.Phases.{inside_of, claimed_not_free}
 use Rattle.one_job.proofs.Outs.{has_first}
 

@@ -19,8 +19,8 @@ use Rattle.one_job.specs.Places.{edge_at, buffer_at}
 use Rattle.one_job.specs.Live.{IsLent, AreOut}
 use Rattle.one_job.specs.Ports.{writes_stored, row_of, AreWired, port_size}
 use Rattle.one_job.specs.Opening.{AreMade}
-use Rattle.one_job.specs.View.{JobView, graph_of, HasGiven}
-use Rattle.one_job.specs.Kept.{Parts, HasRoom, HasStock, IsPoolOf, Keeps}
+use Rattle.one_job.specs.View.{JobView, graph_of, HasLists}
+use Rattle.one_job.specs.Invariants.{Parts, HasRoom, HasStock, IsPoolOf, Keeps}
 use Rattle.one_job.proofs.Wires.{enters_at, writes_one}
 
 -- the edge at the first port of a node is there
@@ -80,12 +80,12 @@ module _ (g : JobGraph ℤ) (entering leaving : List (List (Option ℕ))) (wired
       let there : get_or (row_of entering n) 0 None ≡ Some e = ap₂ (λ m k. get_or (row_of entering m) k None) (sym here) (sym port) ∙ wired.heads e below in
       let bad : None ≡ Some e = sym found ∙ there in absurd (cc))
 
-module _ (j : JobView) (p : Parts) (compiled : IsCompiled j.compilation) (has_given : HasGiven j) (wired : AreWired (graph_of j) p.entering p.leaving) where
+module _ (j : JobView) (p : Parts) (compiled : IsCompiled j.compilation) (has_lists : HasLists j) (wired : AreWired (graph_of j) p.entering p.leaving) where
   abbrev nodes : List Node
   nodes = j.compilation.graph.nodes
 
   is_graph : IsJobGraph j.compilation.counts j.compilation.order (graph_of j)
-  is_graph = record { level_kept = compiled.level_kept; repetition = compiled.repetition; order = compiled.order_is; nodes_are = compiled.expanded.nodes_are; edges_are = compiled.expanded.edges_are; sources_fit = has_given.sources; delays_fit = has_given.stored }
+  is_graph = record { level_kept = compiled.level_kept; repetition = compiled.repetition; order = compiled.order_is; nodes_are = compiled.expanded.nodes_are; edges_are = compiled.expanded.edges_are; sources_fit = has_lists.sources; delays_fit = has_lists.stored }
 
   -- what was made for a node is what it has
   pub stock_of_free : EdgesHavePorts ℤ → AreMade nodes j.compilation.graph.edges p.entering j.sources j.stored p.stock → (n : ℕ) → n < length nodes → HasStock j p n
@@ -109,7 +109,7 @@ module _ (j : JobView) (p : Parts) (compiled : IsCompiled j.compilation) (has_gi
       let not_yet : (n : ℕ) → phase j.marks n ≡ IsFree = λ n. ap phase_of (free_at n) in
       record {
         compiled = compiled;
-        given = has_given;
+        lists = has_lists;
         one_each = ap length all_free ∙ length-replicate (length nodes) Free;
         wired = wired;
         order = λ e inside not_free. absurd (not_free (not_yet (edge_at j.compilation.graph.edges e).head));

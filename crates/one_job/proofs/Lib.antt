@@ -13,6 +13,7 @@ pub mod JobDone
 pub mod JobEnds
 pub mod FirstFault
 pub mod JobStart
+pub mod Stored
 pub mod RoomSteps
 pub mod Firsts
 pub mod Sides

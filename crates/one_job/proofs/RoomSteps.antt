@@ -14,7 +14,7 @@ use Rattle.job_compiler.specs.declared.wiring.Wiring.{Wiring}
 use Rattle.one_job.specs.Ports.{reads_stored, writes_stored, row_of, AreWired, port_size}
 use Rattle.one_job.specs.Taking.{own}
 use Rattle.one_job.specs.View.{JobView, args_at, graph_of}
-use Rattle.one_job.specs.Kept.{Parts, HasRoom}
+use Rattle.one_job.specs.Invariants.{Parts, HasRoom}
 use Rattle.one_job.specs.Rooms.{IsMostArgs, IsRoomOf}
 
 args_few : (which : Node) (lists : List (List ℤ)) (most : ℕ) → ((a : ℕ) → length (slice_index_or lists a []) ≤ most) → length (args_at lists which) ≤ most

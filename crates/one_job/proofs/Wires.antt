@@ -19,7 +19,7 @@ use Rattle.one_job.specs.Places.{no_edge, edge_at, buffer_at}
 use Rattle.one_job.specs.Ports.{reads_stored, writes_stored, row_of, EachEnters, AreWired, EachLies, port_size}
 use Rattle.one_job.specs.Taking.{Layout, EachTaken}
 use Rattle.one_job.specs.View.{JobView, IsEnabled, graph_of}
-use Rattle.one_job.specs.Kept.{stored_at}
+use Rattle.one_job.specs.Invariants.{stored_at}
 use Rattle.one_job.proofs.Order.{IsLaid, CanClaim}
 use Rattle.one_job.proofs.Cells.{length-window}
 use Rattle.one_job.proofs.Lending.{EachEdge}

@@ -15,4 +15,4 @@ pub mod LiveLaws
 pub mod Images
 pub mod Stock
 pub mod Rooms
-pub mod Kept
+pub mod Invariants

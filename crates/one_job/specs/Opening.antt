@@ -19,6 +19,10 @@ stored_in sources stored (node.Fork l i) = []
 stored_in sources stored (node.Join l k) = []
 stored_in sources stored (node.Round l) = []
 
+-- no node stands twice in the list
+abbrev pub StandOnce : List Node → Type 0
+StandOnce nodes = (m n : ℕ) → m < length nodes → n < length nodes → node_at nodes m ≡ node_at nodes n → m ≡ n
+
 -- for each node what lies ready for it; an End or a Sink writes as many tokens as the edge at its one port has
 pub record AreMade (nodes : List Node) (edges : List Edge) (entering : List (List (Option ℕ))) (sources stored : List (List ℤ)) (stock : List (List ℤ)) : Type 0 where
   pub one_each : length stock ≡ length nodes

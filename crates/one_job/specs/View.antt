@@ -32,7 +32,7 @@ abbrev pub graph_of : JobView → JobGraph ℤ
 graph_of j = job_graph j.compilation j.sources j.stored
 
 -- an entry for each actor, as many tokens of each source as its rate, and as many on each link as its delay
-pub record HasGiven (j : JobView) : Type 0 where
+pub record HasLists (j : JobView) : Type 0 where
   pub kinds : length j.kinds ≡ j.compilation.level.actors
   pub args : length j.args ≡ j.compilation.level.actors
   pub sources : map length j.sources ≡ j.compilation.level.sources

@@ -69,7 +69,7 @@ impl Model for Job {
 
     ghost Value = { JobView };
 
-    ghost use Rattle.one_job.specs.Kept.{view_of, IsJob};
+    ghost use Rattle.one_job.specs.Invariants.{view_of, IsJob};
 
     ghost view = { view_of };
 

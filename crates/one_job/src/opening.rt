@@ -1,5 +1,6 @@
 // What a job takes at its start.
-ghost use Rattle.std.specs.Prelude.{ℤ, List as Seq, ◌≡◌, ◌<◌, [], Some, None, ℕ, length, map, replicate, slice_index_or, IfOk};
+ghost use Rattle.std.specs.Prelude.{ℤ, List as Seq, ◌≡◌, ◌≢◌, ◌<◌, [], Some, None, ℕ, length, map, replicate, slice_index_or, slice_set, IfOk};
+ghost use Rattle.sdf_level.specs.declared.node.Node.{Node as NodeView};
 ghost use Rattle.one_job.specs.Marks.{Free};
 ghost use Rattle.one_job.specs.Ports.{port_size};
 ghost use Rattle.one_job.specs.Staged.{mark_of};
@@ -9,30 +10,36 @@ use crate::stage::Stage;
 use job_compiler::Port;
 use sdf_level::{Edge, List, Node};
 use std::alloc::{AllocError, Global};
+use std::mem;
 
-/// A copy of the list at a place, empty where there is none.
-fn copy_of(alloc: Global, lists: &[List<i64>], at: u32) -> Result<Vec<i64>, AllocError>
-    ensures { IfOk result (λ v. v.items ≡ slice_index_or lists.now at []) }
+/// The list at a place, which is empty then; an empty one where there is none.
+fn take_list(alloc: Global, lists: &mut [List<i64>], at: u32) -> List<i64>
+    ensures taken { result ≡ slice_index_or lists.old at [] }
+    ensures left { lists.new ≡ slice_set lists.old at [] }
 {
-    match lists.get(at as usize) {
-        Some(list) => list.items().to_vec(alloc),
-        None => Ok(Vec::new(alloc)),
+    let place = at as usize;
+    let empty = List::new(Vec::new(alloc));
+    if place < lists.len() {
+        mem::replace(&mut lists[place], empty)
+    } else {
+        empty
     }
 }
 
-/// The tokens that a Source or an Init reads.
-pub(crate) fn read_by(
+/// Takes the tokens that a Source or an Init reads out of those of all sources and links. Those of other nodes stay.
+pub(crate) fn take_read(
     alloc: Global,
     node: Node,
-    sources: &[List<i64>],
-    stored: &[List<i64>],
-) -> Result<Vec<i64>, AllocError>
-    ensures { IfOk result (λ v. v.items ≡ stored_in sources.now stored.now node) }
+    sources: &mut [List<i64>],
+    stored: &mut [List<i64>],
+) -> List<i64>
+    ensures read { result ≡ stored_in sources.old stored.old node }
+    ensures others { (other : NodeView) → other ≢ node → stored_in sources.new stored.new other ≡ stored_in sources.old stored.old other }
 {
     match node {
-        Node::Source(source) => copy_of(alloc, sources, source),
-        Node::Init(link) => copy_of(alloc, stored, link),
-        _ => Ok(Vec::new(alloc)),
+        Node::Source(source) => take_list(alloc, sources, source),
+        Node::Init(link) => take_list(alloc, stored, link),
+        _ => List::new(Vec::new(alloc)),
     }
 }
 
@@ -73,8 +80,8 @@ pub(crate) fn free_stages(alloc: Global, count: usize) -> Result<Vec<Stage>, All
     Ok(stages)
 }
 
-/// So many empty lists.
-pub(crate) fn empty_lists(alloc: Global, count: usize) -> Result<Vec<List<i64>>, AllocError>
+/// So many empty lists of tokens.
+pub(crate) fn no_tokens(alloc: Global, count: usize) -> Result<Vec<List<i64>>, AllocError>
     ensures { IfOk result (λ v. v.items ≡ replicate count []) }
 {
     let mut lists = Vec::with_capacity(alloc, count)?;

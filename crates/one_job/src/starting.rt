@@ -6,7 +6,7 @@ ghost use Rattle.one_job.specs.Marks.{Free};
 ghost use Rattle.one_job.specs.Rooms.{IsRoomOf};
 
 use crate::job::Job;
-use crate::opening::{empty_lists, free_stages};
+use crate::opening::{free_stages, no_tokens};
 use crate::ready::start_ready;
 use crate::rooms::room_size;
 use crate::stock::make_stock;
@@ -39,7 +39,7 @@ pub fn start(
     requires sources { map length sources ≡ (arc_value compiled).level.sources }
     requires stored { HaveDelays (arc_value compiled).level.links stored }
     ensures compilation { IfOk result (λ j. j.compilation ≡ arc_value compiled) }
-    ensures given { IfOk result (λ j. (j.kinds ≡ kinds) × (j.args ≡ args) × (j.sources ≡ sources) × (j.stored ≡ stored)) }
+    ensures made_of { IfOk result (λ j. (j.kinds ≡ kinds) × (j.args ≡ args) × (j.sources ≡ sources) × (j.stored ≡ stored)) }
     ensures room { IfOk result (λ j. IsRoomOf (arc_value compiled).level (arc_value compiled).graph args j.room) }
     ensures free { IfOk result (λ j. j.marks ≡ replicate (length (arc_value compiled).graph.nodes) Free) }
 {
@@ -50,16 +50,20 @@ pub fn start(
     let wiring = compiled.wiring();
     let waiting = wiring.into.items().to_vec(alloc)?;
     let stages = free_stages(alloc, nodes.len())?;
-    let outs = empty_lists(alloc, level.sinks.items().len())?;
-    let left = empty_lists(alloc, level.links.items().len())?;
+    let outs = no_tokens(alloc, level.sinks.items().len())?;
+    let left = no_tokens(alloc, level.links.items().len())?;
     let ready = start_ready(alloc, compiled.ranking(), nodes, kinds.items(), &waiting)?;
+    let sources_told = Snapshot::of(&sources);
+    let stored_told = Snapshot::of(&stored);
+    let mut sources = sources.into_items();
+    let mut stored = stored.into_items();
     let stock = make_stock(
         alloc,
         nodes,
         edges,
         &wiring.entering,
-        sources.items(),
-        stored.items(),
+        &mut sources,
+        &mut stored,
     )?;
     let size = room_size(wiring, args.items());
     let pool = Pool::start(alloc, compiled.placement().height, u32::MAX)?;
@@ -67,8 +71,8 @@ pub fn start(
         compiled,
         kinds,
         args,
-        sources: Snapshot::of(&sources),
-        stored: Snapshot::of(&stored),
+        sources: sources_told,
+        stored: stored_told,
         stages,
         waiting,
         ready,

@@ -1,14 +1,15 @@
 // What lies ready for the frame of a node beside its ports: the tokens that it reads, or cells for those that it keeps.
-ghost use Rattle.std.specs.Prelude.{ℕ, ◌≡◌, ◌+◌, ◌<◌, ◌≤◌, ◌++◌, [], None, Some, false, if◌then◌else◌, length, slice_index_or, vec_capacity, IfOk};
+ghost use Rattle.std.specs.Prelude.{ℕ, ◌≡◌, ◌+◌, ◌<◌, ◌≤◌, ◌≢◌, ◌++◌, [], None, Some, false, if◌then◌else◌, length, slice_index_or, vec_capacity, IfOk, OnOk};
+ghost use Rattle.sdf_level.specs.declared.node.Node.{Node as NodeView};
 ghost use Rattle.kernel_gate.specs.Rooms.{IsEmptied, size_of};
-ghost use Rattle.one_job.specs.Opening.{stored_in, AreMade};
+ghost use Rattle.one_job.specs.Opening.{stored_in, AreMade, StandOnce};
 ghost use Rattle.one_job.specs.Ports.{reads_stored as is_read, writes_stored as is_written, port_size, row_of};
 ghost use Rattle.one_job.specs.Stock.{IsStock};
 ghost use Rattle.one_job.specs.Taking.{IsStored, own};
 ghost use Rattle.one_job.specs.View.{args_at, kind_at};
 
 use crate::nodes::{args_of, kind_of, reads_stored, writes_stored};
-use crate::opening::{read_by, written_by};
+use crate::opening::{take_read, written_by};
 use job_compiler::{Port, Rows};
 use kernel_gate::Lent;
 use sdf_level::{Edge, List, Node};
@@ -54,7 +55,7 @@ pub(crate) fn begin(
     requires args { length (args_at args.now node) ≤ vec_capacity lent.old.args }
     requires inputs { own (is_read node) ≤ vec_capacity lent.old.inputs }
     requires outputs { own (is_written node) ≤ vec_capacity lent.old.outputs }
-    ensures given { (lent.new.kind ≡ kind_at kinds.now node) × (lent.new.args.items ≡ args_at args.now node) × (lent.new.sets.items ≡ []) }
+    ensures made_of { (lent.new.kind ≡ kind_at kinds.now node) × (lent.new.args.items ≡ args_at args.now node) × (lent.new.sets.items ≡ []) }
     ensures inputs { IsStored (is_read node) stock.old lent.new.inputs.items }
     ensures outputs { IsStored (is_written node) stock.old lent.new.outputs.items }
     ensures size { size_of lent.new ≡ size_of lent.old }
@@ -65,42 +66,44 @@ pub(crate) fn begin(
     put_stored(writes_stored(node), stock, &mut lent.outputs, alloc);
 }
 
-/// What lies ready for a node that reads from these ports.
+/// What lies ready for a node that reads from these ports. The tokens that it reads are taken out of those of all sources and links.
 fn stock_of(
     alloc: Global,
     node: Node,
     edges: &[Edge],
     ins: &[Port],
-    sources: &[List<i64>],
-    stored: &[List<i64>],
+    sources: &mut [List<i64>],
+    stored: &mut [List<i64>],
 ) -> Result<List<i64>, AllocError>
     requires { (e : ℕ) → slice_index_or ins.now 0 None ≡ Some e → e < length edges.now }
-    ensures { IfOk result (λ tokens. IsStock node (stored_in sources.now stored.now node) (port_size edges.now (slice_index_or ins.now 0 None)) tokens) }
+    ensures stock { IfOk result (λ tokens. IsStock node (stored_in sources.old stored.old node) (port_size edges.now (slice_index_or ins.now 0 None)) tokens) }
+    ensures others { OnOk result ((other : NodeView) → other ≢ node → stored_in sources.new stored.new other ≡ stored_in sources.old stored.old other) }
 {
-    let tokens = if writes_stored(node) {
-        written_by(alloc, edges, ins)?
+    if writes_stored(node) {
+        Ok(List::new(written_by(alloc, edges, ins)?))
     } else {
-        read_by(alloc, node, sources, stored)?
-    };
-    Ok(List::new(tokens))
+        Ok(take_read(alloc, node, sources, stored))
+    }
 }
 
-/// For each node what lies ready for it.
+/// For each node what lies ready for it, with the tokens of the sources and links moved into it.
 pub(crate) fn make_stock(
     alloc: Global,
     nodes: &[Node],
     edges: &[Edge],
     entering: &Rows,
-    sources: &[List<i64>],
-    stored: &[List<i64>],
+    sources: &mut [List<i64>],
+    stored: &mut [List<i64>],
 ) -> Result<Vec<List<i64>>, AllocError>
     requires rows { length entering.now ≡ length nodes.now }
     requires there { (n e : ℕ) → slice_index_or (slice_index_or entering.now n []) 0 None ≡ Some e → e < length edges.now }
-    ensures { IfOk result (λ v. AreMade nodes.now edges.now entering.now sources.now stored.now v.items) }
+    requires once { StandOnce nodes.now }
+    ensures { IfOk result (λ v. AreMade nodes.now edges.now entering.now sources.old stored.old v.items) }
 {
     let mut stock = Vec::with_capacity(alloc, nodes.len())?;
     for n in 0..nodes.len() {
-        stock.push(stock_of(alloc, nodes[n], edges, entering.row(n), sources, stored)?)?;
+        let ready = stock_of(alloc, nodes[n], edges, entering.row(n), sources, stored)?;
+        stock.push(ready)?;
     }
     Ok(stock)
 }

@@ -17,7 +17,7 @@ pub(crate) fn grouped(
     ensures lists { IfOk result (λ lists. AreAfter keys pairs.now (lists_of lists.items)) }
     ensures whole { IfOk result (λ lists. sum_by length (lists_of lists.items) ≡ length pairs.now) }
 {
-    let mut lists = empty_lists(alloc, keys)?;
+    let mut lists = empty_lists(alloc, keys as usize)?;
     for pair in pairs {
         let (key, number) = *pair;
         lists[key as usize].push(number)?;

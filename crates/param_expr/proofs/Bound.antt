@@ -21,14 +21,14 @@ unknown_of-binary : (names : List (List ℕ)) (op : Op) (a b : NamedTree) → un
 unknown_of-binary names op a b = find-append (λ w. is_none (place_of names w)) (names_of a) (names_of b)
 
 -- an expression that is an operation fails as its left side does
-pub left_fails : (names : List (List ℕ)) (expr : NamedTree) (op : Op) (a b : NamedTree) (fault : BindFault) → binary op a b ≡ expr → Binds names a (Err fault) → Binds names expr (Err fault)
-left_fails names expr op a b Memory e h = tt
-left_fails names expr op a b (Unknown w) e h = ap (unknown_of names) (sym e) ∙ unknown_of-binary names op a b ∙ ap (λ o. option_or o (unknown_of names b)) h
+pub lhs_fails : (names : List (List ℕ)) (expr : NamedTree) (op : Op) (a b : NamedTree) (fault : BindFault) → binary op a b ≡ expr → Binds names a (Err fault) → Binds names expr (Err fault)
+lhs_fails names expr op a b Memory e h = tt
+lhs_fails names expr op a b (Unknown w) e h = ap (unknown_of names) (sym e) ∙ unknown_of-binary names op a b ∙ ap (λ o. option_or o (unknown_of names b)) h
 
 -- or else as its right side does
-pub right_fails : (names : List (List ℕ)) (expr : NamedTree) (op : Op) (a b : NamedTree) (bound : Tree) (fault : BindFault) → binary op a b ≡ expr → Binds names a (Ok bound) → Binds names b (Err fault) → Binds names expr (Err fault)
-right_fails names expr op a b bound Memory e h k = tt
-right_fails names expr op a b bound (Unknown w) e h k = ap (unknown_of names) (sym e) ∙ unknown_of-binary names op a b ∙ ap (λ o. option_or o (unknown_of names b)) h.0 ∙ k
+pub rhs_fails : (names : List (List ℕ)) (expr : NamedTree) (op : Op) (a b : NamedTree) (bound : Tree) (fault : BindFault) → binary op a b ≡ expr → Binds names a (Ok bound) → Binds names b (Err fault) → Binds names expr (Err fault)
+rhs_fails names expr op a b bound Memory e h k = tt
+rhs_fails names expr op a b bound (Unknown w) e h k = ap (unknown_of names) (sym e) ∙ unknown_of-binary names op a b ∙ ap (λ o. option_or o (unknown_of names b)) h.0 ∙ k
 
 -- or is bound as both sides are
 pub both_bind : (names : List (List ℕ)) (expr : NamedTree) (op : Op) (a b : NamedTree) (x y z : Tree) → binary op a b ≡ expr → Binds names a (Ok x) → Binds names b (Ok y) → z ≡ tree.binary op x y → Binds names expr (Ok z)

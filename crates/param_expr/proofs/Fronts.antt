@@ -18,14 +18,14 @@ word_has P w smaller larger named none =
     cond_both (is_name w) (name w) other P named (λ e. none)))
 
 pub mark_has : (P : Token → Type 0) (b : ℕ) → P (additive Add) → P (additive Sub) → P (multiplicative Mul) → P (multiplicative Div) → P (multiplicative Rem) → P left_paren → P right_paren → P comma → P other → P (mark_of b)
-mark_has P b plus minus times over rest left right between none =
+mark_has P b plus minus times over rest opens closes between none =
     cond_both (eqb b 43) (additive Add) _ P (λ e. plus) (λ e.
     cond_both (eqb b 45) (additive Sub) _ P (λ e. minus) (λ e.
     cond_both (eqb b 42) (multiplicative Mul) _ P (λ e. times) (λ e.
     cond_both (eqb b 47) (multiplicative Div) _ P (λ e. over) (λ e.
     cond_both (eqb b 37) (multiplicative Rem) _ P (λ e. rest) (λ e.
-    cond_both (eqb b 40) left_paren _ P (λ e. left) (λ e.
-    cond_both (eqb b 41) right_paren _ P (λ e. right) (λ e.
+    cond_both (eqb b 40) left_paren _ P (λ e. opens) (λ e.
+    cond_both (eqb b 41) right_paren _ P (λ e. closes) (λ e.
     cond_both (eqb b 44) comma other P (λ e. between) (λ e. none))))))))
 
 pub front_has : (P : Lexeme → Type 0) (c : ℕ) (rest : List ℕ) → ((ds : List ℕ) → list_all is_digit ds ≡ true → P (digits_lexeme ds)) → ((w : List ℕ) → P (word_lexeme w)) → ((b : ℕ) → P (mark_lexeme b)) → P (front (c ∷ rest))

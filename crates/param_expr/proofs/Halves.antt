@@ -10,7 +10,7 @@ use Rattle.param_expr.specs.Parse.{BeginsSum}
 use Rattle.param_expr.specs.Machine.{joined, sum_with, step, end_of}
 use Rattle.param_expr.specs.declared.op.Op.{Op}
 use Rattle.param_expr.specs.declared.symbol.Symbol.TheVariants.{Close, Comma}
-use Rattle.param_expr.specs.declared.state.Left.{Left}
+use Rattle.param_expr.specs.declared.state.Lhs.{Lhs}
 use Rattle.param_expr.specs.declared.state.Waiting.{Waiting}
 use Rattle.param_expr.specs.declared.state.Opened.{Opened}
 use Rattle.param_expr.specs.declared.state.Opened.TheVariants.{Group, First, Second}
@@ -49,14 +49,14 @@ pub data Half : Type 0 where
 
 -- ---- their states
 
-abbrev left_of_sum : (ℕ → Option ℤ) → LeftSum → Left
-left_of_sum value l = record { operand = sum_by value l.sum; op = l.op }
+abbrev lhs_of_sum : (ℕ → Option ℤ) → LeftSum → Lhs
+lhs_of_sum value l = record { operand = sum_by value l.sum; op = l.op }
 
-abbrev left_of_term : (ℕ → Option ℤ) → LeftTerm → Left
-left_of_term value l = record { operand = term_by value l.term; op = l.op }
+abbrev lhs_of_term : (ℕ → Option ℤ) → LeftTerm → Lhs
+lhs_of_term value l = record { operand = term_by value l.term; op = l.op }
 
 abbrev waiting_of : (ℕ → Option ℤ) → Part → Waiting
-waiting_of value p = record { sum = option_map (left_of_sum value) p.sum; term = option_map (left_of_term value) p.term }
+waiting_of value p = record { sum = option_map (lhs_of_sum value) p.sum; term = option_map (lhs_of_term value) p.term }
 
 abbrev opened_of : (ℕ → Option ℤ) → Began → Opened
 opened_of value in_group = Group
@@ -126,16 +126,16 @@ sum_whole-tokens (Some l) t = simp append_assoc
 pub whole-tokens : (p : Part) (f : Factor) → sum_tokens (whole p f) ≡ front_of p ++ factor_tokens f
 whole-tokens p f = sum_whole-tokens p.sum (term_whole p.term f) ∙ ap (λ ts. sum_front p.sum ++ ts) (term_whole-tokens p.term f) ∙ sym (append_assoc (sum_front p.sum) (term_front p.term) (factor_tokens f))
 
-term_whole-tree : (value : ℕ → Option ℤ) (o : Option LeftTerm) (f : Factor) → term_by value (term_whole o f) ≡ joined (option_map (left_of_term value) o) (factor_by value f)
+term_whole-tree : (value : ℕ → Option ℤ) (o : Option LeftTerm) (f : Factor) → term_by value (term_whole o f) ≡ joined (option_map (lhs_of_term value) o) (factor_by value f)
 term_whole-tree value None f = refl
 term_whole-tree value (Some l) f = refl
 
-sum_whole-tree : (value : ℕ → Option ℤ) (o : Option LeftSum) (t : Term) → sum_by value (sum_whole o t) ≡ joined (option_map (left_of_sum value) o) (term_by value t)
+sum_whole-tree : (value : ℕ → Option ℤ) (o : Option LeftSum) (t : Term) → sum_by value (sum_whole o t) ≡ joined (option_map (lhs_of_sum value) o) (term_by value t)
 sum_whole-tree value None t = refl
 sum_whole-tree value (Some l) t = refl
 
 pub whole-tree : (value : ℕ → Option ℤ) (p : Part) (f : Factor) → sum_by value (whole p f) ≡ sum_with (waiting_of value p) (factor_by value f)
-whole-tree value p f = sum_whole-tree value p.sum (term_whole p.term f) ∙ ap (joined (option_map (left_of_sum value) p.sum)) (term_whole-tree value p.term f)
+whole-tree value p f = sum_whole-tree value p.sum (term_whole p.term f) ∙ ap (joined (option_map (lhs_of_sum value) p.sum)) (term_whole-tree value p.term f)
 
 abbrev no_part : Part
 no_part = record { sum = None; term = None }
@@ -223,7 +223,7 @@ half_step value (have p f rest) (additive op) after e =
 half_step value (have p f rest) (multiplicative op) after e =
     record {
       half_after = want (record { sum = p.sum; term = Some (record { term = term_whole p.term f; op = op }) }) rest;
-      state_is = ap (λ t. Want (record { sum = option_map (left_of_sum value) p.sum; term = Some (record { operand = t; op = op }) }) (outers_of value rest)) (term_whole-tree value p.term f) ∙ some_same _ _ e;
+      state_is = ap (λ t. Want (record { sum = option_map (lhs_of_sum value) p.sum; term = Some (record { operand = t; op = op }) }) (outers_of value rest)) (term_whole-tree value p.term f) ∙ some_same _ _ e;
       tokens_are = ap (λ ts. fronts rest ++ (sum_front p.sum ++ (ts ++ multiplicative op ∷ []))) (term_whole-tokens p.term f) ∙ simp append_assoc;
     }
 half_step value (have p f []) right_paren after e = absurd cc

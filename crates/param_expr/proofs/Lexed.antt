@@ -26,10 +26,10 @@ map_cond : (b : Bool) (x y z w : List Placed) → map lexeme_of x ≡ map lexeme
 map_cond true x y z w h k = h
 map_cond false x y z w h k = k
 
-place_free : (text : List ℕ) (left a b : ℕ) → map lexeme_of (tokens_from a left text) ≡ map lexeme_of (tokens_from b left text)
+place_free : (text : List ℕ) (skip a b : ℕ) → map lexeme_of (tokens_from a skip text) ≡ map lexeme_of (tokens_from b skip text)
 unfolding tokens_from
-place_free [] left a b = refl
-place_free (c ∷ text) (suc left) a b = place_free text left (a + 1) (b + 1)
+place_free [] skip a b = refl
+place_free (c ∷ text) (suc skip) a b = place_free text skip (a + 1) (b + 1)
 place_free (c ∷ text) zero a b =
     map_cond (eqb c 32) _ _ _ _ (place_free text 0 (a + 1) (b + 1))
     (ap (λ ls. (front (c ∷ text)) ∷ ls) (place_free text (length (front (c ∷ text)).bytes - 1) (a + 1) (b + 1)))
@@ -39,11 +39,11 @@ lex_front : (c : ℕ) (w rest : List ℕ) (t : Token) → eqb c 32 ≡ false →
 lex_front c w rest t h e =
     let n : length (front (c ∷ (w ++ rest))).bytes - 1 ≡ length w = ap (λ (l : Lexeme). length l.bytes - 1) e ∙ omega arith in
     let fits : length w ≤ length (w ++ rest) = simp length-append (omega arith) in
-    let skip : tokens_from (0 + 1) (length w) (w ++ rest) ≡ tokens_from (0 + 1 + length w) 0 rest = skipped (0 + 1) (length w) (w ++ rest) fits ∙ ap (tokens_from (0 + 1 + length w) 0) (drop_at w rest (length w) refl) in
+    let past : tokens_from (0 + 1) (length w) (w ++ rest) ≡ tokens_from (0 + 1 + length w) 0 rest = skipped (0 + 1) (length w) (w ++ rest) fits ∙ ap (tokens_from (0 + 1 + length w) 0) (drop_at w rest (length w) refl) in
     ap (map lexeme_of) (token_front 0 c (w ++ rest) h)
     ∙ ap (λ l. l ∷ map lexeme_of (tokens_from (0 + 1) (length (front (c ∷ (w ++ rest))).bytes - 1) (w ++ rest))) e
     ∙ ap (λ k. record { bytes = c ∷ w; token = t } ∷ map lexeme_of (tokens_from (0 + 1) k (w ++ rest))) n
-    ∙ ap (λ ps. record { bytes = c ∷ w; token = t } ∷ map lexeme_of ps) skip
+    ∙ ap (λ ps. record { bytes = c ∷ w; token = t } ∷ map lexeme_of ps) past
     ∙ ap (λ ls. record { bytes = c ∷ w; token = t } ∷ ls) (place_free rest 0 (0 + 1 + length w) 0)
 
 -- ---- runs, and what may follow them

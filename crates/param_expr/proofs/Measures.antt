@@ -41,13 +41,13 @@ abbrev pub placed : Measure → ℕ → ℕ → ℕ → ℕ
 placed m asked has n = cond (nat_lt has asked) (m.enclosed n) n
 
 abbrev operation : Measure → Op → (ℕ → ℕ) → (ℕ → ℕ) → ℕ
-operation m Add left right = m.joined (left 0) (right 1)
-operation m Sub left right = m.joined (left 0) (right 1)
-operation m Mul left right = m.joined (left 1) (right 2)
-operation m Div left right = m.joined (left 1) (right 2)
-operation m Rem left right = m.joined (left 1) (right 2)
-operation m Min left right = m.called (left 0) (right 0)
-operation m Max left right = m.called (left 0) (right 0)
+operation m Add lhs rhs = m.joined (lhs 0) (rhs 1)
+operation m Sub lhs rhs = m.joined (lhs 0) (rhs 1)
+operation m Mul lhs rhs = m.joined (lhs 1) (rhs 2)
+operation m Div lhs rhs = m.joined (lhs 1) (rhs 2)
+operation m Rem lhs rhs = m.joined (lhs 1) (rhs 2)
+operation m Min lhs rhs = m.called (lhs 0) (rhs 0)
+operation m Max lhs rhs = m.called (lhs 0) (rhs 0)
 
 -- the measure of a tree with parentheses only where operands ask for them
 abbrev pub least : Measure → NamedTree → ℕ

@@ -62,10 +62,10 @@ mark_fits b = mark_has (λ t. nat_le (token_bytes t) 1 ≡ true) b refl refl ref
 front_fits : (c : ℕ) (rest : List ℕ) → Fits (front (c ∷ rest))
 front_fits c rest = front_has Fits c rest (λ ds all some. run_fits ds all some) (λ w some. word_fits w) (λ b some. leb-true (token_bytes (mark_of b)) 1 (mark_fits b))
 
-text_fits : (text : List ℕ) (at left : ℕ) → left ≤ length text → bytes_in (plain_tokens (tokens_from at left text)) + left ≤ length text
+text_fits : (text : List ℕ) (at skip : ℕ) → skip ≤ length text → bytes_in (plain_tokens (tokens_from at skip text)) + skip ≤ length text
 unfolding tokens_from
-text_fits [] at left h = omega arith
-text_fits (c ∷ text) at (suc left) h = omega (arith, text_fits text (at + 1) left (omega arith))
+text_fits [] at skip h = omega arith
+text_fits (c ∷ text) at (suc skip) h = omega (arith, text_fits text (at + 1) skip (omega arith))
 text_fits (c ∷ text) at zero h =
     let bounds = front_bounded c text in
     let own : token_bytes (front (c ∷ text)).token ≤ length (front (c ∷ text)).bytes = front_fits c text bounds.low in

@@ -23,10 +23,10 @@ sound_front c rest =
     (λ w. word_has (λ t. sound t ≡ true) w (λ e. refl) (λ e. refl) (λ e. e) refl)
     (λ b. mark_has (λ t. sound t ≡ true) b refl refl refl refl refl refl refl refl refl)
 
-pub all_sound : (text : List ℕ) (at left : ℕ) → list_all sound (plain_tokens (tokens_from at left text)) ≡ true
+pub all_sound : (text : List ℕ) (at skip : ℕ) → list_all sound (plain_tokens (tokens_from at skip text)) ≡ true
 unfolding tokens_from
-all_sound [] at left = refl
-all_sound (c ∷ text) at (suc left) = all_sound text (at + 1) left
+all_sound [] at skip = refl
+all_sound (c ∷ text) at (suc skip) = all_sound text (at + 1) skip
 all_sound (c ∷ text) at zero =
     cond_both (eqb c 32) (tokens_from (at + 1) 0 text) (front_at at (c ∷ text) ∷ tokens_from (at + 1) (length (front (c ∷ text)).bytes - 1) text) (λ ps. list_all sound (plain_tokens ps) ≡ true)
     (λ e. all_sound text (at + 1) 0)

@@ -10,7 +10,7 @@ use Rattle.param_expr.specs.Machine.{joined, nothing, start, step, end_of}
 use Rattle.param_expr.specs.declared.symbol.Symbol.{Symbol}
 use Rattle.param_expr.specs.declared.symbol.Symbol.TheVariants.{Number, Word, Additive, Multiplicative, Function, Open, Close, Comma, Other}
 use Rattle.param_expr.specs.declared.op.Op.{Op}
-use Rattle.param_expr.specs.declared.state.Left.{Left}
+use Rattle.param_expr.specs.declared.state.Lhs.{Lhs}
 use Rattle.param_expr.specs.declared.state.Waiting.{Waiting}
 use Rattle.param_expr.specs.declared.state.Opened.TheVariants.{Group, First, Second}
 use Rattle.param_expr.specs.declared.state.Outer.{Outer}
@@ -52,38 +52,38 @@ accepts value state (t ∷ ts) = option_and_then (λ after. accepts value after 
 
 -- ---- the left side that a sum or a term leaves to wait, and its last operand
 
-abbrev sum_left : (ℕ → Option ℤ) → Sum → Option Left
-sum_left value (one_term t) = None
-sum_left value (sum_of s op t) = Some (record { operand = sum_by value s; op = op })
+abbrev sum_lhs : (ℕ → Option ℤ) → Sum → Option Lhs
+sum_lhs value (one_term t) = None
+sum_lhs value (sum_of s op t) = Some (record { operand = sum_by value s; op = op })
 
 abbrev sum_last : Sum → Term
 sum_last (one_term t) = t
 sum_last (sum_of s op t) = t
 
-abbrev term_left : (ℕ → Option ℤ) → Term → Option Left
-term_left value (one_factor f) = None
-term_left value (product_of t op f) = Some (record { operand = term_by value t; op = op })
+abbrev term_lhs : (ℕ → Option ℤ) → Term → Option Lhs
+term_lhs value (one_factor f) = None
+term_lhs value (product_of t op f) = Some (record { operand = term_by value t; op = op })
 
 abbrev term_last : Term → Factor
 term_last (one_factor f) = f
 term_last (product_of t op f) = f
 
-abbrev after_term : (ℕ → Option ℤ) → Option Left → Term → List Outer → State
-after_term value left t rest = Have (record { sum = left; term = term_left value t }) (factor_by value (term_last t)) rest
+abbrev after_term : (ℕ → Option ℤ) → Option Lhs → Term → List Outer → State
+after_term value lhs t rest = Have (record { sum = lhs; term = term_lhs value t }) (factor_by value (term_last t)) rest
 
 abbrev after_sum : (ℕ → Option ℤ) → Sum → List Outer → State
-after_sum value s rest = after_term value (sum_left value s) (sum_last s) rest
+after_sum value s rest = after_term value (sum_lhs value s) (sum_last s) rest
 
-term_is : (value : ℕ → Option ℤ) (t : Term) → joined (term_left value t) (factor_by value (term_last t)) ≡ term_by value t
+term_is : (value : ℕ → Option ℤ) (t : Term) → joined (term_lhs value t) (factor_by value (term_last t)) ≡ term_by value t
 term_is value (one_factor f) = refl
 term_is value (product_of t op f) = refl
 
-sum_is : (value : ℕ → Option ℤ) (s : Sum) → joined (sum_left value s) (term_by value (sum_last s)) ≡ sum_by value s
+sum_is : (value : ℕ → Option ℤ) (s : Sum) → joined (sum_lhs value s) (term_by value (sum_last s)) ≡ sum_by value s
 sum_is value (one_term t) = refl
 sum_is value (sum_of s op t) = refl
 
-whole_sum : (value : ℕ → Option ℤ) (s : Sum) → joined (sum_left value s) (joined (term_left value (sum_last s)) (factor_by value (term_last (sum_last s)))) ≡ sum_by value s
-whole_sum value s = ap (joined (sum_left value s)) (term_is value (sum_last s)) ∙ sum_is value s
+whole_sum : (value : ℕ → Option ℤ) (s : Sum) → joined (sum_lhs value s) (joined (term_lhs value (sum_last s)) (factor_by value (term_last (sum_last s)))) ≡ sum_by value s
+whole_sum value s = ap (joined (sum_lhs value s)) (term_is value (sum_last s)) ∙ sum_is value s
 
 abbrev inside_first : Op → Waiting → List Outer → List Outer
 inside_first op waiting rest = record { waiting = waiting; opened = First op } ∷ rest
@@ -100,16 +100,16 @@ mutual
   sum_runs value (sum_of s op t) rest more =
       ap (accepts value (Want nothing rest)) (append_assoc (sum_tokens s) (additive op ∷ term_tokens t) more)
       ∙ sum_runs value s rest (additive op ∷ (term_tokens t ++ more))
-      ∙ ap (λ left. accepts value (Want (record { sum = Some (record { operand = left; op = op }); term = None }) rest) (term_tokens t ++ more)) (whole_sum value s)
+      ∙ ap (λ lhs. accepts value (Want (record { sum = Some (record { operand = lhs; op = op }); term = None }) rest) (term_tokens t ++ more)) (whole_sum value s)
       ∙ term_runs value t (Some (record { operand = sum_by value s; op = op })) rest more
 
-  term_runs : (value : ℕ → Option ℤ) (t : Term) (left : Option Left) (rest : List Outer) (more : List Token) → accepts value (Want (record { sum = left; term = None }) rest) (term_tokens t ++ more) ≡ accepts value (after_term value left t rest) more
-  term_runs value (one_factor f) left rest more = factor_runs value f (record { sum = left; term = None }) rest more
-  term_runs value (product_of t op f) left rest more =
-      ap (accepts value (Want (record { sum = left; term = None }) rest)) (append_assoc (term_tokens t) (multiplicative op ∷ factor_tokens f) more)
-      ∙ term_runs value t left rest (multiplicative op ∷ (factor_tokens f ++ more))
-      ∙ ap (λ l. accepts value (Want (record { sum = left; term = Some (record { operand = l; op = op }) }) rest) (factor_tokens f ++ more)) (term_is value t)
-      ∙ factor_runs value f (record { sum = left; term = Some (record { operand = term_by value t; op = op }) }) rest more
+  term_runs : (value : ℕ → Option ℤ) (t : Term) (lhs : Option Lhs) (rest : List Outer) (more : List Token) → accepts value (Want (record { sum = lhs; term = None }) rest) (term_tokens t ++ more) ≡ accepts value (after_term value lhs t rest) more
+  term_runs value (one_factor f) lhs rest more = factor_runs value f (record { sum = lhs; term = None }) rest more
+  term_runs value (product_of t op f) lhs rest more =
+      ap (accepts value (Want (record { sum = lhs; term = None }) rest)) (append_assoc (term_tokens t) (multiplicative op ∷ factor_tokens f) more)
+      ∙ term_runs value t lhs rest (multiplicative op ∷ (factor_tokens f ++ more))
+      ∙ ap (λ l. accepts value (Want (record { sum = lhs; term = Some (record { operand = l; op = op }) }) rest) (factor_tokens f ++ more)) (term_is value t)
+      ∙ factor_runs value f (record { sum = lhs; term = Some (record { operand = term_by value t; op = op }) }) rest more
 
   factor_runs : (value : ℕ → Option ℤ) (f : Factor) (waiting : Waiting) (rest : List Outer) (more : List Token) → accepts value (Want waiting rest) (factor_tokens f ++ more) ≡ accepts value (Have waiting (factor_by value f) rest) more
   factor_runs value (literal n) waiting rest more = refl

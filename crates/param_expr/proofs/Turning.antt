@@ -18,11 +18,11 @@ use Rattle.param_expr.specs.declared.symbol.Tally.{Tally}
 use Rattle.param_expr.specs.declared.reader.Reader.{Reader}
 
 -- what is left of a token is skipped
-pub skipped : (at left : ℕ) (text : List ℕ) → left ≤ length text → tokens_from at left text ≡ tokens_from (at + left) 0 (drop left text)
+pub skipped : (at skip : ℕ) (text : List ℕ) → skip ≤ length text → tokens_from at skip text ≡ tokens_from (at + skip) 0 (drop skip text)
 unfolding tokens_from
 skipped at zero text h = rw add-zero refl
-skipped at (suc left) [] h = absurd (omega arith)
-skipped at (suc left) (b ∷ text) h = skipped (at + 1) left text (omega arith) ∙ ap (λ n. tokens_from n 0 (drop left text)) (omega arith)
+skipped at (suc skip) [] h = absurd (omega arith)
+skipped at (suc skip) (b ∷ text) h = skipped (at + 1) skip text (omega arith) ∙ ap (λ n. tokens_from n 0 (drop skip text)) (omega arith)
 
 -- a space
 space_front : (at b : ℕ) (rest : List ℕ) → b ≡ 32 → tokens_from at 0 (b ∷ rest) ≡ tokens_from (at + 1) 0 rest
@@ -64,8 +64,8 @@ after_token text at b rest zero e low high = absurd (omega arith)
 after_token text at b rest (suc m) e low high =
     let here : suc m - 1 ≡ m = omega arith in
     let there : at + 1 + m ≡ at + suc m = omega arith in
-    let left : drop m rest ≡ drop (at + suc m) text = ap (drop (suc m)) (sym e) ∙ drop-drop (suc m) at text in
-    ap (λ k. tokens_from (at + 1) k rest) here ∙ skipped (at + 1) m rest (omega arith) ∙ ap (λ k. tokens_from k 0 (drop m rest)) there ∙ ap (tokens_from (at + suc m) 0) left
+    let rest_is : drop m rest ≡ drop (at + suc m) text = ap (drop (suc m)) (sym e) ∙ drop-drop (suc m) at text in
+    ap (λ k. tokens_from (at + 1) k rest) here ∙ skipped (at + 1) m rest (omega arith) ∙ ap (λ k. tokens_from k 0 (drop m rest)) there ∙ ap (tokens_from (at + suc m) 0) rest_is
 
 -- where a text goes on with b and rest, the tokens do
 tokens_at : (text : List ℕ) (at b : ℕ) (rest all : List ℕ) → drop at text ≡ b ∷ rest → all ≡ b ∷ rest → eqb b 32 ≡ false → tokens_after text at ≡ front_at at all ∷ tokens_after text (at + length (front all).bytes)

@@ -10,7 +10,7 @@ use Rattle.param_expr.specs.declared.symbol.Symbol.TheVariants.{Number, Word, Ad
 use Rattle.param_expr.specs.declared.symbol.Tally.{Tally}
 use Rattle.param_expr.specs.declared.fault.ExprFault.{ExprFault}
 use Rattle.param_expr.specs.declared.fault.ExprFault.TheVariants.{Syntax, TooLarge, TooDeep, TooLong, Memory}
-use Rattle.param_expr.specs.declared.state.Left.{Left}
+use Rattle.param_expr.specs.declared.state.Lhs.{Lhs}
 use Rattle.param_expr.specs.declared.state.Waiting.{Waiting}
 use Rattle.param_expr.specs.declared.state.Opened.{Opened}
 use Rattle.param_expr.specs.declared.state.Opened.TheVariants.{Group, First, Second}
@@ -46,9 +46,9 @@ Gives at (Err TooDeep) read = ⊥
 Gives at (Err TooLong) read = ⊥
 
 -- an operand, joined to the left side that waits for it
-abbrev pub joined : Option Left → NamedTree → NamedTree
-joined None right = right
-joined (Some left) right = binary left.op left.operand right
+abbrev pub joined : Option Lhs → NamedTree → NamedTree
+joined None rhs = rhs
+joined (Some lhs) rhs = binary lhs.op lhs.operand rhs
 
 abbrev pub term_with : Waiting → NamedTree → NamedTree
 term_with waiting operand = joined waiting.term operand

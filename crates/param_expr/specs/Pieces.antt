@@ -26,15 +26,15 @@ after_of Max = codes ")"
 after_of _ = []
 
 -- how tightly the left operand has to bind, and the right one
-abbrev pub left_asks : Op → ℕ
-left_asks Min = 0
-left_asks Max = 0
-left_asks op = level_of op
+abbrev pub lhs_asks : Op → ℕ
+lhs_asks Min = 0
+lhs_asks Max = 0
+lhs_asks op = level_of op
 
-abbrev pub right_asks : Op → ℕ
-right_asks Min = 0
-right_asks Max = 0
-right_asks op = level_of op + 1
+abbrev pub rhs_asks : Op → ℕ
+rhs_asks Min = 0
+rhs_asks Max = 0
+rhs_asks op = level_of op + 1
 
 -- each number lies in i64
 abbrev pub HasSmallNumbers : Tree → Type 0

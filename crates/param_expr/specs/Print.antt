@@ -49,13 +49,13 @@ abbrev pub operand_text : ℕ → ℕ → List ℕ → List ℕ
 operand_text asked has text = if nat_lt has asked then codes "(" ++ (text ++ codes ")") else text
 
 abbrev pub operation_text : Op → (ℕ → List ℕ) → (ℕ → List ℕ) → List ℕ
-operation_text Add left right = left 0 ++ (codes "+" ++ right 1)
-operation_text Sub left right = left 0 ++ (codes "-" ++ right 1)
-operation_text Mul left right = left 1 ++ (codes "*" ++ right 2)
-operation_text Div left right = left 1 ++ (codes "/" ++ right 2)
-operation_text Rem left right = left 1 ++ (codes "%" ++ right 2)
-operation_text Min left right = codes "min(" ++ (left 0 ++ (codes "," ++ (right 0 ++ codes ")")))
-operation_text Max left right = codes "max(" ++ (left 0 ++ (codes "," ++ (right 0 ++ codes ")")))
+operation_text Add lhs rhs = lhs 0 ++ (codes "+" ++ rhs 1)
+operation_text Sub lhs rhs = lhs 0 ++ (codes "-" ++ rhs 1)
+operation_text Mul lhs rhs = lhs 1 ++ (codes "*" ++ rhs 2)
+operation_text Div lhs rhs = lhs 1 ++ (codes "/" ++ rhs 2)
+operation_text Rem lhs rhs = lhs 1 ++ (codes "%" ++ rhs 2)
+operation_text Min lhs rhs = codes "min(" ++ (lhs 0 ++ (codes "," ++ (rhs 0 ++ codes ")")))
+operation_text Max lhs rhs = codes "max(" ++ (lhs 0 ++ (codes "," ++ (rhs 0 ++ codes ")")))
 
 -- the text of an expression
 abbrev pub printed : NamedTree → List ℕ

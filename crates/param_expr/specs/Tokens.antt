@@ -65,8 +65,8 @@ front_at at text = record { at = at; bytes = (front text).bytes; token = (front 
 
 -- The tokens of what stands from place `at` on, after so many bytes more of the token before. Spaces stand between tokens.
 unfoldable pub tokens_from : ℕ → ℕ → List ℕ → List Placed
-tokens_from at left [] = []
-tokens_from at (suc left) (b ∷ rest) = tokens_from (at + 1) left rest
+tokens_from at skip [] = []
+tokens_from at (suc skip) (b ∷ rest) = tokens_from (at + 1) skip rest
 tokens_from at zero (b ∷ rest) = if b == 32 then tokens_from (at + 1) 0 rest else front_at at (b ∷ rest) ∷ tokens_from (at + 1) (length (front (b ∷ rest)).bytes - 1) rest
 
 abbrev pub tokens_of : List ℕ → List Placed

@@ -6,7 +6,7 @@ ghost use Rattle.param_expr.specs.Print.{NonNegative};
 
 use crate::expr::Expr;
 use crate::name::Name;
-use crate::parsed::{NamedNode, Parsed};
+use crate::parsed::{NamedForm, Parsed};
 use std::alloc::{AllocError, AllocFailed, Global};
 use std::marker::Model;
 
@@ -95,16 +95,16 @@ impl Places for Listed<'_> {
 pub fn bind_in<P: Places>(alloc: Global, parsed: &Parsed, names: &P) -> Result<Expr, BindFault>
     ensures bound { Binds (P.names names.now) parsed.now result }
 {
-    match &parsed.node {
-        NamedNode::Number(value) => Ok(Expr::number(*value)),
-        NamedNode::Named(name) => match names.first_place(name) {
+    match &parsed.form {
+        NamedForm::Number(value) => Ok(Expr::number(*value)),
+        NamedForm::Named(name) => match names.first_place(name) {
             Some(place) => Ok(Expr::param(place)),
             None => Err(BindFault::Unknown(name.clone()?)),
         },
-        NamedNode::Binary(op, left, right) => {
-            let left = bind_in(alloc, left, names)?;
-            let right = bind_in(alloc, right, names)?;
-            Ok(Expr::binary(alloc, *op, left, right)?)
+        NamedForm::Binary(op, lhs, rhs) => {
+            let lhs = bind_in(alloc, lhs, names)?;
+            let rhs = bind_in(alloc, rhs, names)?;
+            Ok(Expr::binary(alloc, *op, lhs, rhs)?)
         }
     }
 }

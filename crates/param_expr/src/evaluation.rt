@@ -1,7 +1,7 @@
 ghost use Rattle.std.specs.Prelude.{◌≡◌, length};
 ghost use Rattle.param_expr.specs.Eval.{RefersBelow, applied, own_fault, eval_of, unless_fault};
 
-use crate::expr::{Expr, Node};
+use crate::expr::{Expr, ExprForm};
 use crate::op::Op;
 
 /// Why an expression has no value.
@@ -14,18 +14,18 @@ pub enum EvalFault {
 }
 
 /// The operation on two numbers.
-fn apply(op: Op, left: i64, right: i64) -> Result<i64, EvalFault>
-    ensures { result ≡ unless_fault (own_fault op left right) (applied op left right) }
+fn apply(op: Op, lhs: i64, rhs: i64) -> Result<i64, EvalFault>
+    ensures { result ≡ unless_fault (own_fault op lhs rhs) (applied op lhs rhs) }
 {
     match op {
-        Op::Add => left.checked_add(right).ok_or(EvalFault::Overflow),
-        Op::Sub => left.checked_sub(right).ok_or(EvalFault::Overflow),
-        Op::Mul => left.checked_mul(right).ok_or(EvalFault::Overflow),
-        Op::Div | Op::Rem if left < 0 || right < 1 => Err(EvalFault::Division),
-        Op::Div => Ok(left / right),
-        Op::Rem => Ok(left % right),
-        Op::Min => Ok(left.min(right)),
-        Op::Max => Ok(left.max(right)),
+        Op::Add => lhs.checked_add(rhs).ok_or(EvalFault::Overflow),
+        Op::Sub => lhs.checked_sub(rhs).ok_or(EvalFault::Overflow),
+        Op::Mul => lhs.checked_mul(rhs).ok_or(EvalFault::Overflow),
+        Op::Div | Op::Rem if lhs < 0 || rhs < 1 => Err(EvalFault::Division),
+        Op::Div => Ok(lhs / rhs),
+        Op::Rem => Ok(lhs % rhs),
+        Op::Min => Ok(lhs.min(rhs)),
+        Op::Max => Ok(lhs.max(rhs)),
     }
 }
 
@@ -42,13 +42,13 @@ pub fn eval(expr: &Expr, values: &[i64]) -> Result<i64, EvalFault>
     requires { RefersBelow (length values.now) expr.now }
     ensures value { result ≡ eval_of values.now expr.now }
 {
-    match &expr.node {
-        Node::Number(value) => Ok(*value),
-        Node::Param(place) => Ok(values[*place as usize]),
-        Node::Binary(op, left, right) => {
-            let left = eval(left, values)?;
-            let right = eval(right, values)?;
-            apply(*op, left, right)
+    match &expr.form {
+        ExprForm::Number(value) => Ok(*value),
+        ExprForm::Param(place) => Ok(values[*place as usize]),
+        ExprForm::Binary(op, lhs, rhs) => {
+            let lhs = eval(lhs, values)?;
+            let rhs = eval(rhs, values)?;
+            apply(*op, lhs, rhs)
         }
     }
 }

@@ -10,13 +10,13 @@ use std::marker::Model;
 #[derive(Drop)]
 pub struct Expr {
     /// Its root.
-    pub node: Node,
+    pub form: ExprForm,
 }
 
 /// The root of an expression.
 #[cycle(expr)]
 #[derive(Drop)]
-pub enum Node {
+pub enum ExprForm {
     /// A whole number, at least 0 where it was read from a text.
     Number(i64),
     /// A parameter, by its place.
@@ -34,7 +34,7 @@ impl Model for Expr {
 
     ghost use Rattle.param_expr.specs.View.{tree_of};
 
-    ghost view = { λ e. tree_of e.node };
+    ghost view = { λ e. tree_of e.form };
 
     ghost size = { height };
 
@@ -49,7 +49,7 @@ impl Expr {
         ensures { result ≡ number value }
     {
         Expr {
-            node: Node::Number(value),
+            form: ExprForm::Number(value),
         }
     }
 
@@ -58,18 +58,18 @@ impl Expr {
         ensures { result ≡ param place }
     {
         Expr {
-            node: Node::Param(place),
+            form: ExprForm::Param(place),
         }
     }
 
     /// An operation on two operands. The error is want of memory.
-    pub fn binary(alloc: Global, op: Op, left: Expr, right: Expr) -> Result<Expr, AllocError>
-        ensures { IfOk result (λ e. e ≡ binary op left right) }
+    pub fn binary(alloc: Global, op: Op, lhs: Expr, rhs: Expr) -> Result<Expr, AllocError>
+        ensures { IfOk result (λ e. e ≡ binary op lhs rhs) }
     {
-        let left = Box::new(alloc, left)?;
-        let right = Box::new(alloc, right)?;
+        let lhs = Box::new(alloc, lhs)?;
+        let rhs = Box::new(alloc, rhs)?;
         Ok(Expr {
-            node: Node::Binary(op, left, right),
+            form: ExprForm::Binary(op, lhs, rhs),
         })
     }
 }

@@ -19,7 +19,7 @@ mod symbol;
 
 pub use binding::{BindFault, Places, bind, bind_in};
 pub use evaluation::{EvalFault, eval};
-pub use expr::{Expr, Node};
+pub use expr::{Expr, ExprForm};
 pub use fault::ExprFault;
 pub use laws::one_answer;
 pub use limits::{MAX_EXPRESSION_BYTES, MAX_NAME_BYTES, MAX_OPEN_PARENTHESES};

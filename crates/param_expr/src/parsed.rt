@@ -10,12 +10,12 @@ use std::marker::Model;
 #[cycle(parsed)]
 #[derive(Drop)]
 pub struct Parsed {
-    pub(crate) node: NamedNode,
+    pub(crate) form: NamedForm,
 }
 
 #[cycle(parsed)]
 #[derive(Drop)]
-pub(crate) enum NamedNode {
+pub(crate) enum NamedForm {
     Number(i64),
     Named(Name),
     Binary(Op, Box<Parsed>, Box<Parsed>),
@@ -30,7 +30,7 @@ impl Model for Parsed {
 
     ghost use Rattle.param_expr.specs.ParsedView.{named_tree};
 
-    ghost view = { λ e. named_tree e.node };
+    ghost view = { λ e. named_tree e.form };
 
     ghost size = { height };
 
@@ -44,7 +44,7 @@ impl Parsed {
         ensures { result ≡ number value }
     {
         Parsed {
-            node: NamedNode::Number(value),
+            form: NamedForm::Number(value),
         }
     }
 
@@ -52,22 +52,22 @@ impl Parsed {
         ensures { result ≡ name text }
     {
         Parsed {
-            node: NamedNode::Named(text),
+            form: NamedForm::Named(text),
         }
     }
 
     pub(crate) fn binary(
         alloc: Global,
         op: Op,
-        left: Parsed,
-        right: Parsed,
+        lhs: Parsed,
+        rhs: Parsed,
     ) -> Result<Parsed, AllocError>
-        ensures { IfOk result (λ e. e ≡ binary op left right) }
+        ensures { IfOk result (λ e. e ≡ binary op lhs rhs) }
     {
-        let left = Box::new(alloc, left)?;
-        let right = Box::new(alloc, right)?;
+        let lhs = Box::new(alloc, lhs)?;
+        let rhs = Box::new(alloc, rhs)?;
         Ok(Parsed {
-            node: NamedNode::Binary(op, left, right),
+            form: NamedForm::Binary(op, lhs, rhs),
         })
     }
 }

@@ -3,11 +3,11 @@ ghost use Rattle.param_expr.specs.Eval.{RefersBelow};
 ghost use Rattle.param_expr.specs.Words.{IsName};
 ghost use Rattle.param_expr.specs.Tokens.{tokens_of};
 ghost use Rattle.param_expr.specs.Grammar.{Spells};
-ghost use Rattle.param_expr.specs.Pieces.{HasSmallNumbers, after_of, before_of, between_of, left_asks, right_asks};
+ghost use Rattle.param_expr.specs.Pieces.{HasSmallNumbers, after_of, before_of, between_of, lhs_asks, rhs_asks};
 ghost use Rattle.param_expr.specs.Parse.{first_large, most_open};
 ghost use Rattle.param_expr.specs.Print.{Differ, IsReadAgain, IsStatable, NonNegative, has_no_leading_zeros, has_no_spaces, level_of, operand, parentheses, printed, with_names};
 
-use crate::expr::{Expr, Node};
+use crate::expr::{Expr, ExprForm};
 use crate::name::Name;
 use crate::op::Op;
 use std::alloc::{AllocError, Global};
@@ -73,8 +73,8 @@ fn after(op: Op) -> &'static str
 }
 
 /// How tightly the left operand has to bind.
-fn left_asks(op: Op) -> u8
-    ensures { result ≡ left_asks op }
+fn lhs_asks(op: Op) -> u8
+    ensures { result ≡ lhs_asks op }
 {
     match op {
         Op::Min | Op::Max => 0,
@@ -83,8 +83,8 @@ fn left_asks(op: Op) -> u8
 }
 
 /// How tightly the right operand has to bind.
-fn right_asks(op: Op) -> u8
-    ensures { result ≡ right_asks op }
+fn rhs_asks(op: Op) -> u8
+    ensures { result ≡ rhs_asks op }
 {
     match op {
         Op::Min | Op::Max => 0,
@@ -105,19 +105,19 @@ fn write_expr(text: &mut String, asked: u8, expr: &Expr, names: &[Name]) -> Resu
     ensures written { OnOk result (string_bytes text.new ≡ string_bytes text.old ++ operand asked (with_names names.now expr.now)) }
     ensures limited { OnOk result (HasSmallNumbers expr.now) }
 {
-    match &expr.node {
-        Node::Number(value) => {
+    match &expr.form {
+        ExprForm::Number(value) => {
             let value = *value;
             write!(text, "{value}")
         }
-        Node::Param(place) => append(text, names[*place as usize].text()),
-        Node::Binary(op, left, right) => {
+        ExprForm::Param(place) => append(text, names[*place as usize].text()),
+        ExprForm::Binary(op, lhs, rhs) => {
             let loose = level(*op) < asked;
             append(text, opening(loose))?;
             append(text, before(*op))?;
-            write_expr(text, left_asks(*op), left, names)?;
+            write_expr(text, lhs_asks(*op), lhs, names)?;
             append(text, between(*op))?;
-            write_expr(text, right_asks(*op), right, names)?;
+            write_expr(text, rhs_asks(*op), rhs, names)?;
             append(text, after(*op))?;
             append(text, closing(loose))
         }

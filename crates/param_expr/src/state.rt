@@ -10,7 +10,7 @@ use std::alloc::Global;
 
 /// A left operand and its operator.
 #[derive(Drop)]
-pub(crate) struct Left {
+pub(crate) struct Lhs {
     pub(crate) operand: Parsed,
     pub(crate) op: Op,
 }
@@ -18,8 +18,8 @@ pub(crate) struct Left {
 /// The left operands that wait for their right ones: a sum, and in its next term a product.
 #[derive(Drop)]
 pub(crate) struct Waiting {
-    pub(crate) sum: Option<Left>,
-    pub(crate) term: Option<Left>,
+    pub(crate) sum: Option<Lhs>,
+    pub(crate) term: Option<Lhs>,
 }
 
 /// What an open parenthesis began.
@@ -72,12 +72,12 @@ impl Waiting {
 }
 
 /// Joins an operand to the left one that waits for it.
-fn joined(alloc: Global, left: Option<Left>, right: Parsed) -> Result<Parsed, ExprFault>
-    ensures { Gives 0 result (Some (joined left right)) }
+fn joined(alloc: Global, lhs: Option<Lhs>, rhs: Parsed) -> Result<Parsed, ExprFault>
+    ensures { Gives 0 result (Some (joined lhs rhs)) }
 {
-    match left {
-        None => Ok(right),
-        Some(Left { operand, op }) => Ok(Parsed::binary(alloc, op, operand, right)?),
+    match lhs {
+        None => Ok(rhs),
+        Some(Lhs { operand, op }) => Ok(Parsed::binary(alloc, op, operand, rhs)?),
     }
 }
 
@@ -185,13 +185,13 @@ fn step_have(
     match symbol {
         Symbol::Additive(op) => {
             let operand = sum(alloc, waiting, operand)?;
-            let sum = Some(Left { operand, op });
+            let sum = Some(Lhs { operand, op });
             Ok(State::Want(Waiting { sum, term: None }, rest))
         }
         Symbol::Multiplicative(op) => {
             let Waiting { sum, term } = waiting;
             let operand = joined(alloc, term, operand)?;
-            let term = Some(Left { operand, op });
+            let term = Some(Lhs { operand, op });
             Ok(State::Want(Waiting { sum, term }, rest))
         }
         Symbol::Close => {

@@ -54,37 +54,37 @@ module _ (a b : List (Option ℤ)) where
   same_eval : (t : Tree) → Agree (places_of t) → eval_of (numbers a) t ≡ eval_of (numbers b) t
   same_eval t agree = rw (same_fault t agree, same_value t agree) refl
 
-  pub same_outcome : (low high : ℤ) (kind : ParamKind) (given : Option ℤ) → Agree (refers kind) → outcome a low high kind given ≡ outcome b low high kind given
-  same_outcome low high Inherited given agree = refl
-  same_outcome low high (Derived expr) given agree = rw (same_sound (places_of expr) agree, same_eval expr agree) refl
-  same_outcome low high Chosen given agree = refl
+  pub same_outcome : (low high : ℤ) (kind : ParamKind) (supplied : Option ℤ) → Agree (refers kind) → outcome a low high kind supplied ≡ outcome b low high kind supplied
+  same_outcome low high Inherited supplied agree = refl
+  same_outcome low high (Derived expr) supplied agree = rw (same_sound (places_of expr) agree, same_eval expr agree) refl
+  same_outcome low high Chosen supplied agree = refl
 
 -- ---- one parameter among all
 
 -- what is worked out of the parameter at a place
-pub value_worked : (values : List (Option ℤ)) (params : List Param) (given : List (Option ℤ)) (q : ℕ) → at (values_in (outcomes values params given)) q ≡ value_in (outcome_at params given values q)
-value_worked values [] given q = refl
-value_worked values (p ∷ params) given zero = refl
-value_worked values (p ∷ params) given (suc q) =
-    let next : get_or (drop 1 given) q None ≡ get_or given (suc q) None = get_or-drop 1 given q None ∙ ap (λ k. get_or given k None) (omega arith) in
-    value_worked values params (drop 1 given) q ∙ ap (λ v. value_in (outcome_of values (slice_get params q) v)) next
+pub value_worked : (values : List (Option ℤ)) (params : List Param) (supplied : List (Option ℤ)) (q : ℕ) → at (values_in (outcomes values params supplied)) q ≡ value_in (outcome_at params supplied values q)
+value_worked values [] supplied q = refl
+value_worked values (p ∷ params) supplied zero = refl
+value_worked values (p ∷ params) supplied (suc q) =
+    let next : get_or (drop 1 supplied) q None ≡ get_or supplied (suc q) None = get_or-drop 1 supplied q None ∙ ap (λ k. get_or supplied k None) (omega arith) in
+    value_worked values params (drop 1 supplied) q ∙ ap (λ v. value_in (outcome_of values (slice_get params q) v)) next
 
-pub length-worked : (values : List (Option ℤ)) (params : List Param) (given : List (Option ℤ)) → length (values_in (outcomes values params given)) ≡ length params
-length-worked values [] given = refl
-length-worked values (p ∷ params) given = ap suc (length-worked values params (drop 1 given))
+pub length-worked : (values : List (Option ℤ)) (params : List Param) (supplied : List (Option ℤ)) → length (values_in (outcomes values params supplied)) ≡ length params
+length-worked values [] supplied = refl
+length-worked values (p ∷ params) supplied = ap suc (length-worked values params (drop 1 supplied))
 
 named : List Param → ℕ → List ℕ
 named params q = to_of (references_of params) q
 
 -- over values that agree at all that it refers to
-pub same_at : (a b : List (Option ℤ)) (params : List Param) (given : List (Option ℤ)) (q : ℕ) → ((r : ℕ) → Contains (to_of (references_of params) q) r → at a r ≡ at b r) → outcome_at params given a q ≡ outcome_at params given b q
-same_at a b [] given q agree = refl
-same_at a b (p ∷ params) given zero agree = same_outcome a b p.low p.high p.kind (get_or given 0 None) agree
-same_at a b (p ∷ params) given (suc q) agree =
-    let next : get_or given (suc q) None ≡ get_or (drop 1 given) q None = ap (λ k. get_or given k None) (omega arith) ∙ sym (get_or-drop 1 given q None) in
-    ap (λ v. outcome_of a (slice_get params q) v) next ∙ same_at a b params (drop 1 given) q agree ∙ ap (λ v. outcome_of b (slice_get params q) v) (sym next)
+pub same_at : (a b : List (Option ℤ)) (params : List Param) (supplied : List (Option ℤ)) (q : ℕ) → ((r : ℕ) → Contains (to_of (references_of params) q) r → at a r ≡ at b r) → outcome_at params supplied a q ≡ outcome_at params supplied b q
+same_at a b [] supplied q agree = refl
+same_at a b (p ∷ params) supplied zero agree = same_outcome a b p.low p.high p.kind (get_or supplied 0 None) agree
+same_at a b (p ∷ params) supplied (suc q) agree =
+    let next : get_or supplied (suc q) None ≡ get_or (drop 1 supplied) q None = ap (λ k. get_or supplied k None) (omega arith) ∙ sym (get_or-drop 1 supplied q None) in
+    ap (λ v. outcome_of a (slice_get params q) v) next ∙ same_at a b params (drop 1 supplied) q agree ∙ ap (λ v. outcome_of b (slice_get params q) v) (sym next)
 
-module _ (params : List Param) (given : List (Option ℤ)) (ordered : AreOrdered params) where
+module _ (params : List Param) (supplied : List (Option ℤ)) (ordered : AreOrdered params) where
   abbrev Rank : ℕ → ℕ
   Rank q = rank (references_of params) q
 
@@ -93,40 +93,40 @@ module _ (params : List Param) (given : List (Option ℤ)) (ordered : AreOrdered
 
   -- ---- at most one
 
-  unique_at : (a b : List (Option ℤ)) → IsAssignment params given a → IsAssignment params given b → (k q : ℕ) → Rank q < k → at a q ≡ at b q
+  unique_at : (a b : List (Option ℤ)) → IsAssignment params supplied a → IsAssignment params supplied b → (k q : ℕ) → Rank q < k → at a q ≡ at b q
   unique_at a b first second zero q low = absurd (omega arith)
   unique_at a b first second (suc k) q low =
-      ap (λ v. at v q) first ∙ value_worked a params given q
-      ∙ ap value_in (same_at a b params given q (λ r arrow. let less = falls q r arrow in unique_at a b first second k r (omega arith)))
-      ∙ sym (value_worked b params given q) ∙ ap (λ v. at v q) (sym second)
+      ap (λ v. at v q) first ∙ value_worked a params supplied q
+      ∙ ap value_in (same_at a b params supplied q (λ r arrow. let less = falls q r arrow in unique_at a b first second k r (omega arith)))
+      ∙ sym (value_worked b params supplied q) ∙ ap (λ v. at v q) (sym second)
 
-  pub unique : (a b : List (Option ℤ)) → IsAssignment params given a → IsAssignment params given b → a ≡ b
+  pub unique : (a b : List (Option ℤ)) → IsAssignment params supplied a → IsAssignment params supplied b → a ≡ b
   unique a b first second =
-      let long : length a ≡ length b = ap length first ∙ length-worked a params given ∙ sym (length-worked b params given) ∙ ap length (sym second) in
+      let long : length a ≡ length b = ap length first ∙ length-worked a params supplied ∙ sym (length-worked b params supplied) ∙ ap length (sym second) in
       ext_get_or None a b long (λ q inside. unique_at a b first second (suc (Rank q)) q (omega arith))
 
   -- ---- and one
 
-  settles : (k q : ℕ) → Rank q < k → at (values_after k params given) q ≡ at (values_after (suc k) params given) q
+  settles : (k q : ℕ) → Rank q < k → at (values_after k params supplied) q ≡ at (values_after (suc k) params supplied) q
   unfolding values_after
   settles zero q low = absurd (omega arith)
   settles (suc k) q low =
-      value_worked (values_after k params given) params given q
-      ∙ ap value_in (same_at (values_after k params given) (values_after (suc k) params given) params given q (λ r arrow. let less = falls q r arrow in settles k r (omega arith)))
-      ∙ sym (value_worked (values_after (suc k) params given) params given q)
+      value_worked (values_after k params supplied) params supplied q
+      ∙ ap value_in (same_at (values_after k params supplied) (values_after (suc k) params supplied) params supplied q (λ r arrow. let less = falls q r arrow in settles k r (omega arith)))
+      ∙ sym (value_worked (values_after (suc k) params supplied) params supplied q)
 
-  long_after : (k : ℕ) → length (values_after k params given) ≡ length params
+  long_after : (k : ℕ) → length (values_after k params supplied) ≡ length params
   unfolding values_after
   long_after zero = length-map params (λ p. None)
-  long_after (suc k) = length-worked (values_after k params given) params given
+  long_after (suc k) = length-worked (values_after k params supplied) params supplied
 
-  pub is_assignment : IsAssignment params given (values_of params given)
+  pub is_assignment : IsAssignment params supplied (values_of params supplied)
   unfolding values_after
   is_assignment =
       let n = length params in
-      let long : length (values_after n params given) ≡ n = long_after n in
-      let same_length : length (values_after n params given) ≡ length (values_after (suc n) params given) = long ∙ sym (long_after (suc n)) in
-      ext_get_or None (values_after n params given) (values_after (suc n) params given) same_length
+      let long : length (values_after n params supplied) ≡ n = long_after n in
+      let same_length : length (values_after n params supplied) ≡ length (values_after (suc n) params supplied) = long ∙ sym (long_after (suc n)) in
+      ext_get_or None (values_after n params supplied) (values_after (suc n) params supplied) same_length
       (λ q inside.
       let place : q < length (references_of params) = rw (length-map {A = Param}) (omega arith) in
       let low = rank_inside (references_of params) ordered.no_cycle q place in

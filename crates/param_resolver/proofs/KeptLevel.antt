@@ -12,7 +12,7 @@ use Rattle.pisdf_model.specs.declared.fifo.End.{End}
 use Rattle.pisdf_model.specs.declared.fifo.End.TheVariants.{Interface, Port}
 use Rattle.pisdf_model.specs.declared.fifo.Fifo.{Fifo}
 use Rattle.pisdf_model.specs.declared.graph.Graph.{Graph}
-use Rattle.sdf_level.specs.Kept.{HasHeadRateWithin, HasSoundDelay, HasTailRateWithin, HeadIsThere, IsLevel, TailIsThere, TouchesActor, how_many, is_from_port, is_from_source, is_into_port, rate_limit}
+use Rattle.sdf_level.specs.Invariants.{HasHeadRateWithin, HasSoundDelay, HasTailRateWithin, HeadIsThere, IsLevel, TailIsThere, TouchesActor, how_many, is_from_port, is_from_source, is_into_port, rate_limit}
 use Rattle.sdf_level.specs.Run.{is_into_actor}
 use Rattle.sdf_level.specs.View.{LevelView}
 use Rattle.sdf_level.specs.declared.link.Link.{Link}

@@ -4,7 +4,7 @@ pub mod Assignments
 pub mod ByActor
 pub mod Configuring
 pub mod Counted
-pub mod Giving
+pub mod Supplying
 pub mod KeptLevel
 pub mod Leveling
 pub mod Levels

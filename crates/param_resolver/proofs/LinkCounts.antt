@@ -12,7 +12,7 @@ use Rattle.pisdf_model.specs.declared.fifo.End.{End}
 use Rattle.pisdf_model.specs.declared.fifo.End.TheVariants.{Interface, Port}
 use Rattle.pisdf_model.specs.declared.fifo.Fifo.{Fifo}
 use Rattle.pisdf_model.specs.declared.graph.Graph.{Graph}
-use Rattle.sdf_level.specs.Kept.{how_many, is_from_port, is_from_source, is_into_port, is_into_sink}
+use Rattle.sdf_level.specs.Invariants.{how_many, is_from_port, is_from_source, is_into_port, is_into_sink}
 use Rattle.sdf_level.specs.declared.link.Link.{Link}
 use Rattle.param_resolver.specs.LevelOf.{fifo_links, link_of, links_of, state_link, state_links}
 use Rattle.param_resolver.specs.Numbering.{actor_number, fires, has_state, is_kept, level_inputs, output_count, same_end, source_ends, state_size}

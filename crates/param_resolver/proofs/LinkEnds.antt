@@ -10,7 +10,7 @@ use Rattle.pisdf_model.specs.declared.fifo.End.{End}
 use Rattle.pisdf_model.specs.declared.fifo.End.TheVariants.{Interface, Port}
 use Rattle.pisdf_model.specs.declared.fifo.Fifo.{Fifo}
 use Rattle.pisdf_model.specs.declared.graph.Graph.{Graph}
-use Rattle.sdf_level.specs.Kept.{is_from_port, is_from_source, is_into_port, is_into_sink}
+use Rattle.sdf_level.specs.Invariants.{is_from_port, is_from_source, is_into_port, is_into_sink}
 use Rattle.sdf_level.specs.declared.link.Tail.{Tail}
 use Rattle.sdf_level.specs.declared.link.Tail.TheVariants as tail
 use Rattle.sdf_level.specs.declared.link.Head.{Head}

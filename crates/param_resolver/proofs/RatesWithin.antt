@@ -14,7 +14,7 @@ use Rattle.pisdf_model.specs.declared.actor.Body.TheVariants.{Kernel, Config, Ch
 use Rattle.pisdf_model.specs.declared.actor.Port.{Port}
 use Rattle.pisdf_model.specs.declared.graph.Graph.{Graph}
 use Rattle.pisdf_model.specs.declared.graph.Interface.{Interface}
-use Rattle.sdf_level.specs.Kept.{rate_limit}
+use Rattle.sdf_level.specs.Invariants.{rate_limit}
 use Rattle.param_resolver.specs.EarlyCheck.{Checked, check_by, check_to, config_outs, early_numbers, early_of}
 use Rattle.param_resolver.specs.LevelOf.{in_rates, out_rates, sources_of}
 use Rattle.param_resolver.specs.Numbering.{output_count, source_inputs}

@@ -21,22 +21,22 @@ use Rattle.param_resolver.proofs.Assignments.{is_assignment, same_outcome, value
 use Rattle.param_resolver.proofs.Ranks.{rank, rank_falls}
 
 -- these places are settled now, and all that was stays
-pub record Settles (params : List Param) (given : List (Option ℤ)) (old new : Found) (values : List ℤ) (places : List ℕ) : Type 0 where
+pub record Settles (params : List Param) (supplied : List (Option ℤ)) (old new : Found) (values : List ℤ) (places : List ℕ) : Type 0 where
   pub long : length new ≡ length old
   pub many : length values ≡ length new
   pub settled : All (λ q. IsSome (found_at new q)) places
   pub kept : Keeps old new
-  pub told : KeepsTelling params given old new
+  pub told : KeepsTelling params supplied old new
   pub numbered : values ≡ numbers (values_found new)
 
 still_some : (old new : Found) → Keeps old new → (q : ℕ) → IsSome (found_at old q) → IsSome (found_at new q)
 still_some old new kept q some = subst (λ o. IsSome o) (sym (kept q some)) some
 
-pub settles_more : (params : List Param) (given : List (Option ℤ)) (old mid new : Found) (before values : List ℤ) (places : List ℕ) (i : ℕ)
-    → i < length places → Settles params given old mid before (take i places)
-    → length new ≡ length mid → length values ≡ length before → IsSome (found_at new (get_or places i 0)) → Keeps mid new → KeepsTelling params given mid new → values ≡ numbers (values_found new)
-    → Settles params given old new values (take (i + 1) places)
-settles_more params given old mid new before values places i inside so_far long many settled kept told numbered = record {
+pub settles_more : (params : List Param) (supplied : List (Option ℤ)) (old mid new : Found) (before values : List ℤ) (places : List ℕ) (i : ℕ)
+    → i < length places → Settles params supplied old mid before (take i places)
+    → length new ≡ length mid → length values ≡ length before → IsSome (found_at new (get_or places i 0)) → Keeps mid new → KeepsTelling params supplied mid new → values ≡ numbers (values_found new)
+    → Settles params supplied old new values (take (i + 1) places)
+settles_more params supplied old mid new before values places i inside so_far long many settled kept told numbered = record {
   long = long ∙ so_far.long;
   many = many ∙ so_far.many ∙ sym long;
   settled = All-more (λ q. IsSome (found_at new q)) places i 0 inside (λ k d below. still_some mid new kept (get_or (take i places) k d) (so_far.settled k d below)) settled;
@@ -84,26 +84,26 @@ module _ (params : List Param) (ordered : AreOrdered params) (place : ℕ) (insi
 
   -- ---- what is written down of it
 
-  module _ (given : List (Option ℤ)) (long : length given ≡ length params) (old found : Found) (settled : All (λ q. IsSome (found_at found q)) (refers p.kind)) (told : KeepsTelling params given old found) (whole : length found ≡ length params) where
-    told_here : (values : List (Option ℤ)) → IsAssignment params given values → Tells params given values found → (q : ℕ) → Contains (refers p.kind) q → get_or (values_found found) q None ≡ get_or values q None
+  module _ (supplied : List (Option ℤ)) (long : length supplied ≡ length params) (old found : Found) (settled : All (λ q. IsSome (found_at found q)) (refers p.kind)) (told : KeepsTelling params supplied old found) (whole : length found ≡ length params) where
+    told_here : (values : List (Option ℤ)) → IsAssignment params supplied values → Tells params supplied values found → (q : ℕ) → Contains (refers p.kind) q → get_or (values_found found) q None ≡ get_or values q None
     told_here values assigned tells q c =
         let some = All-contains (λ r. IsSome (found_at found r)) (refers p.kind) q settled c in
         get_or-map_same value_found found q None
         ∙ by_found (found_at found q) some (tells q)
-        ∙ sym (value_worked values params given q) ∙ ap (λ v. get_or v q None) (sym assigned)
+        ∙ sym (value_worked values params supplied q) ∙ ap (λ v. get_or v q None) (sym assigned)
       where
-        by_found : (o : Option (Result (Option ℤ) Why)) → IsSome o → IfSome o (λ r. r ≡ outcome_at params given values q) → value_found o ≡ value_in (outcome_at params given values q)
+        by_found : (o : Option (Result (Option ℤ) Why)) → IsSome o → IfSome o (λ r. r ≡ outcome_at params supplied values q) → value_found o ≡ value_in (outcome_at params supplied values q)
         by_found None some tells = absurd (false≢true some)
         by_found (Some r) some tells = ap value_in tells
 
-    here_is : (values : List (Option ℤ)) → outcome_at params given values place ≡ outcome values p.low p.high p.kind (get_or given place None)
-    here_is values = ap (λ o. outcome_of values o (get_or given place None)) (slice_get-get_or params place p inside ∙ ap Some (sym is))
+    here_is : (values : List (Option ℤ)) → outcome_at params supplied values place ≡ outcome values p.low p.high p.kind (get_or supplied place None)
+    here_is values = ap (λ o. outcome_of values o (get_or supplied place None)) (slice_get-get_or params place p inside ∙ ap Some (sym is))
 
-    outcome_is : (values : List (Option ℤ)) → IsAssignment params given values → Tells params given values found → outcome (values_found found) p.low p.high p.kind (get_or given place None) ≡ outcome_at params given values place
+    outcome_is : (values : List (Option ℤ)) → IsAssignment params supplied values → Tells params supplied values found → outcome (values_found found) p.low p.high p.kind (get_or supplied place None) ≡ outcome_at params supplied values place
     outcome_is values assigned tells =
-        same_outcome (values_found found) values p.low p.high p.kind (get_or given place None) (told_here values assigned tells) ∙ sym (here_is values)
+        same_outcome (values_found found) values p.low p.high p.kind (get_or supplied place None) (told_here values assigned tells) ∙ sym (here_is values)
 
-    pub told_with : (o : Result (Option ℤ) Why) (g : Option ℤ) → g ≡ get_or given place None → o ≡ outcome (values_found found) p.low p.high p.kind g → KeepsTelling params given old (set found place (Some o))
+    pub told_with : (o : Result (Option ℤ) Why) (g : Option ℤ) → g ≡ get_or supplied place None → o ≡ outcome (values_found found) p.low p.high p.kind g → KeepsTelling params supplied old (set found place (Some o))
     told_with o g g_is o_is values assigned before q =
         let tells = told values assigned before in
         ⊎_elim
@@ -112,7 +112,7 @@ module _ (params : List Param) (ordered : AreOrdered params) (place : ℕ) (insi
         (λ (above : place < q). elsewhere tells (omega arith))
         (λ (most : q ≤ place).
         let same : place ≡ q = omega arith in
-        let family : ℕ → Type 0 = λ r. IfSome (found_at (set found place (Some o)) r) (λ x. x ≡ outcome_at params given values r) in
+        let family : ℕ → Type 0 = λ r. IfSome (found_at (set found place (Some o)) r) (λ x. x ≡ outcome_at params supplied values r) in
         subst family same (here tells))
         (cases_lt place q))
         (cases_lt q place)
@@ -120,12 +120,12 @@ module _ (params : List Param) (ordered : AreOrdered params) (place : ℕ) (insi
         there : place < length found
         there = omega arith
 
-        elsewhere : Tells params given values found → q ≢ place → IfSome (found_at (set found place (Some o)) q) (λ x. x ≡ outcome_at params given values q)
-        elsewhere tells apart = subst (λ x. IfSome x (λ y. y ≡ outcome_at params given values q)) (sym (get_or-set_other found place q (Some o) None apart)) (tells q)
+        elsewhere : Tells params supplied values found → q ≢ place → IfSome (found_at (set found place (Some o)) q) (λ x. x ≡ outcome_at params supplied values q)
+        elsewhere tells apart = subst (λ x. IfSome x (λ y. y ≡ outcome_at params supplied values q)) (sym (get_or-set_other found place q (Some o) None apart)) (tells q)
 
-        here : Tells params given values found → IfSome (found_at (set found place (Some o)) place) (λ x. x ≡ outcome_at params given values place)
+        here : Tells params supplied values found → IfSome (found_at (set found place (Some o)) place) (λ x. x ≡ outcome_at params supplied values place)
         here tells =
-            subst (λ x. IfSome x (λ y. y ≡ outcome_at params given values place)) (sym (get_or-set_same found place (Some o) None there))
+            subst (λ x. IfSome x (λ y. y ≡ outcome_at params supplied values place)) (sym (get_or-set_same found place (Some o) None there))
             (o_is ∙ ap (λ v. outcome (values_found found) p.low p.high p.kind v) g_is ∙ outcome_is values assigned tells)
 
 -- what is put down stays, at the place and elsewhere
@@ -150,18 +150,18 @@ numbers_with found values place o n are is =
     rw (are, is) (sym (ap numbers (map-set value_found found place (Some o)) ∙ map-set (λ v. unwrap_or v (pos 0)) (values_found found) place (value_in o)))
 
 -- the places below one are settled now, and all that was stays
-pub record SettlesBelow (params : List Param) (given : List (Option ℤ)) (old new : Found) (values : List ℤ) (n : ℕ) : Type 0 where
+pub record SettlesBelow (params : List Param) (supplied : List (Option ℤ)) (old new : Found) (values : List ℤ) (n : ℕ) : Type 0 where
   pub long : length new ≡ length old
   pub many : length values ≡ length new
   pub settled : AreSettled n new
-  pub told : KeepsTelling params given old new
+  pub told : KeepsTelling params supplied old new
   pub numbered : values ≡ numbers (values_found new)
 
-pub settles_next : (params : List Param) (given : List (Option ℤ)) (old mid new : Found) (before values : List ℤ) (n : ℕ)
-    → SettlesBelow params given old mid before n
-    → length new ≡ length mid → length values ≡ length before → IsSome (found_at new n) → Keeps mid new → KeepsTelling params given mid new → values ≡ numbers (values_found new)
-    → SettlesBelow params given old new values (n + 1)
-settles_next params given old mid new before values n so_far long many settled kept told numbered = record {
+pub settles_next : (params : List Param) (supplied : List (Option ℤ)) (old mid new : Found) (before values : List ℤ) (n : ℕ)
+    → SettlesBelow params supplied old mid before n
+    → length new ≡ length mid → length values ≡ length before → IsSome (found_at new n) → Keeps mid new → KeepsTelling params supplied mid new → values ≡ numbers (values_found new)
+    → SettlesBelow params supplied old new values (n + 1)
+settles_next params supplied old mid new before values n so_far long many settled kept told numbered = record {
   long = long ∙ so_far.long;
   many = many ∙ so_far.many ∙ sym long;
   settled = below_more (λ q. IsSome (found_at new q)) n (λ q below. still_some mid new kept q (so_far.settled q below)) settled;
@@ -171,16 +171,16 @@ settles_next params given old mid new before values n so_far long many settled k
 
 -- ---- once all are settled
 
-some_outcomes : (values : List (Option ℤ)) (params : List Param) (given : List (Option ℤ)) (q : ℕ) → q < length params → get_or (map (λ o. Some o) (outcomes values params given)) q None ≡ Some (outcome_at params given values q)
-some_outcomes values [] given q inside = absurd (omega arith)
-some_outcomes values (p ∷ params) given zero inside = refl
-some_outcomes values (p ∷ params) given (suc q) inside =
-    let next : get_or (drop 1 given) q None ≡ get_or given (suc q) None = get_or-drop 1 given q None ∙ ap (λ k. get_or given k None) (omega arith) in
-    some_outcomes values params (drop 1 given) q (omega arith) ∙ ap (λ v. Some (outcome_of values (slice_get params q) v)) next
+some_outcomes : (values : List (Option ℤ)) (params : List Param) (supplied : List (Option ℤ)) (q : ℕ) → q < length params → get_or (map (λ o. Some o) (outcomes values params supplied)) q None ≡ Some (outcome_at params supplied values q)
+some_outcomes values [] supplied q inside = absurd (omega arith)
+some_outcomes values (p ∷ params) supplied zero inside = refl
+some_outcomes values (p ∷ params) supplied (suc q) inside =
+    let next : get_or (drop 1 supplied) q None ≡ get_or supplied (suc q) None = get_or-drop 1 supplied q None ∙ ap (λ k. get_or supplied k None) (omega arith) in
+    some_outcomes values params (drop 1 supplied) q (omega arith) ∙ ap (λ v. Some (outcome_of values (slice_get params q) v)) next
 
-length-outcomes : (values : List (Option ℤ)) (params : List Param) (given : List (Option ℤ)) → length (outcomes values params given) ≡ length params
-length-outcomes values [] given = refl
-length-outcomes values (p ∷ params) given = ap suc (length-outcomes values params (drop 1 given))
+length-outcomes : (values : List (Option ℤ)) (params : List Param) (supplied : List (Option ℤ)) → length (outcomes values params supplied) ≡ length params
+length-outcomes values [] supplied = refl
+length-outcomes values (p ∷ params) supplied = ap suc (length-outcomes values params (drop 1 supplied))
 
 some_is : (o : Option (Result (Option ℤ) Why)) (r : Result (Option ℤ) Why) → IsSome o → IfSome o (λ x. x ≡ r) → o ≡ Some r
 some_is None r some tells = absurd (false≢true some)
@@ -194,22 +194,22 @@ values_of_some : (os : List (Result (Option ℤ) Why)) → values_found (map (λ
 values_of_some [] = refl
 values_of_some (o ∷ os) = ap (λ rest. value_in o ∷ rest) (values_of_some os)
 
-module _ (params : List Param) (given : List (Option ℤ)) (ordered : AreOrdered params) (old found : Found) (fresh : (q : ℕ) → found_at old q ≡ None) (long : length found ≡ length params) (settled : AreSettled (length params) found) (told : KeepsTelling params given old found) where
-  tells_fresh : (values : List (Option ℤ)) → Tells params given values old
-  tells_fresh values q = subst (λ o. IfSome o (λ r. r ≡ outcome_at params given values q)) (sym (fresh q)) tt
+module _ (params : List Param) (supplied : List (Option ℤ)) (ordered : AreOrdered params) (old found : Found) (fresh : (q : ℕ) → found_at old q ≡ None) (long : length found ≡ length params) (settled : AreSettled (length params) found) (told : KeepsTelling params supplied old found) where
+  tells_fresh : (values : List (Option ℤ)) → Tells params supplied values old
+  tells_fresh values q = subst (λ o. IfSome o (λ r. r ≡ outcome_at params supplied values q)) (sym (fresh q)) tt
 
-  all_found : found ≡ map (λ o. Some o) (outcomes (values_of params given) params given)
+  all_found : found ≡ map (λ o. Some o) (outcomes (values_of params supplied) params supplied)
   all_found =
-      let values = values_of params given in
-      let tells = told values (is_assignment params given ordered) (tells_fresh values) in
-      ext_get_or None found (map (λ o. Some o) (outcomes values params given)) (long ∙ sym (length-map (outcomes values params given) (λ o. Some o) ∙ length-outcomes values params given))
-      (λ q inside. let there : q < length params = omega arith in some_is (found_at found q) (outcome_at params given values q) (settled q there) (tells q) ∙ sym (some_outcomes values params given q there))
+      let values = values_of params supplied in
+      let tells = told values (is_assignment params supplied ordered) (tells_fresh values) in
+      ext_get_or None found (map (λ o. Some o) (outcomes values params supplied)) (long ∙ sym (length-map (outcomes values params supplied) (λ o. Some o) ∙ length-outcomes values params supplied))
+      (λ q inside. let there : q < length params = omega arith in some_is (found_at found q) (outcome_at params supplied values q) (settled q there) (tells q) ∙ sym (some_outcomes values params supplied q there))
 
-  pub faults_are : faults_found found ≡ param_faults params given
-  faults_are = ap faults_found all_found ∙ faults_of_some 0 (outcomes (values_of params given) params given)
+  pub faults_are : faults_found found ≡ param_faults params supplied
+  faults_are = ap faults_found all_found ∙ faults_of_some 0 (outcomes (values_of params supplied) params supplied)
 
-  pub values_are : values_found found ≡ values_of params given
-  values_are = ap values_found all_found ∙ values_of_some (outcomes (values_of params given) params given) ∙ sym (is_assignment params given ordered)
+  pub values_are : values_found found ≡ values_of params supplied
+  values_are = ap values_found all_found ∙ values_of_some (outcomes (values_of params supplied) params supplied) ∙ sym (is_assignment params supplied ordered)
 
 pub fresh_none : (n q : ℕ) → found_at (replicate n None) q ≡ None
 fresh_none zero q = refl

@@ -15,7 +15,7 @@ use Rattle.pisdf_model.specs.declared.fifo.Fifo.{Fifo}
 use Rattle.pisdf_model.specs.declared.graph.Graph.{Graph}
 use Rattle.pisdf_model.specs.declared.graph.Interface as interface
 use Rattle.pisdf_model.specs.declared.param.Param.{Param}
-use Rattle.param_resolver.specs.Assignment.{given_next, given_to, numbers, one_if, param_faults, values_of}
+use Rattle.param_resolver.specs.Assignment.{supplied_next, supplied_to, numbers, one_if, param_faults, values_of}
 use Rattle.param_resolver.specs.EarlyView.{EarlyView, end, whole}
 use Rattle.param_resolver.specs.Rates.{arg_faults, arg_values, interface_faults, interface_rates, port_faults, port_rates}
 use Rattle.param_resolver.specs.Refusal.{Refusal, param, rate, child}
@@ -33,11 +33,11 @@ nothing = record { early = record { values = []; inputs = []; outputs = []; args
 
 -- ---- the values of the early parameters: those that come of the inherited ones alone
 
-abbrev pub given_early : List Param → List ℤ → List (Option ℤ)
-given_early params inherited = given_to params inherited []
+abbrev pub supplied_early : List Param → List ℤ → List (Option ℤ)
+supplied_early params inherited = supplied_to params inherited []
 
 abbrev pub early_values : List Param → List ℤ → List (Option ℤ)
-early_values params inherited = values_of params (given_early params inherited)
+early_values params inherited = values_of params (supplied_early params inherited)
 
 -- as numbers
 abbrev pub early_numbers : Graph → List ℤ → List ℤ
@@ -48,16 +48,16 @@ as_refusal fault = param fault.0 fault.1
 
 -- ---- once the configuration actors fired
 
--- what parameters are given then: an inherited one what is known of it, a chosen one its value
-abbrev pub given_late : List Param → List (Option ℤ) → List ℤ → List (Option ℤ)
-given_late [] known chosen = []
-given_late (p ∷ params) known chosen =
-    given_next p.kind (slice_index_or known 0 None) (slice_get chosen 0) ∷ given_late params (drop 1 known) (drop (one_if (is_chosen_kind p.kind)) chosen)
+-- what parameters are supplied with then: an inherited one what is known of it, a chosen one its value
+abbrev pub supplied_late : List Param → List (Option ℤ) → List ℤ → List (Option ℤ)
+supplied_late [] known chosen = []
+supplied_late (p ∷ params) known chosen =
+    supplied_next p.kind (slice_index_or known 0 None) (slice_get chosen 0) ∷ supplied_late params (drop 1 known) (drop (one_if (is_chosen_kind p.kind)) chosen)
 
 -- these values were known before, where the inherited parameters have these
 pub record IsEarlyOf (params : List Param) (inherited : List ℤ) (values : List (Option ℤ)) : Type 0 where
   pub known : values ≡ early_values params inherited
-  pub sound : param_faults params (given_early params inherited) ≡ []
+  pub sound : param_faults params (supplied_early params inherited) ≡ []
 
 -- ---- the configuration actors, under these values and with these checks of the graphs that they name
 
@@ -118,7 +118,7 @@ config_faults check graphs g values rates a actor (ConfigChild k args sets) = ch
 -- the early parameters, then the rates of the inputs, then those of the outputs
 abbrev pub rated_faults : Graph → List ℤ → List Refusal
 rated_faults g inherited =
-    map as_refusal (param_faults g.params (given_early g.params inherited))
+    map as_refusal (param_faults g.params (supplied_early g.params inherited))
     ++ (interface_faults (early_numbers g inherited) g.inputs ++ interface_faults (early_numbers g inherited) g.outputs)
 
 -- then the configuration actors, where these are the checks of the graphs that they name

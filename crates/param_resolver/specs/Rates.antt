@@ -9,7 +9,7 @@ use Rattle.pisdf_model.specs.Details.{of_each}
 use Rattle.pisdf_model.specs.Wires.{port_text}
 use Rattle.pisdf_model.specs.declared.actor.Port.{Port}
 use Rattle.pisdf_model.specs.declared.graph.Interface.{Interface}
-use Rattle.sdf_level.specs.Kept.{rate_limit}
+use Rattle.sdf_level.specs.Invariants.{rate_limit}
 use Rattle.param_resolver.specs.Assignment.{why_of}
 use Rattle.param_resolver.specs.Refusal.{Refusal, rate}
 use Rattle.param_resolver.specs.declared.fault.Why.{Why}

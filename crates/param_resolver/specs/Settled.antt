@@ -20,12 +20,12 @@ pub record AreOrdered (params : List Param) : Type 0 where
   pub no_cycle : on_cycles (references_of params) ≡ []
 
 abbrev pub outcome_of : List (Option ℤ) → Option Param → Option ℤ → Result (Option ℤ) Why
-outcome_of values None given = Ok None
-outcome_of values (Some p) given = outcome values p.low p.high p.kind given
+outcome_of values None supplied = Ok None
+outcome_of values (Some p) supplied = outcome values p.low p.high p.kind supplied
 
 -- what becomes of the parameter at a place
 abbrev pub outcome_at : List Param → List (Option ℤ) → List (Option ℤ) → ℕ → Result (Option ℤ) Why
-outcome_at params given values place = outcome_of values (slice_get params place) (slice_index_or given place None)
+outcome_at params supplied values place = outcome_of values (slice_get params place) (slice_index_or supplied place None)
 
 -- what was found of each, if anything was
 abbrev pub Found : Type 0
@@ -60,11 +60,11 @@ Keeps old new = (q : ℕ) → IsSome (found_at old q) → found_at new q ≡ fou
 
 -- what was found is what becomes of the parameters under these values
 abbrev pub Tells : List Param → List (Option ℤ) → List (Option ℤ) → Found → Type 0
-Tells params given values found = (q : ℕ) → IfSome (found_at found q) (λ o. o ≡ outcome_at params given values q)
+Tells params supplied values found = (q : ℕ) → IfSome (found_at found q) (λ o. o ≡ outcome_at params supplied values q)
 
 -- what told the assignment before tells it now
 abbrev pub KeepsTelling : List Param → List (Option ℤ) → Found → Found → Type 0
-KeepsTelling params given old new = (values : List (Option ℤ)) → IsAssignment params given values → Tells params given values old → Tells params given values new
+KeepsTelling params supplied old new = (values : List (Option ℤ)) → IsAssignment params supplied values → Tells params supplied values old → Tells params supplied values new
 
 -- the expression of a derived parameter refers to places below n
 abbrev pub ReferInside : ℕ → ParamKind → Type 0

@@ -3,7 +3,7 @@ ghost use Rattle.std.specs.Prelude.{◌≡◌, ◌<◌, ◌^◌, ◌++◌, ℕ, 
 ghost use Rattle.param_expr.specs.Eval.{RefersBelow, eval_of};
 ghost use Rattle.pisdf_model.specs.Details.{first};
 ghost use Rattle.pisdf_model.specs.ParamOrder.{places_of, refers as refers_of};
-ghost use Rattle.param_resolver.specs.Assignment.{are_sound, evaluated_within, StandsAt, given_next, given_to, given_within, one_if, numbers as numbers_in, outcome, param_faults, value_in, values_of, why_of, within};
+ghost use Rattle.param_resolver.specs.Assignment.{are_sound, evaluated_within, StandsAt, supplied_next, supplied_to, supplied_within, one_if, numbers as numbers_in, outcome, param_faults, value_in, values_of, why_of, within};
 ghost use Rattle.param_resolver.specs.Settled.{AreOrdered, AreSettled, Keeps, faults_found, KeepsTelling, ReferInside, found_at, value_found, values_found};
 
 use crate::fault::{ResolveFault, Why};
@@ -11,7 +11,7 @@ use param_expr::{EvalFault, Expr, eval};
 use pisdf_model::{Param, ParamKind, refers};
 use std::alloc::{AllocError, Global};
 
-/// What becomes of a parameter: its value where it is sound, none where it is given none or refers to one that isn't
+/// What becomes of a parameter: its value where it is sound, none where it is supplied with none or refers to one that isn't
 /// sound, or why it isn't sound itself.
 pub(crate) type Outcome = Result<Option<i64>, Why>;
 
@@ -35,10 +35,10 @@ fn within(low: i64, high: i64, value: i64) -> Outcome
     }
 }
 
-fn given_within(low: i64, high: i64, given: Option<i64>) -> Outcome
-    ensures { result ≡ given_within low high given }
+fn supplied_within(low: i64, high: i64, supplied: Option<i64>) -> Outcome
+    ensures { result ≡ supplied_within low high supplied }
 {
-    match given {
+    match supplied {
         None => Ok(None),
         Some(value) => within(low, high, value),
     }
@@ -84,7 +84,7 @@ fn are_sound(found: &[Option<Outcome>], places: &[u32]) -> bool
 /// What becomes of a parameter, where all that it refers to is settled.
 fn outcome(
     param: &Param,
-    given: Option<i64>,
+    supplied: Option<i64>,
     places: &[u32],
     found: &[Option<Outcome>],
     numbers: &[i64],
@@ -92,7 +92,7 @@ fn outcome(
     requires places { places.now ≡ refers_of param.now.kind }
     requires numbers { numbers.now ≡ numbers_in (values_found found.now) }
     requires inside { ReferInside (length found.now) param.now.kind }
-    ensures { result ≡ outcome (values_found found.now) param.now.low param.now.high param.now.kind given }
+    ensures { result ≡ outcome (values_found found.now) param.now.low param.now.high param.now.kind supplied }
 {
     match &param.kind {
         ParamKind::Derived(expr) => {
@@ -102,7 +102,9 @@ fn outcome(
                 Ok(None)
             }
         }
-        ParamKind::Inherited | ParamKind::Chosen => given_within(param.low, param.high, given),
+        ParamKind::Inherited | ParamKind::Chosen => supplied_within(
+            param.low, param.high, supplied,
+        ),
     }
 }
 
@@ -136,20 +138,20 @@ fn put(found: &mut [Option<Outcome>], numbers: &mut [i64], place: usize, outcome
 fn settle(
     alloc: Global,
     params: &[Param],
-    given: &[Option<i64>],
+    supplied: &[Option<i64>],
     found: &mut [Option<Outcome>],
     numbers: &mut [i64],
     place: usize,
 ) -> Result<(), AllocError>
     requires ordered { AreOrdered params.now }
     requires inside { place < length params.now }
-    requires given { length given.now ≡ length params.now }
+    requires supplied { length supplied.now ≡ length params.now }
     requires found { length found.old ≡ length params.now }
     requires long { length numbers.old ≡ length found.old }
     requires numbers { numbers.old ≡ numbers_in (values_found found.old) }
     ensures settled { OnOk result (IsSome (found_at found.new place)) }
     ensures kept { Keeps found.old found.new }
-    ensures told { KeepsTelling params.now given.now found.old found.new }
+    ensures told { KeepsTelling params.now supplied.now found.old found.new }
     ensures numbers { numbers.new ≡ numbers_in (values_found found.new) }
 {
     if found[place].is_some() {
@@ -157,9 +159,9 @@ fn settle(
     }
     let named = refers(alloc, &params[place].kind)?;
     for other in &named {
-        settle(alloc, params, given, found, numbers, *other as usize)?;
+        settle(alloc, params, supplied, found, numbers, *other as usize)?;
     }
-    let settled = outcome(&params[place], given[place], &named, found, numbers);
+    let settled = outcome(&params[place], supplied[place], &named, found, numbers);
     put(found, numbers, place, settled);
     Ok(())
 }
@@ -168,21 +170,21 @@ fn settle(
 fn settle_all(
     alloc: Global,
     params: &[Param],
-    given: &[Option<i64>],
+    supplied: &[Option<i64>],
     found: &mut [Option<Outcome>],
     numbers: &mut [i64],
 ) -> Result<(), AllocError>
     requires ordered { AreOrdered params.now }
-    requires given { length given.now ≡ length params.now }
+    requires supplied { length supplied.now ≡ length params.now }
     requires found { length found.old ≡ length params.now }
     requires long { length numbers.old ≡ length found.old }
     requires numbers { numbers.old ≡ numbers_in (values_found found.old) }
     ensures settled { OnOk result (AreSettled (length params.now) found.new) }
-    ensures told { KeepsTelling params.now given.now found.old found.new }
+    ensures told { KeepsTelling params.now supplied.now found.old found.new }
     ensures numbers { numbers.new ≡ numbers_in (values_found found.new) }
 {
     for place in 0..params.len() {
-        settle(alloc, params, given, found, numbers, place)?;
+        settle(alloc, params, supplied, found, numbers, place)?;
     }
     Ok(())
 }
@@ -218,23 +220,23 @@ pub(crate) struct Assigned {
     pub(crate) numbers: Vec<i64>,
 }
 
-/// The values of parameters that are given these, if none has a fault.
+/// The values of parameters that are supplied with these, if none has a fault.
 pub(crate) fn assign(
     alloc: Global,
     params: &[Param],
-    given: &[Option<i64>],
+    supplied: &[Option<i64>],
 ) -> Result<Assigned, ResolveFault>
     requires ordered { AreOrdered params.now }
     requires few { length params.now < 2 ^ 32 }
-    requires given { length given.now ≡ length params.now }
-    ensures values { IfOk result (λ assigned. assigned.values.items ≡ values_of params.now given.now) }
-    ensures numbers { IfOk result (λ assigned. assigned.numbers.items ≡ numbers_in (values_of params.now given.now)) }
-    ensures sound { OnOk result (param_faults params.now given.now ≡ []) }
-    ensures fault { IfErr result (StandsAt (param_faults params.now given.now)) }
+    requires supplied { length supplied.now ≡ length params.now }
+    ensures values { IfOk result (λ assigned. assigned.values.items ≡ values_of params.now supplied.now) }
+    ensures numbers { IfOk result (λ assigned. assigned.numbers.items ≡ numbers_in (values_of params.now supplied.now)) }
+    ensures sound { OnOk result (param_faults params.now supplied.now ≡ []) }
+    ensures fault { IfErr result (StandsAt (param_faults params.now supplied.now)) }
 {
     let mut found = vec![in alloc; None; params.len()]?;
     let mut numbers = vec![in alloc; 0; params.len()]?;
-    settle_all(alloc, params, given, &mut found, &mut numbers)?;
+    settle_all(alloc, params, supplied, &mut found, &mut numbers)?;
     match first_fault(&found) {
         Some((place, why)) => Err(ResolveFault::Param {
             param: place as u32,

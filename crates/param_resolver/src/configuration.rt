@@ -16,9 +16,9 @@ ghost use Rattle.param_resolver.specs.Resolvable.{AreArgsBelow, AreNestedWithin,
 use crate::assignment::assign;
 use crate::fault::EarlyFault;
 use crate::feeds::inputs_fed;
-use crate::given::given_to;
 use crate::known::Early;
 use crate::rates::{PartFault, arg_values, interface_rates, port_rates};
+use crate::supplied::supplied_to;
 use param_expr::{Expr, Name};
 use pisdf_model::{Actor, Body, Graph, Port};
 use sdf_level::List;
@@ -120,8 +120,8 @@ fn check_rates(alloc: Global, graph: &Graph, inherited: &[i64]) -> Result<Rated,
     ensures fault { IfErr result (λ f. StandsFirst (rated_faults graph.now inherited.now) (refusal_of f)) }
     ensures memory { IfErr result TellsMemory }
 {
-    let given = given_to(alloc, graph.params.items(), inherited, &[])?;
-    let assigned = assign(alloc, graph.params.items(), &given)?;
+    let supplied = supplied_to(alloc, graph.params.items(), inherited, &[])?;
+    let assigned = assign(alloc, graph.params.items(), &supplied)?;
     let inputs = interface_rates(alloc, graph.inputs.items(), &assigned.numbers)?;
     let outputs = interface_rates(alloc, graph.outputs.items(), &assigned.numbers)?;
     Ok(Rated {

@@ -12,12 +12,12 @@ ghost use Rattle.param_resolver.specs.LevelOf.{AreOfActor, AreOneEach, IsChildSo
 ghost use Rattle.param_resolver.specs.Numbering.{acting};
 ghost use Rattle.param_resolver.specs.Resolvable.{AreResolvable};
 ghost use Rattle.param_resolver.specs.Settled.{AreOrdered};
-ghost use Rattle.param_resolver.specs.Sound.{AreGiven};
+ghost use Rattle.param_resolver.specs.Sound.{AreSupplied};
 
-/// Parameters none of which depends on itself have exactly one assignment, whatever they are given.
+/// Parameters none of which depends on itself have exactly one assignment, whatever they are supplied with.
 pub fn one_assignment()
-    ensures is { (params : Seq Param) (given : Seq (Option ℤ)) → AreOrdered params → IsAssignment params given (values_of params given) }
-    ensures only { (params : Seq Param) (given values : Seq (Option ℤ)) → AreOrdered params → IsAssignment params given values → values ≡ values_of params given }
+    ensures is { (params : Seq Param) (supplied : Seq (Option ℤ)) → AreOrdered params → IsAssignment params supplied (values_of params supplied) }
+    ensures only { (params : Seq Param) (supplied values : Seq (Option ℤ)) → AreOrdered params → IsAssignment params supplied values → values ≡ values_of params supplied }
 {}
 
 /// Well-formed graphs, whose numbers refer to parts, have what is asked of one graph: no parameter depends on itself, and
@@ -32,9 +32,9 @@ pub fn early_unfolds()
     ensures { (graphs : Graphs) (place : ℕ) (inherited : Seq ℤ) → InRange graphs → WellFormed graphs → place < length graphs.graphs → check_of graphs.graphs place inherited ≡ check_by (check_of graphs.graphs) graphs.graphs (slice_get graphs.graphs place) inherited }
 {}
 
-/// Parameters all of which are given what their kinds want, and none of which has a fault, have all a value.
+/// Parameters all of which are supplied with what their kinds want, and none of which has a fault, have all a value.
 pub fn all_sound()
-    ensures { (params : Seq Param) (given : Seq (Option ℤ)) → AreOrdered params → AreGiven params given → param_faults params given ≡ [] → (q : ℕ) → q < length params → IsSome (slice_index_or (values_of params given) q None) }
+    ensures { (params : Seq Param) (supplied : Seq (Option ℤ)) → AreOrdered params → AreSupplied params supplied → param_faults params supplied ≡ [] → (q : ℕ) → q < length params → IsSome (slice_index_or (values_of params supplied) q None) }
 {}
 
 /// What the lists of a level's actors have at a number is that of the actor with this number, and they have one entry for

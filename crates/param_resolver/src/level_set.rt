@@ -2,7 +2,7 @@
 ghost use Rattle.std.specs.Prelude.{◌≡◌, ◌<◌, ℕ, ℤ, List as Seq, [], Some, length, slice_get, IfErr, IfOk, IfSome, OnOk};
 ghost use Rattle.pisdf_model.specs.Valid.{AreValid};
 ghost use Rattle.pisdf_model.specs.declared.actor.Actor.{Actor};
-ghost use Rattle.sdf_level.specs.Kept.{IsLevel, how_many};
+ghost use Rattle.sdf_level.specs.Invariants.{IsLevel, how_many};
 ghost use Rattle.sdf_level.specs.Run.{is_into_actor};
 ghost use Rattle.param_resolver.specs.EarlyCheck.{early_of};
 ghost use Rattle.param_resolver.specs.LevelOf.{level_args, level_at, level_children, level_faults, level_outs, links_of as links_in, sources_of};

@@ -8,7 +8,6 @@ mod check;
 mod configuration;
 mod fault;
 mod feeds;
-mod given;
 mod known;
 mod laws;
 mod level_set;
@@ -18,6 +17,7 @@ mod origin;
 mod part_names;
 mod rates;
 mod resolution;
+mod supplied;
 
 pub use check::early;
 pub use fault::{EarlyFault, LevelFault, ResolveFault, Why};

@@ -1,12 +1,12 @@
 ghost use Rattle.std.specs.Prelude.{◌≡◌, ◌<◌, ◌^◌, ℤ, [], List as Seq, length, IfErr, IfOk, OnOk};
-ghost use Rattle.param_resolver.specs.Assignment.{StandsAt, given_to, numbers, param_faults, values_of};
+ghost use Rattle.param_resolver.specs.Assignment.{StandsAt, supplied_to, numbers, param_faults, values_of};
 ghost use Rattle.param_resolver.specs.EarlyCheck.{IsEarlyOf};
 ghost use Rattle.param_resolver.specs.Settled.{AreOrdered};
 
 use crate::assignment::assign;
 use crate::fault::ResolveFault;
-use crate::given::given_late;
 use crate::known::Early;
+use crate::supplied::supplied_late;
 use pisdf_model::Graph;
 use sdf_level::List;
 use std::alloc::Global;
@@ -26,11 +26,11 @@ pub fn resolve(
 ) -> Result<List<i64>, ResolveFault>
     requires ordered { AreOrdered graph.now.params }
     requires few { length graph.now.params < 2 ^ 32 }
-    ensures values { (inherited : Seq ℤ) → IsEarlyOf graph.now.params inherited early.now.values → IfOk result (λ v. v ≡ numbers (values_of graph.now.params (given_to graph.now.params inherited chosen.now))) }
-    ensures sound { (inherited : Seq ℤ) → IsEarlyOf graph.now.params inherited early.now.values → OnOk result (param_faults graph.now.params (given_to graph.now.params inherited chosen.now) ≡ []) }
-    ensures first_fault { (inherited : Seq ℤ) → IsEarlyOf graph.now.params inherited early.now.values → IfErr result (StandsAt (param_faults graph.now.params (given_to graph.now.params inherited chosen.now))) }
+    ensures values { (inherited : Seq ℤ) → IsEarlyOf graph.now.params inherited early.now.values → IfOk result (λ v. v ≡ numbers (values_of graph.now.params (supplied_to graph.now.params inherited chosen.now))) }
+    ensures sound { (inherited : Seq ℤ) → IsEarlyOf graph.now.params inherited early.now.values → OnOk result (param_faults graph.now.params (supplied_to graph.now.params inherited chosen.now) ≡ []) }
+    ensures first_fault { (inherited : Seq ℤ) → IsEarlyOf graph.now.params inherited early.now.values → IfErr result (StandsAt (param_faults graph.now.params (supplied_to graph.now.params inherited chosen.now))) }
 {
-    let given = given_late(alloc, graph.params.items(), early.values.items(), chosen)?;
-    let assigned = assign(alloc, graph.params.items(), &given)?;
+    let supplied = supplied_late(alloc, graph.params.items(), early.values.items(), chosen)?;
+    let assigned = assign(alloc, graph.params.items(), &supplied)?;
     Ok(List::new(assigned.numbers))
 }

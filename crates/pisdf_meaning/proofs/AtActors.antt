@@ -19,7 +19,7 @@ use Rattle.pisdf_model.specs.declared.actor.Port.{Port}
 use Rattle.pisdf_model.specs.declared.graph.Graph.{Graph}
 use Rattle.pisdf_model.specs.declared.graph.Graphs.{Graphs}
 use Rattle.pisdf_model.specs.declared.graph.Interface as interface
-use Rattle.sdf_level.specs.Kept.{how_many}
+use Rattle.sdf_level.specs.Invariants.{how_many}
 use Rattle.sdf_level.specs.Run.{is_into_actor}
 use Rattle.pisdf_meaning.specs.Configuring.{config_firing, early_in}
 use Rattle.pisdf_meaning.specs.Endings.{Ends}

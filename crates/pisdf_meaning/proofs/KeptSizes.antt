@@ -29,7 +29,7 @@ use Rattle.pisdf_model.specs.declared.graph.Interface.{Interface}
 use Rattle.pisdf_model.proofs.Lists.{left_none, right_none, unmapped}
 use Rattle.sdf_level.specs.View.{LevelView}
 use Rattle.sdf_level.specs.Firings.{firings}
-use Rattle.sdf_level.specs.Kept.{IsLevel, how_many}
+use Rattle.sdf_level.specs.Invariants.{IsLevel, how_many}
 use Rattle.sdf_level.specs.LevelRun.{Ended, GivesRates, HaveDelays, HaveRates, IsEnd, end_of, left_of}
 use Rattle.sdf_level.specs.Run.{Runs, inputs, is_into_actor}
 use Rattle.sdf_level.proofs.KeptLengths.{keeps_rates, leaves_delays}

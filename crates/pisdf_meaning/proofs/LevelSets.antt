@@ -13,7 +13,7 @@ use Rattle.pisdf_model.specs.declared.actor.Actor.{Actor}
 use Rattle.pisdf_model.specs.declared.actor.Body.{Body}
 use Rattle.pisdf_model.specs.declared.actor.Body.TheVariants.{Kernel, Config, Child, ConfigChild}
 use Rattle.pisdf_model.specs.declared.graph.Graph.{Graph}
-use Rattle.sdf_level.specs.Kept.{how_many}
+use Rattle.sdf_level.specs.Invariants.{how_many}
 use Rattle.sdf_level.specs.Run.{is_into_actor}
 use Rattle.sdf_level.specs.View.{LevelView}
 use Rattle.pisdf_meaning.specs.PartsOf.{ActorParts, ArePartsOf, HasChild, HasRates}

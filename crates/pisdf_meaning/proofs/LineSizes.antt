@@ -6,7 +6,7 @@ use Rattle.std.proofs.lemmas.Bool.{cases_Bool, cases_eq, cases_lt, eq-eqb, ne_eq
 use Rattle.std.proofs.lemmas.List.{append-nil, get_or-append-add, get_or_append_left, length-drop, length-take-le}
 use Rattle.sdf_level.specs.View.{LevelView}
 use Rattle.sdf_level.specs.Firings.{firings}
-use Rattle.sdf_level.specs.Kept.{how_many, is_into_port}
+use Rattle.sdf_level.specs.Invariants.{how_many, is_into_port}
 use Rattle.sdf_level.specs.LevelRun.{HasRate, HaveDelays, HaveRates}
 use Rattle.sdf_level.specs.Run.{Fire, GoesOn, RunsFrom, added, head_rate, input, inputs, inputs_below, is_into_actor, put, read}
 use Rattle.sdf_level.specs.declared.link.Link.{Link}

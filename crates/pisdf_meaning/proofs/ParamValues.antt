@@ -1,7 +1,7 @@
 -- What parameters come to, once configuration actors fired.
 use Rattle.std.proofs.Common.{◌≡◌, ℕ, ℤ, List, [], ◌∷◌, length, get_or, map, slice_get, Some, Ok, Err, refl, ap, sym, ◌∙◌, subst}
-use Rattle.param_resolver.specs.Assignment.{given_to, numbers, param_faults, values_of}
-use Rattle.param_resolver.specs.EarlyCheck.{IsEarlyOf, as_refusal, check_by, check_of, early_faults, early_of, given_early}
+use Rattle.param_resolver.specs.Assignment.{supplied_to, numbers, param_faults, values_of}
+use Rattle.param_resolver.specs.EarlyCheck.{IsEarlyOf, as_refusal, check_by, check_of, early_faults, early_of, supplied_early}
 use Rattle.param_resolver.specs.EarlyView.{EarlyView}
 use Rattle.param_resolver.specs.Resolvable.{AreResolvable, IsResolvable}
 use Rattle.pisdf_model.specs.declared.graph.Graph.{Graph}
@@ -42,20 +42,20 @@ known_early graphs place g inherited early here unfolds is sound =
     let none = sym (ap (λ c. c.faults) opened) ∙ sound in
     record {
       known = ap (λ (e : EarlyView). e.values) (is ∙ ap (λ c. c.early) opened);
-      sound = map_none as_refusal (param_faults g.params (given_early g.params inherited)) (left_none _ _ (left_none _ _ none));
+      sound = map_none as_refusal (param_faults g.params (supplied_early g.params inherited)) (left_none _ _ (left_none _ _ none));
     }
 
 module _ (graphs : List Graph) (g : Graph) (firing : Firing) (configured : List Configured) (chosen : List ℤ) (chosen_are : chosen ≡ chosen_values g configured) where
-  pub resolved_so : (values : List ℤ) → values ≡ numbers (values_of g.params (given_to g.params firing.inherited chosen)) → param_faults g.params (given_to g.params firing.inherited chosen) ≡ [] → Ok values ≡ resolved graphs g firing configured
+  pub resolved_so : (values : List ℤ) → values ≡ numbers (values_of g.params (supplied_to g.params firing.inherited chosen)) → param_faults g.params (supplied_to g.params firing.inherited chosen) ≡ [] → Ok values ≡ resolved graphs g firing configured
   resolved_so values are sound =
-      let P : List ℤ → Type 0 = λ c. unless_refused graphs g firing.path (map as_refusal (param_faults g.params (given_to g.params firing.inherited c))) (numbers (values_of g.params (given_to g.params firing.inherited c))) ≡ Ok values in
+      let P : List ℤ → Type 0 = λ c. unless_refused graphs g firing.path (map as_refusal (param_faults g.params (supplied_to g.params firing.inherited c))) (numbers (values_of g.params (supplied_to g.params firing.inherited c))) ≡ Ok values in
       let here : P chosen = rw (sound, ← are) refl in
       sym (subst P chosen_are here)
 
-  pub unresolved_so : (fault : PlainFault) → IfRefused (λ refusal. unless_refused graphs g firing.path (map as_refusal (param_faults g.params (given_to g.params firing.inherited chosen))) (numbers (values_of g.params (given_to g.params firing.inherited chosen))) ≡ Err refusal) fault →
+  pub unresolved_so : (fault : PlainFault) → IfRefused (λ refusal. unless_refused graphs g firing.path (map as_refusal (param_faults g.params (supplied_to g.params firing.inherited chosen))) (numbers (values_of g.params (supplied_to g.params firing.inherited chosen))) ≡ Err refusal) fault →
       IfRefused (λ refusal. Err refusal ≡ resolved graphs g firing configured) fault
   unresolved_so fault refused = refused_as _ _ fault
       (λ refusal e.
-      let P : List ℤ → Type 0 = λ c. unless_refused graphs g firing.path (map as_refusal (param_faults g.params (given_to g.params firing.inherited c))) (numbers (values_of g.params (given_to g.params firing.inherited c))) ≡ Err refusal in
+      let P : List ℤ → Type 0 = λ c. unless_refused graphs g firing.path (map as_refusal (param_faults g.params (supplied_to g.params firing.inherited c))) (numbers (values_of g.params (supplied_to g.params firing.inherited c))) ≡ Err refusal in
       sym (subst P chosen_are e))
       refused

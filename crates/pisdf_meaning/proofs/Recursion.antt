@@ -17,7 +17,7 @@ use Rattle.pisdf_model.specs.declared.graph.Graph.{Graph}
 use Rattle.pisdf_model.specs.declared.graph.Graphs.{Graphs}
 use Rattle.sdf_level.specs.View.{LevelView}
 use Rattle.sdf_level.specs.Firings.{actors_of, firings}
-use Rattle.sdf_level.specs.Kept.{how_many}
+use Rattle.sdf_level.specs.Invariants.{how_many}
 use Rattle.sdf_level.specs.LevelRun.{end_of}
 use Rattle.sdf_level.specs.Run.{input, inputs, inputs_below, is_into_actor}
 use Rattle.sdf_level.specs.declared.link.Link.{Link}

@@ -24,7 +24,7 @@ use Rattle.pisdf_model.specs.declared.actor.Body.TheVariants.{Kernel, Config, Ch
 use Rattle.pisdf_model.specs.declared.graph.Graph.{Graph}
 use Rattle.sdf_level.specs.View.{LevelView}
 use Rattle.sdf_level.specs.Firings.{actors_of, firings}
-use Rattle.sdf_level.specs.Kept.{IsLevel}
+use Rattle.sdf_level.specs.Invariants.{IsLevel}
 use Rattle.sdf_level.specs.LevelRun.{end_of}
 use Rattle.sdf_level.specs.Run.{inputs, put}
 use Rattle.sdf_level.proofs.FiringLists.{firings-own}

@@ -9,7 +9,7 @@ use Rattle.sdf_level.specs.View.{LevelView}
 use Rattle.level_schedule.specs.Schedules.{IsScheduled, IsUnscheduled}
 use Rattle.level_schedule.specs.declared.scheduling.LevelSchedule.{LevelSchedule}
 use Rattle.level_schedule.specs.declared.unscheduled.Unscheduled.{Unscheduled}
-use Rattle.param_resolver.specs.Assignment.{given_to, numbers, param_faults, values_of}
+use Rattle.param_resolver.specs.Assignment.{supplied_to, numbers, param_faults, values_of}
 use Rattle.param_resolver.specs.EarlyCheck.{as_refusal}
 use Rattle.param_resolver.specs.LevelOf.{level_at, level_faults}
 use Rattle.param_resolver.specs.Numbering.{acting}
@@ -53,7 +53,7 @@ chosen_values g left = chosen_from (values_set (configurations g) left) 0 g.para
 -- ---- the values of all parameters, and the rates
 
 abbrev pub given_values : Graph → Firing → List Configured → List (Option ℤ)
-given_values g firing left = given_to g.params firing.inherited (chosen_values g left)
+given_values g firing left = supplied_to g.params firing.inherited (chosen_values g left)
 
 -- what each parameter comes to, or the refusal of the first that has no value within its range
 abbrev pub resolved : List Graph → Graph → Firing → List Configured → Result (List ℤ) Refusal

@@ -10,7 +10,7 @@ use Rattle.pisdf_model.specs.Wires.{gives_tokens, takes_tokens}
 use Rattle.pisdf_model.specs.declared.actor.Actor.{Actor}
 use Rattle.pisdf_model.specs.declared.fifo.Fifo.{Fifo}
 use Rattle.pisdf_model.specs.declared.graph.Graph.{Graph}
-use Rattle.sdf_level.specs.Kept.{IsLevel, how_many}
+use Rattle.sdf_level.specs.Invariants.{IsLevel, how_many}
 use Rattle.sdf_level.specs.Run.{is_into_actor}
 use Rattle.pisdf_meaning.specs.Meaning.{Means}
 use Rattle.pisdf_meaning.specs.declared.firing.Firing.{Firing}

@@ -8,7 +8,7 @@ ghost use Rattle.param_resolver.specs.Numbering.{level_inputs};
 ghost use Rattle.pisdf_model.specs.InterfaceWires.{is_configuration};
 ghost use Rattle.pisdf_model.specs.Parts.{input_count, inputs_of};
 ghost use Rattle.sdf_level.specs.Firings.{actors_of, turns_of};
-ghost use Rattle.sdf_level.specs.Kept.{how_many};
+ghost use Rattle.sdf_level.specs.Invariants.{how_many};
 ghost use Rattle.sdf_level.specs.Lists.{lists_of};
 ghost use Rattle.sdf_level.specs.Run.{inputs, is_into_actor};
 ghost use Rattle.sdf_level.specs.declared.turn.Turn.{Turn as SeqTurn};

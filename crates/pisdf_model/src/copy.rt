@@ -5,7 +5,7 @@ use crate::actor::{Actor, Body, Port};
 use crate::fifo::Fifo;
 use crate::graph::{Graph, Interface};
 use crate::param::{Param, ParamKind};
-use param_expr::{Expr, Name, Node};
+use param_expr::{Expr, ExprForm, Name};
 use sdf_level::List;
 use std::alloc::{AllocError, Global};
 
@@ -40,13 +40,13 @@ pub fn copies<T: Copied>(alloc: Global, items: &[T]) -> Result<List<T>, AllocErr
 fn expression(alloc: Global, expr: &Expr) -> Result<Expr, AllocError>
     ensures { IfOk result (λ copy. copy ≡ expr.now) }
 {
-    match &expr.node {
-        Node::Number(value) => Ok(Expr::number(*value)),
-        Node::Param(place) => Ok(Expr::param(*place)),
-        Node::Binary(op, left, right) => {
-            let left = expression(alloc, left)?;
-            let right = expression(alloc, right)?;
-            Expr::binary(alloc, *op, left, right)
+    match &expr.form {
+        ExprForm::Number(value) => Ok(Expr::number(*value)),
+        ExprForm::Param(place) => Ok(Expr::param(*place)),
+        ExprForm::Binary(op, lhs, rhs) => {
+            let lhs = expression(alloc, lhs)?;
+            let rhs = expression(alloc, rhs)?;
+            Expr::binary(alloc, *op, lhs, rhs)
         }
     }
 }

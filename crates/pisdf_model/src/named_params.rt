@@ -6,7 +6,7 @@ ghost use Rattle.pisdf_model.specs.ParamOrder.{places_of, refers, config_places,
 use crate::actor::{Actor, Body, Port};
 use crate::graph::{Graph, Interface};
 use crate::param::{Param, ParamKind};
-use param_expr::{Expr, Node};
+use param_expr::{Expr, ExprForm};
 use sdf_level::List;
 use std::alloc::{AllocError, Global};
 
@@ -14,15 +14,15 @@ use std::alloc::{AllocError, Global};
 fn add_places(expr: &Expr, places: &mut Vec<u32>) -> Result<(), AllocError>
     ensures { OnOk result (places.new.items ≡ places.old.items ++ places_of expr.now) }
 {
-    match &expr.node {
-        Node::Number(_) => Ok(()),
-        Node::Param(place) => {
+    match &expr.form {
+        ExprForm::Number(_) => Ok(()),
+        ExprForm::Param(place) => {
             places.push(*place)?;
             Ok(())
         }
-        Node::Binary(_, left, right) => {
-            add_places(left, places)?;
-            add_places(right, places)
+        ExprForm::Binary(_, lhs, rhs) => {
+            add_places(lhs, places)?;
+            add_places(rhs, places)
         }
     }
 }

@@ -9,15 +9,15 @@ use crate::fifo::{End, Fifo, Life};
 use crate::graph::{Graph, Graphs, Interface};
 use crate::param::{Param, ParamKind};
 use crate::parts::{input_count, output_count};
-use param_expr::{Expr, Node};
+use param_expr::{Expr, ExprForm};
 
 fn refers_below(expr: &Expr, params: usize) -> bool
     ensures { IsTrue result ↔ RefersBelow params expr.now }
 {
-    match &expr.node {
-        Node::Number(_) => true,
-        Node::Param(place) => (*place as usize) < params,
-        Node::Binary(_, left, right) => refers_below(left, params) && refers_below(right, params),
+    match &expr.form {
+        ExprForm::Number(_) => true,
+        ExprForm::Param(place) => (*place as usize) < params,
+        ExprForm::Binary(_, lhs, rhs) => refers_below(lhs, params) && refers_below(rhs, params),
     }
 }
 

@@ -9,7 +9,7 @@ use Rattle.sdf_level.specs.declared.link.Tail.{Tail}
 use Rattle.sdf_level.specs.declared.link.Head.{Head}
 use Rattle.sdf_level.specs.declared.link.Tail.TheVariants as tail
 use Rattle.sdf_level.specs.declared.link.Head.TheVariants as head
-use Rattle.sdf_level.specs.Kept.{TailIsThere, HeadIsThere, IsLevel}
+use Rattle.sdf_level.specs.Invariants.{TailIsThere, HeadIsThere, IsLevel}
 use Rattle.sdf_level.specs.Links.{Inner, Outer, OfInner, OfOuter, EachInner, EachOuter, SomeInner}
 use Rattle.sdf_level.specs.Balance.{IsBalanced}
 use Rattle.sdf_level.specs.Components.{Joins, AreConnected}

@@ -1,7 +1,7 @@
 -- Each firing of an admissible list reads what it would read of the lines after all.
 use Rattle.std.proofs.Common.{◌≡◌, ℕ, ◌+◌, ◌<◌, ◌≤◌, List, [], ◌∷◌, ◌++◌, slice_index, refl, ap, sym, ◌∙◌, arith}
 use Rattle.sdf_level.specs.View.{LevelView}
-use Rattle.sdf_level.specs.Kept.{how_many}
+use Rattle.sdf_level.specs.Invariants.{how_many}
 use Rattle.sdf_level.specs.Firings.{firings, CanFire, CanFireAfter, EachFiring}
 use Rattle.sdf_level.specs.Orders.{IsAdmissible}
 use Rattle.sdf_level.specs.Run.{inputs, is_into_actor}

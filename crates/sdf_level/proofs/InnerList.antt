@@ -4,7 +4,7 @@ use Rattle.std.specs.List.{All, AllByRecursion}
 use Rattle.std.proofs.lemmas.List.{append-nil, length-append, length-map, map-append, take_more}
 use Rattle.std.proofs.lemmas.List.Elements.{All-from_recursion}
 use Rattle.sdf_level.specs.View.{LevelView}
-use Rattle.sdf_level.specs.Kept.{TailIsThere, HeadIsThere, HasTailRateWithin, HasHeadRateWithin, IsLevel, rate_limit}
+use Rattle.sdf_level.specs.Invariants.{TailIsThere, HeadIsThere, HasTailRateWithin, HasHeadRateWithin, IsLevel, rate_limit}
 use Rattle.sdf_level.specs.Links.{Inner, OfInner, EachInner, IsInnerWith, SomeInner}
 use Rattle.sdf_level.specs.Components.{Joins, IsPath, AreConnected}
 use Rattle.sdf_level.specs.Numbered.{IsBetween, as_link, inner_of, inner_at, inner_links}

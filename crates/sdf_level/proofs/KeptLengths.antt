@@ -10,7 +10,7 @@ use Rattle.sdf_level.specs.declared.link.Tail.{Tail}
 use Rattle.sdf_level.specs.declared.link.Head.{Head}
 use Rattle.sdf_level.specs.declared.link.Tail.TheVariants as tail
 use Rattle.sdf_level.specs.declared.link.Head.TheVariants as head
-use Rattle.sdf_level.specs.Kept.{TouchesActor, HasSoundDelay, how_many, is_into_sink, IsLevel}
+use Rattle.sdf_level.specs.Invariants.{TouchesActor, HasSoundDelay, how_many, is_into_sink, IsLevel}
 use Rattle.sdf_level.specs.Links.{OfInner, OfOuter, EachInner, EachOuter}
 use Rattle.sdf_level.specs.Balance.{IsBalanced}
 use Rattle.sdf_level.specs.Repetition.{IsRepetition}

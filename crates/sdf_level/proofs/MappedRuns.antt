@@ -8,7 +8,7 @@ use Rattle.sdf_level.specs.declared.link.Tail.{Tail}
 use Rattle.sdf_level.specs.declared.link.Head.{Head}
 use Rattle.sdf_level.specs.declared.link.Tail.TheVariants as tail
 use Rattle.sdf_level.specs.declared.link.Head.TheVariants as head
-use Rattle.sdf_level.specs.Kept.{how_many, is_into_port, is_into_sink}
+use Rattle.sdf_level.specs.Invariants.{how_many, is_into_port, is_into_sink}
 use Rattle.sdf_level.specs.Interfaces.{repeat, repeated, last}
 use Rattle.sdf_level.specs.Firings.{firings}
 use Rattle.sdf_level.specs.Run.{Fire, read, input, inputs_below, inputs, head_rate, is_into_actor, added, put, GoesOn, RunsFrom, Runs}

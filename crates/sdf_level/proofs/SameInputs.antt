@@ -8,7 +8,7 @@ use Rattle.sdf_level.specs.declared.link.Tail.{Tail}
 use Rattle.sdf_level.specs.declared.link.Head.{Head}
 use Rattle.sdf_level.specs.declared.link.Tail.TheVariants as tail
 use Rattle.sdf_level.specs.declared.link.Head.TheVariants as head
-use Rattle.sdf_level.specs.Kept.{is_into_port}
+use Rattle.sdf_level.specs.Invariants.{is_into_port}
 use Rattle.sdf_level.specs.Links.{OfInner, EachInner}
 use Rattle.sdf_level.specs.Firings.{IsReady}
 use Rattle.sdf_level.specs.Run.{read, input, inputs_below, head_rate}

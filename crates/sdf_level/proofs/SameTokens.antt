@@ -3,7 +3,7 @@ use Rattle.std.proofs.Common.{◌≡◌, ℕ, ◌+◌, ◌<◌, ◌≤◌, ◌==
 use Rattle.std.proofs.lemmas.Bool.{cases_eq, eq-eqb, ne_eqb}
 use Rattle.std.proofs.lemmas.List.{append-nil}
 use Rattle.sdf_level.specs.View.{LevelView}
-use Rattle.sdf_level.specs.Kept.{how_many}
+use Rattle.sdf_level.specs.Invariants.{how_many}
 use Rattle.sdf_level.specs.Firings.{firings, CanFire, EachFiring}
 use Rattle.sdf_level.specs.Orders.{IsAdmissible}
 use Rattle.sdf_level.specs.Run.{Fire, inputs, is_into_actor, put, GoesOn, RunsFrom, Runs}

@@ -1,7 +1,7 @@
 -- The constants of the code are the limits that the definitions state.
 use Rattle.std.proofs.Common.{◌≡◌, refl}
 use Rattle.sdf_level.specs.declared.TheConstants.{RATE_LIMIT, BASE_ENTRY_LIMIT, FIRINGS_LIMIT, LINKS_LIMIT, TOKENS_LIMIT}
-use Rattle.sdf_level.specs.Kept.{rate_limit}
+use Rattle.sdf_level.specs.Invariants.{rate_limit}
 use Rattle.sdf_level.specs.Balance.{base_entry_limit}
 use Rattle.sdf_level.specs.Limits.{firings_limit, links_limit, tokens_limit}
 

@@ -1,7 +1,7 @@
 -- Laws of runs and of repetition vectors, over any tokens, faults and firings.
 use Rattle.std.specs.Prelude.{◌≡◌, ℕ, ◌≤◌, ◌<◌, ◌*◌, ◌↔◌, List, [], length, map, slice_index, Result, Ok, Err}
 use Rattle.sdf_level.specs.View.{LevelView}
-use Rattle.sdf_level.specs.Kept.{IsLevel}
+use Rattle.sdf_level.specs.Invariants.{IsLevel}
 use Rattle.sdf_level.specs.Links.{Outer, EachInner, EachOuter}
 use Rattle.sdf_level.specs.Balance.{IsBalanced}
 use Rattle.sdf_level.specs.Repetition.{IsRepetition}

@@ -1,7 +1,7 @@
 -- The run of one thread: what stays at the sinks and on the links.
 use Rattle.std.specs.Prelude.{◌≡◌, ℕ, ◌+◌, List, [], ◌∷◌, length, slice_index, slice_index_or, Result, Ok, Err, if◌then◌else◌}
 use Rattle.sdf_level.specs.View.{LevelView}
-use Rattle.sdf_level.specs.Kept.{is_into_sink}
+use Rattle.sdf_level.specs.Invariants.{is_into_sink}
 use Rattle.sdf_level.specs.Orders.{IsOrder}
 use Rattle.sdf_level.specs.Interfaces.{last}
 use Rattle.sdf_level.specs.Run.{Fire, queue, Runs}

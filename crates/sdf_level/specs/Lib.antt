@@ -1,6 +1,6 @@
 pub mod View
 pub mod Lists
-pub mod Kept
+pub mod Invariants
 pub mod Links
 pub mod Balance
 pub mod Components

@@ -1,7 +1,7 @@
 -- A run over a list of firings, on queues without a bound, for any type of token and any fault.
 use Rattle.std.specs.Prelude.{◌≡◌, ℕ, zero, suc, ◌*◌, Bool, false, ◌==◌, List, [], ◌∷◌, ◌++◌, take, drop, slice_index_or, Result, Ok, Err, if◌then◌else◌}
 use Rattle.sdf_level.specs.View.{LevelView}
-use Rattle.sdf_level.specs.Kept.{how_many, is_into_port}
+use Rattle.sdf_level.specs.Invariants.{how_many, is_into_port}
 use Rattle.sdf_level.specs.Firings.{firings}
 use Rattle.sdf_level.specs.Interfaces.{repeated}
 use Rattle.sdf_level.specs.declared.link.Link.{Link}

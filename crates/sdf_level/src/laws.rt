@@ -3,7 +3,7 @@
 // its answer: a kernel's, which a function gives, and that of a graph in a graph, which none gives.
 ghost use Rattle.std.specs.Prelude.{ℕ, List as Seq};
 ghost use Rattle.sdf_level.specs.View.{LevelView};
-ghost use Rattle.sdf_level.specs.Kept.{IsLevel};
+ghost use Rattle.sdf_level.specs.Invariants.{IsLevel};
 ghost use Rattle.sdf_level.specs.Repetition.{IsRepetition};
 ghost use Rattle.sdf_level.specs.Laws.{OrdersGiveSameTokens, OrdersAreToldAlike, RunsAreTold, FaultsAreTold, ReadsStay, ReadsAreFinal, ToldHaveRates, LeavesDelays, KeepsRates, RunsHaveImages, LevelRunsHaveImages, LinesHaveImages, ReadsHaveImages, Suffices};
 

@@ -33,7 +33,7 @@ impl Model for Level {
 
     ghost Value = { LevelView };
 
-    ghost use Rattle.sdf_level.specs.Kept.{IsLevel};
+    ghost use Rattle.sdf_level.specs.Invariants.{IsLevel};
 
     ghost view = { λ l. record { actors = l.actors; sources = l.sources; sinks = l.sinks; links = l.links } };
 

@@ -1,7 +1,7 @@
 -- There is exactly one flow over the edges, and it delivers what queues feed.
 use Rattle.std.proofs.Common.{◌≡◌, ℕ, ◌==◌, ◌&&◌, List, map, sym, ◌∙◌, refl, ap}
 use Rattle.sdf_level.specs.View.{LevelView}
-use Rattle.sdf_level.specs.Kept.{IsLevel}
+use Rattle.sdf_level.specs.Invariants.{IsLevel}
 use Rattle.sdf_level.specs.Orders.{IsAdmissible}
 use Rattle.single_rate.specs.Nodes.{same}
 use Rattle.single_rate.specs.Wires.{wires}

@@ -2,7 +2,7 @@
 use Rattle.std.proofs.Common.{◌≡◌, ℕ, ◌+◌, ◌*◌, ◌<◌, ◌≤◌, ◌==◌, ⊎_elim, List, [], ◌++◌, length, slice_index, slice_index_or, if◌then◌else◌, refl, sym, ◌∙◌, arith}
 use Rattle.std.proofs.lemmas.Bool.{cases_eq, eq-eqb, ne_eqb}
 use Rattle.sdf_level.specs.View.{LevelView}
-use Rattle.sdf_level.specs.Kept.{HasSoundDelay, is_into_port, is_into_sink}
+use Rattle.sdf_level.specs.Invariants.{HasSoundDelay, is_into_port, is_into_sink}
 use Rattle.sdf_level.specs.Interfaces.{repeated, last}
 use Rattle.sdf_level.specs.LevelRun.{left_on}
 use Rattle.sdf_level.specs.Told.{sent}

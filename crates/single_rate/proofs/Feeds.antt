@@ -4,7 +4,7 @@ use Rattle.std.specs.List.{AllByRecursion}
 use Rattle.std.proofs.lemmas.Bool.{cases_eq, cases_lt, cases_Bool, eq-eqb, ne_eqb}
 use Rattle.std.proofs.lemmas.List.{append-nil, length-append}
 use Rattle.sdf_level.specs.View.{LevelView}
-use Rattle.sdf_level.specs.Kept.{how_many, is_into_port, is_into_sink, HeadIsThere, IsLevel}
+use Rattle.sdf_level.specs.Invariants.{how_many, is_into_port, is_into_sink, HeadIsThere, IsLevel}
 use Rattle.sdf_level.specs.Links.{OfInner, EachInner}
 use Rattle.sdf_level.specs.Firings.{firings, IsReady, CanFire, EachFiring}
 use Rattle.sdf_level.specs.Orders.{IsAdmissible}

@@ -5,7 +5,7 @@ use Rattle.std.proofs.lemmas.Bool.{cases_Bool, cases_eq, cases_lt, ne_eqb}
 use Rattle.std.proofs.lemmas.List.{length-append, length-map, get_or-set_same, get_or-set_other, get_or_past}
 use Rattle.std.proofs.lemmas.List.Sums.{sum_by-set}
 use Rattle.sdf_level.specs.View.{LevelView}
-use Rattle.sdf_level.specs.Kept.{how_many, is_from_source, is_into_sink, IsLevel}
+use Rattle.sdf_level.specs.Invariants.{how_many, is_from_source, is_into_sink, IsLevel}
 use Rattle.sdf_level.specs.Firings.{firings, actors_of}
 use Rattle.sdf_level.specs.Orders.{IsTurnOrder}
 use Rattle.sdf_level.specs.Limits.{tail_count, head_count, links_of, IsWithinLimits}

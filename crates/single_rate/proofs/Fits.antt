@@ -2,7 +2,7 @@
 use Rattle.std.proofs.Common.{◌≡◌, ℕ, zero, suc, ◌+◌, ◌<◌, List, [], ◌∷◌, map, length, slice_index, slice_index_or, refl, ap, ◌∙◌, arith}
 use Rattle.std.specs.List.{AllByRecursion}
 use Rattle.sdf_level.specs.View.{LevelView}
-use Rattle.sdf_level.specs.Kept.{TouchesActor, HasSoundDelay, IsLevel}
+use Rattle.sdf_level.specs.Invariants.{TouchesActor, HasSoundDelay, IsLevel}
 use Rattle.sdf_level.specs.Links.{OfInner, OfOuter, EachInner, EachOuter}
 use Rattle.sdf_level.specs.Balance.{IsBalanced}
 use Rattle.sdf_level.specs.Repetition.{AgreesOnZero}

@@ -5,7 +5,7 @@ use Rattle.std.proofs.lemmas.Bool.{cases_eq, eq-eqb, ne_eqb}
 use Rattle.std.proofs.lemmas.List.{length-map}
 use Rattle.sdf_level.specs.View.{LevelView}
 use Rattle.sdf_level.specs.Orders.{IsTurnOrder}
-use Rattle.sdf_level.specs.Kept.{IsLevel}
+use Rattle.sdf_level.specs.Invariants.{IsLevel}
 use Rattle.sdf_level.specs.Firings.{actors_of}
 use Rattle.sdf_level.specs.declared.link.Link.{Link}
 use Rattle.sdf_level.specs.declared.node.Node.{Node}
@@ -19,8 +19,8 @@ use Rattle.single_rate.specs.Raising.{GoForward, EndsBelow}
 use Rattle.single_rate.proofs.Picked.{Every}
 use Rattle.single_rate.proofs.Places.{HasEnds, place-found, place-below}
 use Rattle.single_rate.proofs.Positions.{position}
-use Rattle.single_rate.proofs.Stages.{Rises}
-use Rattle.single_rate.proofs.Rising.{plain_stage, stage, tail_parts, head_parts, no_link, all-rise}
+use Rattle.single_rate.proofs.Tiers.{Rises}
+use Rattle.single_rate.proofs.Rising.{plain_tier, tier, tail_parts, head_parts, no_link, all-rise}
 use Rattle.single_rate.proofs.AllNumbered.{edges-in}
 use Rattle.single_rate.proofs.CopiedNodes.{all-found}
 
@@ -35,7 +35,7 @@ position-most a (suc k) (x ∷ rest) = ⊎_elim
     (λ (n : x ≡ a → ⊥). let p = position-most a (suc k) rest in rw (ne_eqb x a n) (omega arith))
     (cases_eq x a)
 
-plain-most : (list : List ℕ) (n : Node) → plain_stage list n ≤ 3 * length list + 6
+plain-most : (list : List ℕ) (n : Node) → plain_tier list n ≤ 3 * length list + 6
 plain-most list (node.Source s) = omega arith
 plain-most list (node.Init l) = omega arith
 plain-most list (node.Firing a k) = let p = position-most a k list in omega arith
@@ -46,26 +46,26 @@ plain-most list (node.Fork l i) = omega arith
 plain-most list (node.Join l j) = omega arith
 plain-most list (node.Round l) = omega arith
 
-stage-most : (level : LevelView) (q list : List ℕ) (n : Node) → stage level q list n ≤ 3 * length list + 7
-stage-most level q list (node.Source s) = omega arith
-stage-most level q list (node.Init l) = omega arith
-stage-most level q list (node.Firing a k) = let p = position-most a k list in omega arith
-stage-most level q list (node.End l) = omega arith
-stage-most level q list (node.Sink t) = omega arith
-stage-most level q list (node.Broadcast l) = omega arith
-stage-most level q list (node.Fork l i) = let link : Link = slice_index_or level.links l no_link in let p = plain-most list (part_at (tail_parts level q l link.tail link.head link.delay) i).at.node in omega arith
-stage-most level q list (node.Join l j) = let link : Link = slice_index_or level.links l no_link in let p = plain-most list (part_at (head_parts level q l link.tail link.head link.delay) j).at.node in omega arith
-stage-most level q list (node.Round l) = omega arith
+tier-most : (level : LevelView) (q list : List ℕ) (n : Node) → tier level q list n ≤ 3 * length list + 7
+tier-most level q list (node.Source s) = omega arith
+tier-most level q list (node.Init l) = omega arith
+tier-most level q list (node.Firing a k) = let p = position-most a k list in omega arith
+tier-most level q list (node.End l) = omega arith
+tier-most level q list (node.Sink t) = omega arith
+tier-most level q list (node.Broadcast l) = omega arith
+tier-most level q list (node.Fork l i) = let link : Link = slice_index_or level.links l no_link in let p = plain-most list (part_at (tail_parts level q l link.tail link.head link.delay) i).at.node in omega arith
+tier-most level q list (node.Join l j) = let link : Link = slice_index_or level.links l no_link in let p = plain-most list (part_at (head_parts level q l link.tail link.head link.delay) j).at.node in omega arith
+tier-most level q list (node.Round l) = omega arith
 
 module _ (list : List Node) (S : Node → ℕ) where
-  abbrev pub number_stage : ℕ → ℕ
-  number_stage i = S (slice_index_or list i (node.Source 0))
+  abbrev pub number_tier : ℕ → ℕ
+  number_tier i = S (slice_index_or list i (node.Source 0))
 
-  pub edges-forward : (ws : List Wire) → Every (HasEnds list) ws → Every (Rises S) ws → AllByRecursion (λ e. number_stage e.tail < number_stage e.head) (map (edge_of list) ws)
+  pub edges-forward : (ws : List Wire) → Every (HasEnds list) ws → Every (Rises S) ws → AllByRecursion (λ e. number_tier e.tail < number_tier e.head) (map (edge_of list) ws)
   edges-forward [] ends rises = tt
   edges-forward (w ∷ ws) ends rises = (
-    (let t : number_stage (place_of list w.tail.node) ≡ S w.tail.node = ap S (place-found list w.tail.node ends.0.0) in
-        let h : number_stage (place_of list w.head.node) ≡ S w.head.node = ap S (place-found list w.head.node ends.0.1) in
+    (let t : number_tier (place_of list w.tail.node) ≡ S w.tail.node = ap S (place-found list w.tail.node ends.0.0) in
+        let h : number_tier (place_of list w.head.node) ≡ S w.head.node = ap S (place-found list w.head.node ends.0.1) in
         let r = rises.0 in omega arith),
     edges-forward ws ends.1 rises.1,
   )
@@ -77,13 +77,13 @@ module _ (list : List Node) (S : Node → ℕ) where
 module _ (level : LevelView) (q : List ℕ) (turns : List Turn) (sound : IsLevel level) (order : IsTurnOrder level q turns) where
   pub go-forward : (last : ℕ) → 3 * length turns + 7 ≤ last → GoForward (map (edge_of (nodes level q turns)) (wires level q)) last
   go-forward last room = record {
-    stage = number_stage (nodes level q turns) (stage level q (actors_of turns));
-    forward = edges-forward (nodes level q turns) (stage level q (actors_of turns)) (wires level q) (edges-in level q turns sound order) (all-rise level q (actors_of turns) order.order.admissible);
-    within = λ n. let m = stage-most level q (actors_of turns) (slice_index_or (nodes level q turns) n (node.Source 0)) in let l : length (actors_of turns) ≡ length turns = length-map turns (λ (t : Turn). t.actor) in omega arith;
+    tier = number_tier (nodes level q turns) (tier level q (actors_of turns));
+    forward = edges-forward (nodes level q turns) (tier level q (actors_of turns)) (wires level q) (edges-in level q turns sound order) (all-rise level q (actors_of turns) order.order.admissible);
+    within = λ n. let m = tier-most level q (actors_of turns) (slice_index_or (nodes level q turns) n (node.Source 0)) in let l : length (actors_of turns) ≡ length turns = length-map turns (λ (t : Turn). t.actor) in omega arith;
   }
 
   pub ends-below : EndsBelow (length (nodes level q turns)) (map (edge_of (nodes level q turns)) (wires level q))
-  ends-below = edges-below (nodes level q turns) (stage level q (actors_of turns)) (wires level q) (edges-in level q turns sound order)
+  ends-below = edges-below (nodes level q turns) (tier level q (actors_of turns)) (wires level q) (edges-in level q turns sound order)
 
 -- the list of nodes with those that copy found at the edges
 pub nodes-found : (level : LevelView) (q : List ℕ) (turns : List Turn) (ws : List Wire) → ws ≡ wires level q →

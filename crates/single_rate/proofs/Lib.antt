@@ -30,7 +30,7 @@ pub mod Skips
 pub mod RowSkips
 pub mod Passes
 pub mod Positions
-pub mod Stages
+pub mod Tiers
 pub mod Rising
 pub mod Snocs
 pub mod Ranking

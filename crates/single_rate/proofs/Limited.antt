@@ -2,7 +2,7 @@
 use Rattle.std.proofs.Common.{◌≡◌, ℕ, ◌+◌, ◌≤◌, List, [], ◌∷◌, length, arith}
 use Rattle.std.specs.List.{AllByRecursion}
 use Rattle.sdf_level.specs.View.{LevelView}
-use Rattle.sdf_level.specs.Kept.{TailIsThere, HeadIsThere, IsLevel}
+use Rattle.sdf_level.specs.Invariants.{TailIsThere, HeadIsThere, IsLevel}
 use Rattle.sdf_level.specs.Links.{OfInner, OfOuter, EachInner, EachOuter}
 use Rattle.sdf_level.specs.Balance.{IsBalanced}
 use Rattle.sdf_level.specs.Limits.{tail_count, head_count, moved, links_of, tokens_of, IsWithinLimits}

@@ -17,7 +17,7 @@ use Rattle.single_rate.specs.declared.part.Part.{Part}
 use Rattle.single_rate.specs.Nodes.{kind, subject, turn_of, same}
 use Rattle.single_rate.specs.Wires.{pieces, into_forks, out_of_joins, firing_parts, delay_part}
 use Rattle.single_rate.specs.Expanded.{source_nodes, sink_nodes, init_nodes, end_nodes, firing_nodes, forks_and_joins, copies_at, copies_from, nodes, place_of}
-use Rattle.single_rate.specs.Stages.{node_at}
+use Rattle.single_rate.specs.Tiers.{node_at}
 use Rattle.single_rate.proofs.Places.{In}
 use Rattle.single_rate.proofs.Unique.{same-node, same-self}
 

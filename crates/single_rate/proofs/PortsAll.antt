@@ -4,7 +4,7 @@ use Rattle.std.specs.List.{AllByRecursion}
 use Rattle.std.proofs.lemmas.Bool.{cases_Bool, cases_eq, cases_lt, eq-eqb, ne_eqb, eqb-true}
 use Rattle.std.proofs.lemmas.List.{append-nil}
 use Rattle.sdf_level.specs.View.{LevelView}
-use Rattle.sdf_level.specs.Kept.{IsLevel, TailIsThere, HeadIsThere, how_many, is_from_source, is_into_sink, is_from_port, is_into_port}
+use Rattle.sdf_level.specs.Invariants.{IsLevel, TailIsThere, HeadIsThere, how_many, is_from_source, is_into_sink, is_from_port, is_into_port}
 use Rattle.sdf_level.specs.Lists.{occurrences}
 use Rattle.sdf_level.specs.Orders.{IsTurnOrder}
 use Rattle.sdf_level.specs.Run.{is_into_actor}
@@ -21,7 +21,7 @@ use Rattle.single_rate.specs.declared.wire.Wire.{Wire}
 use Rattle.single_rate.specs.Nodes.{kind, subject, same}
 use Rattle.single_rate.specs.Wires.{wires_at, wires_from, wires}
 use Rattle.single_rate.specs.Expanded.{nodes, edges, edge_of, place_of, started, ended, copied_nodes}
-use Rattle.single_rate.specs.Stages.{node_at}
+use Rattle.single_rate.specs.Tiers.{node_at}
 use Rattle.single_rate.specs.Ports.{ports_into, ports_from, up_from, AreCounted, IsAtMostOne, PortsAt}
 use Rattle.single_rate.proofs.Picked.{Every}
 use Rattle.single_rate.proofs.Unique.{same-node, same-self, and-left, and-right}

@@ -4,7 +4,7 @@ use Rattle.std.specs.List.{AllByRecursion}
 use Rattle.std.proofs.lemmas.Bool.{cases_Bool, cases_eq, cases_lt, eq-eqb, ne_eqb, eqb-true, lt-ltb, le-ltb}
 use Rattle.std.proofs.lemmas.List.{get_or_past}
 use Rattle.sdf_level.specs.View.{LevelView}
-use Rattle.sdf_level.specs.Kept.{IsLevel, TouchesActor, HasSoundDelay, how_many, is_from_source, is_from_port}
+use Rattle.sdf_level.specs.Invariants.{IsLevel, TouchesActor, HasSoundDelay, how_many, is_from_source, is_from_port}
 use Rattle.sdf_level.specs.Links.{OfInner, EachInner}
 use Rattle.sdf_level.specs.Balance.{IsBalanced}
 use Rattle.sdf_level.specs.Firings.{firings, actors_of}
@@ -24,7 +24,7 @@ use Rattle.single_rate.specs.declared.wire.Wire.{Wire}
 use Rattle.single_rate.specs.Names.{output_rate, tail_rate}
 use Rattle.single_rate.specs.Wires.{pieces, into_forks, out_of_joins, all_pieces, cut_and_joined, firing_parts, delay_part, rounded_from, wires_at, wires_from, wires, total}
 use Rattle.single_rate.specs.Expanded.{nodes, edges, init_nodes}
-use Rattle.single_rate.specs.Stages.{node_at}
+use Rattle.single_rate.specs.Tiers.{node_at}
 use Rattle.single_rate.specs.Ports.{ports_from, UsesPorts}
 use Rattle.single_rate.proofs.Unique.{same-self, and-left, and-right}
 use Rattle.single_rate.proofs.Senders.{pieces-none}

@@ -22,16 +22,16 @@ all-more P [] i d h all here = absurd (omega arith)
 all-more P (e ∷ edges) zero d h all here = (here, tt)
 all-more P (e ∷ edges) (suc i) d h all here = let s : suc i + 1 ≡ suc (i + 1) = omega arith in rw s (all.0, all-more P edges i d (omega arith) all.1 here)
 
-path-stage : (edges : List Edge) (last : ℕ) (go : GoForward edges last) (over : List Edge) (n : ℕ) → IsPathTo edges over n → length over ≤ go.stage n
-path-stage edges last go [] n path = omega arith
-path-stage edges last go (e ∷ over) n path =
-    let before = path-stage edges last go over e.tail path.2 in
-    let forward = among-all (λ x. go.stage x.tail < go.stage x.head) edges e go.forward path.1 in
-    let head : go.stage e.head ≡ go.stage n = ap go.stage path.0 in
+path-tier : (edges : List Edge) (last : ℕ) (go : GoForward edges last) (over : List Edge) (n : ℕ) → IsPathTo edges over n → length over ≤ go.tier n
+path-tier edges last go [] n path = omega arith
+path-tier edges last go (e ∷ over) n path =
+    let before = path-tier edges last go over e.tail path.2 in
+    let forward = among-all (λ x. go.tier x.tail < go.tier x.head) edges e go.forward path.1 in
+    let head : go.tier e.head ≡ go.tier n = ap go.tier path.0 in
     omega arith
 
 pub reached-within : (edges : List Edge) (last n rank : ℕ) → GoForward edges last → IsReached edges n rank → rank ≤ last
-reached-within edges last n rank go reached = let p = path-stage edges last go reached.over n reached.path in let w = go.within n in let l = reached.long in omega arith
+reached-within edges last n rank go reached = let p = path-tier edges last go reached.over n reached.path in let w = go.within n in let l = reached.long in omega arith
 
 pub slack-less : (last : ℕ) (ranks : List ℕ) (h v : ℕ) → h < length ranks → slice_index ranks h < v → v ≤ last → slack last (set ranks h v) < slack last ranks
 slack-less last [] h v inside more within = absurd (omega arith)

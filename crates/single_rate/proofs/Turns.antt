@@ -1,10 +1,10 @@
--- The firings stand in the list of nodes in the order of one thread, and have stages in this order.
+-- The firings stand in the list of nodes in the order of one thread, and have tiers in this order.
 use Rattle.std.proofs.Common.{◌≡◌, ℕ, zero, suc, ◌+◌, ◌-◌, ◌*◌, ◌<◌, ◌≤◌, true, false, ⊎_elim, List, [], ◌∷◌, ◌++◌, length, slice_index, refl, ap, sym, ◌∙◌, subst, append_assoc, arith}
 use Rattle.std.proofs.lemmas.Bool.{cases_lt, cases_Bool}
 use Rattle.std.proofs.lemmas.List.{append-nil, length-append, length-map, get_or-append_right, get_or_append_left, get_or-append-add, get_or_past}
 use Rattle.std.proofs.lemmas.List.Elements.{All-from_recursion}
 use Rattle.sdf_level.specs.View.{LevelView}
-use Rattle.sdf_level.specs.Kept.{IsLevel}
+use Rattle.sdf_level.specs.Invariants.{IsLevel}
 use Rattle.sdf_level.specs.Firings.{firings, actors_of, turns_after}
 use Rattle.sdf_level.specs.Orders.{IsTurnOrder}
 use Rattle.sdf_level.specs.declared.node.Node.{Node}
@@ -13,13 +13,13 @@ use Rattle.sdf_level.specs.declared.turn.Turn.{Turn}
 use Rattle.single_rate.specs.Nodes.{kind, same}
 use Rattle.single_rate.specs.Wires.{wires}
 use Rattle.single_rate.specs.Expanded.{nodes, edges, place_of, firing_nodes}
-use Rattle.single_rate.specs.Stages.{node_at, first_firing, StandsAt, IsOfFiring, HaveStages}
+use Rattle.single_rate.specs.Tiers.{node_at, first_firing, StandsAt, IsOfFiring, HaveTiers}
 use Rattle.single_rate.proofs.Places.{In, In-left, In-right, place-below}
 use Rattle.single_rate.proofs.Unique.{same-node}
 use Rattle.single_rate.proofs.Once.{in-at, first_nodes, last_nodes, nodes-parts, first-kinds, last-kinds}
 use Rattle.single_rate.proofs.Positions.{position, position-here}
-use Rattle.single_rate.proofs.Rising.{stage, all-rise}
-use Rattle.single_rate.proofs.Forward.{number_stage, edges-forward}
+use Rattle.single_rate.proofs.Rising.{tier, all-rise}
+use Rattle.single_rate.proofs.Forward.{number_tier, edges-forward}
 use Rattle.single_rate.proofs.AllNumbered.{edges-in, firing-in}
 
 pub stands-at : (list : List ℕ) (i : ℕ) → i < length list → StandsAt list i
@@ -103,10 +103,10 @@ module _ (level : LevelView) (q : List ℕ) where
         subst P (sym all-parts) below
 
     abbrev S : Node → ℕ
-    S = stage level q (actors_of turns)
+    S = tier level q (actors_of turns)
 
-    stage-at : (i : ℕ) → i < length turns → number_stage (nodes level q turns) S (first_firing level + i) ≡ 3 * i + 3
-    stage-at i h =
+    tier-at : (i : ℕ) → i < length turns → number_tier (nodes level q turns) S (first_firing level + i) ≡ 3 * i + 3
+    tier-at i h =
         let s = stands-at (actors_of turns) i (let l = long in omega arith) in
         let here = firing-stands s.before s.after s.actor s.list_is in
         let p : position s.actor (firings s.actor s.before) (actors_of turns) ≡ length s.before = ap (position s.actor (firings s.actor s.before)) s.list_is ∙ position-here s.actor (firings s.actor s.before) s.before s.after refl in
@@ -114,9 +114,9 @@ module _ (level : LevelView) (q : List ℕ) where
         let m : first_firing level + i ≡ first_firing level + length s.before = omega arith in
         ap (λ j. S (node_at (nodes level q turns) j)) m ∙ ap S here ∙ (let z : 3 * position s.actor (firings s.actor s.before) (actors_of turns) + 3 ≡ 3 * i + 3 = omega arith in z)
 
-    pub have-stages : IsLevel level → HaveStages level q turns
-    have-stages sound = record {
-      stage = number_stage (nodes level q turns) S;
-      rising = All-from_recursion (λ e. number_stage (nodes level q turns) S e.tail < number_stage (nodes level q turns) S e.head) (edges level q turns) (edges-forward (nodes level q turns) S (wires level q) (edges-in level q turns sound order) (all-rise level q (actors_of turns) order.order.admissible));
-      in_order = λ i j less within. let a = stage-at i (omega arith) in let b = stage-at j within in omega arith;
+    pub have-tiers : IsLevel level → HaveTiers level q turns
+    have-tiers sound = record {
+      tier = number_tier (nodes level q turns) S;
+      rising = All-from_recursion (λ e. number_tier (nodes level q turns) S e.tail < number_tier (nodes level q turns) S e.head) (edges level q turns) (edges-forward (nodes level q turns) S (wires level q) (edges-in level q turns sound order) (all-rise level q (actors_of turns) order.order.admissible));
+      in_order = λ i j less within. let a = tier-at i (omega arith) in let b = tier-at j within in omega arith;
     }

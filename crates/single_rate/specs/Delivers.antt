@@ -1,7 +1,7 @@
 -- What arrives over the edges, and that it is what the run of one thread, on queues without a bound, feeds.
 use Rattle.std.specs.Prelude.{◌≡◌, ℕ, zero, suc, ◌+◌, List, [], ◌∷◌, ◌++◌}
 use Rattle.sdf_level.specs.View.{LevelView}
-use Rattle.sdf_level.specs.Kept.{how_many}
+use Rattle.sdf_level.specs.Invariants.{how_many}
 use Rattle.sdf_level.specs.Firings.{firings, EachFiring}
 use Rattle.sdf_level.specs.Run.{is_into_actor}
 use Rattle.sdf_level.specs.Told.{lines_after, reads_after}

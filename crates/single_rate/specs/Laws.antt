@@ -1,7 +1,7 @@
 -- Laws of what flows over the edges of single-rate graphs, over any tokens, faults and firings.
 use Rattle.std.specs.Prelude.{◌≡◌, ℕ, List, [], ◌∷◌, ◌++◌, map, length, slice_index, Ok, Err}
 use Rattle.sdf_level.specs.View.{LevelView}
-use Rattle.sdf_level.specs.Kept.{IsLevel}
+use Rattle.sdf_level.specs.Invariants.{IsLevel}
 use Rattle.sdf_level.specs.Repetition.{IsRepetition}
 use Rattle.sdf_level.specs.Firings.{firings, EachFiring, actors_of}
 use Rattle.sdf_level.specs.Orders.{IsAdmissible, IsTurnOrder}

@@ -13,5 +13,5 @@ pub mod Sequence
 pub mod Numbers
 pub mod Sizes
 pub mod NamedLines
-pub mod Stages
+pub mod Tiers
 pub mod Ports

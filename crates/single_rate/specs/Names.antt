@@ -1,7 +1,7 @@
 -- Tokens named by what makes them.
 use Rattle.std.specs.Prelude.{ℕ, zero, suc, ◌+◌, Bool, false, ◌==◌, List, [], ◌∷◌, ◌++◌, if◌then◌else◌}
 use Rattle.sdf_level.specs.View.{LevelView}
-use Rattle.sdf_level.specs.Kept.{how_many, is_from_port}
+use Rattle.sdf_level.specs.Invariants.{how_many, is_from_port}
 use Rattle.sdf_level.specs.declared.link.Link.{Link}
 use Rattle.sdf_level.specs.declared.link.Tail.{Tail}
 use Rattle.sdf_level.specs.declared.link.Tail.TheVariants as tail

@@ -1,7 +1,7 @@
 -- The ports at which edges enter and leave the nodes of a graph.
 use Rattle.std.specs.Prelude.{◌≡◌, ℕ, zero, suc, ◌+◌, ◌<◌, ◌≤◌, ◌==◌, List, [], ◌∷◌, ◌++◌, length, slice_index, if◌then◌else◌}
 use Rattle.sdf_level.specs.View.{LevelView}
-use Rattle.sdf_level.specs.Kept.{IsLevel, how_many}
+use Rattle.sdf_level.specs.Invariants.{IsLevel, how_many}
 use Rattle.sdf_level.specs.Lists.{occurrences}
 use Rattle.sdf_level.specs.Orders.{IsTurnOrder}
 use Rattle.sdf_level.specs.Repetition.{IsRepetition}
@@ -12,7 +12,7 @@ use Rattle.sdf_level.specs.declared.single_rate.Edge.{Edge}
 use Rattle.sdf_level.specs.declared.turn.Turn.{Turn}
 use Rattle.single_rate.specs.Expanded.{nodes, edges}
 use Rattle.single_rate.specs.Names.{output_rate}
-use Rattle.single_rate.specs.Stages.{node_at}
+use Rattle.single_rate.specs.Tiers.{node_at}
 
 -- the ports at which edges enter a node, in the order of the edges, and those at which they leave it
 abbrev pub ports_into : List Edge → ℕ → List ℕ

@@ -4,11 +4,11 @@ use Rattle.std.specs.List.{AllByRecursion}
 use Rattle.sdf_level.specs.declared.single_rate.Edge.{Edge}
 use Rattle.single_rate.specs.Ranks.{IsReached}
 
--- the edges go forward by stages up to this one
+-- the edges go forward by tiers up to this one
 pub record GoForward (edges : List Edge) (last : ℕ) : Type 0 where
-  pub stage : ℕ → ℕ
-  pub forward : AllByRecursion (λ e. stage e.tail < stage e.head) edges
-  pub within : (n : ℕ) → stage n ≤ last
+  pub tier : ℕ → ℕ
+  pub forward : AllByRecursion (λ e. tier e.tail < tier e.head) edges
+  pub within : (n : ℕ) → tier n ≤ last
 
 -- the edges' ends are below the count
 abbrev pub EndsBelow : ℕ → List Edge → Type 0
@@ -22,7 +22,7 @@ AreReached edges ranks = (n : ℕ) → n < length ranks → IsReached edges n (s
 abbrev pub AreSettled : List Edge → List ℕ → Type 0
 AreSettled edges ranks = AllByRecursion (λ e. slice_index ranks e.tail < slice_index ranks e.head) edges
 
--- how far the ranks are below the last stage, in all
+-- how far the ranks are below the last tier, in all
 abbrev pub slack : ℕ → List ℕ → ℕ
 slack last [] = 0
 slack last (r ∷ ranks) = (last - r) + slack last ranks

@@ -2,7 +2,7 @@
 // nothing; their contracts are the laws. Those of flows hold for tokens of any type, for faults of any type, and for any
 // relation between a firing's inputs and its answer.
 ghost use Rattle.single_rate.specs.Laws.{GraphsHaveOneFlow, FlowsDeliver, RunsEndInFlows, RunsEndInFaults};
-ghost use Rattle.single_rate.specs.Stages.{NodesAreFound, NodesStandOnce, FiringsAreThere, FiringsStandInOrder, FiringsAreAll, GraphsHaveStages, EndsAreThere, EdgesHaveTokens, NamesHaveLengths};
+ghost use Rattle.single_rate.specs.Tiers.{NodesAreFound, NodesStandOnce, FiringsAreThere, FiringsStandInOrder, FiringsAreAll, GraphsHaveTiers, EndsAreThere, EdgesHaveTokens, NamesHaveLengths};
 ghost use Rattle.single_rate.specs.Ports.{EdgesHavePorts, PortsAreUsed};
 
 use sdf_level::repetition_suffices;
@@ -21,7 +21,7 @@ pub fn tokens_delivered<T, F, R>()
 }
 
 /// The nodes and edges of a level's graph by their numbers. Each node stands once in the list, the firings in the order of one
-/// thread. Edges lead from earlier stages to later ones, and so do firings. No edge is empty. At each node its edges have ports
+/// thread. Edges lead from earlier tiers to later ones, and so do firings. No edge is empty. At each node its edges have ports
 /// of their own, and one leaves at each port where the node has tokens to give. Names of tokens are as many as the level asks
 /// for.
 pub fn graphs_numbered()
@@ -30,7 +30,7 @@ pub fn graphs_numbered()
     ensures firings { FiringsAreThere }
     ensures in_order { FiringsStandInOrder }
     ensures all { FiringsAreAll }
-    ensures stages { GraphsHaveStages }
+    ensures tiers { GraphsHaveTiers }
     ensures ends { EndsAreThere }
     ensures tokens { EdgesHaveTokens }
     ensures names { NamesHaveLengths }

@@ -1,7 +1,7 @@
 -- The values of the parameters of a top graph, which are known early.
 use Rattle.std.proofs.Common.{◌≡◌, ℤ, List, [], length, slice_get, Option, Some, ap, ◌∙◌}
 use Rattle.param_resolver.specs.Assignment.{numbers}
-use Rattle.param_resolver.specs.EarlyCheck.{Checked, check_by, check_of, early_of, given_early}
+use Rattle.param_resolver.specs.EarlyCheck.{Checked, check_by, check_of, early_of, supplied_early}
 use Rattle.param_resolver.specs.Resolvable.{AreResolvable}
 use Rattle.param_resolver.proofs.RatedFaults.{length-numbers}
 use Rattle.pisdf_model.specs.Range.{InRange}
@@ -24,4 +24,4 @@ module _ (unfolds : EarlyUnfolds) (resolve : Resolve) (graphs : Graphs) (valid :
 
   pub values_long : length (numbers (early_of graphs.graphs graphs.top []).values) ≡ length g.params
   values_long =
-      ap (λ (l : List ℤ). length l) values_known ∙ length-numbers g.params (given_early g.params []) (resolvable_at graphs.graphs graphs.top g here (resolve graphs valid.in_range valid.well_formed)).ordered
+      ap (λ (l : List ℤ). length l) values_known ∙ length-numbers g.params (supplied_early g.params []) (resolvable_at graphs.graphs graphs.top g here (resolve graphs valid.in_range valid.well_formed)).ordered

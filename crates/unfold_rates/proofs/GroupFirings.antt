@@ -31,7 +31,7 @@ use Rattle.pisdf_model.specs.Valid.{AreValid}
 use Rattle.pisdf_model.specs.declared.actor.Actor.{Actor}
 use Rattle.pisdf_model.specs.declared.graph.Graph.{Graph}
 use Rattle.pisdf_model.specs.declared.graph.Graphs.{Graphs}
-use Rattle.sdf_level.specs.Kept.{how_many}
+use Rattle.sdf_level.specs.Invariants.{how_many}
 use Rattle.sdf_level.specs.LevelRun.{GivesRates, HaveDelays, HaveRates}
 use Rattle.sdf_level.specs.Run.{Fire, inputs, is_into_actor}
 use Rattle.sdf_level.specs.View.{LevelView}

@@ -8,7 +8,7 @@ use Rattle.std.proofs.lemmas.Int.{ints}
 use Rattle.param_expr.specs.Eval.{fault_of, in_i64, overflow_of, unless_fault, value_of}
 use Rattle.param_expr.specs.Tree.{Tree}
 use Rattle.param_expr.specs.declared.evaluation.EvalFault.{EvalFault}
-use Rattle.param_resolver.specs.EarlyCheck.{Checked, as_refusal, check_by, check_of, config_faults, early_faults, early_numbers, early_of, given_early, rated_faults}
+use Rattle.param_resolver.specs.EarlyCheck.{Checked, as_refusal, check_by, check_of, config_faults, early_faults, early_numbers, early_of, supplied_early, rated_faults}
 use Rattle.param_resolver.specs.Assignment.{param_faults}
 use Rattle.param_resolver.specs.Rates.{as_rate, fault_at, interface_faults, interface_rates, rate_under}
 use Rattle.param_resolver.specs.declared.fault.Why.{Why}
@@ -20,7 +20,7 @@ use Rattle.pisdf_model.specs.declared.actor.Body.TheVariants.{Kernel, Config, Ch
 use Rattle.pisdf_model.specs.declared.graph.Graph.{Graph}
 use Rattle.pisdf_model.specs.declared.graph.Interface.{Interface}
 use Rattle.pisdf_model.proofs.Lists.{left_none, right_none}
-use Rattle.sdf_level.specs.Kept.{rate_limit}
+use Rattle.sdf_level.specs.Invariants.{rate_limit}
 use Rattle.unfold_rates.specs.Multiplied.{multiplied_graph, multiplied_interface, multiplied_rate}
 use Rattle.unfold_rates.proofs.Lookups.{append_same}
 
@@ -113,14 +113,14 @@ module _ (times : ℕ) (few : times ≤ 64) (gs hs : List Graph) (place : ℕ) (
   rated_none : rated_faults g [] ≡ []
   rated_none = left_none (rated_faults g []) _ all_none
 
-  params_none : map as_refusal (param_faults g.params (given_early g.params [])) ≡ []
+  params_none : map as_refusal (param_faults g.params (supplied_early g.params [])) ≡ []
   params_none = left_none _ _ rated_none
 
   inputs_none : interface_faults numbers g.inputs ≡ []
-  inputs_none = left_none (interface_faults numbers g.inputs) (interface_faults numbers g.outputs) (right_none (map as_refusal (param_faults g.params (given_early g.params []))) _ rated_none)
+  inputs_none = left_none (interface_faults numbers g.inputs) (interface_faults numbers g.outputs) (right_none (map as_refusal (param_faults g.params (supplied_early g.params []))) _ rated_none)
 
   outputs_none : interface_faults numbers g.outputs ≡ []
-  outputs_none = right_none (interface_faults numbers g.inputs) (interface_faults numbers g.outputs) (right_none (map as_refusal (param_faults g.params (given_early g.params []))) _ rated_none)
+  outputs_none = right_none (interface_faults numbers g.inputs) (interface_faults numbers g.outputs) (right_none (map as_refusal (param_faults g.params (supplied_early g.params []))) _ rated_none)
 
   pub inputs_are : (early_of gs place []).inputs ≡ interface_rates numbers g.inputs
   inputs_are = ap (λ (c : Checked). c.early.inputs) opened
@@ -144,5 +144,5 @@ module _ (times : ℕ) (few : times ≤ 64) (gs hs : List Graph) (place : ℕ) (
   sound_stays =
       ap (λ (c : Checked). c.faults) opened'
       ∙ append_same [] (rated_faults (multiplied_graph times g) []) [] _
-      (append_same [] (map as_refusal (param_faults g.params (given_early g.params []))) [] _ params_none (append_same [] _ [] _ ins.0 outs.0))
+      (append_same [] (map as_refusal (param_faults g.params (supplied_early g.params []))) [] _ params_none (append_same [] _ [] _ ins.0 outs.0))
       (no_bodies (check_of hs) hs (multiplied_graph times g) numbers (interface_rates numbers (map (multiplied_interface times) g.inputs)) 0 g.actors configures_nothing)

@@ -5,7 +5,7 @@ use Rattle.std.specs.List.{AllByRecursion}
 use Rattle.interface_rules.specs.Connections.{AreGrouped}
 use Rattle.level_laws.specs.Unfolded.{IsOuterWith, IsServed, Serves, SomeOuter}
 use Rattle.level_schedule.proofs.LinkByLink.{no_link}
-use Rattle.sdf_level.specs.Kept.{HeadIsThere, IsLevel, TailIsThere}
+use Rattle.sdf_level.specs.Invariants.{HeadIsThere, IsLevel, TailIsThere}
 use Rattle.sdf_level.specs.Links.{EachOuter, OfOuter, Outer}
 use Rattle.sdf_level.specs.View.{LevelView}
 use Rattle.sdf_level.specs.declared.link.Link.{Link}

@@ -2,8 +2,8 @@
 use Rattle.std.proofs.Common.{◌≡◌, ℤ, List, [], ◌++◌, map, slice_get, Option, Some, Ok, refl, ap, sym, ◌∙◌, subst}
 use Rattle.level_schedule.specs.Schedules.{IsScheduled}
 use Rattle.level_schedule.specs.declared.scheduling.LevelSchedule.{LevelSchedule}
-use Rattle.param_resolver.specs.Assignment.{given_to, numbers, param_faults, values_of}
-use Rattle.param_resolver.specs.EarlyCheck.{Checked, as_refusal, check_by, check_of, early_faults, given_early}
+use Rattle.param_resolver.specs.Assignment.{supplied_to, numbers, param_faults, values_of}
+use Rattle.param_resolver.specs.EarlyCheck.{Checked, as_refusal, check_by, check_of, early_faults, supplied_early}
 use Rattle.param_resolver.specs.LevelOf.{level_faults}
 use Rattle.pisdf_model.specs.Valid.{AreValid}
 use Rattle.pisdf_model.specs.declared.graph.Graph.{Graph}
@@ -45,7 +45,7 @@ module _ (unfolds : EarlyUnfolds) (graphs : Graphs) (valid : AreValid graphs) (g
   opened : check_of graphs.graphs graphs.top [] ≡ check_by (check_of graphs.graphs) graphs.graphs (Some g) []
   opened = unfolds graphs graphs.top [] valid.in_range valid.well_formed valid.in_range.top ∙ ap (λ (o : Option Graph). check_by (check_of graphs.graphs) graphs.graphs o []) here
 
-  params_none : map as_refusal (param_faults g.params (given_early g.params [])) ≡ []
+  params_none : map as_refusal (param_faults g.params (supplied_early g.params [])) ≡ []
   params_none = left_none _ _ (left_none _ _ (sym (ap (λ (c : Checked). c.faults) opened) ∙ sound))
 
   module _ (ins state : List (List ℤ)) where
@@ -57,7 +57,7 @@ module _ (unfolds : EarlyUnfolds) (graphs : Graphs) (valid : AreValid graphs) (g
 
     resolves : (configured : List Configured) → resolved graphs.graphs g firing configured ≡ Ok (own_values g)
     resolves configured =
-        let P : List ℤ → Type 0 = λ chosen. unless_refused graphs.graphs g firing.path (map as_refusal (param_faults g.params (given_to g.params [] chosen))) (numbers (values_of g.params (given_to g.params [] chosen))) ≡ Ok (own_values g) in
+        let P : List ℤ → Type 0 = λ chosen. unless_refused graphs.graphs g firing.path (map as_refusal (param_faults g.params (supplied_to g.params [] chosen))) (numbers (values_of g.params (supplied_to g.params [] chosen))) ≡ Ok (own_values g) in
         let none : P [] = rw params_none refl in
         subst P (sym (chosen_none configured)) none
 

@@ -12,7 +12,7 @@ use Rattle.pisdf_model.specs.declared.fifo.Fifo.{Fifo}
 use Rattle.pisdf_model.specs.declared.fifo.Life.TheVariants.{Firing}
 use Rattle.pisdf_model.specs.declared.graph.Graph.{Graph}
 use Rattle.pisdf_model.specs.declared.graph.Graphs.{Graphs}
-use Rattle.sdf_level.specs.Kept.{rate_limit}
+use Rattle.sdf_level.specs.Invariants.{rate_limit}
 use Rattle.sdf_level.specs.Limits.{IsWithinLimits}
 use Rattle.sdf_level.specs.View.{LevelView}
 

@@ -10,7 +10,7 @@ ghost use Rattle.pisdf_model.specs.InterfaceWires.{is_configuration as configure
 ghost use Rattle.pisdf_model.specs.Valid.{AreValid};
 ghost use Rattle.pisdf_model.specs.declared.actor.Actor.{Actor as OneActor};
 ghost use Rattle.pisdf_model.specs.declared.graph.Graph.{Graph as OneGraph};
-ghost use Rattle.sdf_level.specs.Kept.{rate_limit};
+ghost use Rattle.sdf_level.specs.Invariants.{rate_limit};
 ghost use Rattle.unfold_rates.specs.Exact.{BeginsOnce, IsExact, IsExactSchedule, own_values, top_level};
 
 use crate::counting::is_within_limits;

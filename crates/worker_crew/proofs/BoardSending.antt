@@ -21,10 +21,12 @@ use Rattle.board_journal.proofs.kept.Entries.TheSendSync as entries
 use Rattle.board_journal.proofs.history.Past.TheLaws.TheKnot as past
 use Rattle.firing_board.proofs.frame_rooms.FrameRooms.TheSendSync as frame_rooms
 use Rattle.firing_board.proofs.run.Run.TheSendSync as run
+use Rattle.firing_board.proofs.signatures.Signatures.TheLaws.TheKnot as signatures
 use Rattle.param_resolver.specs.contracts.known.Early as Early
 use Rattle.param_resolver.specs.contracts.level_set.LevelSet as LevelSet
 use Rattle.job_preparing.specs.contracts.configuring.Configuring as Configuring
 use Rattle.job_preparing.specs.contracts.handing.JobGiven as JobGiven
+use Rattle.job_preparing.specs.contracts.left_told.LeftTold as LeftTold
 use Rattle.job_preparing.specs.contracts.trace.Trace as Trace
 use Rattle.ready_heap.specs.contracts.groups.GroupedHeaps as GroupedHeaps
 use Rattle.ready_heap.specs.contracts.ranking.Ranking as Ranking
@@ -39,7 +41,7 @@ use Rattle.board_journal.specs.contracts.history.History as History
 use Rattle.board_journal.specs.contracts.journal.Journal as Journal
 use Rattle.firing_board.specs.contracts.board.Board as Board
 use Rattle.firing_board.specs.contracts.state.Core as Core
-use Rattle.firing_board.specs.contracts.told.ToldSignatures as ToldSignatures
+use Rattle.firing_board.specs.contracts.signatures.Signatures as Signatures
 use Rattle.sdf_level.proofs.level.Level.TheSendSync as level
 use Rattle.sdf_level.proofs.list.List.TheSendSync as list
 use Rattle.sdf_level.proofs.turn.Turn.TheSendSync as turn
@@ -47,8 +49,6 @@ use Rattle.kernel_gate.specs.contracts.told.Told as Told
 use Rattle.one_job.specs.contracts.stage.Stage as JobStage
 use Rattle.job_preparing.specs.contracts.stage.Stage as PreparingStage
 use Rattle.job_preparing.proofs.stage.Spare.TheSendSync as spare
-use Rattle.graph_firing.specs.contracts.nodes.told.ToldBefore as ToldBefore
-use Rattle.graph_firing.specs.contracts.nodes.told.ToldBlock as ToldBlock
 use Rattle.graph_firing.specs.contracts.nodes.stages.Stages as RunningStages
 use Rattle.graph_firing.proofs.nodes.stages.Past.TheLaws.TheKnot as stages_past
 use Rattle.graph_firing.specs.contracts.nodes.frames.Held as RunningHeld
@@ -105,11 +105,8 @@ preparing_stage_send = search (told_send, spare.the_field_send, refusal.the_fiel
 configuring_send : IsSend Configuring.the_row
 configuring_send = search (preparing_stage_send, graphs_send, graphs_sync, early_send, early_sync, firing.the_field_send, configured.the_send, frame.the_send, trace_send, option.the_send, crosses, sendable) depth 30 fits 4000
 
-told_before_send : IsSend ToldBefore.the_row
-told_before_send = search sendable depth 20
-
-told_block_send : IsSend ToldBlock.the_row
-told_block_send = search sendable depth 20
+left_told_send : IsSend LeftTold.the_row
+left_told_send = search (crosses, sendable) depth 20
 
 running_stages_send : IsSend RunningStages.the_row
 running_stages_send = search (stages_past.crosses, crosses, sendable) depth 60 fits 20000
@@ -118,7 +115,7 @@ running_held_send : IsSend RunningHeld.the_row
 running_held_send = search (frame.the_send, refusal.the_field_send, crosses, sendable) depth 20
 
 running_send : IsSend Running.the_row
-running_send = search (running_stages_send, running_held_send, told_before_send, told_block_send, graphs_send, graphs_sync, level_set_field_send, job_send, compiled_send, compiled_sync, path.the_send, name.the_send, trace_send, list.the_send, crosses, sendable) depth 60 fits 6000
+running_send = search (running_stages_send, running_held_send, left_told_send, graphs_send, graphs_sync, level_set_field_send, job_send, compiled_send, compiled_sync, path.the_send, name.the_send, trace_send, list.the_send, crosses, sendable) depth 60 fits 6000
 
 open_send : IsSend OpenJob.the_row
 open_send = search (configuring_send, running_send, crosses, sendable) depth 60 fits 20000
@@ -132,11 +129,11 @@ history_send = search (past.crosses, crosses, sendable) depth 60 fits 20000
 journal_send : IsSend Journal.the_row
 journal_send = search (history_send, entries.the_send, crosses, sendable) depth 60 fits 20000
 
-told_signatures_send : IsSend ToldSignatures.the_row
-told_signatures_send = search sendable depth 20
+signatures_send : IsSend Signatures.the_row
+signatures_send = search (signatures.crosses, crosses, sendable) depth 60 fits 20000
 
 core_field_send : IsSend Core.the_field.row
 core_field_send = search (table_send, frame_rooms.the_field_send, run.the_send, journal_send, given_send, refusal.the_send, crosses, sendable) depth 60 fits 20000
 
 pub board_send : IsSend Board.the_row
-board_send = search (core_field_send, told_signatures_send, kept_send, key.the_send, crosses, sendable) depth 60 fits 20000
+board_send = search (core_field_send, signatures_send, kept_send, key.the_send, crosses, sendable) depth 60 fits 20000

@@ -15,7 +15,7 @@ use Rattle.pisdf_model.specs.declared.actor.Body.{Body}
 use Rattle.pisdf_model.specs.declared.actor.Body.TheVariants.{Kernel, Config, Child, ConfigChild}
 use Rattle.pisdf_model.specs.declared.graph.Graph.{Graph}
 use Rattle.pisdf_model.specs.declared.graph.Graphs.{Graphs}
-use Rattle.sdf_level.specs.Kept.{IsLevel}
+use Rattle.sdf_level.specs.Invariants.{IsLevel}
 use Rattle.sdf_level.specs.View.{LevelView}
 use Rattle.sdf_level.specs.declared.node.Node.{Node}
 use Rattle.sdf_level.specs.declared.node.Node.TheVariants as node

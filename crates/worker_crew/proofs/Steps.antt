@@ -10,7 +10,7 @@ use Rattle.nested_jobs.specs.Rules.{Place, Rules, Work}
 use Rattle.nested_jobs.specs.Steps.{claimed}
 use Rattle.nested_jobs.specs.Journals as steps
 use Rattle.nested_jobs.specs.Journals.{Allowed, LegalFrom, after, assign, finish_of, start, state_from, task_of}
-use Rattle.nested_jobs.specs.Kept.{Keeps}
+use Rattle.nested_jobs.specs.Invariants.{Keeps}
 use Rattle.nested_jobs.specs.Meanings.{Lawful}
 use Rattle.nested_jobs.proofs.Nesting.{claimed_nested, of_busy}
 use Rattle.nested_jobs.proofs.OneStep.{task_stays}

@@ -1,7 +1,7 @@
 pub mod CostsSoFar
 pub mod Opening
 pub mod Queued
-pub mod Kept
+pub mod Growing
 pub mod Lists
 pub mod Edges
 pub mod Adjacent

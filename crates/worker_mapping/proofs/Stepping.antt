@@ -11,7 +11,7 @@ use Rattle.worker_mapping.specs.Choice.{IsNext}
 use Rattle.worker_mapping.specs.Queues.{Takes, Queues}
 use Rattle.worker_mapping.specs.Release.{ArePlacesOfZero, Releases}
 use Rattle.worker_mapping.specs.declared.entry.Entry.{Entry}
-use Rattle.worker_mapping.proofs.Kept.{Follows, most_cost, unplaced_below}
+use Rattle.worker_mapping.proofs.Growing.{Follows, most_cost, unplaced_below}
 use Rattle.worker_mapping.proofs.Opening.{Key}
 use Rattle.worker_mapping.proofs.Queued.{Queued, nodes_of, due_in, later_in, IsNext-from, Releases-queued, Queued-next, Queued-first, nodes-first}
 use Rattle.worker_mapping.proofs.Entries.{EachEntry-push, unplaced_below-push}

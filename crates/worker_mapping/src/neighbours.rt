@@ -16,7 +16,7 @@ pub(crate) fn nodes_after(
     requires { AreThere nodes edges.now }
     ensures { IfOk result (λ lists. AreAfter nodes edges.now (lists_of lists.items)) }
 {
-    let mut after = empty_lists(alloc, nodes)?;
+    let mut after = empty_lists(alloc, nodes as usize)?;
     for edge in edges {
         let (tail, head) = *edge;
         after[tail as usize].push(head)?;

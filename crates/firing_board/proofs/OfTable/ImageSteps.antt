@@ -11,7 +11,7 @@ use Rattle.job_rules.specs.Words.{Answer}
 use Rattle.graph_firing.specs.Nodes.Leases.{as_node}
 use Rattle.nested_jobs.proofs.Nesting.{after_nested}
 use Rattle.nested_jobs.specs.Journals.{after, state_from}
-use Rattle.nested_jobs.specs.Kept.{Fits, InJob, Nested}
+use Rattle.nested_jobs.specs.Invariants.{Fits, InJob, Nested}
 use Rattle.nested_jobs.specs.Marks as mark
 use Rattle.nested_jobs.specs.Marks.{Mark, Marks, answer_of, values}
 use Rattle.nested_jobs.specs.Meanings.{Lawful, Within}

@@ -15,7 +15,7 @@ use Rattle.job_rules.specs.Words as words
 use Rattle.job_rules.specs.Words.{Answer}
 use Rattle.graph_firing.proofs.OfNodes.LentNodes.{as_nodes_at}
 use Rattle.graph_firing.specs.Nodes.Leases.{as_node, as_nodes}
-use Rattle.nested_jobs.specs.Kept.{Fits, InJob}
+use Rattle.nested_jobs.specs.Invariants.{Fits, InJob}
 use Rattle.nested_jobs.specs.Marks as mark
 use Rattle.nested_jobs.specs.Marks.{Mark, Marks, answer_of, values}
 use Rattle.nested_jobs.specs.Rules.{Call, Place, Task, Work}

@@ -5,7 +5,7 @@ use Rattle.job_rules.specs.Meant.{rank}
 use Rattle.job_rules.specs.Words.{Answer}
 use Rattle.nested_jobs.proofs.Nesting.{grown, of_open}
 use Rattle.nested_jobs.proofs.Places.{one_open, put_at}
-use Rattle.nested_jobs.specs.Kept.{Nested}
+use Rattle.nested_jobs.specs.Invariants.{Nested}
 use Rattle.nested_jobs.specs.Marks.{Free, Mark, Marks, Open, answer_of, put, values}
 use Rattle.nested_jobs.specs.Meanings.{Lawful, Within}
 use Rattle.nested_jobs.specs.Rules.{Call, Place, Values}

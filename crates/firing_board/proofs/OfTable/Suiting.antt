@@ -10,7 +10,7 @@ use Rattle.nested_jobs.proofs.Finding.{claimed_ready}
 use Rattle.nested_jobs.proofs.Nesting.{begins_nested, start_nested}
 use Rattle.nested_jobs.proofs.Tabling.{answers_are, claims, finishes_so, opens_so, starts_with}
 use Rattle.nested_jobs.specs.Journals.{start, start_mark}
-use Rattle.nested_jobs.specs.Kept.{InJob, Nested}
+use Rattle.nested_jobs.specs.Invariants.{InJob, Nested}
 use Rattle.nested_jobs.specs.Marks as mark
 use Rattle.nested_jobs.specs.Marks.{Busy, Done, Free, Mark, Marks, Open, put, values}
 use Rattle.nested_jobs.specs.Meanings.{Lawful}

@@ -3,7 +3,7 @@ use Rattle.std.specs.Prelude.{◌≡◌, ℕ, [], ◌∷◌, Option, Some, None}
 use Rattle.board_rules.specs.Keys.{IsKey, Key, rules, top_job}
 use Rattle.board_rules.specs.Picks.{steps_to}
 use Rattle.job_rules.specs.Words.{Answer}
-use Rattle.nested_jobs.specs.Kept.{Nested}
+use Rattle.nested_jobs.specs.Invariants.{Nested}
 use Rattle.nested_jobs.specs.Marks.{Marks}
 use Rattle.nested_jobs.specs.Rules.{Place}
 use Rattle.nested_jobs.specs.Tables.{StandsFor}

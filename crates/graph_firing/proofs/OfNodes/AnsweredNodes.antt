@@ -26,7 +26,7 @@ use Rattle.one_job.specs.Pick.{is_child_in}
 use Rattle.one_job.specs.View as leased
 use Rattle.one_job.specs.View.{IsFiring}
 use Rattle.job_preparing.specs.Handing.{lent_at, mark_at}
-use Rattle.graph_firing.specs.Nodes.Kept.{view_with}
+use Rattle.graph_firing.specs.Nodes.Invariants.{view_with}
 use Rattle.graph_firing.specs.Nodes.Parts.{Fixed, KeepsAll, Stands, fired, held_at, job_in}
 use Rattle.graph_firing.specs.Nodes.Stages.{lent_of, mark_of, stage_at, trace_in}
 use Rattle.graph_firing.specs.declared.nodes.stage.Stage.{Stage}
@@ -45,7 +45,7 @@ use Rattle.pisdf_model.specs.declared.graph.Interface.{Interface}
 use Rattle.pisdf_meaning.proofs.KeptSizes.{outputs_many}
 use Rattle.sdf_level.specs.Lists.{lists_of}
 use Rattle.single_rate.specs.Expanded.{place_of}
-use Rattle.single_rate.specs.Stages.{FiringsAreAll, FiringsStandInOrder, NodesStandOnce}
+use Rattle.single_rate.specs.Tiers.{FiringsAreAll, FiringsStandInOrder, NodesStandOnce}
 use Rattle.job_rules.specs.Words.{answer_of}
 use Rattle.job_preparing.specs.Handing.{SuitsCall, end_of, given_of}
 use Rattle.job_preparing.specs.declared.handing.JobGiven.{JobGiven}

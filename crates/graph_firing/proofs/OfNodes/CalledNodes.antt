@@ -19,7 +19,7 @@ use Rattle.sdf_level.specs.declared.node.Node.TheVariants as node
 use Rattle.job_flow.specs.Frames.{arriving, arriving_below, inputs, lens, reads}
 use Rattle.param_resolver.specs.declared.level_set.LevelSet.{LevelSet}
 use Rattle.param_resolver.specs.LevelOf.{child_of}
-use Rattle.sdf_level.specs.Kept.{how_many}
+use Rattle.sdf_level.specs.Invariants.{how_many}
 use Rattle.sdf_level.specs.Run.{is_into_actor}
 use Rattle.sdf_level.specs.declared.link.Link.{Link}
 use Rattle.sdf_level.specs.declared.single_rate.Edge.{Edge}
@@ -31,7 +31,7 @@ use Rattle.one_job.specs.Marks as one
 use Rattle.one_job.specs.View as leased
 use Rattle.one_job.specs.View.{IsFiring}
 use Rattle.job_preparing.specs.Handing.{lent_at}
-use Rattle.graph_firing.specs.Nodes.Kept.{view_with}
+use Rattle.graph_firing.specs.Nodes.Invariants.{view_with}
 use Rattle.graph_firing.specs.Nodes.Parts.{Fixed, KeepsAll, Stands, fired, held_at, job_in, values_of}
 use Rattle.graph_firing.specs.Nodes.Stages.{lent_of, mark_of, trace_in}
 use Rattle.graph_firing.specs.Nodes.View.{RunningView, task}

@@ -28,7 +28,7 @@ use Rattle.one_job.specs.View as leased
 use Rattle.one_job.specs.View.{IsFiring}
 use Rattle.job_preparing.specs.Handing.{mark_at}
 use Rattle.graph_firing.specs.Nodes.Calls.{IsHanded, frame_of, handed_out}
-use Rattle.graph_firing.specs.Nodes.Kept.{view_with}
+use Rattle.graph_firing.specs.Nodes.Invariants.{view_with}
 use Rattle.graph_firing.specs.Nodes.Parts.{Fixed, KeepsAll, Stands, fired, held_at, job_in}
 use Rattle.graph_firing.specs.Nodes.Sizes.{place_lens}
 use Rattle.graph_firing.specs.Nodes.Stages.{held_by, lent_of, mark_of, spot_of, stage_at, trace_in}

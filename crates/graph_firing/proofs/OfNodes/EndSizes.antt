@@ -105,11 +105,11 @@ module _ (known : GraphLaws) (one_flow : GraphsHaveOneFlow TokenName) (delivers 
     finished-done (Some (Ok outs)) finished fails = tt
     finished-done (Some (Err fault)) finished fails = fails fault refl
 
-    done-below : (r n : ℕ) → n < length N → num.stage n < r → IsDone (v n)
+    done-below : (r n : ℕ) → n < length N → num.tier n < r → IsDone (v n)
     done-below zero n inside below = absurd (omega arith)
     done-below (suc r) n inside below =
-        let before : AllByRecursion (λ e. e.head ≡ n → IsDone (v e.tail)) E = all-both (λ e. (e.tail < length N) × (e.head < length N)) (λ e. num.stage e.tail < num.stage e.head) (λ e. e.head ≡ n → IsDone (v e.tail))
-        (λ e ends rises own. let s : num.stage e.head ≡ num.stage n = ap num.stage own in done-below r e.tail ends.0 (omega arith)) E num.ends num.rising in
+        let before : AllByRecursion (λ e. e.head ≡ n → IsDone (v e.tail)) E = all-both (λ e. (e.tail < length N) × (e.head < length N)) (λ e. num.tier e.tail < num.tier e.head) (λ e. e.head ≡ n → IsDone (v e.tail))
+        (λ e ends rises own. let s : num.tier e.head ≡ num.tier n = ap num.tier own in done-below r e.tail ends.0 (omega arith)) E num.ends num.rising in
         finished-done (v n) (quiet n record { there = inside; before = before }) (λ fault failed. none-failed v 0 (length N) none n fault (omega arith) (omega arith) failed)
 
     done-outs : (o : Option (Result (List (List T)) F)) → IsDone o → (outs : List (List T)) × (o ≡ Some (Ok outs))
@@ -122,7 +122,7 @@ module _ (known : GraphLaws) (one_flow : GraphsHaveOneFlow TokenName) (delivers 
         (λ (there : place_of N m < length N).
         let n : ℕ = place_of N m in
         let at = num.found m there in
-        let outs = done-outs (v n) (done-below (suc (num.stage n)) n there (omega arith)) in
+        let outs = done-outs (v n) (done-below (suc (num.tier n)) n there (omega arith)) in
         let long : map length outs.0 ≡ sizes_below E n 1 = sized n outs.0 there outs.1 ∙ ap (λ (x : Node). lengths_written job x n) at ∙ as_long n in
         let arrived : sizes_below E n 1 ≡ length (arrives_at W named.on m 0) ∷ [] = sym (sized-below N E named.on n 1 flow.sizes) ∙ ap (λ (x : List (List TokenName)). map length x) (below-arrivals n m there at 1) in
         ap (λ (o : Option (Result (List (List T)) F)). length (slice_index_or (given o) 0 [])) outs.1 ∙ first_long outs.0 (length (arrives_at W named.on m 0)) (long ∙ arrived))

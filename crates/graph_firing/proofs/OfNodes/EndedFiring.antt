@@ -20,7 +20,7 @@ use Rattle.job_rules.specs.Words.{Answer, Spot}
 use Rattle.one_job.specs.Marks as one
 use Rattle.one_job.specs.View as leased
 use Rattle.one_job.specs.View.{IsFiring}
-use Rattle.graph_firing.specs.Nodes.Kept.{view_with}
+use Rattle.graph_firing.specs.Nodes.Invariants.{view_with}
 use Rattle.graph_firing.specs.Nodes.Parts.{Fixed, KeepsAll, NoneWaits, fired, held_at, job_in}
 use Rattle.graph_firing.specs.Nodes.Stages.{FitsSort, held_by, job_mark, lent_of, mark_of, stage_at, trace_in}
 use Rattle.graph_firing.specs.declared.nodes.stage.Stage.{Stage}
@@ -35,7 +35,7 @@ use Rattle.pisdf_model.specs.InterfaceWires.{is_configuration}
 use Rattle.pisdf_meaning.specs.Running.{actor_states, fifo_states, state_after, state_of_first, traces_below}
 use Rattle.pisdf_meaning.specs.declared.firing.Configured.{Configured}
 use Rattle.single_rate.specs.Expanded.{place_of}
-use Rattle.single_rate.specs.Stages.{FiringsAreThere, NodesAreFound}
+use Rattle.single_rate.specs.Tiers.{FiringsAreThere, NodesAreFound}
 use Rattle.job_flow.specs.Events.{IsQuiet}
 use Rattle.job_flow.specs.Laws.{EndedInAnyWords, FailureInOtherWords}
 use Rattle.job_flow.specs.Outcomes.{Failure, ended, failure, failure_from, failure_or}

@@ -30,7 +30,7 @@ use Rattle.one_job.specs.View.{IsFiring}
 use Rattle.job_preparing.specs.Handing.{answer_with, fired_with, lent_at}
 use Rattle.pisdf_meaning.specs.States.{tokens_at}
 use Rattle.param_resolver.specs.LevelOf.{level_args, out_rates}
-use Rattle.graph_firing.specs.Nodes.Kept.{view_with}
+use Rattle.graph_firing.specs.Nodes.Invariants.{view_with}
 use Rattle.graph_firing.specs.Nodes.Parts.{Fixed, KeepsAll, Stands, fired, held_at, job_in, kernel_in, kind_of_actor, values_of}
 use Rattle.graph_firing.specs.Nodes.Sizes.{place_lens}
 use Rattle.graph_firing.specs.Nodes.Stages.{IsEnded, fired_in, lent_of, name_in, mark_of, spot_of, trace_in}

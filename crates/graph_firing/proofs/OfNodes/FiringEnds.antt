@@ -13,7 +13,7 @@ use Rattle.job_flow.specs.Graphs.{node_at}
 use Rattle.one_job.specs.Marks as one
 use Rattle.one_job.specs.View as leased
 use Rattle.one_job.specs.View.{IsFiring}
-use Rattle.graph_firing.specs.Nodes.Kept.{view_with}
+use Rattle.graph_firing.specs.Nodes.Invariants.{view_with}
 use Rattle.graph_firing.specs.Nodes.Parts.{Fixed, KeepsAll, fired, held_at, job_in, refusal_in}
 use Rattle.graph_firing.specs.Nodes.Stages.{held_by, refusal_at, spot_of, stage_at}
 use Rattle.graph_firing.specs.declared.nodes.stage.Stage.{Stage}

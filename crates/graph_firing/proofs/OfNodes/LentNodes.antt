@@ -20,7 +20,7 @@ use Rattle.one_job.specs.Marks as one
 use Rattle.one_job.specs.Places.{edge_at}
 use Rattle.one_job.specs.View as leased
 use Rattle.job_preparing.specs.Handing.{ItemMarks, lent_at, mark_at}
-use Rattle.graph_firing.specs.Nodes.Kept.{view_with}
+use Rattle.graph_firing.specs.Nodes.Invariants.{view_with}
 use Rattle.graph_firing.specs.Nodes.Leases.{LendsNodes, as_node, as_nodes}
 use Rattle.graph_firing.specs.Nodes.Parts.{Fixed, KeepsAll, fired, job_in}
 use Rattle.graph_firing.specs.Nodes.Stages.{job_mark, lents_of, mark_of, marks_of, spot_of, stage_at}

@@ -32,7 +32,7 @@ use Rattle.one_job.specs.Pick.{is_child_in}
 use Rattle.one_job.specs.View as leased
 use Rattle.job_preparing.specs.Handing.{AsksFor, mark_at}
 use Rattle.graph_firing.specs.Nodes.Calls.{IsHanded, handed_out}
-use Rattle.graph_firing.specs.Nodes.Kept.{view_with}
+use Rattle.graph_firing.specs.Nodes.Invariants.{view_with}
 use Rattle.graph_firing.specs.Nodes.Parts.{Fixed, KeepsAll, fired, job_in, kernel_in, kind_of_actor, prepared_of, values_of}
 use Rattle.graph_firing.specs.Nodes.View.{RunningView, task}
 use Rattle.graph_firing.specs.declared.nodes.stage.Stage.{Stage}

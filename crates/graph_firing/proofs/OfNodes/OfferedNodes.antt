@@ -23,7 +23,7 @@ use Rattle.one_job.specs.Marks as one
 use Rattle.one_job.specs.Pick.{is_child_in}
 use Rattle.one_job.specs.View as leased
 use Rattle.job_preparing.specs.Handing.{mark_at}
-use Rattle.graph_firing.specs.Nodes.Kept.{view_with}
+use Rattle.graph_firing.specs.Nodes.Invariants.{view_with}
 use Rattle.graph_firing.specs.Nodes.Parts.{Fixed, KeepsAll, fired, job_in, values_of}
 use Rattle.graph_firing.specs.Nodes.Stages.{job_mark, mark_of, stage_at}
 use Rattle.graph_firing.specs.Nodes.View.{IsOfferedWork, task}
@@ -39,7 +39,7 @@ use Rattle.pisdf_meaning.specs.Sound.{no_actor}
 use Rattle.pisdf_meaning.proofs.LinkSizes.{placed}
 use Rattle.nested_jobs.specs.Steps.{all_below, is_settled}
 use Rattle.job_compiler.specs.Compilation.{Compilation}
-use Rattle.single_rate.specs.Stages.{FiringsAreAll, FiringsStandInOrder}
+use Rattle.single_rate.specs.Tiers.{FiringsAreAll, FiringsStandInOrder}
 use Rattle.job_flow.specs.Events.{IsFinished, IsQuiet}
 use Rattle.job_rules.specs.Items.{edges_in, is_ready_by, nodes_in}
 use Rattle.job_rules.proofs.Growing.{ready_is}

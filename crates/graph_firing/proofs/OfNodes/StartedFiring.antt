@@ -26,7 +26,7 @@ use Rattle.pisdf_meaning.proofs.KeptSizes.{Levelled}
 use Rattle.pisdf_meaning.proofs.MadeLevels.{levels_made}
 use Rattle.pisdf_meaning.proofs.SoundGraphs.{levelled}
 use Rattle.pisdf_meaning.proofs.StateSizes.{starts_fit, state_fits}
-use Rattle.sdf_level.specs.Kept.{IsLevel}
+use Rattle.sdf_level.specs.Invariants.{IsLevel}
 use Rattle.sdf_level.specs.LevelRun.{HaveDelays}
 use Rattle.sdf_level.specs.Lists.{lists_of}
 use Rattle.sdf_level.specs.Orders.{IsTurnOrder}
@@ -49,7 +49,7 @@ use Rattle.one_job.specs.View as leased
 use Rattle.job_preparing.specs.CompileTasks.{IsReadyWith}
 use Rattle.graph_firing.specs.Nodes.Parts.{AreParts, Fixed, IsSetUp, KeepsAll, Stands, Start, call_count, fired, held_at, job_in, kind_of_actor, row_at, start_of, values_of}
 use Rattle.job_preparing.specs.Handing.{LeftSuits}
-use Rattle.graph_firing.specs.Nodes.Kept.{view_with}
+use Rattle.graph_firing.specs.Nodes.Invariants.{view_with}
 use Rattle.graph_firing.specs.Nodes.Stages.{lents_of, marks_of, stage_at, trace_in}
 use Rattle.graph_firing.specs.Nodes.View.{nodes_of}
 use Rattle.graph_firing.specs.declared.nodes.stage.Stage.{Stage}

@@ -6,7 +6,6 @@ use Rattle.sdf_level.specs.Lists.{lists_of}
 use Rattle.sdf_level.specs.declared.node.Node.{Node}
 use Rattle.sdf_level.specs.declared.node.Node.TheVariants as node
 use Rattle.job_compiler.specs.Compilation.{Compilation, IsCompiled}
-use Rattle.level_schedule.specs.declared.scheduling.LevelSchedule.{LevelSchedule}
 use Rattle.kernel_gate.specs.Value.{FrameView, Places}
 use Rattle.kernel_gate.specs.declared.room.RoomSize.{RoomSize}
 use Rattle.split_block.specs.View.{Block}
@@ -33,6 +32,7 @@ use Rattle.job_rules.specs.Meant.{IsFit}
 use Rattle.one_job.specs.Marks as one
 use Rattle.one_job.specs.Pick.{is_child_in}
 use Rattle.one_job.specs.View as leased
+use Rattle.job_preparing.specs.CompileTasks.{schedule_of}
 use Rattle.job_preparing.specs.Handing.{LeftSuits}
 use Rattle.graph_firing.specs.Nodes.Stages.{FitsLens, FitsSort, job_mark, held_by, stage_at, trace_in}
 use Rattle.graph_firing.specs.declared.nodes.frames.Held.{Held}
@@ -62,11 +62,8 @@ kernel_in (ConfigChild place args sets) = None
 abbrev pub kind_of_actor : Actor → Option ℕ
 kind_of_actor actor = kernel_in actor.body
 
-abbrev pub schedule_in : Compilation → LevelSchedule
-schedule_in c = record { counts = c.counts; order = c.order }
-
 abbrev pub prepared_with : List Configured → Compilation → Prepared
-prepared_with left c = record { left = left; schedule = schedule_in c }
+prepared_with left c = record { left = left; schedule = schedule_of c }
 
 -- what stays as it is while the firing runs
 pub record Fixed : Type 0 where

@@ -17,11 +17,10 @@ use crate::nodes::given::put_trace;
 use crate::nodes::handed::{Handed, hand_out};
 use crate::nodes::stage::{Stage, ended, waiting};
 use crate::nodes::stages::Stages;
-use crate::nodes::told::{ToldBefore, ToldBlock};
 use crate::nodes::writing::write_child;
 use job_compiler::Compiled;
 use job_flow::{faults_renamed, ready_stays};
-use job_preparing::{ConfiguredFiring, JobGiven};
+use job_preparing::{ConfiguredFiring, JobGiven, LeftTold};
 use kernel_gate::{Frame, KernelFault, Room, RoomSize, told_of};
 use one_job::{Job, JobEnd};
 use param_expr::Name;
@@ -41,8 +40,7 @@ pub(crate) struct Running {
     pub(crate) graphs: Arc<Graphs>,
     pub(crate) compiled: Arc<Compiled>,
     pub(crate) firing: Snapshot<Firing>,
-    pub(crate) preparing: ToldBefore,
-    pub(crate) cells: ToldBlock,
+    pub(crate) left: LeftTold,
     // The place of the graph in its file.
     pub(crate) place: u32,
     pub(crate) path: Path,
@@ -69,7 +67,7 @@ impl Model for Running {
 
     ghost coded = { Prim.hlevel (codes, tree_code) };
 
-    ghost use Rattle.graph_firing.specs.Nodes.Kept.{IsRunning, view_of};
+    ghost use Rattle.graph_firing.specs.Nodes.Invariants.{IsRunning, view_of};
 
     ghost view = { view_of };
 
@@ -291,8 +289,7 @@ impl Running {
             graphs,
             compiled,
             firing: _,
-            preparing: _,
-            cells: _,
+            left: _,
             place,
             path,
             set: _,
@@ -325,8 +322,7 @@ impl Running {
             graphs: _,
             compiled: _,
             firing: _,
-            preparing: _,
-            cells: _,
+            left: _,
             place: _,
             path: _,
             set: _,

@@ -22,7 +22,6 @@ use crate::nodes::frames::{Held, nothing_held};
 use crate::nodes::given::empty_rows;
 use crate::nodes::running::Running;
 use crate::nodes::stages::Stages;
-use crate::nodes::told::{told_before, told_block};
 use job_compiler::Compiled;
 use job_preparing::{Configuring, Trace, acting_at, keeps_at};
 use one_job::{Job, start};
@@ -259,7 +258,7 @@ fn start_job(alloc: Global, compiled: Arc<Compiled>, lists: JobLists) -> Result<
     requires sources { map length lists.sources ≡ (arc_value compiled).level.sources }
     requires stored { HaveDelays (arc_value compiled).level.links lists.stored }
     ensures compilation { IfOk result (λ s. s.job.compilation ≡ arc_value compiled) }
-    ensures given { IfOk result (λ s. (s.job.kinds ≡ lists.kinds) × (s.job.args ≡ lists.args) × (s.job.sources ≡ lists.sources) × (s.job.stored ≡ lists.stored)) }
+    ensures made_of { IfOk result (λ s. (s.job.kinds ≡ lists.kinds) × (s.job.args ≡ lists.args) × (s.job.sources ≡ lists.sources) × (s.job.stored ≡ lists.stored)) }
     ensures free { IfOk result (λ s. s.job.marks ≡ replicate (length (arc_value compiled).graph.nodes) Unclaimed) }
     ensures nothing { IfOk result (λ s. s.held.items ≡ replicate (length s.held.items) Held.Nothing) }
     ensures few { IfOk result (λ s. length s.held.items ≤ length s.job.compilation.graph.nodes) }
@@ -308,7 +307,7 @@ pub(crate) fn run(
     requires ready { IsReady preparing.now }
     requires suits { LeftSuits (arc_value graphs).graphs (graph_in preparing.now) preparing.now.firing (left_by preparing.now) }
     requires compiled { IsReadyWith (arc_value graphs).graphs (arc_value compiled).workers preparing.now.firing (left_by preparing.now) (arc_value compiled) set values }
-    ensures given { IfOk result (λ r. (r.graphs ≡ arc_value graphs) × (r.firing ≡ preparing.now.firing)) }
+    ensures made_of { IfOk result (λ r. (r.graphs ≡ arc_value graphs) × (r.firing ≡ preparing.now.firing)) }
     ensures compilation { IfOk result (λ r. (r.prepared ≡ prepared_with (left_by preparing.now) (arc_value compiled)) × (r.workers ≡ (arc_value compiled).workers) × (r.mapping ≡ (arc_value compiled).mapping)) }
     ensures cells { IfOk result (λ r. r.cells.compilation ≡ arc_value compiled) }
     ensures free { IfOk result (λ r. r.marks ≡ replicate (length (nodes_of r)) Free) }
@@ -338,8 +337,7 @@ pub(crate) fn run(
         graphs,
         compiled: shared,
         firing: told,
-        preparing: told_before(preparing),
-        cells: told_block(&job),
+        left: preparing.told_left(),
         place,
         path: own.path,
         set,

@@ -7,7 +7,7 @@ use Rattle.audit_job.proofs.Frames.{frame_fits, zeros_long}
 use Rattle.audit_job.proofs.firing.copied.Goals as goal
 
 pub run_special-requires : goal.run_special-requires
-run_special-requires c = frame_fits c.args.node c.args.read c.args.written.now c.in_ok-frame.frame c.in_ok-frame.ensures.given.2 c.in_ok-frame.ensures.zeros.0 c.requires.fit c.requires.few_inputs c.requires.few_outputs
+run_special-requires c = frame_fits c.args.node c.args.read c.args.written.now c.in_ok-frame.frame c.in_ok-frame.ensures.made_of.2 c.in_ok-frame.ensures.zeros.0 c.requires.fit c.requires.few_inputs c.requires.few_outputs
 
 pub returns : goal.returns
 returns c =
@@ -21,5 +21,5 @@ returns c =
       outs = c.run_special.new.frame.outputs;
       answer_is = λ i. words.Gives record { outs = outs i; state = state i; trace = trace i; exports = exports i };
       fitting = same.outputs ∙ ap lengths c.in_ok-frame.ensures.zeros.0 ∙ zeros_long c.args.written.now;
-      passed = subst (λ (l : List (List ℤ)). PassesOn c.args.node (joined l) (joined c.run_special.new.frame.outputs)) c.in_ok-frame.ensures.given.2 copied;
+      passed = subst (λ (l : List (List ℤ)). PassesOn c.args.node (joined l) (joined c.run_special.new.frame.outputs)) c.in_ok-frame.ensures.made_of.2 copied;
     }

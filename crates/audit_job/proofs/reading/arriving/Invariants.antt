@@ -7,6 +7,6 @@ use Rattle.audit_job.proofs.reading.arriving.Given as goal
 
 abbrev pub invariant-loop-edge : goal.invariant-loop-edge
 invariant-loop-edge l = record {
-  many : length l.lines.items ≡ l.ports;
+  many : length (lists_of l.lines.items) ≡ l.ports;
   each : (port : ℕ) → port < l.ports → get_or (lists_of l.lines.items) port [] ≡ flow.arriving (take l.edge-index l.edges) (flow.on (results_of l.nodes l.keeps (answers l.marks)) (take l.edge-index l.edges)) l.node port;
 }

@@ -6,14 +6,8 @@ use Rattle.std.proofs.lemmas.List.Elements.{All-get_or}
 use Rattle.sdf_level.specs.Lists.{lists_of}
 use Rattle.sdf_level.specs.declared.single_rate.Edge.{Edge}
 use Rattle.audit_job.specs.Rows.{AreRows, end_of}
-use Rattle.audit_job.proofs.EdgeRows.{no_edge, no_rows, rows_more}
+use Rattle.audit_job.proofs.EdgeRows.{no_edge, rows_more}
 use Rattle.audit_job.proofs.rows.edges_by.Goals as goal
-
-pub loop-edge-init : goal.loop-edge-init
-loop-edge-init c =
-    let many = c.in_ok-rows.ensures.many in
-    let long = length-map c.in_ok-rows.rows.items (λ (v : Vec Edge Global). v.items) in
-    no_rows c.args.side c.args.nodes (lists_of c.in_ok-rows.rows.items) (long ∙ many) c.in_ok-rows.ensures.empty
 
 pub loop-edge-preserved : goal.loop-edge-preserved
 loop-edge-preserved c =

@@ -5,7 +5,7 @@ use Rattle.graph_firing.specs.View.{OpenView, compilation_of}
 use Rattle.firing_board.specs.Core.{HasMemory, RowsLast}
 use Rattle.firing_board.specs.Finding.{Finds}
 use Rattle.firing_board.specs.Handing.{HandsOut}
-use Rattle.firing_board.specs.Kept.{view_with}
+use Rattle.firing_board.specs.Invariants.{view_with}
 use Rattle.firing_board.specs.OnCore.{ClaimsOn, MayClaim, StarvesOn}
 use Rattle.firing_board.specs.Starved.{Lasts}
 use Rattle.firing_board.specs.Wanting.{MayStarve}

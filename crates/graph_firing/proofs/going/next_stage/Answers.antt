@@ -37,11 +37,11 @@ returns-in_ok-running-in-Ready c =
     let P : CompileEnd → Type 0 = λ end. IsEndOf own.graphs.graphs c.args.workers own.firing (preparing.left_by own) end in
     record {
       runs = runs_for own c.args.workers (arc_value c.in-Ready.compiled) c.in-Ready.set c.in-Ready.values c.requires.ready (subst P c.in-Ready.is c.requires.end) r
-          (made.given.0 ∙ same) made.given.1 made.compilation.0 made.compilation.1 made.compilation.2 made.free made.nothing;
+          (made.made_of.0 ∙ same) made.made_of.1 made.compilation.0 made.compilation.1 made.compilation.2 made.free made.nothing;
       marks_are = made.free;
       lent_are = made.nothing;
       many = many own c.args.workers (arc_value c.in-Ready.compiled) c.in-Ready.set c.in-Ready.values c.requires.ready (subst P c.in-Ready.is c.requires.end) r
-          (made.given.0 ∙ same) made.given.1 made.compilation.0 made.compilation.1 made.compilation.2 made.free made.nothing
+          (made.made_of.0 ∙ same) made.made_of.1 made.compilation.0 made.compilation.1 made.compilation.2 made.free made.nothing
           ∙ sym (ap nodes_by c.in-Ready.is);
       placed =
           let R : CompileEnd → Type 0 = λ end. IsPlacedBy end (Some r.cells) in

@@ -1,10 +1,10 @@
 use Rattle.std.proofs.Common.{◌≡◌, ℕ, ◌*◌, ◌≤◌, ◌<◌, length, slice_index, ap, arith, rules, subst, Fits, w32}
 use Rattle.std.proofs.Math.Nat.{mul-le-mul_left, mul-le-mul_right}
 use Rattle.std.proofs.lemmas.List.{get_or_read}
-use Rattle.sdf_level.specs.Kept.{rate_limit}
+use Rattle.sdf_level.specs.Invariants.{rate_limit}
 use Rattle.sdf_level.specs.Balance.{base_entry_limit}
 use Rattle.sdf_level.specs.View.{LevelView}
-use Rattle.sdf_level.specs.Kept.{IsLevel}
+use Rattle.sdf_level.specs.Invariants.{IsLevel}
 use Rattle.sdf_level.proofs.OnlyOne.{repetition_only}
 use Rattle.interface_rules.proofs.Multiplied.{is_repetition, no_mismatch}
 use Rattle.interface_rules.proofs.repetition.factor.Goals as goal

@@ -1,5 +1,5 @@
 use Rattle.std.proofs.Common.{◌≡◌, length, map, refl, sym, ap, ◌∙◌, subst}
-use Rattle.sdf_level.specs.Kept.{IsLevel}
+use Rattle.sdf_level.specs.Invariants.{IsLevel}
 use Rattle.sdf_level.specs.View.{LevelView}
 use Rattle.job_compiler.specs.Ends.{head_of, tail_of, AreEndCounts, in_count, out_count}
 use Rattle.job_compiler.proofs.JobWires.{heads_below, tails_below, have_ins, have_outs, wired_of}

@@ -34,9 +34,9 @@ returns-clause-waits c = λ rates one trace.
       frame = c.in_ok-frame.frame;
       frame_is = refl;
       asks = record {
-        kind = c.in_ok-frame.ensures.given.0;
-        args = c.in_ok-frame.ensures.given.1 ∙ args_are;
-        inputs = c.in_ok-frame.ensures.given.2 ∙ c.in_ok-inputs.ensures ∙ ap (λ (l : List (List ℤ)). fed_to c.args.graph.now l c.args.place c.args.ins) c.items-3.ensures;
+        kind = c.in_ok-frame.ensures.made_of.0;
+        args = c.in_ok-frame.ensures.made_of.1 ∙ args_are;
+        inputs = c.in_ok-frame.ensures.made_of.2 ∙ c.in_ok-inputs.ensures ∙ ap (λ (l : List (List ℤ)). fed_to c.args.graph.now l c.args.place c.args.ins) c.items-3.ensures;
         outputs = outputs_are;
         sets = ap (λ (l : List ℤ). length l) c.in_ok-frame.ensures.zeros.1 ∙ length-replicate c.args.sets (pos 0);
       };

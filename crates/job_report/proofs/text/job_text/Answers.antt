@@ -3,7 +3,7 @@ use Rattle.job_report.specs.Names.{names_of}
 use Rattle.job_report.specs.Told.{Tells}
 use Rattle.job_report.specs.declared.text.JobText.{JobText}
 use Rattle.std.specs.Prelude.{OnOk}
-use Rattle.job_report.specs.Kept.{Holds}
+use Rattle.job_report.specs.Holding.{Holds}
 use Rattle.job_report.proofs.OneOrdering.{memory_holds, memory_only}
 use Rattle.job_report.proofs.OneReport.{schedule_holds, schedule_only}
 use Rattle.job_report.proofs.text.job_text.Goals as goal

@@ -12,7 +12,7 @@ returns c = λ signatures graphs valid give.
     let laws : Laws = record {
       all = c.graphs_numbered.ensures.all;
       in_order = c.graphs_numbered.ensures.in_order;
-      stages = c.graphs_numbered.ensures.stages;
+      tiers = c.graphs_numbered.ensures.tiers;
       ready = c.ready_stays.ensures.ready;
       inputs_stay = c.ready_stays.ensures.inputs;
       once = c.edges_have_ports.ensures.once;
@@ -22,5 +22,5 @@ returns c = λ signatures graphs valid give.
     let unfolds : Unfolds graphs.graphs = λ place inherited inside. c.early_unfolds.ensures graphs place inherited range well inside in
     record {
       calls = λ n firing v fitted sound i d is. called_fits laws signatures graphs range well fit give unfolds n firing v fitted sound i d is;
-      settles = λ n firing v fitted settled. settled_ends laws c.jobs_end_as_runs.ensures.runs signatures graphs range well fit give n firing v fitted settled;
+      settles = λ n firing v fitted settled. settled_ends laws signatures graphs range well fit give n firing v fitted settled c.jobs_end_as_runs.ensures.runs;
     }

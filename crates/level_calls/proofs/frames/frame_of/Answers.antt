@@ -15,7 +15,7 @@ pub returns-clause-fitting : goal.returns-clause-fitting
 returns-clause-fitting c =
     let f = c.in_ok-frame.frame in
     let fits = c.if-not-has_lengths.ensures in
-    let ins : lengths f.inputs ≡ c.as_slice.result.now = ap lengths c.in_ok-frame.ensures.given.2 ∙ (sym c.in_ok-ins.ensures ∙ sym c.as_slice.ensures.value) in
+    let ins : lengths f.inputs ≡ c.as_slice.result.now = ap lengths c.in_ok-frame.ensures.made_of.2 ∙ (sym c.in_ok-ins.ensures ∙ sym c.as_slice.ensures.value) in
     let outs : lengths f.outputs ≡ c.args.outs.now = ap lengths c.in_ok-frame.ensures.zeros.0 ∙ lengths_zeros c.args.outs.now in
     let many : length (lengths f.inputs) ≡ length f.inputs = length-map f.inputs (λ (l : List ℤ). length l) in
     let more : length (lengths f.outputs) ≡ length f.outputs = length-map f.outputs (λ (l : List ℤ). length l) in

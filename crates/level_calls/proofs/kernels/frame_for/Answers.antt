@@ -7,7 +7,7 @@ use Rattle.level_calls.proofs.kernels.frame_for.Goals as goal
 pub returns-clause-fitting : goal.returns-clause-fitting
 returns-clause-fitting c =
     let f = c.in_ok-frame.frame in
-    let given = c.in_ok-frame.ensures.given in
+    let given = c.in_ok-frame.ensures.made_of in
     let zeros = c.in_ok-frame.ensures.zeros in
     is_frame c.args.kind _ _ _ _ f c.requires given.0
     (ap (λ (l : List ℤ). length l) (given.1 ∙ c.new.ensures))

@@ -1,5 +1,5 @@
 use Rattle.std.proofs.Common.{◌≡◌, ℕ, ◌<◌, false, get_or}
-use Rattle.sdf_level.specs.Kept.{is_into_port}
+use Rattle.sdf_level.specs.Invariants.{is_into_port}
 use Rattle.level_lines.specs.AtActors.{no_link}
 use Rattle.level_lines.proofs.reading.link_into.Given as goal
 

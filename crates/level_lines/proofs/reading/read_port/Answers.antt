@@ -1,7 +1,7 @@
 use Rattle.std.proofs.Common.{◌≡◌, ℤ, ◌<◌, ◌≤◌, List, [], length, get_or, ap, sym, ◌∙◌, subst, arith, IfOk, Vec, Global}
 use Rattle.std.proofs.lemmas.List.{get_or-map, length-map}
 use Rattle.sdf_level.specs.Lists.{lists_of}
-use Rattle.sdf_level.specs.Kept.{how_many, is_into_port}
+use Rattle.sdf_level.specs.Invariants.{how_many, is_into_port}
 use Rattle.sdf_level.specs.View.{LevelView}
 use Rattle.sdf_level.specs.declared.link.Link.{Link}
 use Rattle.level_lines.proofs.AtPorts.{port_read, input_missing}

@@ -17,11 +17,11 @@ settle-requires t c =
     let below = name_below c.args.params.now c.requires.ordered c.args.place place c.index-params-place.result is c.deref-other-items.result.now are c.loop-other.other-index there in
     let lower = name_lower c.args.params.now c.requires.ordered c.args.place place c.index-params-place.result is c.deref-other-items.result.now are c.loop-other.other-index there in
     let so_far = c.loop-other.invariant in
-    (omega arith, (c.requires.ordered, (below, (c.requires.given, (so_far.long ∙ c.requires.found, (so_far.many, so_far.numbered))))))
+    (omega arith, (c.requires.ordered, (below, (c.requires.supplied, (so_far.long ∙ c.requires.found, (so_far.many, so_far.numbered))))))
 
 pub loop-other-preserved : goal.loop-other-preserved
 loop-other-preserved t c =
-    settles_more c.args.params.now c.args.given.now c.args.found.now c.loop-other.found c.settle.new.found c.loop-other.numbers c.settle.new.numbers c.deref-other-items.result.now c.loop-other.other-index
+    settles_more c.args.params.now c.args.supplied.now c.args.found.now c.loop-other.found c.settle.new.found c.loop-other.numbers c.settle.new.numbers c.deref-other-items.result.now c.loop-other.other-index
     c.loop-other-test.true c.loop-other.invariant (search rules) (search rules) c.in_ok-settle.ensures.settled c.in_ok-settle.ensures.kept c.in_ok-settle.ensures.told c.in_ok-settle.ensures.numbers
 
 pub outcome-settled-requires-clause-inside : goal.outcome-settled-requires-clause-inside
@@ -39,7 +39,7 @@ returns-clause-told t c =
     let same : c.index-params-place-2.result ≡ p = get_or_read params c.args.place c.index-params-place-2.result inside c.index-params-place-2.is p ∙ sym c.index-params-place.is in
     let whole : length c.deref-other-items.result.now ≤ c.loop-other.other-index = omega arith in
     let settled = subst (λ places. All (λ q. IsSome (found_at found q)) places) are (all_whole (λ q. IsSome (found_at found q)) c.deref-other-items.result.now c.loop-other.other-index whole so_far.settled) in
-    let given = get_or c.args.given.now c.args.place None in
-    let told = told_with params c.requires.ordered c.args.place inside p c.index-params-place.is c.args.given.now c.requires.given c.args.found.now found settled so_far.told (so_far.long ∙ c.requires.found)
-    c.outcome-settled.result given refl (c.outcome-settled.ensures ∙ ap (λ (x : Param). outcome (values_found found) x.low x.high x.kind given) same) in
+    let supplied = get_or c.args.supplied.now c.args.place None in
+    let told = told_with params c.requires.ordered c.args.place inside p c.index-params-place.is c.args.supplied.now c.requires.supplied c.args.found.now found settled so_far.told (so_far.long ∙ c.requires.found)
+    c.outcome-settled.result supplied refl (c.outcome-settled.ensures ∙ ap (λ (x : Param). outcome (values_found found) x.low x.high x.kind supplied) same) in
     rw c.put.ensures.found told

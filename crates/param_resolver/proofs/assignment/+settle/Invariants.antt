@@ -8,4 +8,4 @@ abbrev pub decreases-settle : goal.decreases-settle
 decreases-settle l = rank (references_of l.params.now) l.place
 
 abbrev pub invariant-loop-other : goal.invariant-loop-other
-invariant-loop-other l = Settles l.params l.given l.initial.found l.found l.numbers (take l.other-index l.other-items)
+invariant-loop-other l = Settles l.params l.supplied l.initial.found l.found l.numbers (take l.other-index l.other-items)

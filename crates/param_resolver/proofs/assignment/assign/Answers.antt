@@ -21,7 +21,7 @@ returns-in-Some-clause-fault c =
     let fits : length c.settle_all.new.found ≡ c.in_ok-found.found.len = let e = c.deref_mut.ensures.len in let k = c.settle_all.auto.found in omega arith in
     let fresh = λ (q : ℕ). ap (λ f. found_at f q) start ∙ fresh_none (length params) q in
     let is = c.deref.ensures.value ∙ take_at _ _ _ fits in
-    let faults = faults_are params c.args.given.now c.requires.ordered c.deref_mut.result.now c.settle_all.new.found fresh long c.in_ok-settle_all.ensures.settled c.settle_all.ensures.told in
+    let faults = faults_are params c.args.supplied.now c.requires.ordered c.deref_mut.result.now c.settle_all.new.found fresh long c.in_ok-settle_all.ensures.settled c.settle_all.ensures.told in
     ap first (sym faults ∙ ap faults_found (sym is)) ∙ sym c.first_fault.ensures.first ∙ c.in-Some.is
 
 pub returns-clause-values : goal.returns-clause-values
@@ -33,7 +33,7 @@ returns-clause-values c =
     let fits : length c.settle_all.new.found ≡ c.in_ok-found.found.len = let e = c.deref_mut.ensures.len in let k = c.settle_all.auto.found in omega arith in
     let fresh = λ (q : ℕ). ap (λ f. found_at f q) start ∙ fresh_none (length params) q in
     let is = c.deref-in-None.ensures.value ∙ take_at _ _ _ fits in
-    c.in_ok-values_found-in-None.ensures ∙ ap values_found is ∙ values_are params c.args.given.now c.requires.ordered c.deref_mut.result.now c.settle_all.new.found fresh long c.in_ok-settle_all.ensures.settled c.settle_all.ensures.told
+    c.in_ok-values_found-in-None.ensures ∙ ap values_found is ∙ values_are params c.args.supplied.now c.requires.ordered c.deref_mut.result.now c.settle_all.new.found fresh long c.in_ok-settle_all.ensures.settled c.settle_all.ensures.told
 
 pub returns-clause-numbers : goal.returns-clause-numbers
 returns-clause-numbers c =
@@ -44,7 +44,7 @@ returns-clause-numbers c =
     let fits : length c.settle_all.new.found ≡ c.in_ok-found.found.len = let e = c.deref_mut.ensures.len in let k = c.settle_all.auto.found in omega arith in
     let fresh = λ (q : ℕ). ap (λ f. found_at f q) start ∙ fresh_none (length params) q in
     let many : length c.settle_all.new.numbers ≡ c.in_ok-numbers.numbers.len = let e = c.deref_mut-2.ensures.len in let k = c.settle_all.auto.numbers in omega arith in
-    take_at _ _ _ many ∙ c.settle_all.ensures.numbers ∙ ap numbers (values_are params c.args.given.now c.requires.ordered c.deref_mut.result.now c.settle_all.new.found fresh long c.in_ok-settle_all.ensures.settled c.settle_all.ensures.told)
+    take_at _ _ _ many ∙ c.settle_all.ensures.numbers ∙ ap numbers (values_are params c.args.supplied.now c.requires.ordered c.deref_mut.result.now c.settle_all.new.found fresh long c.in_ok-settle_all.ensures.settled c.settle_all.ensures.told)
 
 pub returns-clause-sound : goal.returns-clause-sound
 returns-clause-sound c =
@@ -55,5 +55,5 @@ returns-clause-sound c =
     let fits : length c.settle_all.new.found ≡ c.in_ok-found.found.len = let e = c.deref_mut.ensures.len in let k = c.settle_all.auto.found in omega arith in
     let fresh = λ (q : ℕ). ap (λ f. found_at f q) start ∙ fresh_none (length params) q in
     let is = c.deref.ensures.value ∙ take_at _ _ _ fits in
-    let faults = faults_are params c.args.given.now c.requires.ordered c.deref_mut.result.now c.settle_all.new.found fresh long c.in_ok-settle_all.ensures.settled c.settle_all.ensures.told in
-    none_first (param_faults params c.args.given.now) (ap first (sym faults ∙ ap faults_found (sym is)) ∙ sym c.first_fault.ensures.first ∙ c.in-None.is)
+    let faults = faults_are params c.args.supplied.now c.requires.ordered c.deref_mut.result.now c.settle_all.new.found fresh long c.in_ok-settle_all.ensures.settled c.settle_all.ensures.told in
+    none_first (param_faults params c.args.supplied.now) (ap first (sym faults ∙ ap faults_found (sym is)) ∙ sym c.first_fault.ensures.first ∙ c.in-None.is)

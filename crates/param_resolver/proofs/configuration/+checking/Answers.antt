@@ -1,7 +1,7 @@
 use Rattle.std.proofs.Common.{ℤ, List, Some, length, arith, sym, ap, ◌∙◌, subst}
 use Rattle.std.proofs.lemmas.List.Elements.{All-get_or}
 use Rattle.pisdf_model.specs.declared.graph.Graph.{Graph}
-use Rattle.param_resolver.specs.EarlyCheck.{check_to, given_early}
+use Rattle.param_resolver.specs.EarlyCheck.{check_to, supplied_early}
 use Rattle.param_resolver.specs.EarlyView.{EarlyView}
 use Rattle.param_resolver.specs.Refusal.{part_refusal_of, refusal_of}
 use Rattle.pisdf_model.specs.Parts.{inputs_of}
@@ -72,7 +72,7 @@ add_actors-returns-clause-sound t c =
 pub check_graph-add_actors-requires : goal.check_graph-add_actors-requires
 check_graph-add_actors-requires t c =
     let g = c.args.graph.now in
-    let same = ap (λ (v : List ℤ). length v) (c.deref-2.ensures.value ∙ c.in_ok-rated.ensures.numbers) ∙ length-numbers g.params (given_early g.params c.args.inherited.now) c.requires.graph.ordered in
+    let same = ap (λ (v : List ℤ). length v) (c.deref-2.ensures.value ∙ c.in_ok-rated.ensures.numbers) ∙ length-numbers g.params (supplied_early g.params c.args.inherited.now) c.requires.graph.ordered in
     (omega arith, (c.requires.resolvable, (c.requires.graph.few_actors, (rw same c.requires.graph.actors, c.requires.nested))))
 
 pub check_graph-returns-in_err-configured-clause-fault : goal.check_graph-returns-in_err-configured-clause-fault

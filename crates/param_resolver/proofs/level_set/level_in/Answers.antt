@@ -1,5 +1,5 @@
 use Rattle.std.proofs.Common.{◌≡◌, ◌∙◌, ℕ, List, ap, arith, length, subst, sym}
-use Rattle.sdf_level.specs.Kept.{IsLevel}
+use Rattle.sdf_level.specs.Invariants.{IsLevel}
 use Rattle.sdf_level.specs.View.{LevelView}
 use Rattle.param_resolver.specs.EarlyView.{EarlyView}
 use Rattle.param_resolver.specs.Numbering.{acting}

@@ -1,6 +1,6 @@
 use Rattle.std.proofs.Common.{ℕ, ◌≡◌, ◌<◌, List, map, length, slice_index_or, ap, sym, ◌∙◌, subst, arith}
 use Rattle.sdf_level.specs.View.{LevelView}
-use Rattle.sdf_level.specs.Kept.{IsLevel}
+use Rattle.sdf_level.specs.Invariants.{IsLevel}
 use Rattle.sdf_level.specs.declared.node.Node.{Node}
 use Rattle.sdf_level.specs.declared.single_rate.Edge.{Edge}
 use Rattle.single_rate.specs.declared.wire.Wire.{Wire}

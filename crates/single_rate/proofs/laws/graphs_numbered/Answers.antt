@@ -3,7 +3,7 @@ use Rattle.std.proofs.lemmas.List.Elements.{All-from_recursion}
 use Rattle.single_rate.specs.Wires.{wires}
 use Rattle.single_rate.specs.Expanded.{nodes, edges}
 use Rattle.single_rate.proofs.Once.{nodes-once}
-use Rattle.single_rate.proofs.Turns.{found-at, firings-there, firing-stands, firings-all, have-stages}
+use Rattle.single_rate.proofs.Turns.{found-at, firings-there, firing-stands, firings-all, have-tiers}
 use Rattle.single_rate.proofs.Forward.{ends-below}
 use Rattle.single_rate.proofs.Sizes.{wires-some, edges-some}
 use Rattle.single_rate.proofs.NamesLengths.{names-lengths}
@@ -26,8 +26,8 @@ returns-clause-in_order c = λ level q turns before after b order is. firing-sta
 pub returns-clause-all : goal.returns-clause-all
 returns-clause-all c = λ level q turns n order is. firings-all level q turns order n is
 
-pub returns-clause-stages : goal.returns-clause-stages
-returns-clause-stages c = λ level q turns sound order. have-stages level q turns order sound
+pub returns-clause-tiers : goal.returns-clause-tiers
+returns-clause-tiers c = λ level q turns sound order. have-tiers level q turns order sound
 
 pub returns-clause-ends : goal.returns-clause-ends
 returns-clause-ends c = λ level q turns sound order. All-from_recursion (λ e. (e.tail < length (nodes level q turns)) × (e.head < length (nodes level q turns))) (edges level q turns) (ends-below level q turns sound order)

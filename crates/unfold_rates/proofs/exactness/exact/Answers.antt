@@ -8,7 +8,7 @@ use Rattle.pisdf_model.specs.InterfaceWires.{is_configuration}
 use Rattle.pisdf_model.specs.declared.actor.Actor.{Actor}
 use Rattle.pisdf_model.specs.declared.fifo.Fifo.{Fifo}
 use Rattle.pisdf_model.specs.declared.graph.Graph.{Graph}
-use Rattle.sdf_level.specs.Kept.{rate_limit}
+use Rattle.sdf_level.specs.Invariants.{rate_limit}
 use Rattle.sdf_level.specs.View.{LevelView}
 use Rattle.unfold_rates.specs.Exact.{BeginsOnce, IsExact, IsExactSchedule}
 use Rattle.unfold_rates.proofs.exactness.exact.Goals as goal

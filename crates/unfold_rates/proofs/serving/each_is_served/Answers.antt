@@ -1,6 +1,6 @@
 use Rattle.std.proofs.Common.{◌≡◌, ◌<◌, ◌≤◌, ap, sym, ◌∙◌, refl, subst, arith, below_more}
 use Rattle.level_laws.specs.Unfolded.{IsServed}
-use Rattle.sdf_level.specs.Kept.{IsLevel}
+use Rattle.sdf_level.specs.Invariants.{IsLevel}
 use Rattle.sdf_level.specs.View.{LevelView}
 use Rattle.unfold_rates.proofs.ServedLinks.{component_of, served_by}
 use Rattle.unfold_rates.proofs.serving.each_is_served.Goals as goal

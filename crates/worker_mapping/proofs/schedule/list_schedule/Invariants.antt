@@ -1,5 +1,5 @@
 use Rattle.std.proofs.Common.{◌≡◌, []}
-use Rattle.worker_mapping.proofs.Kept.{unplaced_below}
+use Rattle.worker_mapping.proofs.Growing.{unplaced_below}
 use Rattle.worker_mapping.proofs.Stepping.{Schedules}
 use Rattle.worker_mapping.proofs.schedule.list_schedule.Given as goal
 

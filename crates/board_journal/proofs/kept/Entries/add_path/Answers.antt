@@ -1,7 +1,7 @@
 use Rattle.std.proofs.Common.{◌≡◌, ◌∙◌, ℕ, ◌-◌, List, [], ◌∷◌, ◌++◌, ap}
 use Rattle.board_rules.specs.declared.entry.Entry.{Entry}
 use Rattle.board_journal.proofs.Paths.{entries_stay}
-use Rattle.board_journal.specs.Kept.{entries_of}
+use Rattle.board_journal.specs.Invariants.{entries_of}
 use Rattle.board_journal.specs.View.{EntriesView}
 use Rattle.board_journal.proofs.kept.Entries.add_path.Goals as goal
 

@@ -1,9 +1,10 @@
 use Rattle.std.proofs.Common.{◌≡◌, ◌∙◌, Bool, true, false, is_some, sym, ap, ap₂, subst}
 use Rattle.board_rules.specs.Keys.{Key}
+use Rattle.firing_board.specs.Signatures.{counts_by}
 use Rattle.firing_board.specs.Table.View.{firings_of}
 use Rattle.firing_board.specs.Claims.{Claims, EntersAs}
 use Rattle.firing_board.specs.Firings.{FiringsGoOn, LeasesFrame}
-use Rattle.firing_board.specs.Kept.{HasMemoryUnless, Keeps, key_of, key_with, view_with}
+use Rattle.firing_board.specs.Invariants.{HasMemoryUnless, Keeps, key_of, key_with, view_with}
 use Rattle.firing_board.specs.View.{BoardView}
 use Rattle.firing_board.specs.Wanting.{MayStarve}
 use Rattle.firing_board.proofs.Fields.{key_same}
@@ -26,7 +27,7 @@ invariant_of-self c =
     let live = c.if-self.false in
     let new = c.claim-claimed.new.core in
     let may = may_claim_by c.entries_tell_steps.ensures.steps i c.self.invariant c.args.self.now c.self.view_is live c.args.worker c.requires in
-    let same = key_same i.signatures.counts i.top.value i.core new c.claim-claimed.ensures.kept.0 in (
+    let same = key_same (counts_by i.signatures) i.top.value i.core new c.claim-claimed.ensures.kept.0 in (
       subst (λ (k : Key). Keeps k new i.starved) (sym same) (subst (λ (b : Bool). Keeps key new b) (sym live) (c.in-Ok.ensures.claimed key may).keeps),
       c.claim-claimed.ensures.kept.1 ∙ (c.self.invariant.1 ∙ sym c.claim-claimed.ensures.kept.0.one_each),
       subst (λ (b : Bool). HasMemoryUnless b new) (sym live) c.in-Ok.ensures.room,
@@ -39,7 +40,7 @@ invariant_of-self-in-Err c =
     let key = key_of i in
     let new = c.claim-claimed.new.core in
     let may = may_claim_by c.entries_tell_steps.ensures.steps i c.self.invariant c.args.self.now c.self.view_is c.if-self.false c.args.worker c.requires in
-    let same = key_same i.signatures.counts i.top.value i.core new c.claim-claimed.ensures.kept.0 in (
+    let same = key_same (counts_by i.signatures) i.top.value i.core new c.claim-claimed.ensures.kept.0 in (
       subst (λ (k : Key). Keeps k new true) (sym same) (c.in-Err.ensures.refused key may).keeps,
       c.claim-claimed.ensures.kept.1 ∙ (c.self.invariant.1 ∙ sym c.claim-claimed.ensures.kept.0.one_each),
       tt,
@@ -61,12 +62,12 @@ returns-in-Ok-clause-claims c =
     let w = c.args.worker in
     let has = is_some i.kept in
     let may = may_claim_by c.entries_tell_steps.ensures.steps i c.self.invariant c.args.self.now c.self.view_is live w c.requires in
-    let same = key_same i.signatures.counts i.top.value i.core new c.claim-claimed.ensures.kept.0 in
+    let same = key_same (counts_by i.signatures) i.top.value i.core new c.claim-claimed.ensures.kept.0 in
     let before : keeping has (view_with key i.core false) ≡ c.args.self.now = ap (λ (b : Bool). keeping has (view_with key i.core b)) (sym live) ∙ c.self.view_is in
-    let after : keeping has (view_with key new false) ≡ keeping (is_some c.claim-claimed.new.kept) (view_with (key_with i.signatures.counts i.top.value new) new i.starved) =
+    let after : keeping has (view_with key new false) ≡ keeping (is_some c.claim-claimed.new.kept) (view_with (key_with (counts_by i.signatures) i.top.value new) new i.starved) =
     ap (λ (b : Bool). keeping has (view_with key new b)) (sym live)
     ∙ ap₂ (λ (k : Key) (h : Bool). keeping h (view_with k new i.starved)) (sym same) (sym c.claim-claimed.ensures.kept.2) in
-    subst (λ (b : BoardView). Claims b (keeping (is_some c.claim-claimed.new.kept) (view_with (key_with i.signatures.counts i.top.value new) new i.starved)) w c.in-Ok.claim) before
+    subst (λ (b : BoardView). Claims b (keeping (is_some c.claim-claimed.new.kept) (view_with (key_with (counts_by i.signatures) i.top.value new) new i.starved)) w c.in-Ok.claim) before
     (subst (λ (b : BoardView). Claims (keeping has (view_with key i.core false)) b w c.in-Ok.claim) after
     (claims_as has (view_with key i.core false) (view_with key new false) w c.in-Ok.claim (c.in-Ok.ensures.claimed key may).claims))
 
@@ -79,12 +80,12 @@ returns-in-Ok-clause-enters c =
     let w = c.args.worker in
     let has = is_some i.kept in
     let may = may_claim_by c.entries_tell_steps.ensures.steps i c.self.invariant c.args.self.now c.self.view_is live w c.requires in
-    let same = key_same i.signatures.counts i.top.value i.core new c.claim-claimed.ensures.kept.0 in
+    let same = key_same (counts_by i.signatures) i.top.value i.core new c.claim-claimed.ensures.kept.0 in
     let before : keeping has (view_with key i.core false) ≡ c.args.self.now = ap (λ (b : Bool). keeping has (view_with key i.core b)) (sym live) ∙ c.self.view_is in
-    let after : keeping has (view_with key new false) ≡ keeping (is_some c.claim-claimed.new.kept) (view_with (key_with i.signatures.counts i.top.value new) new i.starved) =
+    let after : keeping has (view_with key new false) ≡ keeping (is_some c.claim-claimed.new.kept) (view_with (key_with (counts_by i.signatures) i.top.value new) new i.starved) =
     ap (λ (b : Bool). keeping has (view_with key new b)) (sym live)
     ∙ ap₂ (λ (k : Key) (h : Bool). keeping h (view_with k new i.starved)) (sym same) (sym c.claim-claimed.ensures.kept.2) in
-    subst (λ (b : BoardView). EntersAs b (keeping (is_some c.claim-claimed.new.kept) (view_with (key_with i.signatures.counts i.top.value new) new i.starved)) w c.in-Ok.claim) before
+    subst (λ (b : BoardView). EntersAs b (keeping (is_some c.claim-claimed.new.kept) (view_with (key_with (counts_by i.signatures) i.top.value new) new i.starved)) w c.in-Ok.claim) before
     (subst (λ (b : BoardView). EntersAs (keeping has (view_with key i.core false)) b w c.in-Ok.claim) after
     (enters_as has (view_with key i.core false) (view_with key new false) w c.in-Ok.claim (c.in-Ok.ensures.claimed key may).enters))
 
@@ -105,7 +106,7 @@ returns-in-Err-clause-claims c =
     let key = key_of i in
     let new = c.claim-claimed.new.core in
     let may = may_claim_by c.entries_tell_steps.ensures.steps i c.self.invariant c.args.self.now c.self.view_is c.if-self.false c.args.worker c.requires in
-    let same = key_same i.signatures.counts i.top.value i.core new c.claim-claimed.ensures.kept.0 in
+    let same = key_same (counts_by i.signatures) i.top.value i.core new c.claim-claimed.ensures.kept.0 in
     ap₂ (λ (k : Key) (h : Bool). keeping h (view_with k new true)) same c.claim-claimed.ensures.kept.2
     ∙ (ap (keeping (is_some i.kept)) (c.in-Err.ensures.refused key may).starves ∙ ap (λ (b : BoardView). record b { starved = true; firings = firings_of new.table }) c.self.view_is)
 
@@ -139,8 +140,8 @@ returns-in-Ok-clause-leases c =
     let w = c.args.worker in
     let has = is_some i.kept in
     let may = may_claim_by c.entries_tell_steps.ensures.steps i c.self.invariant c.args.self.now c.self.view_is live w c.requires in
-    let same = key_same i.signatures.counts i.top.value i.core new c.claim-claimed.ensures.kept.0 in
-    let after : keeping has (view_with key new false) ≡ keeping (is_some c.claim-claimed.new.kept) (view_with (key_with i.signatures.counts i.top.value new) new i.starved) =
+    let same = key_same (counts_by i.signatures) i.top.value i.core new c.claim-claimed.ensures.kept.0 in
+    let after : keeping has (view_with key new false) ≡ keeping (is_some c.claim-claimed.new.kept) (view_with (key_with (counts_by i.signatures) i.top.value new) new i.starved) =
     ap (λ (b : Bool). keeping has (view_with key new b)) (sym live)
     ∙ ap₂ (λ (k : Key) (h : Bool). keeping h (view_with k new i.starved)) (sym same) (sym c.claim-claimed.ensures.kept.2) in
     subst (λ (b : BoardView). LeasesFrame b w c.in-Ok.claim) after (leases_as has (view_with key new false) w c.in-Ok.claim (c.in-Ok.ensures.claimed key may).leases)

@@ -1,5 +1,5 @@
 use Rattle.std.proofs.Common.{sym, subst}
-use Rattle.firing_board.specs.Kept.{key_of}
+use Rattle.firing_board.specs.Invariants.{key_of}
 use Rattle.firing_board.specs.Runs.{AreAllIdle}
 use Rattle.firing_board.proofs.Fields.{nothing_lent}
 use Rattle.firing_board.proofs.KeptViews.{all_idle_as, bare}

@@ -1,9 +1,10 @@
 use Rattle.std.proofs.Common.{◌≡◌, ◌∙◌, Bool, false, is_some, sym, ap, subst}
 use Rattle.board_rules.specs.Keys.{Key}
+use Rattle.firing_board.specs.Signatures.{counts_by}
 use Rattle.firing_board.specs.Table.View.{firings_of}
 use Rattle.firing_board.specs.Firings.{FiringsGoOn}
 use Rattle.firing_board.specs.Finishes.{Finishes, MayEnd}
-use Rattle.firing_board.specs.Kept.{Keeps, key_of, key_with, view_of, view_with}
+use Rattle.firing_board.specs.Invariants.{Keeps, key_of, key_with, view_of, view_with}
 use Rattle.firing_board.specs.Runs.{Runs}
 use Rattle.firing_board.specs.View.{BoardView, lent_to}
 use Rattle.firing_board.proofs.Fields.{key_same}
@@ -36,7 +37,7 @@ invariant_of-self c =
       runs = runs_as false (view_of i) w (MayEnd key c.args.end) (subst (λ (b : BoardView). Runs b w (MayEnd b.key c.args.end)) (sym c.self.view_is) c.requires.runs);
       lent = ap (λ (b : BoardView). lent_to b w) c.self.view_is ∙ c.requires.lent;
     } in
-    let same = key_same i.signatures.counts i.top.value i.core new kept in (
+    let same = key_same (counts_by i.signatures) i.top.value i.core new kept in (
       subst (λ (k : Key). Keeps k new c.finish_compilation-self-inside.result) (sym same) f.keeps,
       c.take_key-key.ensures ∙ (c.self.invariant.1 ∙ sym kept.one_each),
       room_unless i.starved c.finish_compilation-self-inside.result i.core new f.stays c.self.invariant.2 c.finish_compilation-self-inside.ensures.room,
@@ -55,12 +56,12 @@ returns-clause-finishes c =
       runs = runs_as false (view_of i) w (MayEnd key c.args.end) (subst (λ (b : BoardView). Runs b w (MayEnd b.key c.args.end)) (sym c.self.view_is) c.requires.runs);
       lent = ap (λ (b : BoardView). lent_to b w) c.self.view_is ∙ c.requires.lent;
     } in
-    let same = key_same i.signatures.counts i.top.value i.core new c.finish_compilation-self-inside.ensures.kept in
+    let same = key_same (counts_by i.signatures) i.top.value i.core new c.finish_compilation-self-inside.ensures.kept in
     let has = is_some i.kept in
     let whole = finishes_as has (view_with key i.core i.starved) (view_with key new after) w f.finishes in
     let kept : has ≡ is_some c.keep_ready.new.kept = sym c.keep_ready.ensures in
-    subst (λ (b : BoardView). Finishes b (keeping (is_some c.keep_ready.new.kept) (view_with (key_with i.signatures.counts i.top.value new) new after)) w) c.self.view_is
-    (subst (λ (h : Bool). Finishes (view_of i) (keeping h (view_with (key_with i.signatures.counts i.top.value new) new after)) w) kept
+    subst (λ (b : BoardView). Finishes b (keeping (is_some c.keep_ready.new.kept) (view_with (key_with (counts_by i.signatures) i.top.value new) new after)) w) c.self.view_is
+    (subst (λ (h : Bool). Finishes (view_of i) (keeping h (view_with (key_with (counts_by i.signatures) i.top.value new) new after)) w) kept
     (subst (λ (k : Key). Finishes (view_of i) (keeping has (view_with k new after)) w) (sym same) whole))
 
 pub returns-clause-stays : goal.returns-clause-stays

@@ -1,10 +1,11 @@
 use Rattle.std.proofs.Common.{◌∙◌, false, sym, ap, subst}
 use Rattle.std.specs.Prelude.{IsOk, is_some}
 use Rattle.board_rules.specs.Keys.{Key}
+use Rattle.firing_board.specs.Signatures.{counts_by}
 use Rattle.firing_board.specs.Table.View.{firings_of}
 use Rattle.firing_board.specs.Firings.{FiringsGoOn}
 use Rattle.firing_board.specs.Finishes.{Finishes, MayComeBack}
-use Rattle.firing_board.specs.Kept.{Keeps, key_of, key_with, view_of, view_with}
+use Rattle.firing_board.specs.Invariants.{Keeps, key_of, key_with, view_of, view_with}
 use Rattle.firing_board.specs.Runs.{Runs}
 use Rattle.firing_board.specs.View.{BoardView, lent_to}
 use Rattle.firing_board.proofs.Fields.{key_same}
@@ -38,7 +39,7 @@ invariant_of-self c =
       runs = runs_as false (view_of i) w (MayComeBack key c.args.frame c.args.answer (IsOk c.args.answer)) (subst (λ (b : BoardView). Runs b w (MayComeBack b.key c.args.frame c.args.answer (IsOk c.args.answer))) (sym c.self.view_is) c.requires.runs);
       lent = ap (λ (b : BoardView). lent_to b w) c.self.view_is ∙ c.requires.lent;
     } in
-    let same = key_same i.signatures.counts i.top.value i.core new kept in
+    let same = key_same (counts_by i.signatures) i.top.value i.core new kept in
     (subst (λ (k : Key). Keeps k new after) (sym same) f.keeps, c.self.invariant.1 ∙ sym kept.one_each, room_unless i.starved after i.core new f.stays c.self.invariant.2 (λ live has. c.finish_frame.ensures.room has), kept.slots_each ∙ (c.self.invariant.3 ∙ sym kept.one_each))
 
 pub returns-clause-finishes : goal.returns-clause-finishes
@@ -53,10 +54,10 @@ returns-clause-finishes c =
       runs = runs_as false (view_of i) w (MayComeBack key c.args.frame c.args.answer (IsOk c.args.answer)) (subst (λ (b : BoardView). Runs b w (MayComeBack b.key c.args.frame c.args.answer (IsOk c.args.answer))) (sym c.self.view_is) c.requires.runs);
       lent = ap (λ (b : BoardView). lent_to b w) c.self.view_is ∙ c.requires.lent;
     } in
-    let same = key_same i.signatures.counts i.top.value i.core new c.finish_frame.ensures.kept in
+    let same = key_same (counts_by i.signatures) i.top.value i.core new c.finish_frame.ensures.kept in
     let has = is_some i.kept in
     let whole = finishes_as has (view_with key i.core i.starved) (view_with key new after) w f.finishes in
-    subst (λ (b : BoardView). Finishes b (keeping has (view_with (key_with i.signatures.counts i.top.value new) new after)) w) c.self.view_is
+    subst (λ (b : BoardView). Finishes b (keeping has (view_with (key_with (counts_by i.signatures) i.top.value new) new after)) w) c.self.view_is
     (subst (λ (k : Key). Finishes (view_of i) (keeping has (view_with k new after)) w) (sym same) whole)
 
 pub returns-clause-starved : goal.returns-clause-starved

@@ -1,5 +1,5 @@
 use Rattle.std.proofs.Common.{is_some, subst}
-use Rattle.firing_board.specs.Kept.{key_of, view_with}
+use Rattle.firing_board.specs.Invariants.{key_of, view_with}
 use Rattle.firing_board.specs.Runs.{IsSound}
 use Rattle.firing_board.proofs.KeptViews.{sound_as}
 use Rattle.firing_board.proofs.Sound.{is_sound}

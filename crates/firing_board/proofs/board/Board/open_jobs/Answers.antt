@@ -1,7 +1,7 @@
 use Rattle.std.proofs.Common.{◌≤◌, ◌*◌, ℕ, length, sym, ◌∙◌, ap, subst}
 use Rattle.firing_board.specs.Table.View.{keys_of}
 use Rattle.firing_board.specs.Firings.{open_count}
-use Rattle.firing_board.specs.Kept.{key_of}
+use Rattle.firing_board.specs.Invariants.{key_of}
 use Rattle.firing_board.specs.View.{BoardView}
 use Rattle.firing_board.proofs.Rows.{keys_open}
 use Rattle.firing_board.proofs.Sound.{few_open}

@@ -1,7 +1,7 @@
 use Rattle.std.proofs.Common.{false, is_some, sym, subst}
 use Rattle.firing_board.specs.Beginning.{EndsWith}
 use Rattle.firing_board.specs.Ends.{EndsAs, IsOver}
-use Rattle.firing_board.specs.Kept.{key_of, view_with}
+use Rattle.firing_board.specs.Invariants.{key_of, view_with}
 use Rattle.firing_board.specs.View.{BoardView}
 use Rattle.firing_board.specs.declared.ending.BoardEnd.{BoardEnd}
 use Rattle.firing_board.proofs.Ended.{all_idle, ends_as, must_end}

@@ -11,7 +11,8 @@ use Rattle.job_rules.specs.Items.{no_graph}
 use Rattle.board_rules.specs.Keys.{Key, top_job}
 use Rattle.firing_board.specs.Beginning.{IsStartedOn}
 use Rattle.firing_board.specs.Core.{lent_of}
-use Rattle.firing_board.specs.Kept.{Keeps, key_with}
+use Rattle.firing_board.specs.Invariants.{Keeps, key_with}
+use Rattle.firing_board.specs.Signatures.{counts_by}
 use Rattle.firing_board.specs.Starts.{key_from}
 use Rattle.firing_board.proofs.Started.{begins, none_lent, started_firings}
 use Rattle.firing_board.proofs.board.Board.start_with.Goals as goal
@@ -50,8 +51,8 @@ invariant_of-result c =
     let held : c.of-top.result.value ≡ top_job key = c.of-top.ensures ∙ firing in
     let graphs = s.started.graphs_are in
     let workers = s.started.workers_are in
-    let signatures = c.told_signatures-signatures.ensures in
-    let key_is : key_with c.told_signatures-signatures.result.counts c.of-top.result.value i ≡ key =
+    let signatures = c.of-signatures.ensures in
+    let key_is : key_with (counts_by c.of-signatures.result) c.of-top.result.value i ≡ key =
     (λ x. record { graphs = graphs x; signatures = signatures x; delays = (held x).state; ins = (held x).inputs; workers = workers x }) in
     let keeps = begins c.boards_keep.ensures.start c.tables_suit.ensures.starts_with c.tables_suit.ensures.start key c.requires.key i s in
     (subst (λ (k : Key). Keeps k i false) (sym key_is) keeps, c.in_ok-compiling.ensures ∙ sym keeps.one_each, c.in_ok-core.ensures.room, c.in_ok-core.ensures.room.for_frames.one_each)
@@ -72,8 +73,8 @@ returns c =
     let held : c.of-top.result.value ≡ top_job key = c.of-top.ensures ∙ firing in
     let graphs = s.started.graphs_are in
     let workers = s.started.workers_are in
-    let signatures = c.told_signatures-signatures.ensures in
-    let key_is : key_with c.told_signatures-signatures.result.counts c.of-top.result.value i ≡ key =
+    let signatures = c.of-signatures.ensures in
+    let key_is : key_with (counts_by c.of-signatures.result) c.of-top.result.value i ≡ key =
     (λ x. record { graphs = graphs x; signatures = signatures x; delays = (held x).state; ins = (held x).inputs; workers = workers x }) in
     let lent : lent_of i.table i.running.items ≡ replicate c.args.workers None = ap (lent_of i.table) s.running_are ∙ none_lent i.table c.args.workers in
     let entries = s.entries_are in

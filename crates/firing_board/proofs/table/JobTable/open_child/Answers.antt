@@ -174,8 +174,8 @@ returns-clause-opened c =
     let called = call_of v now e rows same k item slot read row here firing (left_with c.call.new.self slot) (subst (λ (r : Result Firing AllocError). CallsIn item r slot (left_with c.call.new.self slot)) c.in_ok-firing.was (job_called slot c.job_in.result.now c.call.new.self item c.call.result c.job_in.ensures.value c.call.ensures.firing c.call.ensures.inherited c.call.ensures.opened c.call.ensures.refused)) in
     let own : arc_value c.in_ok-graphs.graphs ≡ arc_value s.graphs = c.in_ok-graphs.ensures in
     let graphs : row.job.graphs ≡ arc_value c.in_ok-graphs.graphs = c.requires.offered.2.0 ∙ (ap (λ (x : TableView). x.graphs) (sym e) ∙ sym own) in
-    let fresh = is_fresh v.graphs v.workers firing c.in_ok-job.job (compile_number (graph_of (arc_value c.in_ok-graphs.graphs).graphs firing) + 1) (c.in_ok-job.ensures.given.0 ∙ own) c.in_ok-job.ensures.given.1 c.in_ok-job.ensures.given.2 c.in_ok-job.ensures.unplaced c.in_ok-job.ensures.roomless c.in_ok-job.ensures.free c.in_ok-job.ensures.unlent
-    (fresh_many (arc_value c.in_ok-graphs.graphs) firing c.in_ok-job.job c.in_ok-job.ensures.given.0 c.in_ok-job.ensures.given.2 c.in_ok-job.ensures.free) in
+    let fresh = is_fresh v.graphs v.workers firing c.in_ok-job.job (compile_number (graph_of (arc_value c.in_ok-graphs.graphs).graphs firing) + 1) (c.in_ok-job.ensures.made_of.0 ∙ own) c.in_ok-job.ensures.made_of.1 c.in_ok-job.ensures.made_of.2 c.in_ok-job.ensures.unplaced c.in_ok-job.ensures.roomless c.in_ok-job.ensures.free c.in_ok-job.ensures.unlent
+    (fresh_many (arc_value c.in_ok-graphs.graphs) firing c.in_ok-job.job c.in_ok-job.ensures.made_of.0 c.in_ok-job.ensures.made_of.2 c.in_ok-job.ensures.free) in
     let child : Row = record { job = c.in_ok-job.job; upper = Some k; place = c.in_ok-place.place; steps = c.in_ok-steps.steps } in
     let first = read_row v now e rows same k item c.index.result.now c.index.ensures row here c.row_in.result.now c.row_in.ensures in
     let second = read_row v now e rows same k item c.index-2.result.now c.index-2.ensures row here c.row_in-2.result.now c.row_in-2.ensures in
@@ -202,8 +202,8 @@ returns-clause-lent c =
     let called = call_of v now e rows same k item slot read row here firing (left_with c.call.new.self slot) (subst (λ (r : Result Firing AllocError). CallsIn item r slot (left_with c.call.new.self slot)) c.in_ok-firing.was (job_called slot c.job_in.result.now c.call.new.self item c.call.result c.job_in.ensures.value c.call.ensures.firing c.call.ensures.inherited c.call.ensures.opened c.call.ensures.refused)) in
     let own : arc_value c.in_ok-graphs.graphs ≡ arc_value s.graphs = c.in_ok-graphs.ensures in
     let graphs : row.job.graphs ≡ arc_value c.in_ok-graphs.graphs = c.requires.offered.2.0 ∙ (ap (λ (x : TableView). x.graphs) (sym e) ∙ sym own) in
-    let fresh = is_fresh v.graphs v.workers firing c.in_ok-job.job (compile_number (graph_of (arc_value c.in_ok-graphs.graphs).graphs firing) + 1) (c.in_ok-job.ensures.given.0 ∙ own) c.in_ok-job.ensures.given.1 c.in_ok-job.ensures.given.2 c.in_ok-job.ensures.unplaced c.in_ok-job.ensures.roomless c.in_ok-job.ensures.free c.in_ok-job.ensures.unlent
-    (fresh_many (arc_value c.in_ok-graphs.graphs) firing c.in_ok-job.job c.in_ok-job.ensures.given.0 c.in_ok-job.ensures.given.2 c.in_ok-job.ensures.free) in
+    let fresh = is_fresh v.graphs v.workers firing c.in_ok-job.job (compile_number (graph_of (arc_value c.in_ok-graphs.graphs).graphs firing) + 1) (c.in_ok-job.ensures.made_of.0 ∙ own) c.in_ok-job.ensures.made_of.1 c.in_ok-job.ensures.made_of.2 c.in_ok-job.ensures.unplaced c.in_ok-job.ensures.roomless c.in_ok-job.ensures.free c.in_ok-job.ensures.unlent
+    (fresh_many (arc_value c.in_ok-graphs.graphs) firing c.in_ok-job.job c.in_ok-job.ensures.made_of.0 c.in_ok-job.ensures.made_of.2 c.in_ok-job.ensures.free) in
     let child : Row = record { job = c.in_ok-job.job; upper = Some k; place = c.in_ok-place.place; steps = c.in_ok-steps.steps } in
     opens_lent v now e rows same k item slot read row here (left_with c.call.new.self slot) (with_job row (with_mark row.job item (Open firing))) called.new_is (opened_stays v now e rows same k item slot read row here (Open firing)) refl refl c.in_ok-key.key c.in_ok-key.ensures.vacant child c.put_row.new.slot c.put_row.ensures fresh.unlent
 
@@ -257,7 +257,7 @@ returns-clause-asked c =
     let called = call_of v now e rows same k item slot read row here firing (left_with c.call.new.self slot) (subst (λ (r : Result Firing AllocError). CallsIn item r slot (left_with c.call.new.self slot)) c.in_ok-firing.was (job_called slot c.job_in.result.now c.call.new.self item c.call.result c.job_in.ensures.value c.call.ensures.firing c.call.ensures.inherited c.call.ensures.opened c.call.ensures.refused)) in
     let own : arc_value c.in_ok-graphs.graphs ≡ arc_value s.graphs = c.in_ok-graphs.ensures in
     let graphs : row.job.graphs ≡ arc_value c.in_ok-graphs.graphs = c.requires.offered.2.0 ∙ (ap (λ (x : TableView). x.graphs) (sym e) ∙ sym own) in
-    let fresh = is_fresh v.graphs v.workers firing c.in_ok-job.job (compile_number (graph_of (arc_value c.in_ok-graphs.graphs).graphs firing) + 1) (c.in_ok-job.ensures.given.0 ∙ own) c.in_ok-job.ensures.given.1 c.in_ok-job.ensures.given.2 c.in_ok-job.ensures.unplaced c.in_ok-job.ensures.roomless c.in_ok-job.ensures.free c.in_ok-job.ensures.unlent
-    (fresh_many (arc_value c.in_ok-graphs.graphs) firing c.in_ok-job.job c.in_ok-job.ensures.given.0 c.in_ok-job.ensures.given.2 c.in_ok-job.ensures.free) in
+    let fresh = is_fresh v.graphs v.workers firing c.in_ok-job.job (compile_number (graph_of (arc_value c.in_ok-graphs.graphs).graphs firing) + 1) (c.in_ok-job.ensures.made_of.0 ∙ own) c.in_ok-job.ensures.made_of.1 c.in_ok-job.ensures.made_of.2 c.in_ok-job.ensures.unplaced c.in_ok-job.ensures.roomless c.in_ok-job.ensures.free c.in_ok-job.ensures.unlent
+    (fresh_many (arc_value c.in_ok-graphs.graphs) firing c.in_ok-job.job c.in_ok-job.ensures.made_of.0 c.in_ok-job.ensures.made_of.2 c.in_ok-job.ensures.free) in
     let child : Row = record { job = c.in_ok-job.job; upper = Some k; place = c.in_ok-place.place; steps = c.in_ok-steps.steps } in
     opens_asks v now e rows same k item slot read row here (left_with c.call.new.self slot) (with_job row (with_mark row.job item (Open firing))) called.new_is (opened_stays v now e rows same k item slot read row here (Open firing)) refl refl c.in_ok-key.key c.in_ok-key.ensures.vacant child c.put_row.new.slot c.put_row.ensures fresh.roomless

@@ -1,6 +1,6 @@
 use Rattle.std.proofs.Common.{sym, ap, ◌∙◌, subst}
 use Rattle.graph_firing.proofs.CompileSteps.{claim_keeps, claim_view, no_nodes_waiting, ready_so, task_view, waits}
-use Rattle.graph_firing.specs.Kept.{KeepsWith, view_with}
+use Rattle.graph_firing.specs.Invariants.{KeepsWith, view_with}
 use Rattle.graph_firing.specs.declared.stage.Stage.{Stage}
 use Rattle.graph_firing.proofs.There.{compilation_there}
 use Rattle.graph_firing.proofs.job.OpenJob.claim_compile.Goals as goal

@@ -1,6 +1,6 @@
 use Rattle.std.proofs.Common.{sym, subst}
 use Rattle.graph_firing.specs.Calls.{FinishesCompilation}
-use Rattle.graph_firing.specs.Kept.{KeepsWith, view_with}
+use Rattle.graph_firing.specs.Invariants.{KeepsWith, view_with}
 use Rattle.graph_firing.specs.declared.stage.Stage.{Stage}
 use Rattle.graph_firing.proofs.CompileSteps.{compiles, end_is, finish_keeps, finish_view, no_nodes_compiling, ready_compiling}
 use Rattle.graph_firing.proofs.job.OpenJob.finish_compile.Goals as goal

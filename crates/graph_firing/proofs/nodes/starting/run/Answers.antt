@@ -18,7 +18,7 @@ use Rattle.pisdf_model.specs.declared.graph.Graph.{Graph}
 use Rattle.pisdf_model.specs.declared.graph.Graphs.{Graphs}
 use Rattle.sdf_level.specs.declared.node.Node.{Node}
 use Rattle.sdf_level.specs.declared.single_rate.SingleRate.{SingleRate}
-use Rattle.graph_firing.specs.Nodes.Kept.{view_with}
+use Rattle.graph_firing.specs.Nodes.Invariants.{view_with}
 use Rattle.graph_firing.specs.Nodes.Parts.{AreParts, Fixed, KeepsAll, call_count, kind_of_actor, row_at, start_of, values_of}
 use Rattle.graph_firing.specs.Nodes.View.{nodes_of}
 use Rattle.graph_firing.specs.declared.nodes.stage.Stage.TheVariants.{Free}
@@ -63,7 +63,7 @@ invariant_of-result c =
     let f = made_with firing left (arc_value c.args.compiled) c.in_ok-job.field-0.job.block c.in_ok-job.field-0.job.room in
     let suits = suits_here gs c.args.preparing.now.graphs c.requires.graphs firing left c.requires.suits in
     let told_is : firing ≡ c.of-told.result.value = sym (c.of-told.ensures ∙ c.firing-firing.ensures) in
-    let same : f ≡ made_with c.of-told.result.value c.told_before.result.left (arc_value c.in_ok-shared.shared) c.told_block.result.block c.in_ok-job.field-0.job.room = λ k. made_with (told_is k) (sym c.told_before.ensures k) (sym c.in_ok-shared.ensures k) (sym c.told_block.ensures k) c.in_ok-job.field-0.job.room in
+    let same : f ≡ made_with c.of-told.result.value c.told_left.result (arc_value c.in_ok-shared.shared) c.in_ok-job.field-0.job.block c.in_ok-job.field-0.job.room = λ k. made_with (told_is k) (sym c.told_left.ensures k) (sym c.in_ok-shared.ensures k) c.in_ok-job.field-0.job.block c.in_ok-job.field-0.job.room in
     let nodes_are : c.items-4.result.now ≡ (arc_value c.args.compiled).graph.nodes = c.items-4.ensures ∙ ap (λ (x : SingleRate). x.nodes) (c.graph.ensures.value ∙ ap (λ (x : Compilation). x.graph) c.deref-3.ensures) in
     let stages_are : c.free-stages.result ≡ replicate (length (arc_value c.args.compiled).graph.nodes) Free = c.free-stages.ensures ∙ ap (λ (l : List Node). replicate (length l) Free) nodes_are in
     let kinds_are : c.in_ok-lists.lists.kinds ≡ map kind_of_actor (acting (graph_of gs.graphs firing)) = c.in_ok-lists.ensures.kinds ∙ (λ k. map kind_of_actor (acting (here k))) in
@@ -81,14 +81,14 @@ invariant_of-result c =
       room = subst (λ (x : Graph). length x.fifos + length x.actors ≤ vec_capacity c.in_ok-parts.parts.state) here c.in_ok-parts.ensures.room;
     } in
     let started : start_of c.in_ok-job.field-0.job ≡ record { compilation = arc_value c.args.compiled; kinds = c.in_ok-lists.lists.kinds; args = c.in_ok-lists.lists.args; sources = c.in_ok-lists.lists.sources; stored = c.in_ok-lists.lists.stored; block = c.in_ok-job.field-0.job.block } =
-    λ k. record { compilation = c.in_ok-job.ensures.compilation k; kinds = c.in_ok-job.ensures.given.0 k; args = c.in_ok-job.ensures.given.1 k; sources = c.in_ok-job.ensures.given.2 k; stored = c.in_ok-job.ensures.given.3 k; block = c.in_ok-job.field-0.job.block } in
-    let kinds_same : c.items-3.result.now ≡ c.in_ok-job.field-0.job.kinds = c.items-3.ensures ∙ sym c.in_ok-job.ensures.given.0 in
+    λ k. record { compilation = c.in_ok-job.ensures.compilation k; kinds = c.in_ok-job.ensures.made_of.0 k; args = c.in_ok-job.ensures.made_of.1 k; sources = c.in_ok-job.ensures.made_of.2 k; stored = c.in_ok-job.ensures.made_of.3 k; block = c.in_ok-job.field-0.job.block } in
+    let kinds_same : c.items-3.result.now ≡ c.in_ok-job.field-0.job.kinds = c.items-3.ensures ∙ sym c.in_ok-job.ensures.made_of.0 in
     let counts_are : c.counts.result.now ≡ (arc_value c.args.compiled).counts = c.counts.ensures.value ∙ ap (λ (x : Compilation). x.counts) c.deref-2.ensures in
     let rows_are : (a : ℕ) → row_at c.in_ok-traces.traces.items a ≡ replicate (call_count c.in_ok-job.field-0.job.kinds (arc_value c.args.compiled).counts a) [] =
     λ a. c.in_ok-traces.ensures.rows a ∙ ap₂ (λ kinds counts. let none : List (List TraceRow) = replicate (call_count kinds counts a) [] in none) kinds_same counts_are in
     subst (λ (x : Fixed). KeepsAll x c.free-stages.result c.in_ok-job.field-0.held.items c.in_ok-traces.traces.items c.in_ok-job.field-0.job) same
     (keeps_at_start f (arc_value c.args.compiled).workers c.args.values c.requires.valid c.requires.fit suits c.requires.compiled c.in_ok-lists.lists.sources c.in_ok-lists.lists.stored given c.in_ok-lists.lists.kinds c.in_ok-lists.lists.args kinds_are c.in_ok-lists.ensures.args
-    c.in_ok-job.field-0.job started c.in_ok-job.ensures.given.0 c.in_ok-job.ensures.free c.free-stages.result stages_are c.in_ok-job.field-0.held.items c.in_ok-job.ensures.nothing c.in_ok-job.ensures.few c.in_ok-job.ensures.room c.in_ok-traces.traces.items (c.in_ok-traces.ensures.many ∙ ap length counts_are) rows_are parts)
+    c.in_ok-job.field-0.job started c.in_ok-job.ensures.made_of.0 c.in_ok-job.ensures.free c.free-stages.result stages_are c.in_ok-job.field-0.held.items c.in_ok-job.ensures.nothing c.in_ok-job.ensures.few c.in_ok-job.ensures.room c.in_ok-traces.traces.items (c.in_ok-traces.ensures.many ∙ ap length counts_are) rows_are parts)
 
 pub returns-clause-free : goal.returns-clause-free
 returns-clause-free c =
@@ -99,7 +99,7 @@ returns-clause-free c =
     let f = made_with firing left (arc_value c.args.compiled) c.in_ok-job.field-0.job.block c.in_ok-job.field-0.job.room in
     let suits = suits_here gs c.args.preparing.now.graphs c.requires.graphs firing left c.requires.suits in
     let told_is : firing ≡ c.of-told.result.value = sym (c.of-told.ensures ∙ c.firing-firing.ensures) in
-    let same : f ≡ made_with c.of-told.result.value c.told_before.result.left (arc_value c.in_ok-shared.shared) c.told_block.result.block c.in_ok-job.field-0.job.room = λ k. made_with (told_is k) (sym c.told_before.ensures k) (sym c.in_ok-shared.ensures k) (sym c.told_block.ensures k) c.in_ok-job.field-0.job.room in
+    let same : f ≡ made_with c.of-told.result.value c.told_left.result (arc_value c.in_ok-shared.shared) c.in_ok-job.field-0.job.block c.in_ok-job.field-0.job.room = λ k. made_with (told_is k) (sym c.told_left.ensures k) (sym c.in_ok-shared.ensures k) c.in_ok-job.field-0.job.block c.in_ok-job.field-0.job.room in
     let nodes_are : c.items-4.result.now ≡ (arc_value c.args.compiled).graph.nodes = c.items-4.ensures ∙ ap (λ (x : SingleRate). x.nodes) (c.graph.ensures.value ∙ ap (λ (x : Compilation). x.graph) c.deref-3.ensures) in
     let stages_are : c.free-stages.result ≡ replicate (length (arc_value c.args.compiled).graph.nodes) Free = c.free-stages.ensures ∙ ap (λ (l : List Node). replicate (length l) Free) nodes_are in
     subst (λ (x : Fixed). (view_with x c.free-stages.result).marks ≡ replicate (length (nodes_of (view_with x c.free-stages.result))) mark.Free) same
@@ -114,7 +114,7 @@ returns-clause-nothing c =
     let f = made_with firing left (arc_value c.args.compiled) c.in_ok-job.field-0.job.block c.in_ok-job.field-0.job.room in
     let suits = suits_here gs c.args.preparing.now.graphs c.requires.graphs firing left c.requires.suits in
     let told_is : firing ≡ c.of-told.result.value = sym (c.of-told.ensures ∙ c.firing-firing.ensures) in
-    let same : f ≡ made_with c.of-told.result.value c.told_before.result.left (arc_value c.in_ok-shared.shared) c.told_block.result.block c.in_ok-job.field-0.job.room = λ k. made_with (told_is k) (sym c.told_before.ensures k) (sym c.in_ok-shared.ensures k) (sym c.told_block.ensures k) c.in_ok-job.field-0.job.room in
+    let same : f ≡ made_with c.of-told.result.value c.told_left.result (arc_value c.in_ok-shared.shared) c.in_ok-job.field-0.job.block c.in_ok-job.field-0.job.room = λ k. made_with (told_is k) (sym c.told_left.ensures k) (sym c.in_ok-shared.ensures k) c.in_ok-job.field-0.job.block c.in_ok-job.field-0.job.room in
     let nodes_are : c.items-4.result.now ≡ (arc_value c.args.compiled).graph.nodes = c.items-4.ensures ∙ ap (λ (x : SingleRate). x.nodes) (c.graph.ensures.value ∙ ap (λ (x : Compilation). x.graph) c.deref-3.ensures) in
     let stages_are : c.free-stages.result ≡ replicate (length (arc_value c.args.compiled).graph.nodes) Free = c.free-stages.ensures ∙ ap (λ (l : List Node). replicate (length l) Free) nodes_are in
     subst (λ (x : Fixed). (view_with x c.free-stages.result).lent ≡ replicate (length (nodes_of (view_with x c.free-stages.result))) None) same

@@ -13,7 +13,7 @@ use Rattle.pisdf_meaning.specs.Nested.{configuration_at}
 use Rattle.pisdf_meaning.specs.Sound.{IsConfiguration}
 use Rattle.pisdf_meaning.specs.declared.firing.Firing.{Firing}
 use Rattle.job_rules.specs.Items.{graph_of}
-use Rattle.job_preparing.specs.Kept.{IsConfiguring, view_of}
+use Rattle.job_preparing.specs.Invariants.{IsConfiguring, view_of}
 use Rattle.job_preparing.specs.Stages.{lent_of}
 use Rattle.job_preparing.specs.Standing.{IsCall}
 use Rattle.job_preparing.specs.View.{ConfiguringView, IsOfferedCall, graph_in, task, task_of}

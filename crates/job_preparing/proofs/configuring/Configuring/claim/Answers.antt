@@ -7,14 +7,14 @@ use Rattle.kernel_gate.specs.Value.{FrameView}
 use Rattle.nested_jobs.specs.Marks as mark
 use Rattle.nested_jobs.specs.Rules.{Work}
 use Rattle.job_preparing.specs.Handing.{IsFrameFor}
-use Rattle.job_preparing.specs.Kept.{view_of}
+use Rattle.job_preparing.specs.Invariants.{view_of}
 use Rattle.job_preparing.specs.Stages.{spare_in}
 use Rattle.job_preparing.specs.Standing.{Keeps}
 use Rattle.job_preparing.specs.View.{ConfiguringView, IsOfferedWork, task}
 use Rattle.job_preparing.specs.declared.configuring.Configuring.TheInside.{Inside}
 use Rattle.job_preparing.specs.declared.stage.Stage.{Stage}
 use Rattle.job_preparing.specs.declared.stage.Stage.TheVariants.{Busy}
-use Rattle.job_preparing.specs.Kept.{IsConfiguring}
+use Rattle.job_preparing.specs.Invariants.{IsConfiguring}
 use Rattle.job_preparing.proofs.Events.{both_after, claim_keeps, frame_for, has_frame, has_spare}
 use Rattle.job_preparing.proofs.Leaving.{some_of}
 use Rattle.job_preparing.proofs.Offered.{stage_there}

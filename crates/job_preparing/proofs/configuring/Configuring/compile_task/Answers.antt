@@ -1,9 +1,6 @@
 use Rattle.std.proofs.Common.{◌≡◌, List, [], Option, Some, slice_get, sym, ap, ◌∙◌, subst}
 use Rattle.std.specs.Arc.{arc_value}
 use Rattle.std.specs.Option.{option_map}
-use Rattle.std.specs.Prelude.{Vec}
-use Rattle.std.specs.Global.{Global}
-use Rattle.pisdf_meaning.specs.declared.outcome.TraceRow.{TraceRow}
 use Rattle.pisdf_model.specs.Valid.{AreValid}
 use Rattle.pisdf_model.specs.declared.graph.Graphs.{Graphs}
 use Rattle.param_resolver.specs.EarlyCheck.{early_faults}
@@ -13,7 +10,6 @@ use Rattle.pisdf_meaning.specs.declared.firing.Configured.{Configured}
 use Rattle.pisdf_meaning.specs.declared.firing.Firing.{Firing}
 use Rattle.job_preparing.specs.CompileTasks.{CompileView}
 use Rattle.job_preparing.specs.Handing.{with_traces}
-use Rattle.job_preparing.specs.Kept.{view_of}
 use Rattle.job_preparing.specs.Slim.{slim_firing, slim_left}
 use Rattle.job_preparing.specs.Tasked.{IsTask, task_view}
 use Rattle.job_preparing.specs.declared.compile_task.Parts.{Parts}
@@ -23,11 +19,11 @@ use Rattle.job_preparing.proofs.Readied.{left_is}
 use Rattle.job_preparing.proofs.Slimmed.{slim_traced}
 use Rattle.job_preparing.proofs.configuring.Configuring.compile_task.Goals as goal
 
--- what the task was told, as it stands in the fields
-told_left : (c : goal.In_ok-new) → with_traces c.of-2.result.value.items c.of-3.result.value.items ≡ left_by (view_of c.self.inside)
-told_left c =
+-- what the task is told of stands in the fields
+told_is : (c : goal.In_ok-new) → c.told_left.result ≡ with_traces c.self.inside.left.items c.self.inside.traces.items
+told_is c =
     let ready = subst IsReady (sym c.self.view_is) c.requires.ready in
-    ap (λ (v : Vec Configured Global). with_traces v.items c.of-3.result.value.items) c.of-2.ensures ∙ ap (λ (v : Vec (List TraceRow) Global). with_traces c.self.inside.left.items v.items) c.of-3.ensures ∙ sym (left_is (arc_value c.self.inside.graphs) c.self.inside.firing (arc_value c.self.inside.early) c.self.inside.places.items c.self.inside.stages.items c.self.inside.frames.items c.self.inside.left.items c.self.inside.traces.items c.self.invariant ready)
+    c.told_left.ensures ∙ ap left_by (sym c.self.view_is) ∙ left_is (arc_value c.self.inside.graphs) c.self.inside.firing (arc_value c.self.inside.early) c.self.inside.places.items c.self.inside.stages.items c.self.inside.frames.items c.self.inside.left.items c.self.inside.traces.items c.self.invariant ready
 
 -- what is put into the box
 abbrev parts : goal.In_ok-new → Parts
@@ -39,8 +35,7 @@ parts c = record {
   left = c.in_ok-slim_left.field-0;
   kept = c.args.kept;
   whole = c.of.result;
-  left_by = c.of-2.result;
-  traces = c.of-3.result;
+  told = c.told_left.result;
 }
 
 is_task : (c : goal.In_ok-new) → IsTask (parts c)
@@ -58,8 +53,7 @@ is_task c =
       some_worker = c.requires.workers;
       firing_is = c.in_ok-slim_firing.ensures ∙ ap slim_firing (sym firing_is);
       left_is =
-          c.in_ok-slim_left.ensures ∙ ap slim_left c.deref.ensures.value ∙ ap (λ (v : Vec Configured Global). slim_left v.items) (sym c.of-2.ensures)
-          ∙ sym (slim_traced c.of-2.result.value.items c.of-3.result.value.items);
+          c.in_ok-slim_left.ensures ∙ ap slim_left c.deref.ensures.value ∙ (sym (slim_traced c.self.inside.left.items c.self.inside.traces.items) ∙ ap slim_left (sym (told_is c)));
     }
 
 pub invariant_of-result : goal.invariant_of-result
@@ -69,7 +63,7 @@ pub returns : goal.returns
 returns c =
     let V : Graphs → Firing → List Configured → CompileView = λ x f l. record { graphs = x; workers = c.args.workers; firing = f; left = l; kept = option_map arc_value c.args.kept } in
     ap task_view c.in_ok-new.ensures.ok
-    ∙ ap (λ x. V x c.of.result.value (with_traces c.of-2.result.value.items c.of-3.result.value.items)) c.in_ok-try_clone.ensures
-    ∙ ap (λ f. V (arc_value c.self.inside.graphs) f (with_traces c.of-2.result.value.items c.of-3.result.value.items)) c.of.ensures
-    ∙ ap (V (arc_value c.self.inside.graphs) c.self.inside.firing) (told_left c)
-    ∙ ap (λ (v : ConfiguringView). V v.graphs v.firing (left_by v)) c.self.view_is
+    ∙ ap (λ x. V x c.of.result.value c.told_left.result) c.in_ok-try_clone.ensures
+    ∙ ap (λ f. V (arc_value c.self.inside.graphs) f c.told_left.result) c.of.ensures
+    ∙ ap (V (arc_value c.self.inside.graphs) c.self.inside.firing) c.told_left.ensures
+    ∙ ap (λ (v : ConfiguringView). V v.graphs v.firing (left_by c.args.self.now)) c.self.view_is

@@ -4,7 +4,7 @@ use Rattle.kernel_gate.specs.declared.fault.KernelFault.{KernelFault}
 use Rattle.nested_jobs.specs.Marks as mark
 use Rattle.pisdf_meaning.specs.declared.refusal.Cause.TheVariants as cause
 use Rattle.job_preparing.specs.Handing.{answer_with, lent_at, mark_at}
-use Rattle.job_preparing.specs.Kept.{IsConfiguring, view_of}
+use Rattle.job_preparing.specs.Invariants.{IsConfiguring, view_of}
 use Rattle.job_preparing.specs.Stages.{mark_of, spare_in}
 use Rattle.job_preparing.specs.View.{ConfiguringView, task}
 use Rattle.job_preparing.specs.declared.configuring.Configuring.TheInside.{Inside}

@@ -6,7 +6,7 @@ use Rattle.pisdf_meaning.specs.declared.firing.Firing.{Firing}
 use Rattle.pisdf_meaning.specs.declared.refusal.Refusal.{Refusal}
 use Rattle.job_rules.specs.Words as words
 use Rattle.job_preparing.specs.Handing.{EndSuits, SuitsCall, end_of, given_of, mark_at}
-use Rattle.job_preparing.specs.Kept.{IsConfiguring, view_of}
+use Rattle.job_preparing.specs.Invariants.{IsConfiguring, view_of}
 use Rattle.job_preparing.specs.Stages.{lent_of, line_in, mark_of}
 use Rattle.job_preparing.specs.Standing.{Keeps}
 use Rattle.job_preparing.specs.View.{ConfiguringView}

@@ -5,7 +5,7 @@ use Rattle.pisdf_model.specs.declared.graph.Graphs.{Graphs}
 use Rattle.pisdf_meaning.specs.Preparing.{chosen_values}
 use Rattle.job_compiler.specs.declared.key.Key.{Key}
 use Rattle.job_rules.specs.Items.{graph_of}
-use Rattle.job_preparing.specs.Kept.{view_of}
+use Rattle.job_preparing.specs.Invariants.{view_of}
 use Rattle.job_preparing.specs.View.{ConfiguringView, IsReady, graph_in, key_of, left_by}
 use Rattle.job_preparing.proofs.Asked.{graph_at}
 use Rattle.job_preparing.proofs.Readied.{slim}

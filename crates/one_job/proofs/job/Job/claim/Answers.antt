@@ -17,7 +17,7 @@ use Rattle.one_job.specs.declared.stage.Stage.TheVariants as stage
 use Rattle.one_job.specs.Staged.{mark_of}
 use Rattle.one_job.specs.View.{JobView, IsEnabled, graph_of}
 use Rattle.one_job.specs.Calls.{LieAtBuffers}
-use Rattle.one_job.specs.Kept.{Parts, view_of, parts_of, Keeps}
+use Rattle.one_job.specs.Invariants.{Parts, view_of, parts_of, Keeps}
 use Rattle.ready_heap.specs.Heaps.{Holds}
 use Rattle.one_job.specs.Pick.{is_child}
 use Rattle.one_job.specs.Ready.{side, put, is_child_at, KeepsReady}

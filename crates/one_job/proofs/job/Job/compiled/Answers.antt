@@ -1,6 +1,6 @@
 use Rattle.std.proofs.Common.{subst}
 use Rattle.one_job.specs.LiveLaws.{KeepsBuffers}
-use Rattle.one_job.specs.Kept.{view_of, parts_of}
+use Rattle.one_job.specs.Invariants.{view_of, parts_of}
 use Rattle.one_job.proofs.BuffersKept.{keeps_buffers}
 use Rattle.one_job.proofs.job.Job.compiled.Goals as goal
 

@@ -14,7 +14,7 @@ use Rattle.one_job.specs.Taking.{with_leases}
 use Rattle.one_job.specs.View.{JobView, IsFiring}
 use Rattle.one_job.specs.Calls.{finished_with}
 use Rattle.one_job.specs.Staged.{mark_of}
-use Rattle.one_job.specs.Kept.{view_of, parts_of, Keeps}
+use Rattle.one_job.specs.Invariants.{view_of, parts_of, Keeps}
 use Rattle.one_job.proofs.JobDone.{can_give_both, back_is, ports_part, finish_keeps, mark_stage, length-with_out, length-with_left, lent_back}
 use Rattle.one_job.proofs.JobEnds.{once_of}
 use Rattle.one_job.proofs.FinishReady.{some_claimed, nodes_long, release_asks, release_keeps}

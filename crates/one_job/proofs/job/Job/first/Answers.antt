@@ -3,7 +3,7 @@ use Rattle.ready_heap.specs.Heaps.{Holds}
 use Rattle.one_job.specs.Pick.{IsFirst, IsOffered}
 use Rattle.one_job.specs.Ready.{side, AreRanked}
 use Rattle.one_job.specs.View.{JobView}
-use Rattle.one_job.specs.Kept.{view_of}
+use Rattle.one_job.specs.Invariants.{view_of}
 use Rattle.one_job.proofs.Firsts.{first_same}
 use Rattle.one_job.proofs.Picked.{ranked, in_offered, offered_in}
 use Rattle.one_job.proofs.job.Job.first.Goals as goal

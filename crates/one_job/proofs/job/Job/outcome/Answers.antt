@@ -3,7 +3,7 @@ use Rattle.std.specs.Prelude.{◌≢◌}
 use Rattle.job_flow.specs.Events.{IsQuiet}
 use Rattle.one_job.specs.Marks.{IsClaimed, phase, values}
 use Rattle.one_job.specs.View.{JobView, graph_of}
-use Rattle.one_job.specs.Kept.{view_of, parts_of}
+use Rattle.one_job.specs.Invariants.{view_of, parts_of}
 use Rattle.one_job.proofs.JobEnds.{quiet_none}
 use Rattle.one_job.proofs.job.Job.outcome.Goals as goal
 

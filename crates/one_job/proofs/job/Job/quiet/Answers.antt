@@ -2,7 +2,7 @@ use Rattle.std.proofs.Common.{◌≡◌, sym, ap, subst}
 use Rattle.job_flow.specs.Events.{IsQuiet}
 use Rattle.one_job.specs.Marks.{values}
 use Rattle.one_job.specs.View.{JobView, graph_of}
-use Rattle.one_job.specs.Kept.{view_of, parts_of}
+use Rattle.one_job.specs.Invariants.{view_of, parts_of}
 use Rattle.one_job.proofs.JobEnds.{ready_of}
 use Rattle.one_job.proofs.ReadySteps.{quiet_of, of_quiet}
 use Rattle.one_job.proofs.job.Job.quiet.Goals as goal

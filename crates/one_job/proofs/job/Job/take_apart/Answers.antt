@@ -3,7 +3,7 @@ use Rattle.std.specs.Prelude.{◌≢◌}
 use Rattle.one_job.specs.Marks.{IsClaimed, phase}
 use Rattle.one_job.specs.Places.{buffer_at}
 use Rattle.one_job.specs.View.{JobView}
-use Rattle.one_job.specs.Kept.{view_of}
+use Rattle.one_job.specs.Invariants.{view_of}
 use Rattle.one_job.proofs.JobEnds.{none_out}
 use Rattle.one_job.proofs.job.Job.take_apart.Goals as goal
 

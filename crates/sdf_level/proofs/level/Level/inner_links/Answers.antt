@@ -1,7 +1,7 @@
 use Rattle.std.proofs.Common.{◌≡◌, ◌<◌, ◌≤◌, [], ◌∷◌, length, take, ap, ◌∙◌, subst, arith}
 use Rattle.std.proofs.lemmas.List.{take_all}
 use Rattle.sdf_level.specs.View.{LevelView}
-use Rattle.sdf_level.specs.Kept.{IsLevel}
+use Rattle.sdf_level.specs.Invariants.{IsLevel}
 use Rattle.sdf_level.proofs.InnerList.{inner_links-more, inner_links-none, between_level, few_inner}
 use Rattle.sdf_level.proofs.level.Level.inner_links.Goals.{in-Some+in_ok-push, in_default}
 use Rattle.sdf_level.proofs.level.Level.inner_links.Goals as goal

@@ -4,7 +4,7 @@ use Rattle.nested_jobs.specs.Marks.{Busy, Open}
 use Rattle.nested_jobs.specs.Rules.{Call}
 use Rattle.pisdf_model.specs.declared.graph.Graphs.{Graphs}
 use Rattle.one_job.specs.View as leased
-use Rattle.graph_firing.specs.Nodes.Kept.{fixed_of, view_with}
+use Rattle.graph_firing.specs.Nodes.Invariants.{fixed_of, view_with}
 use Rattle.graph_firing.specs.Nodes.Parts.{KeepsAll, held_at}
 use Rattle.graph_firing.specs.Nodes.View.{IsOfferedCall, RunningView}
 use Rattle.graph_firing.proofs.OfNodes.CalledNodes.{args_inside, called_ok, caller_so, calls, calls_graph, child_known, few_read, inside_held, inherits_of, inside_of, keeps_inside, keeps_waiting, numbers, places_are, set_inside, task_of, view_err, view_ok}
@@ -104,9 +104,9 @@ invariant_of-self c =
     let made = called_ok (fixed_of i) i.stages i.held.items i.ending.traces.items i.job c.self.invariant c.args.node c.faults_renamed.ensures.ready c.faults_renamed.ensures.inputs c.ready_stays.ensures.ready offered c.called-result.result c.caller_of-caller.result.graphs.now c.caller_of-caller.result.set.now c.caller_of-caller.result.actor.now c.caller_of-caller.result.number c.caller_of-caller.result.turn c.caller_of-caller.result.keeps c.claim-frame.result.inputs caller c.claim-frame.ensures.inputs
     (c.called-result.ensures i.firing.value (calls (fixed_of i) i.stages i.held.items i.ending.traces.items i.job c.self.invariant c.args.node c.faults_renamed.ensures.ready c.faults_renamed.ensures.inputs c.ready_stays.ensures.ready offered).place (calls (fixed_of i) i.stages i.held.items i.ending.traces.items i.job c.self.invariant c.args.node c.faults_renamed.ensures.ready c.faults_renamed.ensures.inputs c.ready_stays.ensures.ready offered).exprs (sym c.self.invariant.parts.path_is) body) in
     let held_are = with_items_is i.held c.put_frame.new.all (c.put_frame.auto.all ∙ (ap length c.deref_mut.ensures.value ∙ sym i.held.ok.0)) ∙ c.put_frame.ensures ∙ ap (λ (l : List Held). set l c.args.node (Waits c.claim-frame.result)) c.deref_mut.ensures.value in
-    subst (λ (s : List Stage). KeepsAll (record (fixed_of i) { room = c.claim-frame.new.self.room }) s (take i.held.len (c.put_frame.new.all ++ drop (length c.put_frame.new.all) i.held.items)) i.ending.traces.items c.claim-frame.new.self) (sym c.put.ensures)
-    (subst (λ (l : List Held). KeepsAll (record (fixed_of i) { room = c.claim-frame.new.self.room }) (set i.stages c.args.node c.waiting.result) l i.ending.traces.items c.claim-frame.new.self) (sym held_are)
-    (subst (λ (j : leased.JobView). KeepsAll (record (fixed_of i) { room = j.room }) (set i.stages c.args.node c.waiting.result) (set i.held.items c.args.node (Waits c.claim-frame.result)) i.ending.traces.items j) (sym c.claim-frame.ensures.claimed)
+    subst (λ (s : List Stage). KeepsAll (record (fixed_of i) { block = c.claim-frame.new.self.block; room = c.claim-frame.new.self.room }) s (take i.held.len (c.put_frame.new.all ++ drop (length c.put_frame.new.all) i.held.items)) i.ending.traces.items c.claim-frame.new.self) (sym c.put.ensures)
+    (subst (λ (l : List Held). KeepsAll (record (fixed_of i) { block = c.claim-frame.new.self.block; room = c.claim-frame.new.self.room }) (set i.stages c.args.node c.waiting.result) l i.ending.traces.items c.claim-frame.new.self) (sym held_are)
+    (subst (λ (j : leased.JobView). KeepsAll (record (fixed_of i) { block = j.block; room = j.room }) (set i.stages c.args.node c.waiting.result) (set i.held.items c.args.node (Waits c.claim-frame.result)) i.ending.traces.items j) (sym c.claim-frame.ensures.claimed)
     (keeps_waiting (fixed_of i) i.stages i.held.items i.ending.traces.items i.job c.self.invariant c.args.node c.faults_renamed.ensures.ready c.faults_renamed.ensures.inputs c.ready_stays.ensures.ready offered c.called-result.result c.claim-frame.result c.waiting.result c.waiting.ensures made c.claim-frame.ensures.outputs)))
 
 pub returns-clause-called : goal.returns-clause-called
@@ -135,7 +135,7 @@ pub returns-clause-ok : goal.returns-clause-ok
 returns-clause-ok c =
     let i = c.self.inside in
     let offered = subst (λ (v : RunningView). IsOfferedCall v c.args.node) (sym c.self.view_is) c.requires in
-    subst (λ (j : leased.JobView). IfOk c.called-result.result (λ d. view_with (record (fixed_of i) { room = j.room }) c.put.new.self ≡ record c.args.self.now { marks = set c.args.self.now.marks c.args.node (Open d) })) (sym c.claim-frame.ensures.claimed)
+    subst (λ (j : leased.JobView). IfOk c.called-result.result (λ d. view_with (record (fixed_of i) { block = j.block; room = j.room }) c.put.new.self ≡ record c.args.self.now { marks = set c.args.self.now.marks c.args.node (Open d) })) (sym c.claim-frame.ensures.claimed)
     (subst (λ (s : List Stage). IfOk c.called-result.result (λ d. view_with (fixed_of i) s ≡ record c.args.self.now { marks = set c.args.self.now.marks c.args.node (Open d) })) (sym c.put.ensures)
     (view_ok (fixed_of i) i.stages i.held.items i.ending.traces.items i.job c.self.invariant c.args.node c.faults_renamed.ensures.ready c.faults_renamed.ensures.inputs c.ready_stays.ensures.ready offered c.called-result.result c.args.self.now c.self.view_is c.claim-frame.result c.waiting.result c.waiting.ensures))
 
@@ -143,9 +143,9 @@ pub returns-clause-err : goal.returns-clause-err
 returns-clause-err c =
     let i = c.self.inside in
     let offered = subst (λ (v : RunningView). IsOfferedCall v c.args.node) (sym c.self.view_is) c.requires in
-    let new = view_with (record (fixed_of i) { room = c.claim-frame.new.self.room }) c.put.new.self in
+    let new = view_with (record (fixed_of i) { block = c.claim-frame.new.self.block; room = c.claim-frame.new.self.room }) c.put.new.self in
     on_err_right c.called-result.result (new ≡ c.args.self.now) (new ≡ record c.args.self.now { marks = set c.args.self.now.marks c.args.node Busy })
-    (subst (λ (j : leased.JobView). OnErr c.called-result.result (view_with (record (fixed_of i) { room = j.room }) c.put.new.self ≡ record c.args.self.now { marks = set c.args.self.now.marks c.args.node Busy })) (sym c.claim-frame.ensures.claimed)
+    (subst (λ (j : leased.JobView). OnErr c.called-result.result (view_with (record (fixed_of i) { block = j.block; room = j.room }) c.put.new.self ≡ record c.args.self.now { marks = set c.args.self.now.marks c.args.node Busy })) (sym c.claim-frame.ensures.claimed)
     (subst (λ (s : List Stage). OnErr c.called-result.result (view_with (fixed_of i) s ≡ record c.args.self.now { marks = set c.args.self.now.marks c.args.node Busy })) (sym c.put.ensures)
     (view_err (fixed_of i) i.stages i.held.items i.ending.traces.items i.job c.self.invariant c.args.node c.faults_renamed.ensures.ready c.faults_renamed.ensures.inputs c.ready_stays.ensures.ready offered c.called-result.result c.args.self.now c.self.view_is c.claim-frame.result c.waiting.result c.waiting.ensures)))
 

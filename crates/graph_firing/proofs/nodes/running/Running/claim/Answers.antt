@@ -8,7 +8,7 @@ use Rattle.sdf_level.specs.declared.node.Node.{Node}
 use Rattle.job_flow.specs.Graphs.{node_at}
 use Rattle.one_job.specs.View as leased
 use Rattle.graph_firing.specs.Nodes.Calls.{IsHanded, frame_of, handed_out}
-use Rattle.graph_firing.specs.Nodes.Kept.{fixed_of, view_of, view_with}
+use Rattle.graph_firing.specs.Nodes.Invariants.{fixed_of, view_of, view_with}
 use Rattle.graph_firing.specs.Nodes.Parts.{KeepsAll}
 use Rattle.graph_firing.specs.Nodes.View.{IsOfferedWork, RunningView, task}
 use Rattle.graph_firing.specs.declared.nodes.stage.Stage.TheVariants as stage
@@ -28,8 +28,8 @@ pub invariant_of-self : goal.invariant_of-self
 invariant_of-self c =
     let i = c.self.inside in
     let offered = subst (λ (v : RunningView). IsOfferedWork v c.args.node) (sym c.self.view_is) c.requires.offered in
-    subst (λ (s : List Stage). KeepsAll (record (fixed_of i) { room = c.claim-frame.new.self.room }) s i.held.items i.ending.traces.items c.claim-frame.new.self) (sym c.put.ensures)
-    (subst (λ (j : leased.JobView). KeepsAll (record (fixed_of i) { room = j.room }) (set i.stages c.args.node (stage.Busy c.told_of.result)) i.held.items i.ending.traces.items j) (sym c.claim-frame.ensures.claimed)
+    subst (λ (s : List Stage). KeepsAll (record (fixed_of i) { block = c.claim-frame.new.self.block; room = c.claim-frame.new.self.room }) s i.held.items i.ending.traces.items c.claim-frame.new.self) (sym c.put.ensures)
+    (subst (λ (j : leased.JobView). KeepsAll (record (fixed_of i) { block = j.block; room = j.room }) (set i.stages c.args.node (stage.Busy c.told_of.result)) i.held.items i.ending.traces.items j) (sym c.claim-frame.ensures.claimed)
     (keeps_claimed (fixed_of i) i.stages i.held.items i.ending.traces.items i.job c.self.invariant c.args.node c.faults_renamed.ensures.ready c.faults_renamed.ensures.inputs c.ready_stays.ensures.ready offered c.claim-frame.result c.claim-frame.ensures.kind c.claim-frame.ensures.inputs c.claim-frame.ensures.outputs c.told_of.result c.told_of.ensures c.outputs_fill_leases.ensures))
 
 pub returns-clause-handed : goal.returns-clause-handed
@@ -47,7 +47,7 @@ returns-clause-claimed c =
     let offered = subst (λ (v : RunningView). IsOfferedWork v c.args.node) (sym c.self.view_is) c.requires.offered in
     let frame_is : frame_of c.hand_out.result ≡ c.claim-frame.result =
     ap frame_of c.hand_out.ensures ∙ frame_out c.node-which.result c.claim-frame.result in
-    ap (λ (j : leased.JobView). view_with (record (fixed_of i) { room = j.room }) c.put.new.self) c.claim-frame.ensures.claimed
+    ap (λ (j : leased.JobView). view_with (record (fixed_of i) { block = j.block; room = j.room }) c.put.new.self) c.claim-frame.ensures.claimed
     ∙ ap (view_with (fixed_of i)) c.put.ensures
     ∙ view_claimed (fixed_of i) i.stages i.held.items i.ending.traces.items i.job c.self.invariant c.args.node c.faults_renamed.ensures.ready c.faults_renamed.ensures.inputs c.ready_stays.ensures.ready offered c.claim-frame.result c.claim-frame.ensures.kind c.claim-frame.ensures.inputs c.claim-frame.ensures.outputs c.told_of.result c.told_of.ensures
     ∙ ap (λ (x : FrameView). record (view_of i) { marks = set (view_of i).marks c.args.node Busy; lent = set (view_of i).lent c.args.node (Some x.places) }) (sym frame_is)

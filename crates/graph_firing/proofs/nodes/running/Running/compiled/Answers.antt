@@ -1,5 +1,5 @@
 use Rattle.std.proofs.Common.{ap, ◌∙◌, subst}
-use Rattle.graph_firing.specs.Nodes.Kept.{fixed_of}
+use Rattle.graph_firing.specs.Nodes.Invariants.{fixed_of}
 use Rattle.graph_firing.specs.Nodes.Leases.{LendsNodes}
 use Rattle.graph_firing.specs.Nodes.View.{RunningView}
 use Rattle.graph_firing.proofs.OfNodes.LentNodes.{lends_nodes}

@@ -1,6 +1,6 @@
 use Rattle.std.proofs.Common.{sym, subst}
 use Rattle.job_preparing.specs.Handing.{IsNothingLent}
-use Rattle.graph_firing.specs.Nodes.Kept.{fixed_of}
+use Rattle.graph_firing.specs.Nodes.Invariants.{fixed_of}
 use Rattle.graph_firing.specs.Nodes.View.{RunningView}
 use Rattle.graph_firing.proofs.OfNodes.EndedFiring.{hold_claimed}
 use Rattle.graph_firing.proofs.nodes.running.Running.end.Goals as goal

@@ -17,7 +17,7 @@ use Rattle.one_job.specs.View.{IsFiring}
 use Rattle.job_preparing.specs.Handing.{EndSuits, end_of}
 use Rattle.job_preparing.specs.declared.handing.JobGiven.{JobGiven}
 use Rattle.graph_firing.specs.Nodes.Calls.{IsEndOfCall}
-use Rattle.graph_firing.specs.Nodes.Kept.{fixed_of, view_of, view_with}
+use Rattle.graph_firing.specs.Nodes.Invariants.{fixed_of, view_of, view_with}
 use Rattle.graph_firing.specs.Nodes.Parts.{KeepsAll, held_at, row_at}
 use Rattle.graph_firing.specs.Nodes.Sizes.{child_outs}
 use Rattle.graph_firing.specs.Nodes.View.{RunningView}
@@ -128,10 +128,10 @@ invariant_of-self c =
     let written = ap (λ (x : FrameView). x.outputs) c.write_child.ensures ∙ (λ k. child_outs (kept k) (outs_are k) (states_are k)) in
     let rows_are = with_items_is i.ending.traces c.put_trace.new.rows (c.put_trace.auto.rows ∙ (ap length c.deref_mut-in-Ok.ensures.value ∙ sym i.ending.traces.ok.0)) in
     let put = c.put_trace.ensures ∙ ap (λ (l : List (Vec (List TraceRow) Global)). set (lists_of l) c.firing_of-actor.result.0 (set (row_at l c.firing_of-actor.result.0) c.firing_of-actor.result.1 c.in-Ok.given.trace)) c.deref_mut-in-Ok.ensures.value in
-    subst (λ (s : List Stage). KeepsAll (record (fixed_of i) { room = c.finish.new.self.room }) s (take i.held.len (c.take_frame-frame.new.all ++ drop (length c.take_frame-frame.new.all) i.held.items)) (take i.ending.traces.len (c.put_trace.new.rows ++ drop (length c.put_trace.new.rows) i.ending.traces.items)) c.finish.new.self) (sym c.put.ensures)
-    (subst (λ (l : List Held). KeepsAll (record (fixed_of i) { room = c.finish.new.self.room }) (set i.stages c.args.node (stage.Gave c.of.result)) l (take i.ending.traces.len (c.put_trace.new.rows ++ drop (length c.put_trace.new.rows) i.ending.traces.items)) c.finish.new.self) (sym held_are)
-    (subst (λ (l : List (Vec (List TraceRow) Global)). KeepsAll (record (fixed_of i) { room = c.finish.new.self.room }) (set i.stages c.args.node (stage.Gave c.of.result)) (set i.held.items c.args.node Nothing) l c.finish.new.self) (sym rows_are)
-    (subst (λ (j : leased.JobView). KeepsAll (record (fixed_of i) { room = j.room }) (set i.stages c.args.node (stage.Gave c.of.result)) (set i.held.items c.args.node Nothing) c.put_trace.new.rows j) (sym c.finish.ensures.finished)
+    subst (λ (s : List Stage). KeepsAll (record (fixed_of i) { block = c.finish.new.self.block; room = c.finish.new.self.room }) s (take i.held.len (c.take_frame-frame.new.all ++ drop (length c.take_frame-frame.new.all) i.held.items)) (take i.ending.traces.len (c.put_trace.new.rows ++ drop (length c.put_trace.new.rows) i.ending.traces.items)) c.finish.new.self) (sym c.put.ensures)
+    (subst (λ (l : List Held). KeepsAll (record (fixed_of i) { block = c.finish.new.self.block; room = c.finish.new.self.room }) (set i.stages c.args.node (stage.Gave c.of.result)) l (take i.ending.traces.len (c.put_trace.new.rows ++ drop (length c.put_trace.new.rows) i.ending.traces.items)) c.finish.new.self) (sym held_are)
+    (subst (λ (l : List (Vec (List TraceRow) Global)). KeepsAll (record (fixed_of i) { block = c.finish.new.self.block; room = c.finish.new.self.room }) (set i.stages c.args.node (stage.Gave c.of.result)) (set i.held.items c.args.node Nothing) l c.finish.new.self) (sym rows_are)
+    (subst (λ (j : leased.JobView). KeepsAll (record (fixed_of i) { block = j.block; room = j.room }) (set i.stages c.args.node (stage.Gave c.of.result)) (set i.held.items c.args.node Nothing) c.put_trace.new.rows j) (sym c.finish.ensures.finished)
     (keeps_gave (fixed_of i) i.stages i.held.items i.ending.traces.items i.job c.self.invariant c.args.node r.job r.open_is c.graphs_numbered.ensures.all c.graphs_numbered.ensures.in_order c.graphs_numbered.ensures.once c.ready_stays.ensures.ready c.firing_of-actor.result.0 c.firing_of-actor.result.1 c.of.result c.in-Ok.given c.write_child.new.frame c.put_trace.new.rows at c.of.ensures suits written put))))
 
 pub finish-requires-in-Err-clause-claimed : goal.finish-requires-in-Err-clause-claimed
@@ -153,16 +153,16 @@ invariant_of-self-in-Err c =
     let i = c.self.inside in
     let r = subst (λ (v : RunningView). IsEndOfCall v c.args.node c.args.end) (sym c.self.view_is) c.requires in
     let held_are = with_items_is i.held c.take_frame-frame-in-Err.new.all (c.take_frame-frame-in-Err.auto.all ∙ (ap length c.deref_mut-in-Err.ensures.value ∙ sym i.held.ok.0)) ∙ c.take_frame-frame-in-Err.ensures.rest ∙ ap (λ (l : List Held). set l c.args.node (Refuses c.in-Err.refusal)) c.deref_mut-in-Err.ensures.value in
-    subst (λ (s : List Stage). KeepsAll (record (fixed_of i) { room = c.finish-in-Err.new.self.room }) s (take i.held.len (c.take_frame-frame-in-Err.new.all ++ drop (length c.take_frame-frame-in-Err.new.all) i.held.items)) i.ending.traces.items c.finish-in-Err.new.self) (sym c.put-in-Err.ensures)
-    (subst (λ (l : List Held). KeepsAll (record (fixed_of i) { room = c.finish-in-Err.new.self.room }) (set i.stages c.args.node (stage.Refused c.of-in-Err.result)) l i.ending.traces.items c.finish-in-Err.new.self) (sym held_are)
-    (subst (λ (j : leased.JobView). KeepsAll (record (fixed_of i) { room = j.room }) (set i.stages c.args.node (stage.Refused c.of-in-Err.result)) (set i.held.items c.args.node (Refuses c.in-Err.refusal)) i.ending.traces.items j) (sym c.finish-in-Err.ensures.finished)
+    subst (λ (s : List Stage). KeepsAll (record (fixed_of i) { block = c.finish-in-Err.new.self.block; room = c.finish-in-Err.new.self.room }) s (take i.held.len (c.take_frame-frame-in-Err.new.all ++ drop (length c.take_frame-frame-in-Err.new.all) i.held.items)) i.ending.traces.items c.finish-in-Err.new.self) (sym c.put-in-Err.ensures)
+    (subst (λ (l : List Held). KeepsAll (record (fixed_of i) { block = c.finish-in-Err.new.self.block; room = c.finish-in-Err.new.self.room }) (set i.stages c.args.node (stage.Refused c.of-in-Err.result)) l i.ending.traces.items c.finish-in-Err.new.self) (sym held_are)
+    (subst (λ (j : leased.JobView). KeepsAll (record (fixed_of i) { block = j.block; room = j.room }) (set i.stages c.args.node (stage.Refused c.of-in-Err.result)) (set i.held.items c.args.node (Refuses c.in-Err.refusal)) i.ending.traces.items j) (sym c.finish-in-Err.ensures.finished)
     (keeps_refused (fixed_of i) i.stages i.held.items i.ending.traces.items i.job c.self.invariant c.args.node r.job r.open_is c.graphs_numbered.ensures.all c.graphs_numbered.ensures.in_order c.graphs_numbered.ensures.once c.ready_stays.ensures.ready c.of-in-Err.result c.in-Err.refusal c.of-in-Err.ensures)))
 
 pub returns-in-Ok : goal.returns-in-Ok
 returns-in-Ok c =
     let i = c.self.inside in
     let r = subst (λ (v : RunningView). IsEndOfCall v c.args.node c.args.end) (sym c.self.view_is) c.requires in
-    ap (λ (j : leased.JobView). view_with (record (fixed_of i) { room = j.room }) c.put.new.self) c.finish.ensures.finished
+    ap (λ (j : leased.JobView). view_with (record (fixed_of i) { block = j.block; room = j.room }) c.put.new.self) c.finish.ensures.finished
     ∙ ap (view_with (fixed_of i)) c.put.ensures
     ∙ view_gave (fixed_of i) i.stages i.held.items i.ending.traces.items i.job c.self.invariant c.args.node r.job r.open_is c.graphs_numbered.ensures.all c.graphs_numbered.ensures.in_order c.graphs_numbered.ensures.once c.ready_stays.ensures.ready c.of.result c.in-Ok.given c.of.ensures
     ∙ ap (λ (e : Result JobGiven Refusal). record (view_of i) { marks = set (view_of i).marks c.args.node (Done (answer_of (end_of e))) }) (sym c.in-Ok.is)
@@ -172,7 +172,7 @@ pub returns-in-Err : goal.returns-in-Err
 returns-in-Err c =
     let i = c.self.inside in
     let r = subst (λ (v : RunningView). IsEndOfCall v c.args.node c.args.end) (sym c.self.view_is) c.requires in
-    ap (λ (j : leased.JobView). view_with (record (fixed_of i) { room = j.room }) c.put-in-Err.new.self) c.finish-in-Err.ensures.finished
+    ap (λ (j : leased.JobView). view_with (record (fixed_of i) { block = j.block; room = j.room }) c.put-in-Err.new.self) c.finish-in-Err.ensures.finished
     ∙ ap (view_with (fixed_of i)) c.put-in-Err.ensures
     ∙ view_refused (fixed_of i) i.stages i.held.items i.ending.traces.items i.job c.self.invariant c.args.node r.job r.open_is c.graphs_numbered.ensures.all c.graphs_numbered.ensures.in_order c.graphs_numbered.ensures.once c.ready_stays.ensures.ready c.of-in-Err.result c.in-Err.refusal c.of-in-Err.ensures
     ∙ ap (λ (e : Result JobGiven Refusal). record (view_of i) { marks = set (view_of i).marks c.args.node (Done (answer_of (end_of e))) }) (sym c.in-Err.is)

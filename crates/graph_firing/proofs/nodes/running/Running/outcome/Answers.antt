@@ -13,7 +13,7 @@ use Rattle.pisdf_meaning.specs.Running.{child_rows, state_after}
 use Rattle.pisdf_model.specs.declared.graph.Graph.{Graph}
 use Rattle.pisdf_model.specs.declared.graph.Graphs.{Graphs}
 use Rattle.sdf_level.specs.declared.node.Node.{Node}
-use Rattle.graph_firing.specs.Nodes.Kept.{fixed_of, view_of}
+use Rattle.graph_firing.specs.Nodes.Invariants.{fixed_of, view_of}
 use Rattle.graph_firing.specs.Nodes.Parts.{fired}
 use Rattle.graph_firing.specs.Nodes.View.{RunningView, is_quiet, outcome_of, traces_of}
 use Rattle.graph_firing.proofs.OfNodes.EndedFiring.{have_traces, none_held}
@@ -99,6 +99,6 @@ returns-in-Done-clause-suits c =
     let kept = c.self.invariant.parts.keeps_are ∙ ap (λ (g : Graph). map (has_state (fixed_of i).graphs.graphs) (acting g)) (sym here) in
     let state_is = c.job_given.ensures.state (fixed_of i).graphs.graphs kept ∙ ap (λ (g : Graph). state_after (fixed_of i).graphs.graphs g c.args.left.configured c.in-Done.stored) here in
     let n = c.graphs_numbered.ensures in
-    let laws : GraphLaws = record { found = n.found; once = n.once; there = n.firings; stands = n.in_order; all = n.all; stages = n.stages; ends = n.ends; tokens = n.tokens; names_fit = n.names; ports = n.ports; used = n.used } in
+    let laws : GraphLaws = record { found = n.found; once = n.once; there = n.firings; stands = n.in_order; all = n.all; tiers = n.tiers; ends = n.ends; tokens = n.tokens; names_fit = n.names; ports = n.ports; used = n.used } in
     subst (λ (v : RunningView). SuitsCall v.graphs.graphs v.firing (given_of c.job_given.result)) c.self.view_is
     (end_suits (fixed_of i) i.stages i.held.items i.ending.traces.items i.job c.self.invariant laws c.tokens_delivered.ensures.one_flow c.tokens_delivered.ensures.delivers quiet done.none c.job_given.result.outs c.in-Done.stored (c.job_given.ensures.same.0 ∙ done.outs_are) done.stored_are c.args.left.configured c.args.left.traces left_is c.job_given.result.state state_is c.job_given.result.trace c.job_given.result.exports c.job_given.ensures.same.1)

@@ -1,6 +1,6 @@
 use Rattle.std.proofs.Common.{subst}
 use Rattle.one_job.specs.Pick.{IsFirst}
-use Rattle.graph_firing.specs.Nodes.Kept.{fixed_of}
+use Rattle.graph_firing.specs.Nodes.Invariants.{fixed_of}
 use Rattle.graph_firing.specs.Nodes.View.{IsOfferedCall, RunningView}
 use Rattle.graph_firing.proofs.OfNodes.OfferedNodes.{picks_call}
 use Rattle.graph_firing.proofs.nodes.running.Running.pick_call.Goals as goal

@@ -1,5 +1,5 @@
 use Rattle.std.proofs.Common.{ap, ◌∙◌}
-use Rattle.graph_firing.specs.Nodes.Kept.{fixed_of}
+use Rattle.graph_firing.specs.Nodes.Invariants.{fixed_of}
 use Rattle.graph_firing.specs.Nodes.View.{is_quiet}
 use Rattle.graph_firing.proofs.OfNodes.OfferedNodes.{quiet_is}
 use Rattle.graph_firing.proofs.nodes.running.Running.quiet.Goals as goal

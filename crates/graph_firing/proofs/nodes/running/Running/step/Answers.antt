@@ -3,7 +3,7 @@ use Rattle.param_resolver.specs.Numbering.{acting}
 use Rattle.sdf_level.specs.declared.node.Node.{Node}
 use Rattle.sdf_level.specs.declared.node.Node.TheVariants as node
 use Rattle.job_flow.specs.Graphs.{node_at}
-use Rattle.graph_firing.specs.Nodes.Kept.{fixed_of}
+use Rattle.graph_firing.specs.Nodes.Invariants.{fixed_of}
 use Rattle.graph_firing.specs.Nodes.Parts.{Fixed, fired, job_in, values_of}
 use Rattle.graph_firing.proofs.OfNodes.NodeTasks.{nodes_are}
 use Rattle.graph_firing.proofs.OfNodes.OfferedNodes.{firing_inside}

@@ -8,6 +8,7 @@ use Rattle.firing_board.specs.Table.View.{firings_of}
 use Rattle.firing_board.specs.Core.{HasMemory, IsLentToRunners, RowsHaveOwners, StandsAt, lent_of, runners}
 use Rattle.firing_board.specs.Starved.{StarvesAt}
 use Rattle.firing_board.specs.View.{BoardView}
+use Rattle.firing_board.specs.Signatures.{counts_by}
 use Rattle.firing_board.specs.declared.board.Board.TheInside.{Inside}
 use Rattle.firing_board.specs.declared.state.Core.{Core}
 
@@ -18,7 +19,7 @@ abbrev pub view_with : Key → Core → Bool → BoardView
 view_with key c starved = record { key = key; journal = c.journal.entries; starved = starved; firings = firings_of c.table; lent = lent_of c.table c.running.items; kept = false }
 
 abbrev pub key_of : Inside → Key
-key_of i = key_with i.signatures.counts i.top.value i.core
+key_of i = key_with (counts_by i.signatures) i.top.value i.core
 
 abbrev pub view_of : Inside → BoardView
 view_of i = record (view_with (key_of i) i.core i.starved) { kept = is_some i.kept }

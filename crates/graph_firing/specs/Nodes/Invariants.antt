@@ -12,9 +12,9 @@ abbrev pub fixed_of : Inside → Fixed
 fixed_of i = record {
   graphs = arc_value i.graphs;
   firing = i.firing.value;
-  left = i.preparing.left;
+  left = i.left;
   compilation = arc_value i.compiled;
-  block = i.cells.block;
+  block = i.job.block;
   room = i.job.room;
   set = i.set;
   place = i.place;

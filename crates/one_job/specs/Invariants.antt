@@ -16,7 +16,7 @@ use Rattle.one_job.specs.Ports.{reads_stored, writes_stored, row_of, AreWired, L
 use Rattle.one_job.specs.Opening.{stored_in}
 use Rattle.one_job.specs.Stock.{IsStock}
 use Rattle.one_job.specs.Rooms.{IsRoomFor}
-use Rattle.one_job.specs.View.{JobView, graph_of, HasGiven, args_of}
+use Rattle.one_job.specs.View.{JobView, graph_of, HasLists, args_of}
 use Rattle.one_job.specs.Staged.{mark_of}
 use Rattle.one_job.specs.Ready.{KeepsReady}
 use Rattle.one_job.specs.declared.job.Job.TheInside.{Inside}
@@ -75,7 +75,7 @@ pub record IsPoolOf (j : JobView) (pool : PoolView) : Type 0 where
 
 pub record Keeps (j : JobView) (p : Parts) (pool : PoolView) (outs left : List (List ℤ)) : Type 0 where
   pub compiled : IsCompiled j.compilation
-  pub given : HasGiven j
+  pub lists : HasLists j
   pub one_each : length j.marks ≡ length j.compilation.graph.nodes
   pub wired : AreWired (graph_of j) p.entering p.leaving
   pub order : InOrder j.compilation.graph.edges j.marks

@@ -1,9 +1,9 @@
 -- The nodes and edges of a graph by their numbers: each node stands once, the firings in the order of one thread, and edges
--- lead from earlier stages to later ones.
+-- lead from earlier tiers to later ones.
 use Rattle.std.specs.Prelude.{◌≡◌, ℕ, ◌+◌, ◌<◌, List, ◌∷◌, ◌++◌, length, slice_index, slice_index_or}
 use Rattle.std.specs.List.{All}
 use Rattle.sdf_level.specs.View.{LevelView}
-use Rattle.sdf_level.specs.Kept.{IsLevel}
+use Rattle.sdf_level.specs.Invariants.{IsLevel}
 use Rattle.sdf_level.specs.Firings.{firings, actors_of}
 use Rattle.sdf_level.specs.Orders.{IsTurnOrder}
 use Rattle.sdf_level.specs.Repetition.{IsRepetition}
@@ -65,14 +65,14 @@ FiringsAreAll =
     (level : LevelView) (q : List ℕ) (turns : List Turn) (n : ℕ) →
     IsTurnOrder level q turns → kind (node_at (nodes level q turns) n) ≡ 2 → IsOfFiring level turns n
 
--- each edge leads to a later stage, and each firing has a later stage than those before it
-pub record HaveStages (level : LevelView) (q : List ℕ) (turns : List Turn) : Type 0 where
-  pub stage : ℕ → ℕ
-  pub rising : All (λ e. stage e.tail < stage e.head) (edges level q turns)
-  pub in_order : (i j : ℕ) → i < j → j < length turns → stage (first_firing level + i) < stage (first_firing level + j)
+-- each edge leads to a later tier, and each firing has a later tier than those before it
+pub record HaveTiers (level : LevelView) (q : List ℕ) (turns : List Turn) : Type 0 where
+  pub tier : ℕ → ℕ
+  pub rising : All (λ e. tier e.tail < tier e.head) (edges level q turns)
+  pub in_order : (i j : ℕ) → i < j → j < length turns → tier (first_firing level + i) < tier (first_firing level + j)
 
-abbrev pub GraphsHaveStages : Type 0
-GraphsHaveStages = (level : LevelView) (q : List ℕ) (turns : List Turn) → IsLevel level → IsTurnOrder level q turns → HaveStages level q turns
+abbrev pub GraphsHaveTiers : Type 0
+GraphsHaveTiers = (level : LevelView) (q : List ℕ) (turns : List Turn) → IsLevel level → IsTurnOrder level q turns → HaveTiers level q turns
 
 -- both ends of each edge are there
 abbrev pub EndsAreThere : Type 0

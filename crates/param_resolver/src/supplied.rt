@@ -1,16 +1,16 @@
-// What parameters are given from outside.
+// What parameters are supplied with from outside.
 ghost use Rattle.std.specs.Prelude.{◌≡◌, None, slice_get, slice_index_or, IfOk};
 ghost use Rattle.pisdf_model.specs.ParamOrder.{is_chosen_kind};
 ghost use Rattle.pisdf_model.specs.Ports.{is_inherited};
-ghost use Rattle.param_resolver.specs.Assignment.{given_next, given_to, one_if};
-ghost use Rattle.param_resolver.specs.EarlyCheck.{given_late};
+ghost use Rattle.param_resolver.specs.Assignment.{supplied_next, supplied_to, one_if};
+ghost use Rattle.param_resolver.specs.EarlyCheck.{supplied_late};
 
 use pisdf_model::{Param, ParamKind};
 use std::alloc::{AllocError, Global};
 
-/// What a parameter is given, where these are the next values of the inherited and of the chosen ones.
-fn given_next(kind: &ParamKind, inherited: Option<i64>, chosen: Option<i64>) -> Option<i64>
-    ensures { result ≡ given_next kind.now inherited chosen }
+/// What a parameter is supplied with, where these are the next values of the inherited and of the chosen ones.
+fn supplied_next(kind: &ParamKind, inherited: Option<i64>, chosen: Option<i64>) -> Option<i64>
+    ensures { result ≡ supplied_next kind.now inherited chosen }
 {
     match kind {
         ParamKind::Inherited => inherited,
@@ -47,25 +47,25 @@ fn value_at(values: &[i64], place: usize) -> Option<i64>
 }
 
 /// The values of the inherited and of the chosen parameters, each in file order, laid out by parameter.
-pub(crate) fn given_to(
+pub(crate) fn supplied_to(
     alloc: Global,
     params: &[Param],
     inherited: &[i64],
     chosen: &[i64],
 ) -> Result<Vec<Option<i64>>, AllocError>
-    ensures { IfOk result (λ v. v.items ≡ given_to params.now inherited.now chosen.now) }
+    ensures { IfOk result (λ v. v.items ≡ supplied_to params.now inherited.now chosen.now) }
 {
-    let mut given = Vec::with_capacity(alloc, params.len())?;
+    let mut supplied = Vec::with_capacity(alloc, params.len())?;
     let mut inherited_before = 0;
     let mut chosen_before = 0;
     for param in params {
         let next = value_at(inherited, inherited_before);
         let next_chosen = value_at(chosen, chosen_before);
-        given.push(given_next(&param.kind, next, next_chosen))?;
+        supplied.push(supplied_next(&param.kind, next, next_chosen))?;
         inherited_before += inherited_taken(&param.kind);
         chosen_before += chosen_taken(&param.kind);
     }
-    Ok(given)
+    Ok(supplied)
 }
 
 /// The value known of a parameter, if one is.
@@ -79,21 +79,21 @@ fn known_at(known: &[Option<i64>], place: usize) -> Option<i64>
 }
 
 /// What is known of the inherited parameters, and the values of the chosen ones in file order, laid out by parameter.
-pub(crate) fn given_late(
+pub(crate) fn supplied_late(
     alloc: Global,
     params: &[Param],
     known: &[Option<i64>],
     chosen: &[i64],
 ) -> Result<Vec<Option<i64>>, AllocError>
-    ensures { IfOk result (λ v. v.items ≡ given_late params.now known.now chosen.now) }
+    ensures { IfOk result (λ v. v.items ≡ supplied_late params.now known.now chosen.now) }
 {
-    let mut given = Vec::with_capacity(alloc, params.len())?;
+    let mut supplied = Vec::with_capacity(alloc, params.len())?;
     let mut chosen_before = 0;
     for (place, param) in params.iter().enumerate() {
         let inherited = known_at(known, place);
         let next_chosen = value_at(chosen, chosen_before);
-        given.push(given_next(&param.kind, inherited, next_chosen))?;
+        supplied.push(supplied_next(&param.kind, inherited, next_chosen))?;
         chosen_before += chosen_taken(&param.kind);
     }
-    Ok(given)
+    Ok(supplied)
 }

@@ -1,5 +1,0 @@
-use Rattle.param_resolver.proofs.Giving.{GivesLate}
-use Rattle.param_resolver.proofs.given.given_late.Given as goal
-
-abbrev pub invariant-loop-place : goal.invariant-loop-place
-invariant-loop-place l = GivesLate l.params l.known l.chosen l.place l.chosen_before l.given.items
