@@ -250,13 +250,36 @@ class Launcher(unittest.TestCase):
         self.assertIn("1 of 2 crates done", error)
         self.assertIn("2 of 2 crates done", error)
 
+    def test_one_crate_after_the_other_where_each_uses_the_one_before(self):
+        write(self.path("crates.txt"), "low:\nside:\nmid: low\npisdf may_wait=1: mid side std_io\n")
+        for name in ("side", "mid"):
+            write(self.path(f"crates/{name}/src/lib.rt"), name)
+        endless = TOOLCHAIN.replace("echo '== low'; echo '== pisdf'; echo '== summary'", "echo '== low'; echo '== side'; exec sleep 300")
+        write(os.path.join(self.kit, "rt"), endless, executable=True)
+        environment = {"PATH": self.kit + ":" + self.plain, "PISDF_JOBS": "3"}
+        done = subprocess.run([self.path("pisdf"), "run"], env=environment, capture_output=True, timeout=60)
+        self.assertEqual((done.returncode, done.stdout), (3, b"[run]\n"))
+        told = [line.rsplit(b" ", 1)[1] for line in done.stderr.splitlines() if b"crates done" in line]
+        self.assertEqual(told, [b"low", b"side", b"mid", b"pisdf"])
+        with open(os.path.join(self.kit, "calls"), encoding="utf-8") as file:
+            calls = [line for line in file.read().splitlines() if line != "version"]
+        self.assertEqual(calls, ["all check --jobs 3", "lib --jobs 3", "check --jobs 3", "run"])
+
+    def test_a_crate_that_fails_where_others_wait_for_it(self):
+        failing = TOOLCHAIN.replace("run)", "check) echo 'what went wrong'; exit 1 ;;\n  run)").replace("echo '== pisdf'; ", "")
+        write(os.path.join(self.kit, "rt"), failing, executable=True)
+        status, out, error = self.call("run")
+        self.assertEqual((status, out), (127, ""))
+        self.assertIn("what went wrong", error)
+        self.assertEqual(self.builds(), 0)
+
     def test_a_build_that_fails(self):
         write(os.path.join(self.kit, "rt"), "#!/bin/bash\necho 'what went wrong'\nexit 1\n", executable=True)
         status, out, error = self.call("run")
         self.assertEqual((status, out), (127, ""))
         self.assertIn("what went wrong", error)
 
-    def test_how_many_crates_are_worked_on_at_once(self):
+    def test_how_many_processes_prove_at_once(self):
         with open(self.path("pisdf"), encoding="utf-8") as file:
             text = file.read()
         self.assertEqual(text.count("/proc/meminfo"), 1)
