@@ -21,7 +21,6 @@ use Rattle.board_journal.proofs.kept.Entries.TheSendSync as entries
 use Rattle.board_journal.proofs.history.Past.TheLaws.TheKnot as past
 use Rattle.firing_board.proofs.frame_rooms.FrameRooms.TheSendSync as frame_rooms
 use Rattle.firing_board.proofs.run.Run.TheSendSync as run
-use Rattle.firing_board.proofs.signatures.Signatures.TheLaws.TheKnot as signatures
 use Rattle.param_resolver.specs.contracts.known.Early as Early
 use Rattle.param_resolver.specs.contracts.level_set.LevelSet as LevelSet
 use Rattle.job_preparing.specs.contracts.configuring.Configuring as Configuring
@@ -41,7 +40,6 @@ use Rattle.board_journal.specs.contracts.history.History as History
 use Rattle.board_journal.specs.contracts.journal.Journal as Journal
 use Rattle.firing_board.specs.contracts.board.Board as Board
 use Rattle.firing_board.specs.contracts.state.Core as Core
-use Rattle.firing_board.specs.contracts.signatures.Signatures as Signatures
 use Rattle.sdf_level.proofs.level.Level.TheSendSync as level
 use Rattle.sdf_level.proofs.list.List.TheSendSync as list
 use Rattle.sdf_level.proofs.turn.Turn.TheSendSync as turn
@@ -129,11 +127,8 @@ history_send = search (past.crosses, crosses, sendable) depth 60 fits 20000
 journal_send : IsSend Journal.the_row
 journal_send = search (history_send, entries.the_send, crosses, sendable) depth 60 fits 20000
 
-signatures_send : IsSend Signatures.the_row
-signatures_send = search (signatures.crosses, crosses, sendable) depth 60 fits 20000
-
 core_field_send : IsSend Core.the_field.row
 core_field_send = search (table_send, frame_rooms.the_field_send, run.the_send, journal_send, given_send, refusal.the_send, crosses, sendable) depth 60 fits 20000
 
 pub board_send : IsSend Board.the_row
-board_send = search (core_field_send, signatures_send, kept_send, key.the_send, crosses, sendable) depth 60 fits 20000
+board_send = search (core_field_send, kept_send, key.the_send, crosses, sendable) depth 60 fits 20000
