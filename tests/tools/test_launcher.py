@@ -16,19 +16,25 @@ echo
 exit 3
 """
 
-# Notes each call. `rt run` writes the program, and waits before that where the tree says so.
+# Notes each call, and what lies in its folder. `rt ci` writes the program, and waits before that where the tree says so.
 TOOLCHAIN = """#!/bin/bash
-echo "$*" >>"$(dirname "$0")/calls"
+kit=$(dirname "$0")
+echo "$*" >>"$kit/calls"
 case $1 in
   version) echo 'toolchain 7' ;;
-  all) echo '== low'; echo '== pisdf'; echo '== summary' ;;
-  run) [ -f "$(dirname "$0")/slow" ] && sleep 1
-    cp "$(dirname "$0")/program" out/pisdf && chmod +x out/pisdf && echo 'rt: running it' ;;
+  ci) echo "RT_JOBS=${RT_JOBS:-none}" >>"$kit/calls"
+    find . -type f | sort >"$kit/files"
+    cp crates.txt "$kit/crates.txt"
+    pwd >"$kit/folder"
+    echo '== low'; echo 'rt: low proved'
+    [ -f "$kit/slow" ] && sleep 1
+    mkdir -p crates/pisdf/out && cp "$kit/program" crates/pisdf/out/pisdf && chmod +x crates/pisdf/out/pisdf
+    echo 'rt: pisdf is kept: an earlier run on this machine proved it'; echo '2 passed, 0 failed' ;;
 esac
 """
 
 # All that the launcher calls, but for the toolchain.
-COMMANDS = "bash cat cp cut dirname find flock git head mkdir mv nproc python3 readlink sha256sum sleep sort stat tail touch xargs grep chmod".split()
+COMMANDS = "bash cat chmod cp cut dirname find flock git head mkdir mktemp mv python3 readlink rm sha256sum sleep sort stat tail touch xargs".split()
 
 
 def write(path, text, executable=False):
@@ -47,7 +53,8 @@ class Launcher(unittest.TestCase):
         self.tree = os.path.join(self.room, "a [big] tree")
         os.makedirs(self.tree)
         shutil.copy(os.path.join(TOP, "pisdf"), self.tree)
-        write(self.path("crates.txt"), "# crates\nlow:\npisdf may_wait=1: low std_io\n")
+        write(self.path("crates.txt"), "# crates\nlow:\npisdf may_wait=1: low std_io\ntables: low\n")
+        write(self.path("HANDLES"), "Handles allowed: none.\n")
         write(self.path("crates/low/src/lib.rt"), "one")
         write(self.path("crates/pisdf/src/main.rt"), "two")
         self.plain = os.path.join(self.room, "plain")
@@ -72,7 +79,7 @@ class Launcher(unittest.TestCase):
         """How often the toolchain was asked to build."""
         try:
             with open(os.path.join(self.kit, "calls"), encoding="utf-8") as file:
-                return sum(line == "run\n" for line in file)
+                return sum(line == "ci\n" for line in file)
         except FileNotFoundError:
             return 0
 
@@ -250,28 +257,28 @@ class Launcher(unittest.TestCase):
         self.assertIn("1 of 2 crates done", error)
         self.assertIn("2 of 2 crates done", error)
 
-    def test_one_crate_after_the_other_where_each_uses_the_one_before(self):
-        write(self.path("crates.txt"), "low:\nside:\nmid: low\npisdf may_wait=1: mid side std_io\n")
-        for name in ("side", "mid"):
-            write(self.path(f"crates/{name}/src/lib.rt"), name)
-        endless = TOOLCHAIN.replace("echo '== low'; echo '== pisdf'; echo '== summary'", "echo '== low'; echo '== side'; exec sleep 300")
-        write(os.path.join(self.kit, "rt"), endless, executable=True)
-        environment = {"PATH": self.kit + ":" + self.plain, "PISDF_JOBS": "3"}
-        done = subprocess.run([self.path("pisdf"), "run"], env=environment, capture_output=True, timeout=60)
-        self.assertEqual((done.returncode, done.stdout), (3, b"[run]\n"))
-        told = [line.rsplit(b" ", 1)[1] for line in done.stderr.splitlines() if b"crates done" in line]
-        self.assertEqual(told, [b"low", b"side", b"mid", b"pisdf"])
-        with open(os.path.join(self.kit, "calls"), encoding="utf-8") as file:
-            calls = [line for line in file.read().splitlines() if line != "version"]
-        self.assertEqual(calls, ["all check --jobs 3", "lib --jobs 3", "check --jobs 3", "run"])
+    def test_the_program_is_built_of_a_copy_of_its_crates_alone(self):
+        for name in ("low/specs/Lib.antt", "low/proofs/Lib.antt", "low/must-fail/a.edit", "low/README.md", "low/out/left", "pisdf/stdout", "pisdf/data/g.json", "tables/src/lib.rt"):
+            write(self.path(f"crates/{name}"), name)
+        self.built()
+        with open(os.path.join(self.kit, "files"), encoding="utf-8") as file:
+            files = file.read().split()
+        wanted = "HANDLES crates.txt crates/low/proofs/Lib.antt crates/low/specs/Lib.antt crates/low/src/lib.rt crates/pisdf/data/g.json crates/pisdf/src/main.rt crates/pisdf/stdout"
+        self.assertEqual(sorted(files), sorted(f"./{name}" for name in wanted.split()))
+        with open(os.path.join(self.kit, "crates.txt"), encoding="utf-8") as file:
+            self.assertEqual(file.read(), "low:\npisdf may_wait=1: low std_io\n")
 
-    def test_a_crate_that_fails_where_others_wait_for_it(self):
-        failing = TOOLCHAIN.replace("run)", "check) echo 'what went wrong'; exit 1 ;;\n  run)").replace("echo '== pisdf'; ", "")
+    def test_nothing_is_left_of_the_copy(self):
+        failing = TOOLCHAIN.replace("echo '2 passed, 0 failed' ;;", "exit ${FAILS:-0} ;;")
         write(os.path.join(self.kit, "rt"), failing, executable=True)
-        status, out, error = self.call("run")
-        self.assertEqual((status, out), (127, ""))
-        self.assertIn("what went wrong", error)
-        self.assertEqual(self.builds(), 0)
+        for fails, status in (("1", 127), ("0", 3)):
+            environment = {"PATH": self.kit + ":" + self.plain, "FAILS": fails, "TMPDIR": self.room}
+            done = subprocess.run([self.path("pisdf"), "run"], env=environment, capture_output=True, timeout=60)
+            self.assertEqual(done.returncode, status)
+            with open(os.path.join(self.kit, "folder"), encoding="utf-8") as file:
+                folder = file.read().strip()
+            self.assertTrue(folder.startswith(self.room))
+            self.assertFalse(os.path.exists(folder))
 
     def test_a_build_that_fails(self):
         write(os.path.join(self.kit, "rt"), "#!/bin/bash\necho 'what went wrong'\nexit 1\n", executable=True)
@@ -280,19 +287,12 @@ class Launcher(unittest.TestCase):
         self.assertIn("what went wrong", error)
 
     def test_how_many_processes_prove_at_once(self):
-        with open(self.path("pisdf"), encoding="utf-8") as file:
-            text = file.read()
-        self.assertEqual(text.count("/proc/meminfo"), 1)
-        memory = os.path.join(self.room, "meminfo")
-        write(self.path("pisdf"), text.replace("/proc/meminfo", f"'{memory}'"), executable=True)
-        write(os.path.join(self.kit, "nproc"), "#!/bin/bash\necho 4\n", executable=True)
-        for available, asked, jobs in ((2_000_000, None, 1), (10_000_000, None, 3), (99_000_000, None, 4), (10_000_000, "7", 7)):
-            write(memory, f"MemTotal: 100000000 kB\nMemAvailable: {available} kB\n")
-            write(self.path("crates/low/src/lib.rt"), f"{available} {asked}")
+        for asked, told in ((None, "none"), ("7", "7")):
+            write(self.path("crates/low/src/lib.rt"), told)
             environment = {"PATH": self.kit + ":" + self.plain, **({"PISDF_JOBS": asked} if asked else {})}
             subprocess.run([self.path("pisdf"), "run"], env=environment, capture_output=True, timeout=60)
             with open(os.path.join(self.kit, "calls"), encoding="utf-8") as file:
-                self.assertEqual([line for line in file if line.startswith("all")][-1], f"all check --jobs {jobs}\n")
+                self.assertEqual([line for line in file if line.startswith("RT_JOBS")][-1], f"RT_JOBS={told}\n")
 
     def test_a_number_of_jobs_that_is_none(self):
         environment = {"PATH": self.kit + ":" + self.plain, "PISDF_JOBS": "many"}
