@@ -26,7 +26,7 @@ case $1 in
     find . -type f | sort >"$kit/files"
     cp crates.txt "$kit/crates.txt"
     pwd >"$kit/folder"
-    echo '== low'; echo 'rt: low proved'
+    echo '== low'; echo 'rt: low: its tests are proved'; echo 'rt: low proved'
     [ -f "$kit/slow" ] && sleep 1
     mkdir -p crates/pisdf/out && cp "$kit/program" crates/pisdf/out/pisdf && chmod +x crates/pisdf/out/pisdf
     echo 'rt: pisdf is kept: an earlier run on this machine proved it'; echo '2 passed, 0 failed' ;;
@@ -254,8 +254,8 @@ class Launcher(unittest.TestCase):
 
     def test_a_build_tells_how_far_it_is(self):
         error = self.call("run")[2]
-        self.assertIn("1 of 2 crates done", error)
-        self.assertIn("2 of 2 crates done", error)
+        told = [line.split(" after ")[0] for line in error.splitlines() if "crates done" in line]
+        self.assertEqual(told, ["pisdf: 1 of 2 crates done", "pisdf: 2 of 2 crates done"])
 
     def test_the_program_is_built_of_a_copy_of_its_crates_alone(self):
         for name in ("low/specs/Lib.antt", "low/proofs/Lib.antt", "low/must-fail/a.edit", "low/README.md", "low/out/left", "pisdf/stdout", "pisdf/data/g.json", "tables/src/lib.rt"):
