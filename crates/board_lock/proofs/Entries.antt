@@ -2,15 +2,11 @@
 use Rattle.std.proofs.Common.{◌≡◌, ◌≢◌, ◌≤◌, ℕ, suc, Bool, true, false, cond, eqb, eq-eqb, ne_eqb, List, [], ◌∷◌, ◌++◌, length, drop, All, refl, sym, ◌∙◌, ap, arith, append_assoc, append-nil}
 use Rattle.std.proofs.Math.Seq.{drop-append_seam}
 use Rattle.std.proofs.lemmas.List.{append_cancel_left, drop-append-le}
-use native.Mathlib.Decide.{ℕ_discrete}
 use Rattle.board_lock.specs.Meant.{entries_of, Begins}
 
 empty_right : {E : Type 0} (xs ys : List E) → xs ++ ys ≡ [] → ys ≡ []
 empty_right [] ys e = e
 empty_right (x ∷ xs) ys e = cc
-
-cons_not_nil : {E : Type 0} (x : E) (xs : List E) → x ∷ xs ≡ [] → ⊥
-cons_not_nil x xs e = cc
 
 module _ {E : Type 0} (worker : E → ℕ) where
   pub entries-append : (n : ℕ) (xs ys : List E) → entries_of worker n (xs ++ ys) ≡ entries_of worker n xs ++ entries_of worker n ys
@@ -39,17 +35,6 @@ module _ {E : Type 0} (worker : E → ℕ) where
       let none : entries_of worker n a ≡ [] = append_cancel_left (entries_of worker n xs) (entries_of worker n a) [] (sym (entries-append n xs a) ∙ (ap (entries_of worker n) (sym first) ∙ (sym all ∙ sym (append-nil (entries_of worker n xs))))) in
       let last : entries_of worker n b ≡ [] = empty_right (entries_of worker n middle) (entries_of worker n b) (sym (entries-append n middle b) ∙ (ap (entries_of worker n) (sym cut) ∙ none)) in
       sym (ap (entries_of worker n) second ∙ (entries-append n ys b ∙ (ap (λ (l : List E). entries_of worker n ys ++ l) last ∙ append-nil (entries_of worker n ys))))
-
-  -- a list without entries of other numbers is the entries of its number
-  pub entries_all : (n : ℕ) (xs : List E) → ((k : ℕ) → k ≢ n → entries_of worker k xs ≡ []) → xs ≡ entries_of worker n xs
-  entries_all n [] none = refl
-  entries_all n (x ∷ xs) none =
-      elim (ℕ_discrete (worker x) n) [
-        | yes here ↦
-            let less : (k : ℕ) → k ≢ n → entries_of worker k xs ≡ [] = λ k other. sym (ap (λ (b : Bool). cond b (x ∷ entries_of worker k xs) (entries_of worker k xs)) (ne_eqb (worker x) k (λ e. other (sym e ∙ here)))) ∙ none k other in
-            ap (λ (l : List E). x ∷ l) (entries_all n xs less) ∙ sym (ap (λ (b : Bool). cond b (x ∷ entries_of worker n xs) (entries_of worker n xs)) (eq-eqb (worker x) n here))
-        | no other ↦ absurd (cons_not_nil x (entries_of worker (worker x) xs) (sym (ap (λ (b : Bool). cond b (x ∷ entries_of worker (worker x) xs) (entries_of worker (worker x) xs)) (eq-eqb (worker x) (worker x) refl)) ∙ none (worker x) other))
-      ]
 
 pub begins_more : {E : Type 0} (xs ys zs : List E) → Begins xs ys → Begins xs (ys ++ zs)
 begins_more xs ys zs b = (b.0 ++ zs, ap (λ (l : List _). l ++ zs) b.1 ∙ append_assoc xs b.0 zs)

@@ -3,4 +3,3 @@ pub mod Phases
 pub mod Views
 pub mod Steps
 pub mod Parts
-pub mod Places

@@ -2,4 +2,3 @@ pub mod Meant
 pub mod Passes
 pub mod Rule
 pub mod Plays
-pub mod Tallied

@@ -6,9 +6,6 @@ mod locked;
 mod pass;
 mod pauses;
 mod rule;
-pub mod tally;
-#[cfg(test)]
-mod tests;
 mod view;
 
 pub use lock::{Lock, NotMade};

@@ -1,61 +1,38 @@
-// Lists as answers.
+// Answers, which calls write as JSON texts.
 use crate::trouble::Trouble;
 use sdf_level::List;
 use serde_json::Value;
-use std::alloc::Global;
+use std::alloc::{AllocError, Global};
+use std::fmt::{Debug, Write};
 
-/// The answer that these numbers are.
+/// The answer whose JSON text this is.
 ///
 /// # Errors
 ///
-/// [`Trouble::Memory`].
-pub fn answer_of(alloc: Global, numbers: &[i64]) -> Result<Value, Trouble> {
-    let mut values = Vec::new(alloc);
-    for number in numbers {
-        values.push(Value::from(*number))?;
+/// [`Trouble::Memory`] where there is no text; [`Trouble::Member`] where it is no JSON text.
+pub fn answer_in(alloc: Global, text: Result<String, AllocError>) -> Result<Value, Trouble> {
+    match Value::from_str(alloc, text?.as_str()) {
+        Ok(answer) => Ok(answer),
+        Err(_) => Err(Trouble::Member("the answer")),
     }
-    Ok(Value::from(values))
 }
 
-/// The answer that these numbers of 32 bits are.
+/// The JSON text of lists of numbers.
 ///
 /// # Errors
 ///
-/// [`Trouble::Memory`].
-pub fn answer_of_smalls(alloc: Global, numbers: &[u32]) -> Result<Value, Trouble> {
-    let mut values = Vec::new(alloc);
-    for number in numbers {
-        values.push(Value::from(*number))?;
-    }
-    Ok(Value::from(values))
-}
-
-/// The answer that these lists are.
-///
-/// # Errors
-///
-/// [`Trouble::Memory`].
-pub fn answer_of_lists(alloc: Global, lists: &[List<i64>]) -> Result<Value, Trouble> {
-    let mut values = Vec::new(alloc);
+/// Want of memory.
+pub fn lists_text<T: Debug>(alloc: Global, lists: &[List<T>]) -> Result<String, AllocError> {
+    let mut text = String::from_str(alloc, "[")?;
+    let mut before = "";
     for list in lists {
-        values.push(answer_of(alloc, list.items())?)?;
+        let numbers = list.items();
+        write!(text, "{before}{numbers:?}")?;
+        before = ", ";
     }
-    Ok(Value::from(values))
+    text.push(']')?;
+    Ok(text)
 }
-
-/// The answer that these numbers of 64 bits are.
-///
-/// # Errors
-///
-/// [`Trouble::Memory`].
-pub fn answer_of_wides(alloc: Global, numbers: &[u64]) -> Result<Value, Trouble> {
-    let mut values = Vec::new(alloc);
-    for number in numbers {
-        values.push(Value::from(*number))?;
-    }
-    Ok(Value::from(values))
-}
-
 /// The answer that this text is.
 ///
 /// # Errors

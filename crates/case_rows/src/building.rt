@@ -5,7 +5,7 @@ ghost use Rattle.case_rows.specs.Numbering.{IsSoundIn, NextHead, NextTail};
 
 use crate::lines::{End, Line};
 use crate::trouble::Trouble;
-use sdf_level::{Head, InnerLink, Level, Link, List, RATE_LIMIT, Tail};
+use sdf_level::{Head, Level, Link, List, RATE_LIMIT, Tail};
 use std::alloc::Global;
 
 /// The tail at the next source or the next output of an actor, which is then counted.
@@ -154,24 +154,4 @@ pub fn level_with(alloc: Global, actors: u32, lines: &[Line]) -> Result<Level, T
         sinks: List::new(sinks),
         links: List::new(links),
     })
-}
-
-/// The level of so many actors that has these links, in this order, and neither sources nor sinks.
-///
-/// # Errors
-///
-/// [`Trouble::Member`] where the lines are those of none: an end names no actor, a link has no actor or a delay at a source or sink, a
-/// rate is over its limit, or there are more than a million of them. [`Trouble::Memory`]..
-pub fn level_between(alloc: Global, actors: u32, links: &[InnerLink]) -> Result<Level, Trouble>
-    ensures actors { IfOk result (λ level. level.actors ≡ actors) }
-{
-    let mut lines = Vec::with_capacity(alloc, links.len())?;
-    for link in links {
-        lines.push(Line {
-            tail: End::Actor(link.tail, link.produced),
-            head: End::Actor(link.head, link.consumed),
-            delay: link.delay,
-        })?;
-    }
-    level_with(alloc, actors, &lines)
 }

@@ -16,10 +16,8 @@ mod row;
 mod table;
 mod trouble;
 
-pub use answers::{
-    Parts, answer_of, answer_of_lists, answer_of_smalls, answer_of_text, answer_of_wides,
-};
-pub use building::{level_between, level_with};
+pub use answers::{Parts, answer_in, answer_of_text, lists_text};
+pub use building::level_with;
 pub use levels::level_of;
 pub use lines::{End, Line};
 pub use notation::{bytes, bytes_of, quoted, text, text_of};

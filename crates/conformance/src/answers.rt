@@ -4,9 +4,11 @@ use case_rows::Trouble;
 use graph_calls::{
     expressions, made_levels, models, reading, resolving, tokens, top_levels, world,
 };
+use job_calls::{heaps, jobs};
 use level_calls::{
     bounds, compilations, frames, kernels, leases, lines, orderings, placements, schedules, solving,
 };
+use lock_calls::turns;
 use serde_json::Value;
 use std::alloc::Global;
 use std::sync::Wait;
@@ -55,6 +57,13 @@ pub enum Call {
     Keep,
     TopLevel,
     MakePath,
+    StepJob,
+    StepHeaps,
+    Meet,
+    FireInBlocks,
+    TakeSteps,
+    TakeTurns,
+    CountUp,
 }
 
 /// The answer of a call on the inputs of a row.
@@ -105,5 +114,12 @@ pub fn answer<R: Threads + Wait + Sync>(
         Call::Keep => compilations::kept_by(alloc, row),
         Call::TopLevel => top_levels::top_level_made(alloc, row),
         Call::MakePath => top_levels::path_made(alloc, row),
+        Call::StepJob => jobs::answers(alloc, row),
+        Call::StepHeaps => heaps::answers(alloc, row),
+        Call::Meet => program::met(rt, alloc, row),
+        Call::FireInBlocks => program::fired_in_blocks(rt, alloc, row),
+        Call::TakeSteps => turns::stepped(rt, alloc, row),
+        Call::TakeTurns => turns::taken_in_turn(rt, alloc, row),
+        Call::CountUp => turns::counted(rt, alloc, row),
     }
 }

@@ -1,9 +1,11 @@
 //! Compares the calls of the libraries with tables of cases: each line of a table, a file of `data/`, is a JSON object
-//! with the inputs of a call and the answer that is wanted. It prints each case whose answer is another, and at the end
-//! the number of cases of each table.
+//! with the inputs of a call and the answer that is wanted, or with a graph and cases of it. It prints each case whose answer is
+//! another, and at the end the number of cases of each table.
 #![tactic(auto)]
 
 mod answers;
+mod blocks;
+mod meeting;
 mod program;
 mod table;
 
@@ -12,7 +14,7 @@ use crate::table::{Table, run_table};
 use std::io;
 
 /// The tables, in the order of their lines in the output.
-const TABLES: [Table; 43] = [
+const TABLES: [Table; 50] = [
     Table {
         file: "names.jsonl",
         call: Call::IsName,
@@ -185,11 +187,53 @@ const TABLES: [Table; 43] = [
         file: "paths.jsonl",
         call: Call::MakePath,
     },
+    Table {
+        file: "job_steps.jsonl",
+        call: Call::StepJob,
+    },
+    Table {
+        file: "heaps.jsonl",
+        call: Call::StepHeaps,
+    },
+    Table {
+        file: "meetings.jsonl",
+        call: Call::Meet,
+    },
+    Table {
+        file: "blocks.jsonl",
+        call: Call::FireInBlocks,
+    },
+    Table {
+        file: "turns.jsonl",
+        call: Call::TakeSteps,
+    },
+    Table {
+        file: "in_turn.jsonl",
+        call: Call::TakeTurns,
+    },
+    Table {
+        file: "counted.jsonl",
+        call: Call::CountUp,
+    },
+];
+
+/// The tables whose lines are graphs with cases, in the order of their lines in the output, which come last.
+const BOARDS: [&str; 7] = [
+    "board_calls.jsonl",
+    "board_journals.jsonl",
+    "board_orders.jsonl",
+    "board_kept.jsonl",
+    "board_limits.jsonl",
+    "board_graphs.jsonl",
+    "board_crews.jsonl",
 ];
 
 fn main(rt: HostRuntime) -> io::Result<()> {
     for table in TABLES {
         run_table(&rt, table)?;
+    }
+    for file in BOARDS {
+        board_calls::run_table(&rt, file)?;
     }
     Ok(())
 }

@@ -15,8 +15,8 @@
 // An expression is a number, or a text over the parameters `p0`, `p1` and so on. `{"times": n, "of": part}` is a part
 // so many times.
 
-use crate::tokens::{name_in, name_of};
-use case_rows::{Trouble, items, numbers_of, small, small_of, small_or, smalls, word};
+use crate::parts::name_in;
+use case_rows::{Trouble, items, numbers_of, small, small_of, small_or, smalls};
 use param_expr::{Expr, Name, bind, parse};
 use pisdf_model::{
     Actor, Body, End, Fifo, Graph, Graphs, Interface, Life, Param, ParamKind, Port, life_of,
@@ -25,24 +25,260 @@ use sdf_level::List;
 use serde_json::Value;
 use std::alloc::Global;
 
-/// A part so many times, behind those that are there.
-fn push_times<'a>(parts: &mut Vec<&'a Value>, part: &'a Value, times: u32) -> Result<(), Trouble> {
-    for _ in 0..times {
-        parts.push(part)?;
-    }
-    Ok(())
+/// Reads graphs. Where a part hasn't its form it keeps the trouble, and goes on with another part in its place.
+#[derive(Drop)]
+struct Reader {
+    alloc: Global,
+    /// The names `p0` to `p99`.
+    names: Vec<Name>,
+    /// The place of the top graph.
+    top: u32,
+    /// The place of the graph that is read.
+    place: u32,
+    trouble: Option<Trouble>,
 }
 
-/// The row's parts of this name, each so often as it stands for.
-fn parts<'a>(alloc: Global, row: &'a Value, name: &'static str) -> Result<Vec<&'a Value>, Trouble> {
-    let mut parts = Vec::new(alloc);
-    for item in items(row, name)? {
-        match item.get("of") {
-            Some(part) => push_times(&mut parts, part, small(item, "times")?)?,
-            None => parts.push(item)?,
+/// A part of graphs.
+trait Part: Drop + Sized {
+    /// The part that a value is.
+    fn read(reader: &mut Reader, value: &Value) -> Self;
+}
+
+impl Reader {
+    /// What was read, or where that failed the other value.
+    fn kept<T: Drop>(&mut self, read: Result<T, Trouble>, other: T) -> T {
+        match read {
+            Ok(value) => {
+                drop(other);
+                value
+            }
+            Err(trouble) => {
+                self.trouble = Some(trouble);
+                other
+            }
         }
     }
-    Ok(parts)
+
+    /// The numbers of the part's member of this name.
+    fn numbers(&mut self, part: &Value, name: &'static str) -> List<u32> {
+        let alloc = self.alloc;
+        List::new(self.kept(smalls(alloc, part, name), Vec::new(alloc)))
+    }
+
+    /// Puts the part that an item is, or so many as it stands for, behind those that are there.
+    fn push<T: Part>(&mut self, parts: &mut Vec<T>, item: &Value) {
+        let one = item.get("of").unwrap_or(item);
+        let times = match item.get("of") {
+            Some(_) => self.kept(small(item, "times"), 0),
+            None => 1,
+        };
+        for _ in 0..times {
+            let part = T::read(self, one);
+            match parts.push(part) {
+                Ok(()) => {}
+                Err(_refused) => self.trouble = Some(Trouble::Memory),
+            }
+        }
+    }
+
+    /// The parts of the part's member of this name.
+    fn list<T: Part>(&mut self, part: &Value, name: &'static str) -> List<T> {
+        let mut parts = Vec::new(self.alloc);
+        match items(part, name) {
+            Ok(items) => {
+                for item in items {
+                    self.push(&mut parts, item);
+                }
+            }
+            Err(trouble) => self.trouble = Some(trouble),
+        }
+        List::new(parts)
+    }
+}
+
+/// The item at a place of a list, or else the value itself.
+fn at(value: &Value, place: usize) -> &Value {
+    value.get(place).unwrap_or(value)
+}
+
+/// A text, or the `name` of a part.
+impl Part for Name {
+    fn read(reader: &mut Reader, value: &Value) -> Name {
+        let alloc = reader.alloc;
+        let name = name_in(alloc, value.get("name").unwrap_or(value), "a name");
+        reader.kept(name, Name::new(String::new(alloc)))
+    }
+}
+
+/// The expression that a number or a text over these names is.
+fn expr_of(alloc: Global, value: &Value, names: &[Name]) -> Option<Expr> {
+    if let Some(number) = value.as_i64() {
+        return Some(Expr::number(number));
+    }
+    if names.len() > 1_000 {
+        return None;
+    }
+    match parse(alloc, value.as_str().unwrap_or("")) {
+        Ok(parsed) => bind(alloc, &parsed, names).ok(),
+        Err(_) => None,
+    }
+}
+
+impl Part for Expr {
+    fn read(reader: &mut Reader, value: &Value) -> Expr {
+        let read = expr_of(reader.alloc, value, reader.names.as_slice());
+        reader.kept(
+            read.ok_or(Trouble::Member("an expression")),
+            Expr::number(0),
+        )
+    }
+}
+
+impl Part for Param {
+    fn read(reader: &mut Reader, value: &Value) -> Param {
+        let name = Name::read(reader, at(value, 0));
+        let kind = match at(value, 1).as_str() {
+            Some("in") => ParamKind::Inherited,
+            Some("is") => ParamKind::Derived(Expr::read(reader, at(value, 2))),
+            Some("set") => ParamKind::Chosen,
+            _ => {
+                reader.trouble = Some(Trouble::Member("params"));
+                ParamKind::Chosen
+            }
+        };
+        Param {
+            name,
+            kind,
+            low: 0,
+            high: 9,
+        }
+    }
+}
+
+impl Part for Interface {
+    fn read(reader: &mut Reader, value: &Value) -> Interface {
+        Interface {
+            name: Name::read(reader, at(value, 0)),
+            rate: Expr::read(reader, at(value, 1)),
+        }
+    }
+}
+
+impl Part for Port {
+    fn read(reader: &mut Reader, value: &Value) -> Port {
+        Port {
+            name: Name::read(reader, at(value, 0)),
+            rate: Expr::read(reader, at(value, 1)),
+        }
+    }
+}
+
+/// What an actor does.
+fn body_of(reader: &mut Reader, actor: &Value) -> Body {
+    if actor.get("graph").is_some() {
+        Body::Child {
+            graph: reader.kept(small(actor, "graph"), 0),
+            args: reader.list(actor, "args"),
+        }
+    } else if actor.get("setgraph").is_some() {
+        Body::ConfigChild {
+            graph: reader.kept(small(actor, "setgraph"), 0),
+            args: reader.list(actor, "args"),
+            sets: reader.numbers(actor, "sets"),
+        }
+    } else if actor.get("config").is_some() {
+        Body::Config {
+            kernel: reader.kept(small(actor, "config"), 0),
+            args: reader.list(actor, "args"),
+            ins: reader.list(actor, "ins"),
+            outs: reader.list(actor, "outs"),
+            sets: reader.numbers(actor, "sets"),
+        }
+    } else {
+        Body::Kernel {
+            kernel: reader.kept(small(actor, "kernel"), 0),
+            args: reader.list(actor, "args"),
+            ins: reader.list(actor, "ins"),
+            outs: reader.list(actor, "outs"),
+        }
+    }
+}
+
+impl Part for Actor {
+    fn read(reader: &mut Reader, value: &Value) -> Actor {
+        Actor {
+            name: Name::read(reader, value),
+            body: body_of(reader, value),
+        }
+    }
+}
+
+/// An end of a FIFO.
+fn end_of(reader: &mut Reader, value: &Value) -> End {
+    let first = reader.kept(small_of(at(value, 0), "an end"), 0);
+    if !value.is_array() {
+        return End::Interface(first);
+    }
+    End::Port {
+        actor: first,
+        port: reader.kept(small_of(at(value, 1), "an end"), 0),
+    }
+}
+
+/// The tokens of a delay: a list, or so many zeros.
+pub(crate) fn delay_of(alloc: Global, value: &Value) -> Result<List<i64>, Trouble> {
+    if let Some(list) = value.as_array() {
+        return Ok(List::new(numbers_of(alloc, list.as_slice())?));
+    }
+    let count = small_of(value, "a delay")?;
+    Ok(List::new(vec![in alloc; 0i64; count as usize]?))
+}
+
+/// The life that a FIFO states, or that version 1 gives to its delay.
+fn life_in(reader: &mut Reader, value: &Value, delay: &[i64]) -> Life {
+    match value.get(3usize).and_then(Value::as_str) {
+        Some("firing") => Life::Firing,
+        Some("permanent") => Life::Permanent,
+        Some(_) => {
+            reader.trouble = Some(Trouble::Member("a life"));
+            Life::Firing
+        }
+        None => life_of(1, reader.place == reader.top, Life::Firing, delay),
+    }
+}
+
+impl Part for Fifo {
+    fn read(reader: &mut Reader, value: &Value) -> Fifo {
+        let alloc = reader.alloc;
+        let none = List::new(Vec::new(alloc));
+        let delay = match value.get(2usize) {
+            Some(delay) => reader.kept(delay_of(alloc, delay), none),
+            None => none,
+        };
+        let life = life_in(reader, value, delay.items());
+        Fifo {
+            tail: end_of(reader, at(value, 0)),
+            head: end_of(reader, at(value, 1)),
+            delay,
+            life,
+        }
+    }
+}
+
+impl Part for Graph {
+    fn read(reader: &mut Reader, value: &Value) -> Graph {
+        let graph = Graph {
+            name: Name::read(reader, value),
+            params: reader.list(value, "params"),
+            inputs: reader.list(value, "inputs"),
+            outputs: reader.list(value, "outputs"),
+            actors: reader.list(value, "actors"),
+            fifos: reader.list(value, "fifos"),
+            exports: reader.numbers(value, "exports"),
+        };
+        reader.place = reader.place.saturating_add(1);
+        graph
+    }
 }
 
 /// The names `p0` to `p99`.
@@ -54,245 +290,24 @@ fn param_names(alloc: Global) -> Result<Vec<Name>, Trouble> {
     Ok(names)
 }
 
-fn expr_of(alloc: Global, value: &Value) -> Result<Expr, Trouble> {
-    if let Some(number) = value.as_i64() {
-        return Ok(Expr::number(number));
-    }
-    let Some(text) = value.as_str() else {
-        return Err(Trouble::Member("an expression"));
-    };
-    let Ok(parsed) = parse(alloc, text) else {
-        return Err(Trouble::Member("an expression"));
-    };
-    let names = param_names(alloc)?;
-    if names.len() > 1_000 {
-        return Err(Trouble::Member("an expression"));
-    }
-    match bind(alloc, &parsed, names.as_slice()) {
-        Ok(expr) => Ok(expr),
-        Err(_) => Err(Trouble::Member("an expression")),
-    }
-}
-
-/// A list of a text and of what follows it.
-fn named<'a>(alloc: Global, part: &'a Value) -> Result<(Name, &'a [Value]), Trouble> {
-    let Some(list) = part.as_array() else {
-        return Err(Trouble::Member("a part"));
-    };
-    match list.as_slice() {
-        [first, rest @ ..] => Ok((name_in(alloc, first, "a name")?, rest)),
-        [] => Err(Trouble::Member("a part")),
-    }
-}
-
-fn param_of(alloc: Global, part: &Value) -> Result<Param, Trouble> {
-    let (name, rest) = named(alloc, part)?;
-    let kind = match rest {
-        [kind] if kind.as_str() == Some("in") => ParamKind::Inherited,
-        [kind] if kind.as_str() == Some("set") => ParamKind::Chosen,
-        [kind, expr] if kind.as_str() == Some("is") => ParamKind::Derived(expr_of(alloc, expr)?),
-        _ => return Err(Trouble::Member("params")),
-    };
-    Ok(Param {
-        name,
-        kind,
-        low: 0,
-        high: 9,
-    })
-}
-
-fn params_of(alloc: Global, row: &Value) -> Result<List<Param>, Trouble> {
-    let mut params = Vec::new(alloc);
-    for part in parts(alloc, row, "params")? {
-        params.push(param_of(alloc, part)?)?;
-    }
-    Ok(List::new(params))
-}
-
-/// A name and an expression.
-fn rated(alloc: Global, part: &Value) -> Result<(Name, Expr), Trouble> {
-    match named(alloc, part)? {
-        (name, [rate]) => Ok((name, expr_of(alloc, rate)?)),
-        _ => Err(Trouble::Member("a rate")),
-    }
-}
-
-fn interfaces_of(
-    alloc: Global,
-    row: &Value,
-    list: &'static str,
-) -> Result<List<Interface>, Trouble> {
-    let mut interfaces = Vec::new(alloc);
-    for part in parts(alloc, row, list)? {
-        let (name, rate) = rated(alloc, part)?;
-        interfaces.push(Interface { name, rate })?;
-    }
-    Ok(List::new(interfaces))
-}
-
-fn ports_of(alloc: Global, row: &Value, list: &'static str) -> Result<List<Port>, Trouble> {
-    let mut ports = Vec::new(alloc);
-    for part in parts(alloc, row, list)? {
-        let (name, rate) = rated(alloc, part)?;
-        ports.push(Port { name, rate })?;
-    }
-    Ok(List::new(ports))
-}
-
-fn names_of(alloc: Global, row: &Value, list: &'static str) -> Result<List<Name>, Trouble> {
-    let mut names = Vec::new(alloc);
-    for part in parts(alloc, row, list)? {
-        names.push(name_in(alloc, part, list)?)?;
-    }
-    Ok(List::new(names))
-}
-
-fn args_of(alloc: Global, row: &Value) -> Result<List<Expr>, Trouble> {
-    let mut args = Vec::new(alloc);
-    for part in parts(alloc, row, "args")? {
-        args.push(expr_of(alloc, part)?)?;
-    }
-    Ok(List::new(args))
-}
-
-fn body_of(alloc: Global, part: &Value) -> Result<Body, Trouble> {
-    let args = args_of(alloc, part)?;
-    if part.get("graph").is_some() {
-        let graph = small(part, "graph")?;
-        return Ok(Body::Child { graph, args });
-    }
-    if part.get("setgraph").is_some() {
-        return Ok(Body::ConfigChild {
-            graph: small(part, "setgraph")?,
-            args,
-            sets: List::new(smalls(alloc, part, "sets")?),
-        });
-    }
-    let outs = ports_of(alloc, part, "outs")?;
-    if part.get("config").is_some() {
-        return Ok(Body::Config {
-            kernel: small(part, "config")?,
-            args,
-            ins: names_of(alloc, part, "ins")?,
-            outs,
-            sets: List::new(smalls(alloc, part, "sets")?),
-        });
-    }
-    Ok(Body::Kernel {
-        kernel: small(part, "kernel")?,
-        args,
-        ins: ports_of(alloc, part, "ins")?,
-        outs,
-    })
-}
-
-fn actors_of(alloc: Global, row: &Value) -> Result<List<Actor>, Trouble> {
-    let mut actors = Vec::new(alloc);
-    for part in parts(alloc, row, "actors")? {
-        let name = name_of(alloc, word(part, "name")?)?;
-        let body = body_of(alloc, part)?;
-        actors.push(Actor { name, body })?;
-    }
-    Ok(List::new(actors))
-}
-
-fn end_of(value: &Value) -> Result<End, Trouble> {
-    match value {
-        Value::Array(places) => match places.as_slice() {
-            [actor, port] => Ok(End::Port {
-                actor: small_of(actor, "an end")?,
-                port: small_of(port, "an end")?,
-            }),
-            _ => Err(Trouble::Member("an end")),
-        },
-        _ => Ok(End::Interface(small_of(value, "an end")?)),
-    }
-}
-
-/// The tokens of a delay: a list, or so many zeros.
-pub fn delay_of(alloc: Global, value: &Value) -> Result<List<i64>, Trouble> {
-    if let Some(list) = value.as_array() {
-        return Ok(List::new(numbers_of(alloc, list.as_slice())?));
-    }
-    let count = small_of(value, "an end")?;
-    Ok(List::new(vec![in alloc; 0i64; count as usize]?))
-}
-
-fn fifo(
-    tail: End,
-    head: End,
-    delay: List<i64>,
-    life: Option<&str>,
-    is_top: bool,
-) -> Result<Fifo, Trouble> {
-    let life = match life {
-        None => life_of(1, is_top, Life::Firing, delay.items()),
-        Some("firing") => Life::Firing,
-        Some("permanent") => Life::Permanent,
-        Some(_) => return Err(Trouble::Member("a life")),
-    };
-    Ok(Fifo {
-        tail,
-        head,
-        delay,
-        life,
-    })
-}
-
-fn fifo_of(alloc: Global, part: &Value, is_top: bool) -> Result<Fifo, Trouble> {
-    let Some(list) = part.as_array() else {
-        return Err(Trouble::Member("fifos"));
-    };
-    match list.as_slice() {
-        [tail, head] => {
-            let none = List::new(Vec::new(alloc));
-            fifo(end_of(tail)?, end_of(head)?, none, None, is_top)
-        }
-        [tail, head, delay] => {
-            let delay = delay_of(alloc, delay)?;
-            fifo(end_of(tail)?, end_of(head)?, delay, None, is_top)
-        }
-        [tail, head, delay, life] => {
-            let delay = delay_of(alloc, delay)?;
-            let word = life.as_str().unwrap_or("none");
-            fifo(end_of(tail)?, end_of(head)?, delay, Some(word), is_top)
-        }
-        _ => Err(Trouble::Member("fifos")),
-    }
-}
-
-fn fifos_of(alloc: Global, row: &Value, is_top: bool) -> Result<List<Fifo>, Trouble> {
-    let mut fifos = Vec::new(alloc);
-    for part in parts(alloc, row, "fifos")? {
-        fifos.push(fifo_of(alloc, part, is_top)?)?;
-    }
-    Ok(List::new(fifos))
-}
-
-fn graph_of(alloc: Global, part: &Value, is_top: bool) -> Result<Graph, Trouble> {
-    Ok(Graph {
-        name: name_of(alloc, word(part, "name")?)?,
-        params: params_of(alloc, part)?,
-        inputs: interfaces_of(alloc, part, "inputs")?,
-        outputs: interfaces_of(alloc, part, "outputs")?,
-        actors: actors_of(alloc, part)?,
-        fifos: fifos_of(alloc, part, is_top)?,
-        exports: List::new(smalls(alloc, part, "exports")?),
-    })
-}
-
 /// The row's graphs.
-pub fn graphs_of(alloc: Global, row: &Value) -> Result<Graphs, Trouble> {
+pub(crate) fn graphs_of(alloc: Global, row: &Value) -> Result<Graphs, Trouble> {
+    let version = small_or(row, "version", 1)?;
     let top = small_or(row, "top", 0)?;
-    let mut graphs = Vec::new(alloc);
-    let mut place = 0u32;
-    for part in parts(alloc, row, "graphs")? {
-        graphs.push(graph_of(alloc, part, place == top)?)?;
-        place = place.saturating_add(1);
-    }
-    Ok(Graphs {
-        version: small_or(row, "version", 1)?,
+    let mut reader = Reader {
+        alloc,
+        names: param_names(alloc)?,
         top,
-        graphs: List::new(graphs),
-    })
+        place: 0,
+        trouble: None,
+    };
+    let graphs = Graphs {
+        version,
+        top,
+        graphs: reader.list(row, "graphs"),
+    };
+    match reader.trouble.take() {
+        None => Ok(graphs),
+        Some(trouble) => Err(trouble),
+    }
 }

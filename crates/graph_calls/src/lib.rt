@@ -7,6 +7,7 @@ pub mod expressions;
 mod graphs;
 pub mod made_levels;
 pub mod models;
+mod parts;
 pub mod reading;
 pub mod resolving;
 mod shown;

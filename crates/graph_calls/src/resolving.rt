@@ -1,17 +1,18 @@
 // What is known of graphs before their configuration actors fire, and the values of their parameters after that.
-ghost use Rattle.std.specs.Prelude.{◌≡◌, ◌<◌, IfOk, length, slice_get};
+ghost use Rattle.std.specs.Prelude.{ℤ, ◌≡◌, ◌<◌, IfOk, List as Seq, length, slice_get};
 ghost use Rattle.std.specs.List.{count_by};
+ghost use Rattle.param_resolver.specs.EarlyCheck.{early_of};
 ghost use Rattle.pisdf_model.specs.Ports.{inherited_count, is_inherited};
 ghost use Rattle.pisdf_model.specs.Valid.{AreValid};
 
+use crate::made_levels::level_told;
+use crate::parts::told;
+use crate::shown::{Shown, Writing, text_of};
 use crate::signatures::signatures_of;
-use case_rows::{Trouble, answer_of, answer_of_lists, answer_of_smalls, numbers, quoted, small_or};
+use case_rows::{Trouble, answer_in, numbers, quoted, small_or};
 use graph_reader::read;
-use param_resolver::{
-    Early, EarlyFault, ResolveFault, Why, early, graphs_resolvable, part_name, resolve,
-};
+use param_resolver::{Early, EarlyFault, Why, early, graphs_resolvable, part_name, resolve};
 use pisdf_model::{Graph, Graphs, Param, ParamKind};
-use sdf_level::List;
 use serde_json::Value;
 use std::alloc::Global;
 
@@ -22,7 +23,7 @@ fn is_inherited(param: &Param) -> bool
 }
 
 /// How many parameters are inherited.
-pub(crate) fn inherited_of(params: &[Param]) -> usize
+fn inherited_of(params: &[Param]) -> usize
     ensures { result ≡ count_by (λ p. is_inherited p.kind) params.now }
 {
     params.iter().filter(|param| is_inherited(*param)).count()
@@ -32,8 +33,8 @@ pub(crate) fn inherited_of(params: &[Param]) -> usize
 pub(crate) fn graphs_read(alloc: Global, row: &Value) -> Result<Graphs, Trouble>
     ensures { IfOk result AreValid }
 {
-    let file = quoted(alloc, row, "file")?;
     let signatures = signatures_of(alloc, row)?;
+    let file = quoted(alloc, row, "file")?;
     match read(alloc, file.as_slice(), signatures.as_slice()) {
         Ok(graphs) => Ok(graphs),
         Err(_) => Err(Trouble::Member("file")),
@@ -41,83 +42,75 @@ pub(crate) fn graphs_read(alloc: Global, row: &Value) -> Result<Graphs, Trouble>
 }
 
 /// Why a number isn't what it may be: `value` and the number, `overflow` or `division`.
-pub(crate) fn text_of_cause(alloc: Global, why: Why) -> Result<String, Trouble> {
-    match why {
-        Why::Value(value) => Ok(format!(in alloc; "value {value}")?),
-        Why::Overflow => Ok(String::from_str(alloc, "overflow")?),
-        Why::Division => Ok(String::from_str(alloc, "division")?),
+impl Shown for Why {
+    fn show(&self, writing: &mut Writing) {
+        match self {
+            Why::Value(value) => writing.put(format_args!("value {value}")),
+            Why::Overflow => writing.put("overflow"),
+            Why::Division => writing.put("division"),
+        }
     }
 }
 
 /// Where the early check of a graph fails, and why: the place of the parameter or the word `rate`, behind the places of the
 /// actors that lead to the graph.
-pub(crate) fn text_of_fault(alloc: Global, fault: &EarlyFault) -> Result<String, Trouble> {
-    match fault {
-        EarlyFault::Param { param, why } => {
-            let why = text_of_cause(alloc, *why)?;
-            Ok(format!(in alloc; "param {param} {why}")?)
+impl Shown for EarlyFault {
+    fn show(&self, writing: &mut Writing) {
+        match self {
+            EarlyFault::Param { param, why } => {
+                writing.put(format_args!("param {param} "));
+                why.show(writing);
+            }
+            EarlyFault::Rate { name: _, why } => {
+                writing.put("rate ");
+                why.show(writing);
+            }
+            EarlyFault::Child { actor, fault } => {
+                writing.put(format_args!("actor {actor} "));
+                fault.show(writing);
+            }
+            EarlyFault::Memory => writing.is_whole = false,
         }
-        EarlyFault::Rate { name: _, why } => {
-            let why = text_of_cause(alloc, *why)?;
-            Ok(format!(in alloc; "rate {why}")?)
+    }
+}
+
+/// What is known of a graph, as a JSON text: the values of its parameters, `null` for each late one, the rates of its inputs
+/// and outputs, and for each configuration actor its arguments, its output rates, and what is known of the graph that it
+/// names, or `null`.
+impl Shown for Early {
+    fn show(&self, writing: &mut Writing) {
+        writing.put_list('[', self.values.items());
+        writing.put(format_args!(",{:?},{:?}", self.inputs.items(), self.outputs.items()));
+        writing.put_list(',', self.args.items());
+        writing.put_list(',', self.outs.items());
+        writing.put(",[");
+        let mut before = ' ';
+        for child in &self.children {
+            writing.put(before);
+            match child {
+                Some(child) => child.show(writing),
+                None => writing.put("null"),
+            }
+            before = ',';
         }
-        EarlyFault::Child { actor, fault } => {
-            let rest = text_of_fault(alloc, fault)?;
-            Ok(format!(in alloc; "actor {actor} {rest}")?)
-        }
-        EarlyFault::Memory => Err(Trouble::Memory),
+        writing.put("]]");
     }
 }
 
-/// A number, or `null`.
-fn answer_of_value(value: Option<i64>) -> Value {
-    match value {
-        Some(number) => Value::from(number),
-        None => Value::Null,
-    }
-}
-
-/// The values of the early parameters, and `null` for each late one.
-fn answer_of_values(alloc: Global, values: &[Option<i64>]) -> Result<Value, Trouble> {
-    let mut answers = Vec::new(alloc);
-    for value in values {
-        answers.push(answer_of_value(*value))?;
-    }
-    Ok(Value::from(answers))
-}
-
-/// The output rates of each configuration actor.
-pub(crate) fn answer_of_rates(alloc: Global, lists: &[List<u32>]) -> Result<Value, Trouble> {
-    let mut answers = Vec::new(alloc);
-    for list in lists {
-        answers.push(answer_of_smalls(alloc, list.items())?)?;
-    }
-    Ok(Value::from(answers))
-}
-
-/// What is known of a graph: the values of its parameters, the rates of its inputs and outputs, and for each configuration
-/// actor its arguments, its output rates, and what is known of the graph that it names, or `null`.
-pub(crate) fn answer_of_early(alloc: Global, early: &Early) -> Result<Value, Trouble> {
-    let mut children = Vec::new(alloc);
-    for child in &early.children {
-        children.push(match child {
-            Some(child) => answer_of_early(alloc, child)?,
-            None => Value::Null,
-        })?;
-    }
-    let values = vec![in alloc;
-        answer_of_values(alloc, early.values.items())?,
-        answer_of_smalls(alloc, early.inputs.items())?,
-        answer_of_smalls(alloc, early.outputs.items())?,
-        answer_of_lists(alloc, early.args.items())?,
-        answer_of_rates(alloc, early.outs.items())?,
-        Value::from(children),
-    ]?;
-    Ok(Value::from(values))
+/// The name of the part at which the early check of a graph fails, and where and why it does.
+fn fault_told(
+    alloc: Global,
+    graphs: &[Graph],
+    graph: &Graph,
+    fault: &EarlyFault,
+) -> Result<Value, Trouble> {
+    let name = part_name(alloc, graphs, graph, fault)?;
+    let fault = text_of(alloc, fault)?;
+    told(format!(in alloc; "{}: {fault}", name.text()))
 }
 
 /// The values of all parameters, or where there is a fault, and why.
-fn values_resolved(
+fn values_told(
     alloc: Global,
     graphs: &Graphs,
     place: u32,
@@ -130,32 +123,52 @@ fn values_resolved(
     graphs_resolvable();
     let graph = &graphs.graphs.items()[place as usize];
     match resolve(alloc, graph, early, chosen) {
-        Ok(values) => answer_of(alloc, values.items()),
-        Err(ResolveFault::Param { param, why }) => {
-            let why = text_of_cause(alloc, why)?;
-            Ok(Value::from(format!(in alloc; "param {param} {why}")?))
-        }
-        Err(ResolveFault::Memory) => Err(Trouble::Memory),
+        Ok(values) => answer_in(alloc, format!(in alloc; "{:?}", values.items())),
+        Err(fault) => told(text_of(alloc, &EarlyFault::from(fault))),
     }
 }
 
-/// The name of the part at which the early check of a graph fails, and where and why it does.
-fn fault_told(
-    alloc: Global,
-    graphs: &[Graph],
-    graph: &Graph,
-    fault: &EarlyFault,
-) -> Result<Value, Trouble> {
-    let text = text_of_fault(alloc, fault)?;
-    let name = part_name(alloc, graphs, graph, fault)?;
-    let name = name.text();
-    Ok(Value::from(format!(in alloc; "{name}: {text}")?))
+/// What is asked of a graph whose inherited parameters have values.
+#[derive(Clone, Copy)]
+pub(crate) enum Asked {
+    /// What is known before its configuration actors fire, or where the row has `chosen` values the values of all parameters.
+    Values,
+    /// Its level, where the chosen parameters have the row's `chosen` values.
+    Level,
 }
 
-/// What is known of the graph at the row's place, where its inherited parameters have these values; or, where the row has
-/// `chosen` values, the values of all parameters. Or the fault.
-pub fn resolved(alloc: Global, row: &Value) -> Result<Value, Trouble> {
-    let graphs = graphs_read(alloc, row)?;
+/// What is asked, of a graph of which this is known.
+fn asked_told(
+    alloc: Global,
+    row: &Value,
+    graphs: &Graphs,
+    place: u32,
+    early: &Early,
+    asked: Asked,
+) -> Result<Value, Trouble>
+    requires valid { AreValid graphs.now }
+    requires there { place < length graphs.now.graphs }
+    requires early { (inherited : Seq ℤ) × (early.now ≡ early_of graphs.now.graphs place inherited) }
+{
+    let chosen = numbers(alloc, row, "chosen")?;
+    match asked {
+        Asked::Level => level_told(alloc, graphs, place, early, chosen.as_slice()),
+        Asked::Values if row.get("chosen").is_some() => {
+            values_told(alloc, graphs, place, early, chosen.as_slice())
+        }
+        Asked::Values => answer_in(alloc, text_of(alloc, early)),
+    }
+}
+
+/// What is asked of the graph at the row's place, where its inherited parameters have the row's values, or the fault.
+pub(crate) fn told_of(
+    alloc: Global,
+    row: &Value,
+    graphs: &Graphs,
+    asked: Asked,
+) -> Result<Value, Trouble>
+    requires { AreValid graphs.now }
+{
     let place = small_or(row, "graph", graphs.top)?;
     let all = graphs.graphs.items();
     if place as usize >= all.len() {
@@ -166,13 +179,15 @@ pub fn resolved(alloc: Global, row: &Value) -> Result<Value, Trouble> {
     if inherited.len() != inherited_of(graph.params.items()) {
         return Err(Trouble::Member("inherited"));
     }
-    let known = match early(alloc, &graphs, place, inherited.as_slice()) {
-        Ok(known) => known,
-        Err(fault) => return fault_told(alloc, all, graph, &fault),
-    };
-    if row.get("chosen").is_none() {
-        return answer_of_early(alloc, &known);
+    match early(alloc, graphs, place, inherited.as_slice()) {
+        Ok(known) => asked_told(alloc, row, graphs, place, &known, asked),
+        Err(fault) => fault_told(alloc, all, graph, &fault),
     }
-    let chosen = numbers(alloc, row, "chosen")?;
-    values_resolved(alloc, &graphs, place, &known, chosen.as_slice())
+}
+
+/// What is known of the graph at the row's place, where its inherited parameters have these values; or, where the row has
+/// `chosen` values, the values of all parameters. Or the fault.
+pub fn resolved(alloc: Global, row: &Value) -> Result<Value, Trouble> {
+    let graphs = graphs_read(alloc, row)?;
+    told_of(alloc, row, &graphs, Asked::Values)
 }

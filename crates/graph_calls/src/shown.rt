@@ -1,9 +1,98 @@
-// Graphs as a short text, in which `#2` is the parameter at place 2.
-use case_rows::Trouble;
-use param_expr::{Expr, ExprForm, Op};
-use pisdf_model::{Actor, Body, End, Fifo, Graph, Graphs, Life, Param, ParamKind, Port};
-use std::alloc::Global;
-use std::fmt::Write;
+// Graphs as a short text, in which `#2` is the parameter at place 2, and lists as JSON texts.
+use param_expr::{Expr, ExprForm, Name, Op};
+use pisdf_model::{Actor, Body, End, Fifo, Graph, Graphs, Interface, Life, Param, ParamKind, Port};
+use sdf_level::List;
+use std::alloc::{AllocError, Global};
+use std::fmt::{Debug, Display};
+
+/// A text that is being written, and whether there was memory for all of it.
+#[derive(Drop)]
+pub(crate) struct Writing {
+    text: String,
+    pub(crate) is_whole: bool,
+}
+
+/// What is written as a text.
+pub(crate) trait Shown {
+    /// Writes it behind a text.
+    fn show(&self, writing: &mut Writing);
+}
+
+impl Writing {
+    /// Writes words behind the text.
+    pub(crate) fn put<D: Display + Drop>(&mut self, words: D) {
+        match self.text.write_fmt(words) {
+            Ok(()) => {}
+            Err(_refused) => self.is_whole = false,
+        }
+    }
+
+    /// Writes parts behind the text, each with these words before it.
+    pub(crate) fn put_each<T: Shown>(&mut self, before: &str, parts: &[T]) {
+        for part in parts {
+            self.put(before);
+            part.show(self);
+        }
+    }
+
+    /// Writes a list behind the text and this letter, where its parts are written as JSON texts.
+    pub(crate) fn put_list<T: Shown>(&mut self, letter: char, parts: &[T]) {
+        self.put(letter);
+        let mut before = '[';
+        for part in parts {
+            self.put(before);
+            part.show(self);
+            before = ',';
+        }
+        self.put(if parts.is_empty() { "[]" } else { "]" });
+    }
+}
+
+/// The text that is written.
+pub(crate) fn text_of<T: Shown>(alloc: Global, part: &T) -> Result<String, AllocError> {
+    let mut writing = Writing {
+        text: String::new(alloc),
+        is_whole: true,
+    };
+    part.show(&mut writing);
+    let Writing { text, is_whole } = writing;
+    if is_whole { Ok(text) } else { Err(AllocError) }
+}
+
+impl Shown for i64 {
+    fn show(&self, writing: &mut Writing) {
+        writing.put(*self);
+    }
+}
+
+impl Shown for u32 {
+    fn show(&self, writing: &mut Writing) {
+        writing.put(*self);
+    }
+}
+
+/// A number, or `null`.
+impl Shown for Option<i64> {
+    fn show(&self, writing: &mut Writing) {
+        match self {
+            Some(number) => writing.put(*number),
+            None => writing.put("null"),
+        }
+    }
+}
+
+/// A list of numbers, as a JSON text.
+impl<T: Debug> Shown for List<T> {
+    fn show(&self, writing: &mut Writing) {
+        writing.put(format_args!("{:?}", self.items()));
+    }
+}
+
+impl Shown for Name {
+    fn show(&self, writing: &mut Writing) {
+        writing.put(self.text());
+    }
+}
 
 fn sign(op: Op) -> &'static str {
     match op {
@@ -17,150 +106,123 @@ fn sign(op: Op) -> &'static str {
     }
 }
 
-fn show_expr(text: &mut String, expr: &Expr) -> Result<(), Trouble> {
-    match &expr.form {
-        ExprForm::Number(value) => write!(text, "{value}")?,
-        ExprForm::Param(place) => write!(text, "#{place}")?,
-        ExprForm::Binary(op, lhs, rhs) => {
-            text.push_str("(")?;
-            show_expr(text, lhs)?;
-            text.push_str(sign(*op))?;
-            show_expr(text, rhs)?;
-            text.push_str(")")?;
-        }
-    }
-    Ok(())
-}
-
-fn show_param(text: &mut String, param: &Param) -> Result<(), Trouble> {
-    write!(text, " {}:", param.name.text())?;
-    match &param.kind {
-        ParamKind::Inherited => text.push_str("in")?,
-        ParamKind::Derived(expr) => show_expr(text, expr)?,
-        ParamKind::Chosen => text.push_str("set")?,
-    }
-    write!(text, "[{},{}]", param.low, param.high)?;
-    Ok(())
-}
-
-/// A port or an interface behind its direction.
-fn show_port(text: &mut String, direction: &str, name: &str, rate: &Expr) -> Result<(), Trouble> {
-    write!(text, " {direction}{name}:")?;
-    show_expr(text, rate)
-}
-
-fn show_ports(text: &mut String, direction: &str, ports: &[Port]) -> Result<(), Trouble> {
-    for port in ports {
-        show_port(text, direction, port.name.text(), &port.rate)?;
-    }
-    Ok(())
-}
-
-fn show_args(text: &mut String, args: &[Expr]) -> Result<(), Trouble> {
-    for arg in args {
-        text.push_str(" ")?;
-        show_expr(text, arg)?;
-    }
-    Ok(())
-}
-
-fn show_actor(text: &mut String, actor: &Actor) -> Result<(), Trouble> {
-    write!(text, "\n  {}", actor.name.text())?;
-    match &actor.body {
-        Body::Kernel {
-            kernel,
-            args,
-            ins,
-            outs,
-        } => {
-            write!(text, " kernel {kernel}")?;
-            show_args(text, args.items())?;
-            show_ports(text, "<", ins.items())?;
-            show_ports(text, ">", outs.items())?;
-        }
-        Body::Config {
-            kernel,
-            args,
-            ins,
-            outs,
-            sets,
-        } => {
-            write!(text, " config {kernel}")?;
-            show_args(text, args.items())?;
-            for port in ins.items() {
-                write!(text, " <{}", port.text())?;
-            }
-            show_ports(text, ">", outs.items())?;
-            for place in sets.items() {
-                write!(text, " set {place}")?;
-            }
-        }
-        Body::Child { graph, args } => {
-            write!(text, " graph {graph}")?;
-            show_args(text, args.items())?;
-        }
-        Body::ConfigChild { graph, args, sets } => {
-            write!(text, " setgraph {graph}")?;
-            show_args(text, args.items())?;
-            for place in sets.items() {
-                write!(text, " set {place}")?;
+impl Shown for Expr {
+    fn show(&self, writing: &mut Writing) {
+        match &self.form {
+            ExprForm::Number(value) => writing.put(*value),
+            ExprForm::Param(place) => writing.put(format_args!("#{place}")),
+            ExprForm::Binary(op, lhs, rhs) => {
+                writing.put("(");
+                lhs.show(writing);
+                writing.put(sign(*op));
+                rhs.show(writing);
+                writing.put(")");
             }
         }
     }
-    Ok(())
 }
 
-fn show_end(text: &mut String, end: End) -> Result<(), Trouble> {
-    match end {
-        End::Interface(place) => write!(text, "{place}")?,
-        End::Port { actor, port } => write!(text, "{actor}.{port}")?,
+impl Shown for Param {
+    fn show(&self, writing: &mut Writing) {
+        writing.put(format_args!("{}:", self.name.text()));
+        match &self.kind {
+            ParamKind::Inherited => writing.put("in"),
+            ParamKind::Derived(expr) => expr.show(writing),
+            ParamKind::Chosen => writing.put("set"),
+        }
+        writing.put(format_args!("[{},{}]", self.low, self.high));
     }
-    Ok(())
 }
 
-fn show_fifo(text: &mut String, fifo: &Fifo) -> Result<(), Trouble> {
-    text.push_str("\n  ")?;
-    show_end(text, fifo.tail)?;
-    text.push_str(" to ")?;
-    show_end(text, fifo.head)?;
-    for token in fifo.delay.items() {
-        write!(text, " {token}")?;
+impl Shown for Interface {
+    fn show(&self, writing: &mut Writing) {
+        writing.put(format_args!("{}:", self.name.text()));
+        self.rate.show(writing);
     }
-    match fifo.life {
-        Life::Firing => text.push_str(" anew")?,
-        Life::Permanent => text.push_str(" on")?,
-    }
-    Ok(())
 }
 
-fn show_graph(text: &mut String, graph: &Graph) -> Result<(), Trouble> {
-    write!(text, "\n{}", graph.name.text())?;
-    for param in graph.params.items() {
-        show_param(text, param)?;
+impl Shown for Port {
+    fn show(&self, writing: &mut Writing) {
+        writing.put(format_args!("{}:", self.name.text()));
+        self.rate.show(writing);
     }
-    for interface in graph.inputs.items() {
-        show_port(text, "<", interface.name.text(), &interface.rate)?;
+}
+
+impl Shown for Actor {
+    fn show(&self, writing: &mut Writing) {
+        writing.put(self.name.text());
+        match &self.body {
+            Body::Kernel {
+                kernel,
+                args,
+                ins,
+                outs,
+            } => {
+                writing.put(format_args!(" kernel {kernel}"));
+                writing.put_each(" ", args.items());
+                writing.put_each(" <", ins.items());
+                writing.put_each(" >", outs.items());
+            }
+            Body::Config {
+                kernel,
+                args,
+                ins,
+                outs,
+                sets,
+            } => {
+                writing.put(format_args!(" config {kernel}"));
+                writing.put_each(" ", args.items());
+                writing.put_each(" <", ins.items());
+                writing.put_each(" >", outs.items());
+                writing.put_each(" set ", sets.items());
+            }
+            Body::Child { graph, args } => {
+                writing.put(format_args!(" graph {graph}"));
+                writing.put_each(" ", args.items());
+            }
+            Body::ConfigChild { graph, args, sets } => {
+                writing.put(format_args!(" setgraph {graph}"));
+                writing.put_each(" ", args.items());
+                writing.put_each(" set ", sets.items());
+            }
+        }
     }
-    for interface in graph.outputs.items() {
-        show_port(text, ">", interface.name.text(), &interface.rate)?;
+}
+
+impl Shown for Fifo {
+    fn show(&self, writing: &mut Writing) {
+        match self.tail {
+            End::Interface(place) => writing.put(format_args!("{place} to ")),
+            End::Port { actor, port } => writing.put(format_args!("{actor}.{port} to ")),
+        }
+        match self.head {
+            End::Interface(place) => writing.put(format_args!("{place}")),
+            End::Port { actor, port } => writing.put(format_args!("{actor}.{port}")),
+        }
+        writing.put_each(" ", self.delay.items());
+        match self.life {
+            Life::Firing => writing.put(" anew"),
+            Life::Permanent => writing.put(" on"),
+        }
     }
-    for place in graph.exports.items() {
-        write!(text, " export {place}")?;
+}
+
+impl Shown for Graph {
+    fn show(&self, writing: &mut Writing) {
+        writing.put(self.name.text());
+        writing.put_each(" ", self.params.items());
+        writing.put_each(" <", self.inputs.items());
+        writing.put_each(" >", self.outputs.items());
+        writing.put_each(" export ", self.exports.items());
+        writing.put_each("\n  ", self.actors.items());
+        writing.put_each("\n  ", self.fifos.items());
     }
-    for actor in graph.actors.items() {
-        show_actor(text, actor)?;
-    }
-    for fifo in graph.fifos.items() {
-        show_fifo(text, fifo)?;
-    }
-    Ok(())
 }
 
 /// The version and the place of the top graph, then the graphs.
-pub fn shown(alloc: Global, graphs: &Graphs) -> Result<String, Trouble> {
-    let mut text = format!(in alloc; "{} {}", graphs.version, graphs.top)?;
-    for graph in graphs.graphs.items() {
-        show_graph(&mut text, graph)?;
+impl Shown for Graphs {
+    fn show(&self, writing: &mut Writing) {
+        writing.put(format_args!("{} {}", self.version, self.top));
+        writing.put_each("\n", self.graphs.items());
     }
-    Ok(text)
 }

@@ -30,20 +30,20 @@ fn signature_of(name: &str) -> Result<Signature, Trouble> {
 
 /// The signatures of some kernels. The last is one of configuration actors, and has the name of the first.
 fn some(alloc: Global) -> Result<Vec<Signature>, Trouble> {
-    let mut some = Vec::new(alloc);
-    for name in SOME {
-        some.push(signature_of(name)?)?;
-    }
     let mut last = signature_of(SOME[0])?;
     last.config = true;
     last.sets_min = 1;
     last.sets_max = 1;
+    let mut some = Vec::new(alloc);
+    for name in SOME {
+        some.push(signature_of(name)?)?;
+    }
     some.push(last)?;
     Ok(some)
 }
 
 /// The signatures of all kernels, or those that the row names: `some`.
-pub fn signatures_of(alloc: Global, row: &Value) -> Result<Vec<Signature>, Trouble> {
+pub(crate) fn signatures_of(alloc: Global, row: &Value) -> Result<Vec<Signature>, Trouble> {
     if row.get("signatures").is_none() {
         return Ok(Vec::from_slice(alloc, Library.signatures())?);
     }

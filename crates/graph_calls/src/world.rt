@@ -1,18 +1,14 @@
 // Shelves and sinks in memory.
-use case_rows::{Trouble, bytes_of, items, small, text_of};
+use crate::parts::{pair, told_bytes};
+use case_rows::{Parts, Trouble, answer_of_text, bytes_of, items, small, text_of};
 use outer_world::{LoadFault, MemoryShelf, MemorySink, Shelf, Sink};
 use serde_json::Value;
 use std::alloc::Global;
 
 /// A file that is a name and a piece of text.
 fn file_of(alloc: Global, item: &Value, name: &'static str) -> Result<(String, Vec<u8>), Trouble> {
-    let Some(parts) = item.as_array() else {
-        return Err(Trouble::Member(name));
-    };
-    match parts.as_slice() {
-        [file, text] => Ok((text_of(alloc, file)?, bytes_of(alloc, text)?)),
-        _ => Err(Trouble::Member(name)),
-    }
+    let (file, text) = pair(item, name)?;
+    Ok((text_of(alloc, file)?, bytes_of(alloc, text)?))
 }
 
 /// The row's files of this name, each a name and a piece of text.
@@ -47,13 +43,8 @@ pub fn failing_loads(alloc: Global, row: &Value, name: &'static str) -> Result<V
 
 /// A put that fails.
 fn put_of(item: &Value, name: &'static str) -> Result<(u64, usize), Trouble> {
-    let Some(parts) = item.as_array() else {
-        return Err(Trouble::Member(name));
-    };
-    match parts.as_slice() {
-        [number, kept] => Ok((whole_of(number, name)?, whole_of(kept, name)? as usize)),
-        _ => Err(Trouble::Member(name)),
-    }
+    let (number, kept) = pair(item, name)?;
+    Ok((whole_of(number, name)?, whole_of(kept, name)? as usize))
 }
 
 /// The puts that fail, each by its number and the count of the bytes that it keeps.
@@ -73,40 +64,32 @@ pub fn failing_puts(
 pub fn text_after(alloc: Global, word: &str, bytes: &[u8]) -> Result<Value, Trouble> {
     let mut all = Vec::from_slice(alloc, word.as_bytes())?;
     all.extend_from_slice(bytes)?;
-    match String::from_utf8(all) {
-        Ok(text) => Ok(Value::from(text)),
-        Err(_) => Ok(Value::try_from_str(alloc, "bytes that are no text")?),
-    }
+    told_bytes(alloc, all)
 }
 
 /// The answer of a load, which is the name of a file and the most bytes that it may have.
 fn load_told(alloc: Global, shelf: &mut MemoryShelf, load: &Value) -> Result<Value, Trouble> {
-    let Some(parts) = load.as_array() else {
-        return Err(Trouble::Member("loads"));
-    };
-    let [name, most] = parts.as_slice() else {
-        return Err(Trouble::Member("loads"));
-    };
-    let name = text_of(alloc, name)?;
+    let (name, most) = pair(load, "loads")?;
     let most = whole_of(most, "loads")? as usize;
+    let name = text_of(alloc, name)?;
     match shelf.load(name.as_str(), most) {
         Ok(bytes) => text_after(alloc, "ok ", bytes.as_slice()),
-        Err(LoadFault::Failed) => Ok(Value::try_from_str(alloc, "failed")?),
-        Err(LoadFault::TooLong) => Ok(Value::try_from_str(alloc, "too long")?),
+        Err(LoadFault::Failed) => answer_of_text(alloc, "failed"),
+        Err(LoadFault::TooLong) => answer_of_text(alloc, "too long"),
         Err(LoadFault::Memory) => Err(Trouble::Memory),
     }
 }
 
 /// The answers of the row's loads from a shelf of the row's files.
 pub fn loads(alloc: Global, row: &Value) -> Result<Value, Trouble> {
-    let files = files_of(alloc, row, "files")?;
+    let loads = items(row, "loads")?;
     let failing = failing_loads(alloc, row, "failing")?;
-    let mut shelf = MemoryShelf::new(alloc, files, failing);
-    let mut answers = Vec::new(alloc);
-    for load in items(row, "loads")? {
-        answers.push(load_told(alloc, &mut shelf, load)?)?;
+    let mut shelf = MemoryShelf::new(alloc, files_of(alloc, row, "files")?, failing);
+    let mut answers = Parts::new(alloc);
+    for load in loads {
+        answers.add(load_told(alloc, &mut shelf, load));
     }
-    Ok(Value::from(answers))
+    answers.answer()
 }
 
 /// The answer of a put of a piece of text, with what the sink holds then.
@@ -121,12 +104,12 @@ fn put_told(alloc: Global, sink: &mut MemorySink, put: &Value) -> Result<Value, 
 
 /// The answers of the row's puts to a sink with so much room, each with what the sink holds then.
 pub fn puts(alloc: Global, row: &Value) -> Result<Value, Trouble> {
+    let puts = items(row, "puts")?;
     let room = small(row, "room")? as usize;
-    let failing = failing_puts(alloc, row, "failing")?;
-    let mut sink = MemorySink::new(alloc, room, failing)?;
-    let mut answers = Vec::new(alloc);
-    for put in items(row, "puts")? {
-        answers.push(put_told(alloc, &mut sink, put)?)?;
+    let mut sink = MemorySink::new(alloc, room, failing_puts(alloc, row, "failing")?)?;
+    let mut answers = Parts::new(alloc);
+    for put in puts {
+        answers.add(put_told(alloc, &mut sink, put));
     }
-    Ok(Value::from(answers))
+    answers.answer()
 }

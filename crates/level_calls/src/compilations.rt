@@ -1,53 +1,43 @@
 // Compilations of levels, and how they are kept.
-use crate::schedules::{rows_of_edges, text_of_nodes, word_of};
+use crate::schedules::{deadlock_text, limit_text, rows_of_edges, text_of_nodes};
 use crate::solving::text_of_turns;
-use case_rows::{Trouble, answer_of_smalls, items, level_of, level_with, numbers, small, small_or};
+use case_rows::{Trouble, answer_in, items, level_of, level_with, numbers, small, small_or};
 use job_compiler::{CompileFault, Compiled, Kept, Key, compile, kept};
 use sdf_level::List;
 use serde_json::Value;
-use std::alloc::Global;
+use std::alloc::{AllocError, Global};
 use std::sync::Arc;
 
-/// The answer that tells why a level has no compilation: `rates`; or what is over its limit, with its count; or `deadlock`
-/// with the counts left.
-fn fault_of(alloc: Global, fault: CompileFault) -> Result<Value, Trouble> {
+/// Why a level has no compilation: `rates`; or what is over its limit; or a deadlock.
+fn fault_text(alloc: Global, fault: &CompileFault) -> Result<String, AllocError> {
     match fault {
-        CompileFault::Rates => Ok(Value::try_from_str(alloc, "rates")?),
-        CompileFault::Limit { what, value } => {
-            let word = word_of(what);
-            Ok(Value::from(format!(in alloc; "{word} {value}")?))
-        }
-        CompileFault::Deadlock { left } => {
-            let word = Value::try_from_str(alloc, "deadlock")?;
-            let left = answer_of_smalls(alloc, left.items())?;
-            let values = vec![in alloc; word, left]?;
-            Ok(Value::from(values))
-        }
-        CompileFault::Memory => Err(Trouble::Memory),
+        CompileFault::Rates => format!(in alloc; "\"rates\""),
+        CompileFault::Limit { what, value } => limit_text(alloc, *what, *value),
+        CompileFault::Deadlock { left } => deadlock_text(alloc, left.items()),
+        CompileFault::Memory => Err(AllocError),
     }
+}
+
+/// The order of a compilation, its nodes, counts, edges and ranks.
+fn graph_text(alloc: Global, compiled: &Compiled) -> Result<String, AllocError> {
+    let order = text_of_turns(alloc, compiled.order())?;
+    let nodes = text_of_nodes(alloc, compiled.graph().nodes.items())?;
+    let edges = rows_of_edges(alloc, compiled.graph().edges.items())?;
+    let counts = compiled.counts();
+    let ranks = compiled.graph().ranks.items();
+    format!(in alloc; "{order:?}, {nodes:?}, {counts:?}, {edges:?}, {ranks:?}")
 }
 
 /// The parts of a compilation: order, nodes, counts, edges, ranks, offsets, height, homes, priorities, and the numbers of
 /// actors and workers that it was made for.
-fn parts_of(alloc: Global, compiled: &Compiled) -> Result<Value, Trouble> {
-    let order = text_of_turns(alloc, compiled.order())?;
-    let nodes = text_of_nodes(alloc, compiled.graph().nodes.items())?;
-    let mut priorities = Vec::new(alloc);
-    for priority in compiled.mapping().priority.items() {
-        priorities.push(Value::from(*priority))?;
-    }
-    let mut values = Vec::new(alloc);
-    values.push(Value::from(order))?;
-    values.push(Value::from(nodes))?;
-    values.push(answer_of_smalls(alloc, compiled.counts())?)?;
-    values.push(rows_of_edges(alloc, compiled.graph().edges.items())?)?;
-    values.push(answer_of_smalls(alloc, compiled.graph().ranks.items())?)?;
-    values.push(answer_of_smalls(alloc, compiled.placement().offsets.items())?)?;
-    values.push(Value::from(compiled.placement().height))?;
-    values.push(answer_of_smalls(alloc, compiled.mapping().home.items())?)?;
-    values.push(Value::from(priorities))?;
-    values.push(answer_of_smalls(alloc, &[compiled.level().actors, compiled.workers()])?)?;
-    Ok(Value::from(values))
+fn text_of(alloc: Global, compiled: &Compiled) -> Result<String, AllocError> {
+    let graph = graph_text(alloc, compiled)?;
+    let offsets = compiled.placement().offsets.items();
+    let height = compiled.placement().height;
+    let home = compiled.mapping().home.items();
+    let priority = compiled.mapping().priority.items();
+    let made_for = [compiled.level().actors, compiled.workers()];
+    format!(in alloc; "[{graph}, {offsets:?}, {height}, {home:?}, {priority:?}, {made_for:?}]")
 }
 
 /// The compilation of the row's level for so many workers, or why it has none.
@@ -58,8 +48,8 @@ pub fn compilation(alloc: Global, row: &Value) -> Result<Value, Trouble> {
         return Err(Trouble::Member("workers"));
     }
     match compile(alloc, &level, workers) {
-        Ok(compiled) => parts_of(alloc, &compiled),
-        Err(fault) => fault_of(alloc, fault),
+        Ok(compiled) => answer_in(alloc, text_of(alloc, &compiled)),
+        Err(fault) => answer_in(alloc, fault_text(alloc, &fault)),
     }
 }
 
@@ -100,11 +90,11 @@ fn keep_all(alloc: Global, kept: &mut Kept, step: &Value) -> Result<(), Trouble>
 }
 
 /// The number of actors of the compilation that is found, -1 where none is.
-fn found_by(alloc: Global, kept: &mut Kept, step: &Value) -> Result<Value, Trouble> {
+fn found_by(alloc: Global, kept: &mut Kept, step: &Value) -> Result<i64, Trouble> {
     let key = key_of(alloc, step, small(step, "find")?, 0)?;
     match kept.find(&key)? {
-        Some(compiled) => Ok(Value::from(compiled.level().actors)),
-        None => Ok(Value::from(-1i64)),
+        Some(compiled) => Ok(i64::from(compiled.level().actors)),
+        None => Ok(-1),
     }
 }
 
@@ -121,5 +111,5 @@ pub fn kept_by(alloc: Global, row: &Value) -> Result<Value, Trouble> {
             found.push(found_by(alloc, &mut kept, step)?)?;
         }
     }
-    Ok(Value::from(found))
+    answer_in(alloc, format!(in alloc; "{found:?}"))
 }

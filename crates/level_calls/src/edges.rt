@@ -1,5 +1,5 @@
 // Graphs of nodes and edges, as the rows of placement and mapping give them.
-ghost use Rattle.std.specs.Prelude.{◌≡◌, ◌<◌, ◌≤◌, ℕ, All, IsTrue, length, slice_index, sum, ◌^◌};
+ghost use Rattle.std.specs.Prelude.{◌≡◌, ◌<◌, IfOk, IsTrue, length, slice_index};
 ghost use Rattle.worker_mapping.specs.Graph.{AreThere, Rise};
 
 use case_rows::{Trouble, items, small, small_of, smalls};
@@ -79,4 +79,39 @@ pub fn rise(ranks: &[u32], edges: &[(u32, u32)]) -> bool
     edges
         .iter()
         .all(|edge| rank_at(ranks, edge.0) < rank_at(ranks, edge.1))
+}
+
+/// The nodes of a row with their costs, and workers for them.
+#[derive(Drop)]
+pub struct Costed {
+    pub graph: Edges,
+    /// The cost of each node.
+    pub costs: Vec<u32>,
+    pub workers: u32,
+}
+
+/// The row's nodes, edges, ranks, costs and workers, where a schedule can be made for them.
+pub fn costed_of(alloc: Global, row: &Value) -> Result<Costed, Trouble>
+    ensures there { IfOk result (λ c. AreThere c.graph.nodes c.graph.edges.items) }
+    ensures ranks { IfOk result (λ c. length c.graph.ranks.items ≡ c.graph.nodes) }
+    ensures rising { IfOk result (λ c. Rise c.graph.ranks.items c.graph.edges.items) }
+    ensures costs { IfOk result (λ c. length c.costs.items ≡ c.graph.nodes) }
+    ensures workers { IfOk result (λ c. 0 < c.workers) }
+{
+    let workers = small(row, "workers")?;
+    let costs = smalls(alloc, row, "costs")?;
+    let graph = edges_of(alloc, row)?;
+    let nodes = graph.nodes as usize;
+    if graph.ranks.len() != nodes || costs.len() != nodes || workers == 0 {
+        return Err(Trouble::Member("costs"));
+    }
+    let edges = graph.edges.as_slice();
+    if !are_there(graph.nodes, edges) || !rise(graph.ranks.as_slice(), edges) {
+        return Err(Trouble::Member("edges"));
+    }
+    Ok(Costed {
+        graph,
+        costs,
+        workers,
+    })
 }

@@ -1,46 +1,61 @@
-// What a frame holds, as parts of an answer.
+// What a frame holds, as JSON texts.
 ghost use Rattle.kernel_gate.specs.Leased.{AreWhole};
 
-use case_rows::{Trouble, answer_of};
 use kernel_gate::{Frame, Lent};
-use serde_json::Value;
 use split_block::Lease;
-use std::alloc::Global;
+use std::alloc::{AllocError, Global};
+use std::fmt::Write;
 
-/// The arguments, the tokens of the input and the output ports, and the sets of a frame.
-#[derive(Drop)]
-pub struct FrameParts {
-    pub args: Value,
-    pub inputs: Value,
-    pub outputs: Value,
-    pub sets: Value,
+/// What of a frame is told.
+#[derive(Clone, Copy)]
+pub enum Told {
+    /// Its arguments, the tokens of its input and of its output ports, and its sets, one after the other.
+    Parts,
+    /// The tokens of its output ports, and its sets.
+    Results,
+    /// The tokens of its output ports.
+    Outputs,
 }
 
 /// The cells of each lease.
-fn cells_of(alloc: Global, leases: &[Lease]) -> Result<Value, Trouble> {
-    let mut values = Vec::new(alloc);
+fn cells_text(alloc: Global, leases: &[Lease]) -> Result<String, AllocError> {
+    let mut text = String::from_str(alloc, "[")?;
+    let mut before = "";
     for lease in leases {
-        values.push(answer_of(alloc, lease.as_slice())?)?;
+        let cells = lease.as_slice();
+        write!(text, "{before}{cells:?}")?;
+        before = ", ";
     }
-    Ok(Value::from(values))
+    text.push(']')?;
+    Ok(text)
 }
 
 /// What the parts of a frame hold.
-pub fn parts_of(alloc: Global, lent: &Lent) -> Result<FrameParts, Trouble> {
-    Ok(FrameParts {
-        args: answer_of(alloc, lent.args.as_slice())?,
-        inputs: cells_of(alloc, lent.inputs.as_slice())?,
-        outputs: cells_of(alloc, lent.outputs.as_slice())?,
-        sets: answer_of(alloc, lent.sets.as_slice())?,
-    })
+pub fn parts_text(alloc: Global, lent: &Lent) -> Result<String, AllocError> {
+    let inputs = cells_text(alloc, lent.inputs.as_slice())?;
+    let outputs = cells_text(alloc, lent.outputs.as_slice())?;
+    let args = lent.args.as_slice();
+    let sets = lent.sets.as_slice();
+    format!(in alloc; "{args:?}, {inputs}, {outputs}, {sets:?}")
+}
+
+/// What a frame holds once its kernel was fired.
+fn results_text(alloc: Global, lent: &Lent) -> Result<String, AllocError> {
+    let outputs = cells_text(alloc, lent.outputs.as_slice())?;
+    let sets = lent.sets.as_slice();
+    format!(in alloc; "[{outputs}, {sets:?}]")
 }
 
 /// What a frame holds, which is given up.
-pub fn given_up(alloc: Global, frame: Frame) -> Result<FrameParts, Trouble>
+pub fn given_up(alloc: Global, frame: Frame, told: Told) -> Result<String, AllocError>
     requires { AreWhole frame.places }
 {
     let lent = frame.take_back();
-    let parts = parts_of(alloc, &lent);
+    let text = match told {
+        Told::Parts => parts_text(alloc, &lent),
+        Told::Results => results_text(alloc, &lent),
+        Told::Outputs => cells_text(alloc, lent.outputs.as_slice()),
+    };
     Frame::lend(lent).end();
-    parts
+    text
 }

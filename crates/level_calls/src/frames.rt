@@ -5,9 +5,9 @@ ghost use Rattle.kernel_gate.specs.Leased.{AreWhole};
 ghost use Rattle.kernel_gate.specs.Value.{lengths};
 ghost use Rattle.special_actors.specs.Fitting.{HasLengths, IsFrameOf};
 
-use crate::frame_parts::given_up;
+use crate::frame_parts::{Told, given_up};
 use case_rows::{
-    Trouble, answer_of_smalls, lists, lists_of, numbers, small, small_or, smalls, total, word,
+    Trouble, answer_in, lists, lists_of, numbers, small, small_or, smalls, total, word,
 };
 use kernel_gate::Frame;
 use sdf_level::{List, Node};
@@ -23,10 +23,9 @@ pub fn started(alloc: Global, row: &Value) -> Result<Value, Trouble> {
     let outs = smalls(alloc, row, "outs")?;
     let sets = small_or(row, "sets", 0)?;
     let frame = Frame::start(alloc, kind, args, inputs, outs.as_slice(), sets)?;
-    let kind = answer_of_smalls(alloc, &[frame.kind()]);
-    let parts = given_up(alloc, frame)?;
-    let values = vec![in alloc; kind?, parts.args, parts.inputs, parts.outputs, parts.sets]?;
-    Ok(Value::from(values))
+    let kind = frame.kind();
+    let parts = given_up(alloc, frame, Told::Parts)?;
+    answer_in(alloc, format!(in alloc; "[[{kind}], {parts}]"))
 }
 
 /// The row's node: the word for what it is, its number, and the turn of a Fork or a Join.
@@ -110,5 +109,5 @@ pub fn copied(alloc: Global, row: &Value) -> Result<Value, Trouble> {
     let outs = smalls(alloc, row, "outs")?;
     let mut frame = frame_of(alloc, &node, inputs, outs.as_slice())?;
     run_special(&node, &mut frame);
-    Ok(given_up(alloc, frame)?.outputs)
+    answer_in(alloc, given_up(alloc, frame, Told::Outputs))
 }

@@ -6,8 +6,8 @@ ghost use Rattle.kernel_gate.specs.Table.{the_signatures};
 ghost use Rattle.kernel_gate.specs.Leased.{AreWhole};
 ghost use Rattle.level_calls.specs.Signatures.{HasKernel};
 
-use crate::frame_parts::given_up;
-use case_rows::{Trouble, lists, lists_of, numbers, small_or, smalls, word};
+use crate::frame_parts::{Told, given_up};
+use case_rows::{Trouble, answer_in, lists, lists_of, numbers, small_or, smalls, word};
 use kernel_gate::{Frame, Gate, KernelFault, Signature};
 use kernel_library::Library;
 use sdf_level::List;
@@ -91,12 +91,9 @@ fn fire(alloc: Global, mut frame: Frame) -> Result<Value, Trouble>
     requires whole { AreWhole frame.places }
 {
     let fired = Library.fire(&mut frame);
-    let parts = given_up(alloc, frame)?;
+    let results = given_up(alloc, frame, Told::Results);
     match fired {
-        Ok(()) => {
-            let values = vec![in alloc; parts.outputs, parts.sets]?;
-            Ok(Value::from(values))
-        }
+        Ok(()) => answer_in(alloc, results),
         Err(fault) => Ok(Value::try_from_str(alloc, word_of(fault))?),
     }
 }

@@ -7,9 +7,9 @@ ghost use Rattle.kernel_gate.specs.Value.{SameFrame};
 ghost use Rattle.split_block.specs.View.{lease_place};
 ghost use Rattle.level_calls.specs.Signatures.{HasKernel};
 
-use crate::frame_parts::{FrameParts, parts_of};
+use crate::frame_parts::parts_text;
 use crate::kernels::{has_kernel, place_of, word_of};
-use case_rows::{Trouble, answer_of, numbers, small, smalls, word};
+use case_rows::{Trouble, answer_in, numbers, small, smalls, word};
 use cell_pool::Pool;
 use kernel_gate::{Frame, Gate, KernelFault, Lent, Room, RoomSize};
 use kernel_library::Library;
@@ -35,12 +35,11 @@ fn cut_in_two(alloc: Global, cells: Vec<i64>, at: u32) -> Result<Value, Trouble>
     requires { at ≤ length cells.items }
 {
     let (left, right) = Lease::from_vec(cells).split(at);
-    let first = answer_of(alloc, left.as_slice());
-    let second = answer_of(alloc, right.as_slice());
+    let (first, second) = (left.as_slice(), right.as_slice());
+    let parts = format!(in alloc; "{first:?}, {second:?}");
     let cells = left.join(right).into_vec();
-    let whole = answer_of(alloc, cells.as_slice())?;
-    let values = vec![in alloc; first?, second?, whole]?;
-    Ok(Value::from(values))
+    let parts = parts?;
+    answer_in(alloc, format!(in alloc; "[{parts}, {cells:?}]"))
 }
 
 /// What both leases of the row's block hold that is cut at a place, and then the whole block. Where the row has no place,
@@ -52,7 +51,7 @@ pub fn cut(alloc: Global, row: &Value) -> Result<Value, Trouble> {
     }
     if row.get("at").is_none() {
         let whole = cut_in_ones(Lease::from_vec(cells)).into_vec();
-        return answer_of(alloc, whole.as_slice());
+        return answer_in(alloc, format!(in alloc; "{whole:?}"));
     }
     let at = small(row, "at")?;
     if at as usize > cells.len() {
@@ -97,14 +96,13 @@ fn two_leases(
     let mut pool = Pool::start(alloc, height, 2)?;
     let one = pool.take(first.0, first.1);
     let two = pool.take(second.0, second.1);
-    let held = answer_of(alloc, one.as_slice());
-    let other = answer_of(alloc, two.as_slice());
+    let (held, other) = (one.as_slice(), two.as_slice());
+    let leases = format!(in alloc; "{held:?}, {other:?}");
     pool.give(two);
     pool.give(one);
     let cells = pool.close();
-    let cells = answer_of(alloc, cells.as_slice())?;
-    let values = vec![in alloc; held?, other?, cells]?;
-    Ok(Value::from(values))
+    let leases = leases?;
+    answer_in(alloc, format!(in alloc; "[{leases}, {cells:?}]"))
 }
 
 /// What the two leases of the row's pool hold, which are out at once, and then the cells of the pool.
@@ -171,31 +169,16 @@ fn fire_if(fires: bool, frame: &mut Frame) -> Result<(), KernelFault>
     Ok(())
 }
 
-/// The word for what a firing gave, what the leases of the frame held then, and the block that they made.
-fn answer_of_lent(
-    alloc: Global,
-    fired: Result<(), KernelFault>,
-    parts: FrameParts,
-    cells: &[i64],
-) -> Result<Value, Trouble> {
-    let told = match fired {
+/// The word for what a firing gave.
+fn outcome_of(fired: Result<(), KernelFault>) -> &'static str {
+    match fired {
         Ok(()) => "ok",
         Err(fault) => word_of(fault),
-    };
-    let told = Value::try_from_str(alloc, told)?;
-    let cells = answer_of(alloc, cells)?;
-    let values = vec![in alloc;
-        told,
-        parts.args,
-        parts.inputs,
-        parts.outputs,
-        parts.sets,
-        cells,
-    ]?;
-    Ok(Value::from(values))
+    }
 }
 
-/// A frame over the two leases of a cut block, the first its input and the second its output: what its firing gives.
+/// A frame over the two leases of a cut block, the first its input and the second its output: the word for what its firing gave,
+/// what the frame held then, and the block that the leases made.
 fn lend_both(
     alloc: Global,
     kind: u32,
@@ -218,7 +201,7 @@ fn lend_both(
     let mut frame = frame_over(room, kind, args, sets, left, right);
     let fired = fire_if(fires, &mut frame);
     let lent = frame.take_back();
-    let parts = parts_of(alloc, &lent);
+    let parts = parts_text(alloc, &lent);
     let Lent {
         kind: _,
         args: _,
@@ -227,7 +210,12 @@ fn lend_both(
         sets: _,
     } = Box::into_inner(lent);
     let cells = only(inputs).join(only(outputs)).into_vec();
-    answer_of_lent(alloc, fired, parts?, cells.as_slice())
+    let parts = parts?;
+    let outcome = outcome_of(fired);
+    answer_in(
+        alloc,
+        format!(in alloc; "[{outcome:?}, {parts}, {cells:?}]"),
+    )
 }
 
 /// What the row's kernel gives over two leases of one block, which are taken back and joined: the row has its arguments,

@@ -1,22 +1,11 @@
 // The lines of links: what firings read of them and put on them, and what a run leaves of them.
 ghost use Rattle.std.specs.Prelude.{◌≡◌, length};
 
-use case_rows::{
-    Trouble, answer_of, answer_of_lists, items, level_of, lists, lists_of, numbers, small, smalls,
-};
+use case_rows::{Trouble, answer_in, level_of, lists, lists_of, lists_text, small, smalls};
 use level_lines::{kept, left, ports_of, put, read};
-use sdf_level::{Level, List};
+use sdf_level::Level;
 use serde_json::Value;
 use std::alloc::Global;
-
-/// The answer that these lines are.
-fn answer_of_lines(alloc: Global, lines: &[Vec<i64>]) -> Result<Value, Trouble> {
-    let mut values = Vec::new(alloc);
-    for line in lines {
-        values.push(answer_of(alloc, line.as_slice())?)?;
-    }
-    Ok(Value::from(values))
-}
 
 /// What the firing `read` of the row, an actor and the number of the firing, reads at each input port.
 fn inputs_read(
@@ -39,7 +28,7 @@ fn inputs_read(
             }
             let ports = ports_of(alloc, level)?;
             let inputs = read(alloc, level, &ports, sources.items(), lines, *actor, *turn)?;
-            answer_of_lists(alloc, inputs.items())
+            answer_in(alloc, lists_text(alloc, inputs.items()))
         }
         _ => Err(Trouble::Member("read")),
     }
@@ -61,7 +50,7 @@ fn outputs_put(
     let outputs = lists_of(alloc, lists(alloc, row, "outputs")?.as_slice())?;
     let ports = ports_of(alloc, level)?;
     put(level, &ports, lines, actor, outputs.items())?;
-    answer_of_lines(alloc, lines)
+    answer_in(alloc, format!(in alloc; "{lines:?}"))
 }
 
 /// What is left on each link, of which the row's lines are all the tokens, after the row's counts of firings.
@@ -78,7 +67,7 @@ fn lines_left(
         return Err(Trouble::Member("counts"));
     }
     let lists = left(alloc, level, counts.as_slice(), lines)?;
-    answer_of_lists(alloc, lists.items())
+    answer_in(alloc, lists_text(alloc, lists.items()))
 }
 
 /// Of the row's level and the `lines` of its links: what the firing `read` reads; or the lines after the firing `put`; or
@@ -99,5 +88,5 @@ pub fn lined(alloc: Global, row: &Value) -> Result<Value, Trouble> {
         return lines_left(alloc, row, &level, lines.as_slice());
     }
     let lists = kept(alloc, &level, lines.as_slice())?;
-    answer_of_lists(alloc, lists.items())
+    answer_in(alloc, lists_text(alloc, lists.items()))
 }

@@ -3,11 +3,11 @@ ghost use Rattle.std.specs.Prelude.{◌≡◌, ◌<◌, ◌≤◌, ◌^◌, All,
 ghost use Rattle.std.specs.List.{sum_by};
 
 use crate::edges::{edges_of, rank_at};
-use case_rows::{Trouble, answer_of_smalls, small, smalls};
-use order_memory::ordered;
+use case_rows::{Trouble, answer_in, lists_text, small, smalls};
+use order_memory::{Ordered, ordered};
 use sdf_level::{Edge, List, Node, SingleRate};
 use serde_json::Value;
-use std::alloc::Global;
+use std::alloc::{AllocError, Global};
 use worker_mapping::Mapping;
 
 /// The single-rate graph of a row, whose nodes are sources all, and whose ports are all 0.
@@ -100,15 +100,23 @@ fn is_sound(graph: &SingleRate) -> bool
         && space_of(edges).is_some()
 }
 
+/// The orders, the offsets and the height.
+fn text_of(alloc: Global, ordered: &Ordered) -> Result<String, AllocError> {
+    let orders = lists_text(alloc, ordered.orders.items())?;
+    let offsets = ordered.placement.offsets.items();
+    let height = ordered.placement.height;
+    format!(in alloc; "[{orders}, {offsets:?}, {height}]")
+}
+
 /// The orders of so many workers on which the row's nodes have these homes, and the offsets and the height of the placement
 /// of its buffers.
 pub fn orders_and_offsets(alloc: Global, row: &Value) -> Result<Value, Trouble> {
-    let graph = graph_of(alloc, row)?;
+    let workers = small(row, "workers")?;
     let mapping = Mapping {
         home: List::new(smalls(alloc, row, "home")?),
         priority: List::new(Vec::new(alloc)),
     };
-    let workers = small(row, "workers")?;
+    let graph = graph_of(alloc, row)?;
     let home = mapping.home.items();
     if home.len() < graph.nodes.items().len() || !are_workers(home, workers) {
         return Err(Trouble::Member("home"));
@@ -117,12 +125,5 @@ pub fn orders_and_offsets(alloc: Global, row: &Value) -> Result<Value, Trouble> 
         return Err(Trouble::Member("edges"));
     }
     let ordered = ordered(alloc, &graph, &mapping, workers)?;
-    let mut orders = Vec::new(alloc);
-    for order in ordered.orders.items() {
-        orders.push(answer_of_smalls(alloc, order.items())?)?;
-    }
-    let offsets = answer_of_smalls(alloc, ordered.placement.offsets.items())?;
-    let height = Value::from(ordered.placement.height);
-    let values = vec![in alloc; Value::from(orders), offsets, height]?;
-    Ok(Value::from(values))
+    answer_in(alloc, text_of(alloc, &ordered))
 }

@@ -1,8 +1,8 @@
 // Exclusions of buffers, placements and mappings.
 ghost use Rattle.std.specs.Prelude.{◌≡◌, ◌<◌, ◌≤◌, ◌^◌, All, IsTrue, length, sum};
 
-use crate::edges::{are_there, edges_of, pairs, rise};
-use case_rows::{Trouble, answer_of_smalls, items, small, smalls, total};
+use crate::edges::{are_there, costed_of, edges_of, pairs, rise};
+use case_rows::{Trouble, answer_in, small, smalls, total};
 use memory_exclusion::{Reach, reach};
 use placement::place;
 use placement_checker::{Exclusion, check};
@@ -66,15 +66,10 @@ fn reach_of(alloc: Global, row: &Value) -> Result<Reach, Trouble> {
 }
 
 /// The pairs of a buffer and a later one that may share cells, behind those that are there.
-fn push_sharing(
-    alloc: Global,
-    pairs: &mut Vec<Value>,
-    reach: &Reach,
-    e: u32,
-) -> Result<(), Trouble> {
+fn push_sharing(pairs: &mut Vec<[u32; 2]>, reach: &Reach, e: u32) -> Result<(), Trouble> {
     for f in 0..reach.range() {
         if e < f && !reach.excludes(e, f) {
-            pairs.push(answer_of_smalls(alloc, &[e, f])?)?;
+            pairs.push([e, f])?;
         }
     }
     Ok(())
@@ -85,9 +80,9 @@ pub fn shared(alloc: Global, row: &Value) -> Result<Value, Trouble> {
     let reach = reach_of(alloc, row)?;
     let mut pairs = Vec::new(alloc);
     for e in 0..reach.range() {
-        push_sharing(alloc, &mut pairs, &reach, e)?;
+        push_sharing(&mut pairs, &reach, e)?;
     }
-    Ok(Value::from(pairs))
+    answer_in(alloc, format!(in alloc; "{pairs:?}"))
 }
 
 /// Whether a placement is valid, or the pair that clashes.
@@ -104,7 +99,10 @@ fn checked<X: Exclusion>(
     }
     match check(sizes, exclusion, offsets.as_slice(), height) {
         Ok(()) => Ok(Value::try_from_str(alloc, "valid")?),
-        Err(clash) => answer_of_smalls(alloc, &[clash.e, clash.f]),
+        Err(clash) => {
+            let (e, f) = (clash.e, clash.f);
+            answer_in(alloc, format!(in alloc; "[{e}, {f}]"))
+        }
     }
 }
 
@@ -122,9 +120,9 @@ fn placed<X: Exclusion>(alloc: Global, sizes: &[u32], exclusion: &X) -> Result<V
         return Err(Trouble::Member("sizes"));
     }
     let placement = place(alloc, sizes, exclusion)?;
-    let offsets = answer_of_smalls(alloc, placement.offsets.items())?;
-    let values = vec![in alloc; offsets, Value::from(placement.height)]?;
-    Ok(Value::from(values))
+    let offsets = placement.offsets.items();
+    let height = placement.height;
+    answer_in(alloc, format!(in alloc; "[{offsets:?}, {height}]"))
 }
 
 /// The answer of `check` on the row's offsets and height where it has them, else that of `place`. The exclusions are
@@ -151,24 +149,16 @@ pub fn placement(alloc: Global, row: &Value) -> Result<Value, Trouble> {
 
 /// The homes and the priorities of the row's nodes, which have these costs, on so many workers.
 pub fn mapped(alloc: Global, row: &Value) -> Result<Value, Trouble> {
-    let graph = edges_of(alloc, row)?;
-    let edges = graph.edges.as_slice();
-    let ranks = graph.ranks.as_slice();
-    let costs = smalls(alloc, row, "costs")?;
-    let workers = small(row, "workers")?;
-    let nodes = graph.nodes as usize;
-    if ranks.len() != nodes || costs.len() != nodes || workers == 0 {
-        return Err(Trouble::Member("costs"));
-    }
-    if !are_there(graph.nodes, edges) || !rise(ranks, edges) {
-        return Err(Trouble::Member("edges"));
-    }
-    let mapping = map(alloc, graph.nodes, edges, ranks, costs.as_slice(), workers)?;
-    let mut priorities = Vec::new(alloc);
-    for priority in mapping.priority.items() {
-        priorities.push(Value::from(*priority))?;
-    }
-    let homes = answer_of_smalls(alloc, mapping.home.items())?;
-    let values = vec![in alloc; homes, Value::from(priorities)]?;
-    Ok(Value::from(values))
+    let costed = costed_of(alloc, row)?;
+    let mapping = map(
+        alloc,
+        costed.graph.nodes,
+        costed.graph.edges.as_slice(),
+        costed.graph.ranks.as_slice(),
+        costed.costs.as_slice(),
+        costed.workers,
+    )?;
+    let homes = mapping.home.items();
+    let priorities = mapping.priority.items();
+    answer_in(alloc, format!(in alloc; "[{homes:?}, {priorities:?}]"))
 }

@@ -1,42 +1,56 @@
 // The calls on levels: base vectors, repetition vectors, orders, and the links between two actors.
 use balance_solver::{Unsolved, repetition};
-use case_rows::{Trouble, answer_of_smalls, level_of, member, small, smalls};
+use case_rows::{Trouble, answer_in, level_of, member, small, smalls};
 use firing_order::{Stuck, order};
 use interface_rules::{InterfaceFault, factor, kept_from, repeated_at};
-use sdf_level::{Head, Level, Tail, Turn};
+use sdf_level::{Head, Level, List, Tail, Turn};
 use serde_json::Value;
-use std::alloc::Global;
+use std::alloc::{AllocError, Global};
 use std::fmt::Write;
 
 /// The base vector of the row's level, or that it has none.
 pub fn base(alloc: Global, row: &Value) -> Result<Value, Trouble> {
     let level = level_of(alloc, row)?;
     match repetition(alloc, &level) {
-        Ok(base) => answer_of_smalls(alloc, base.items()),
+        Ok(base) => {
+            let base = base.items();
+            answer_in(alloc, format!(in alloc; "{base:?}"))
+        }
         Err(Unsolved::NoVector) => Ok(Value::try_from_str(alloc, "none")?),
         Err(Unsolved::Memory) => Err(Trouble::Memory),
     }
 }
 
-/// The repetition vector of the row's level, or the first link where exactly one rate is 0.
+/// A repetition vector, or the first link where exactly one rate is 0.
+fn counts_text(
+    alloc: Global,
+    counts: &Result<List<u32>, InterfaceFault>,
+) -> Result<String, AllocError> {
+    match counts {
+        Ok(counts) => {
+            let counts = counts.items();
+            format!(in alloc; "{counts:?}")
+        }
+        Err(InterfaceFault::Mismatch { link }) => format!(in alloc; "\"mismatch {link}\""),
+        Err(InterfaceFault::Memory) => Err(AllocError),
+    }
+}
+
+/// The repetition vector of the row's level, or the first link where exactly one rate is 0, or that it has no base vector.
 pub fn counts(alloc: Global, row: &Value) -> Result<Value, Trouble> {
     let level = level_of(alloc, row)?;
-    let base = match repetition(alloc, &level) {
-        Ok(base) => base,
-        Err(Unsolved::NoVector) => return Ok(Value::try_from_str(alloc, "none")?),
-        Err(Unsolved::Memory) => return Err(Trouble::Memory),
-    };
-    match factor(alloc, &level, base.items()) {
-        Ok(counts) => answer_of_smalls(alloc, counts.items()),
-        Err(InterfaceFault::Mismatch { link }) => Ok(Value::from(format!(in alloc;
-            "mismatch {link}"
-        )?)),
-        Err(InterfaceFault::Memory) => Err(Trouble::Memory),
+    match repetition(alloc, &level) {
+        Ok(base) => {
+            let counts = factor(alloc, &level, base.items());
+            answer_in(alloc, counts_text(alloc, &counts))
+        }
+        Err(Unsolved::NoVector) => Ok(Value::try_from_str(alloc, "none")?),
+        Err(Unsolved::Memory) => Err(Trouble::Memory),
     }
 }
 
 /// The turns, each an actor and the number of its firing.
-pub fn text_of_turns(alloc: Global, turns: &[Turn]) -> Result<String, Trouble> {
+pub fn text_of_turns(alloc: Global, turns: &[Turn]) -> Result<String, AllocError> {
     let mut text = String::new(alloc);
     for turn in turns {
         let actor = turn.actor;
@@ -56,29 +70,30 @@ pub fn ordered(alloc: Global, row: &Value) -> Result<Value, Trouble> {
     }
     match order(alloc, &level, counts.as_slice()) {
         Ok(turns) => Ok(Value::from(text_of_turns(alloc, turns.items())?)),
-        Err(Stuck::Left(left)) => answer_of_smalls(alloc, left.items()),
+        Err(Stuck::Left(left)) => {
+            let left = left.items();
+            answer_in(alloc, format!(in alloc; "{left:?}"))
+        }
         Err(Stuck::Memory) => Err(Trouble::Memory),
     }
 }
 
-fn push_tail(text: &mut String, tail: Tail) -> Result<(), Trouble> {
+fn push_tail(text: &mut String, tail: Tail) -> Result<(), AllocError> {
     match tail {
-        Tail::Source(source) => write!(text, "source {source}")?,
-        Tail::Port { actor, port, rate } => write!(text, "{actor}.{port} {rate}")?,
+        Tail::Source(source) => write!(text, "source {source}"),
+        Tail::Port { actor, port, rate } => write!(text, "{actor}.{port} {rate}"),
     }
-    Ok(())
 }
 
-fn push_head(text: &mut String, head: Head) -> Result<(), Trouble> {
+fn push_head(text: &mut String, head: Head) -> Result<(), AllocError> {
     match head {
-        Head::Sink(sink) => write!(text, " -> sink {sink}")?,
-        Head::Port { actor, port, rate } => write!(text, " -> {actor}.{port} {rate}")?,
+        Head::Sink(sink) => write!(text, " -> sink {sink}"),
+        Head::Port { actor, port, rate } => write!(text, " -> {actor}.{port} {rate}"),
     }
-    Ok(())
 }
 
 /// The parts of the row's level: its actors, sources, sinks and links, and of these the ones between two actors.
-fn text_of_level(alloc: Global, level: &Level) -> Result<String, Trouble> {
+fn text_of_level(alloc: Global, level: &Level) -> Result<String, AllocError> {
     let mut text = String::new(alloc);
     let actors = level.actors;
     let sources = level.sources.items();
@@ -97,11 +112,10 @@ fn text_of_level(alloc: Global, level: &Level) -> Result<String, Trouble> {
     Ok(text)
 }
 
-/// The parts of the row's level, and those of its links that are between two actors.
-pub fn parts(alloc: Global, row: &Value) -> Result<Value, Trouble> {
-    let level = level_of(alloc, row)?;
-    let whole = text_of_level(alloc, &level)?;
-    let mut values = vec![in alloc; Value::from(whole)]?;
+/// The parts of a level, and then the links between two actors.
+fn parts_text(alloc: Global, level: &Level) -> Result<String, AllocError> {
+    let whole = text_of_level(alloc, level)?;
+    let mut text = format!(in alloc; "[{whole:?}")?;
     for link in level.inner_links(alloc)? {
         let ends = [
             link.tail,
@@ -110,9 +124,16 @@ pub fn parts(alloc: Global, row: &Value) -> Result<Value, Trouble> {
             link.consumed,
             link.delay,
         ];
-        values.push(answer_of_smalls(alloc, &ends)?)?;
+        write!(text, ", {ends:?}")?;
     }
-    Ok(Value::from(values))
+    text.push(']')?;
+    Ok(text)
+}
+
+/// The parts of the row's level, and those of its links that are between two actors.
+pub fn parts(alloc: Global, row: &Value) -> Result<Value, Trouble> {
+    let level = level_of(alloc, row)?;
+    answer_in(alloc, parts_text(alloc, &level))
 }
 
 /// The place of a list that an interface repeats, or the first place that it keeps of one.

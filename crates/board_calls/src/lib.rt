@@ -1,0 +1,17 @@
+//! Graphs that run on boards, by simulated workers, whose steps come in orders that tables tell, and by crews of threads: each line
+//! of a table is a JSON object with a graph, its tokens, and cases, each with the answer that is wanted.
+#![tactic(auto)]
+
+mod cases;
+mod crew;
+mod given;
+mod giving_back;
+mod held;
+mod holding;
+mod iterations;
+mod table;
+mod texts;
+mod told;
+mod turns;
+
+pub use table::run_table;

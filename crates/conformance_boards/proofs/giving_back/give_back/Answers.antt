@@ -1,6 +1,0 @@
-use Rattle.std.proofs.Common.{IsOk}
-use Rattle.conformance_boards.proofs.Answering.{comes_back}
-use Rattle.conformance_boards.proofs.giving_back.give_back.Goals as goal
-
-pub returns : goal.returns
-returns c = comes_back c.board_laws.ensures c.args.board.now c.finish_fire.new.self c.args.ticket.worker c.args.frame c.args.answer (IsOk c.args.answer) c.journal-before.ensures.sound c.journal-after.ensures.sound c.requires.runs c.finish_fire.ensures.finishes

@@ -1,5 +1,0 @@
-use Rattle.std.proofs.Common.{◌≡◌, length}
-use Rattle.conformance_jobs.proofs.frames.copy_through.Given as goal
-
-abbrev pub invariant-loop-port : goal.invariant-loop-port
-invariant-loop-port l = record { places : l.frame.places ≡ l.fn.frame.places; outs : length l.frame.outputs ≡ l.outs }

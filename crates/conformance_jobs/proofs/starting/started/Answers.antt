@@ -1,5 +1,0 @@
-use Rattle.conformance_jobs.proofs.HeldSteps.{none_claimed_first}
-use Rattle.conformance_jobs.proofs.starting.started.Goals as goal
-
-pub returns : goal.returns
-returns c = none_claimed_first c.in_ok-job.job.marks _ c.in_ok-job.ensures.free

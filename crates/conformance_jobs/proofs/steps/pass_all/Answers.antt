@@ -1,8 +1,0 @@
-use Rattle.conformance_jobs.proofs.HeldSteps.{keeps_first, keeps_on}
-use Rattle.conformance_jobs.proofs.steps.pass_all.Goals as goal
-
-pub loop-count-init : goal.loop-count-init
-loop-count-init c = keeps_first c.args.job.now
-
-pub loop-count-preserved : goal.loop-count-preserved
-loop-count-preserved c = keeps_on c.args.job.now c.loop-count.job c.pass.new.job c.loop-count.invariant c.pass.ensures

@@ -1,5 +1,0 @@
-use Rattle.conformance_jobs.specs.Held.{KeepsHeld}
-use Rattle.conformance_jobs.proofs.steps.pass_all.Given as goal
-
-abbrev pub invariant-loop-count : goal.invariant-loop-count
-invariant-loop-count l = KeepsHeld l.fn.job l.job

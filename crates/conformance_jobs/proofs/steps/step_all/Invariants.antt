@@ -1,5 +1,0 @@
-use Rattle.conformance_jobs.specs.Held.{Holds}
-use Rattle.conformance_jobs.proofs.steps.step_all.Given as goal
-
-abbrev pub invariant-loop-step : goal.invariant-loop-step
-invariant-loop-step l = Holds l.job l.frames

@@ -1,0 +1,107 @@
+// Jobs at their start.
+ghost use Rattle.std.specs.Prelude.{◌≡◌, length, map, IfOk};
+ghost use Rattle.std.specs.Bool.{OnTrue};
+ghost use Rattle.kernel_gate.specs.Value.{lengths};
+ghost use Rattle.sdf_level.specs.LevelRun.{HaveDelays};
+ghost use Rattle.job_calls.specs.Held.{HasNoneClaimed};
+
+use case_rows::{Trouble, items, level_of, lists, lists_of, small, small_of};
+use job_compiler::{Compiled, compile};
+use one_job::{Job, start};
+use sdf_level::{Link, List};
+use serde_json::Value;
+use std::alloc::{AllocError, Global};
+use std::sync::Arc;
+
+/// The row's lists of this name, as lists of tokens.
+pub(crate) fn token_lists(
+    alloc: Global,
+    row: &Value,
+    name: &'static str,
+) -> Result<List<List<i64>>, Trouble> {
+    Ok(lists_of(alloc, lists(alloc, row, name)?.as_slice())?)
+}
+
+/// The place of a kernel, or none.
+fn kind_of(item: &Value) -> Result<Option<u32>, Trouble> {
+    if item.as_u64().is_none() {
+        return Ok(None);
+    }
+    Ok(Some(small_of(item, "kinds")?))
+}
+
+/// The row's kinds: the place of a kernel for each actor, or none.
+fn kinds(alloc: Global, row: &Value) -> Result<List<Option<u32>>, Trouble> {
+    let mut kinds = Vec::new(alloc);
+    for item in items(row, "kinds")? {
+        kinds.push(kind_of(item)?)?;
+    }
+    Ok(List::new(kinds))
+}
+
+/// Whether these lists are as long as these numbers say.
+fn are_long(lists: &[List<i64>], lens: &[u32]) -> bool
+    ensures { OnTrue result (lengths lists.now ≡ lens.now) }
+{
+    if lists.len() != lens.len() {
+        return false;
+    }
+    for n in 0..lists.len() {
+        if lists[n].items().len() != lens[n] as usize {
+            return false;
+        }
+    }
+    true
+}
+
+/// The delay of each link.
+fn delays_of(alloc: Global, links: &[Link]) -> Result<Vec<u32>, AllocError>
+    ensures { IfOk result (λ v. v.items ≡ map (λ link. link.delay) links.now) }
+{
+    links.iter().map(|link| link.delay).collect(alloc)
+}
+
+/// Whether these lists are as long as the delays of these links.
+fn are_delays(alloc: Global, lists: &[List<i64>], links: &[Link]) -> Result<bool, Trouble>
+    ensures { IfOk result (λ are. OnTrue are (HaveDelays links.now lists.now)) }
+{
+    let delays = delays_of(alloc, links)?;
+    Ok(are_long(lists, &delays))
+}
+
+/// The row's compilation.
+fn compiled_of(alloc: Global, row: &Value) -> Result<Arc<Compiled>, Trouble> {
+    let level = level_of(alloc, row)?;
+    let workers = small(row, "workers")?;
+    if workers == 0 {
+        return Err(Trouble::Member("workers"));
+    }
+    match compile(alloc, &level, workers) {
+        Ok(compiled) => Ok(Arc::new(alloc, compiled)?),
+        Err(_) => Err(Trouble::Member("links")),
+    }
+}
+
+/// The row's job.
+pub(crate) fn started(alloc: Global, row: &Value) -> Result<Job, Trouble>
+    ensures { IfOk result HasNoneClaimed }
+{
+    let compiled = compiled_of(alloc, row)?;
+    let kinds = kinds(alloc, row)?;
+    let args = token_lists(alloc, row, "args")?;
+    let sources = token_lists(alloc, row, "sources")?;
+    let stored = token_lists(alloc, row, "stored")?;
+    let level = compiled.level();
+    let actors = level.actors as usize;
+    if kinds.items().len() != actors || args.items().len() != actors {
+        return Err(Trouble::Member("kinds"));
+    }
+    if !are_long(sources.items(), level.sources.items()) {
+        return Err(Trouble::Member("sources"));
+    }
+    if !are_delays(alloc, stored.items(), level.links.items())? {
+        return Err(Trouble::Member("stored"));
+    }
+    let job = start(alloc, compiled, kinds, args, sources, stored)?;
+    Ok(job)
+}
