@@ -9,7 +9,7 @@ use graph_calls::world::{failing_loads, failing_puts, files_of, text_after};
 use kernel_gate::Gate;
 use kernel_library::Library;
 use outer_world::{MemoryShelf, MemorySink};
-use pisdf_program::{Status, run_program};
+use pisdf_program::run_program;
 use serde_json::Value;
 use std::alloc::Global;
 use std::sync::Wait;
@@ -36,20 +36,6 @@ fn output_of(alloc: Global, row: &Value, failing: &'static str) -> Result<Memory
     Ok(MemorySink::new(alloc, room, failing_puts(alloc, row, failing)?)?)
 }
 
-/// What stands in two outputs, and a status.
-fn texts_of(
-    alloc: Global,
-    out: &MemorySink,
-    err: &MemorySink,
-    status: Status,
-) -> Result<Vec<Value>, Trouble> {
-    let mut texts = Vec::new(alloc);
-    texts.push(text_after(alloc, "", out.bytes())?)?;
-    texts.push(text_after(alloc, "", err.bytes())?)?;
-    texts.push(Value::from(status.code()))?;
-    Ok(texts)
-}
-
 /// What the program puts to its two outputs for the row's words, and its exit status. Where puts are to fail, the row has
 /// `failing_out` and `failing_err`.
 fn answers<K: Gate + Sync, R: Threads + Wait + Sync>(
@@ -73,7 +59,12 @@ fn answers<K: Gate + Sync, R: Threads + Wait + Sync>(
         &mut err,
         gate,
     );
-    texts_of(alloc, &out, &err, status)
+    let answers = vec![in alloc;
+        text_after(alloc, "", out.bytes())?,
+        text_after(alloc, "", err.bytes())?,
+        Value::from(status.code()),
+    ]?;
+    Ok(answers)
 }
 
 /// What the program puts to its two outputs, and its exit status.
