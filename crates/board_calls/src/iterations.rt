@@ -28,9 +28,9 @@ use kernel_gate::{Gate, lengths_given};
 use kernel_library::Library;
 use pisdf_meaning::{Delays, PlainFault, first_delays, runnable, sizes_kept, top_needs};
 use pisdf_model::Graphs;
+use quiescent_driver::lend_kept;
 use sdf_level::List;
 use std::alloc::{AllocError, Global};
-use std::mem;
 use std::sync::{Arc, Wait};
 use std::thread::Threads;
 use worker_crew::{board_laws, run_crew};
@@ -99,18 +99,6 @@ fn play_all(
     played?;
     finished?;
     has_ended(alloc, board, told)
-}
-
-/// Moves the compilations that are kept, if any are, into the board.
-fn lend_kept(board: &mut Board, kept: &mut Option<Kept>)
-    requires { AreAllIdle board.old }
-    ensures key { board.new.key ≡ board.old.key }
-    ensures idle { AreAllIdle board.new }
-{
-    match mem::replace(kept, None) {
-        Some(compilations) => board.put_kept(compilations),
-        None => {}
-    }
 }
 
 /// The outcome of a board of which no worker runs anything, where it has ended.

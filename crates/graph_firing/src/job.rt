@@ -109,7 +109,7 @@ impl OpenJob {
     }
 
     /// The place of a configuration actor among all actors of its graph.
-    pub fn config_place(&self, item: usize) -> usize
+    fn config_place(&self, item: usize) -> usize
         requires { item < compilation_of self.now }
         ensures { result ≡ slice_index (config_places (graph_in self.now)) item }
     {

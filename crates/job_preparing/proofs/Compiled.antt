@@ -12,7 +12,7 @@ use Rattle.sdf_level.specs.declared.single_rate.Edge.{Edge}
 use Rattle.single_rate.specs.Expanded.{edges, nodes}
 use Rattle.pisdf_meaning.specs.Causes.{unless_refused}
 use Rattle.pisdf_meaning.specs.Endings.{Then}
-use Rattle.pisdf_meaning.specs.Preparing.{Schedules, given_values, level_in, rated}
+use Rattle.pisdf_meaning.specs.Preparing.{Schedules, level_in, rated, supplied_values}
 use Rattle.pisdf_meaning.specs.declared.firing.Configured.{Configured}
 use Rattle.pisdf_meaning.specs.declared.firing.Firing.{Firing}
 use Rattle.pisdf_meaning.specs.declared.refusal.Refusal.{Refusal}
@@ -33,7 +33,7 @@ module _ (graphs : List Graph) (workers : ℕ) (firing : Firing) (left : List Co
   p = record { left = left; schedule = schedule_of c }
 
   pub values_are : values ≡ values_in g firing p
-  values_are = sym (unrefused graphs g firing.path (map as_refusal (param_faults g.params (given_values g firing left))) (numbers (values_of g.params (given_values g firing left))) values ready.values_are)
+  values_are = sym (unrefused graphs g firing.path (map as_refusal (param_faults g.params (supplied_values g firing left))) (numbers (values_of g.params (supplied_values g firing left))) values ready.values_are)
 
   pub level_is : c.level ≡ level_in graphs g firing (values_in g firing p)
   level_is = ready.level_is ∙ ready.set_is.level ∙ ap (level_in graphs g firing) values_are

@@ -12,7 +12,7 @@ use Rattle.level_schedule.specs.declared.scheduling.LevelSchedule.{LevelSchedule
 use Rattle.pisdf_meaning.specs.Causes.{unless_refused}
 use Rattle.pisdf_meaning.specs.Configuring.{Configuration, configurations}
 use Rattle.pisdf_meaning.specs.Endings.{Then}
-use Rattle.pisdf_meaning.specs.Preparing.{Schedules, chosen_from, chosen_values, given_values, level_in, rated, resolved, values_set}
+use Rattle.pisdf_meaning.specs.Preparing.{Schedules, chosen_from, chosen_values, level_in, rated, resolved, supplied_values, values_set}
 use Rattle.pisdf_meaning.specs.declared.firing.Configured.{Configured}
 use Rattle.pisdf_meaning.specs.declared.firing.Firing.{Firing}
 use Rattle.pisdf_meaning.specs.declared.outcome.TraceRow.{TraceRow}

@@ -24,5 +24,5 @@ pub use configuring::Configuring;
 pub use handing::{ConfiguredFiring, JobGiven};
 pub use kept_one::key_for;
 pub use left_told::LeftTold;
-pub use starting::configure;
+pub use starting::{configure, no_traces};
 pub use trace::Trace;

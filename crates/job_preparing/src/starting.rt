@@ -52,7 +52,11 @@ fn nothing_left(alloc: Global, count: usize) -> Result<Vec<Configured>, AllocErr
 }
 
 /// So many empty traces.
-fn no_traces(alloc: Global, count: usize) -> Result<Vec<Trace>, AllocError>
+///
+/// # Errors
+///
+/// Want of memory.
+pub fn no_traces(alloc: Global, count: usize) -> Result<Vec<Trace>, AllocError>
     ensures { IfOk result (λ v. v.items ≡ replicate count []) }
 {
     let mut traces = Vec::with_capacity(alloc, count)?;

@@ -10,7 +10,7 @@ use Rattle.pisdf_meaning.specs.Causes.{unless_refused}
 use Rattle.pisdf_meaning.specs.Configuring.{Configuration, LeaveAll, configurations}
 use Rattle.pisdf_meaning.specs.Endings.{End, Ends, Then}
 use Rattle.pisdf_meaning.specs.Meaning.{MeansWithin}
-use Rattle.pisdf_meaning.specs.Preparing.{Schedules, given_values, level_in, rated, resolved}
+use Rattle.pisdf_meaning.specs.Preparing.{Schedules, level_in, rated, resolved, supplied_values}
 use Rattle.pisdf_meaning.specs.Running.{RunsLevel}
 use Rattle.pisdf_meaning.proofs.KeptSizes.{gone}
 use Rattle.pisdf_meaning.specs.declared.firing.Configured.{Configured}
@@ -43,7 +43,7 @@ unrefused graphs g path (refusal ∷ faults) values v e = absurd (cc)
 
 module _ (graphs : List Graph) (g : Graph) (firing : Firing) (left : List Configured) where
   abbrev pub values : List ℤ
-  values = numbers (values_of g.params (given_values g firing left))
+  values = numbers (values_of g.params (supplied_values g firing left))
 
   abbrev Levels : List ℤ → Result LevelSchedule Refusal → Type 0
   Levels values end = Schedules g firing (level_in graphs g firing values) end

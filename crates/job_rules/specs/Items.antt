@@ -17,7 +17,7 @@ use Rattle.sdf_level.specs.declared.single_rate.Edge.{Edge}
 use Rattle.single_rate.specs.Expanded.{nodes, edges, place_of}
 use Rattle.level_schedule.specs.declared.scheduling.LevelSchedule.{LevelSchedule}
 use Rattle.pisdf_meaning.specs.Configuring.{Configuration, configurations, config_args, config_rates, config_firing, fed_to}
-use Rattle.pisdf_meaning.specs.Preparing.{given_values, level_in}
+use Rattle.pisdf_meaning.specs.Preparing.{level_in, supplied_values}
 use Rattle.pisdf_meaning.specs.Running.{Traces, child_firing, child_fires, given_by, link_starts, source_tokens}
 use Rattle.pisdf_meaning.specs.States.{tokens_at}
 use Rattle.pisdf_meaning.specs.declared.outcome.TraceRow.{TraceRow}
@@ -90,7 +90,7 @@ prepared_in g v = prepared_by (left_in g v) (schedule_of (v (compile_number g)))
 
 -- the values of its parameters, its level, and the nodes and edges of its single-rate graph
 abbrev pub values_in : Graph → Firing → Prepared → List ℤ
-values_in g firing p = numbers (values_of g.params (given_values g firing p.left))
+values_in g firing p = numbers (values_of g.params (supplied_values g firing p.left))
 
 abbrev pub level_of : List Graph → Graph → Firing → Prepared → LevelView
 level_of graphs g firing p = level_in graphs g firing (values_in g firing p)

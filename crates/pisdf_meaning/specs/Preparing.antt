@@ -52,12 +52,12 @@ chosen_values g left = chosen_from (values_set (configurations g) left) 0 g.para
 
 -- ---- the values of all parameters, and the rates
 
-abbrev pub given_values : Graph → Firing → List Configured → List (Option ℤ)
-given_values g firing left = supplied_to g.params firing.inherited (chosen_values g left)
+abbrev pub supplied_values : Graph → Firing → List Configured → List (Option ℤ)
+supplied_values g firing left = supplied_to g.params firing.inherited (chosen_values g left)
 
 -- what each parameter comes to, or the refusal of the first that has no value within its range
 abbrev pub resolved : List Graph → Graph → Firing → List Configured → Result (List ℤ) Refusal
-resolved graphs g firing left = unless_refused graphs g firing.path (map as_refusal (param_faults g.params (given_values g firing left))) (numbers (values_of g.params (given_values g firing left)))
+resolved graphs g firing left = unless_refused graphs g firing.path (map as_refusal (param_faults g.params (supplied_values g firing left))) (numbers (values_of g.params (supplied_values g firing left)))
 
 -- the same, or the refusal of the first rate or argument of its level
 abbrev pub rated : List Graph → Graph → Firing → List ℤ → Result (List ℤ) Refusal

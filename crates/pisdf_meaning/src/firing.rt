@@ -45,9 +45,9 @@ pub struct Configured {
 
 /// What one firing of an actor of a level gave.
 #[derive(Drop)]
-pub struct Made {
+pub(crate) struct Made {
     /// The tokens of each output.
-    pub outs: List<List<i64>>,
+    pub(crate) outs: List<List<i64>>,
     /// The trace of the graph that it fired, if it did.
-    pub trace: List<TraceRow>,
+    pub(crate) trace: List<TraceRow>,
 }

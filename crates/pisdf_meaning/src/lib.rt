@@ -34,7 +34,7 @@ mod states;
 pub use children::{ChildCall, child_firing, config_firing};
 pub use delays::first_delays;
 pub use feeding::fed_to;
-pub use firing::{Configured, Firing, Given, Made};
+pub use firing::{Configured, Firing, Given};
 pub use giving::{LevelEnd, exports_of, given_by, next_list, push_fifo_states, value_at};
 pub use holding::{has_state, holds_for};
 pub use iteration::{plain_iteration, top_firing, top_level};

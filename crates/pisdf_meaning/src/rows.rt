@@ -1,5 +1,5 @@
 // Rows of traces.
-ghost use Rattle.std.specs.Prelude.{ℕ, ◌≡◌, ◌<◌, ◌++◌, List as Seq, [], set, slice_index_or, length, IfOk, OnOk};
+ghost use Rattle.std.specs.Prelude.{◌≡◌, ◌<◌, ◌++◌, List as Seq, [], set, slice_index_or, length, IfOk, OnOk};
 ghost use Rattle.sdf_level.specs.Lists.{lists_of};
 
 use crate::naming::copy_name;
@@ -45,16 +45,4 @@ pub(crate) fn append_to(
     ensures { OnOk result (lists_of rows.new ≡ set (lists_of rows.old) actor (slice_index_or (lists_of rows.old) actor [] ++ more.now)) }
 {
     append_rows(alloc, &mut rows[actor as usize], more)
-}
-
-/// No rows for each of so many actors.
-pub(crate) fn no_rows(alloc: Global, actors: u32) -> Result<Vec<Vec<TraceRow>>, AllocError>
-    ensures empty { IfOk result (λ rows. (b : ℕ) → slice_index_or (lists_of rows.items) b [] ≡ []) }
-    ensures one_each { IfOk result (λ rows. length rows.items ≡ actors) }
-{
-    let mut rows = Vec::with_capacity(alloc, actors as usize)?;
-    for actor in 0..actors {
-        rows.push(Vec::new(alloc))?;
-    }
-    Ok(rows)
 }

@@ -7,11 +7,10 @@ ghost use Rattle.pisdf_meaning.specs.Running.{link_starts};
 use crate::firing::Firing;
 use crate::giving::LevelEnd;
 use crate::outcome::TraceRow;
-use crate::rows::no_rows;
 use crate::states::link_starts;
 use level_lines::{kept, left};
 use pisdf_model::Graph;
-use sdf_level::{Level, List};
+use sdf_level::{Level, List, empty_lists};
 use std::alloc::{AllocError, Global};
 
 /// Where the run of a level stands.
@@ -35,10 +34,9 @@ pub(crate) fn starting(
     ensures rows { IfOk result (λ s. (b : ℕ) → slice_index_or (lists_of s.rows.items) b [] ≡ []) }
     ensures one_each { IfOk result (λ s. length s.rows.items ≡ actors) }
 {
-    Ok(RunState {
-        lines: link_starts(alloc, graphs, graph, firing)?,
-        rows: no_rows(alloc, actors)?,
-    })
+    let lines = link_starts(alloc, graphs, graph, firing)?;
+    let rows = empty_lists(alloc, actors as usize)?;
+    Ok(RunState { lines, rows })
 }
 
 /// What the run leaves after all firings, of which each actor made its count.

@@ -15,7 +15,7 @@ use std::thread::Threads;
 use worker_crew::{Workload, run_crew_by};
 
 /// Moves the compilations that are kept, if any are, into the board.
-fn lend_kept(board: &mut Board, kept: &mut Option<Kept>)
+pub fn lend_kept(board: &mut Board, kept: &mut Option<Kept>)
     requires { AreAllIdle board.old }
     ensures key { board.new.key ≡ board.old.key }
     ensures idle { AreAllIdle board.new }

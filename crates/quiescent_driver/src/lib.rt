@@ -14,6 +14,7 @@ mod streams;
 mod texts;
 mod unfolded;
 
+pub use driving::lend_kept;
 pub use end::RunEnd;
 pub use fault::IterationFault;
 pub use iteration::{run_iteration, run_iteration_by};

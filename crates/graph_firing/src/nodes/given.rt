@@ -3,19 +3,8 @@ ghost use Rattle.std.specs.Prelude.{ℕ, ◌≡◌, ◌<◌, [], length, replica
 ghost use Rattle.sdf_level.specs.Lists.{lists_of};
 ghost use Rattle.graph_firing.specs.Nodes.Parts.{call_count, row_at};
 
-use job_preparing::Trace;
+use job_preparing::{Trace, no_traces};
 use std::alloc::{AllocError, Global};
-
-/// A trace of no rows for each of so many firings.
-fn empty_row(alloc: Global, count: u32) -> Result<Vec<Trace>, AllocError>
-    ensures { IfOk result (λ row. row.items ≡ replicate count []) }
-{
-    let mut row = Vec::with_capacity(alloc, count as usize)?;
-    for _k in 0..count {
-        row.push(Trace::new(alloc))?;
-    }
-    Ok(row)
-}
 
 /// How often an actor calls a graph, where the actors have these kernels and fire so often.
 fn call_count(kinds: &[Option<u32>], counts: &[u32], actor: usize) -> u32
@@ -40,7 +29,7 @@ pub(crate) fn empty_rows(
     let mut rows = Vec::with_capacity(alloc, counts.len())?;
     for actor in 0..counts.len() {
         let calls = call_count(kinds, counts, actor);
-        let row = empty_row(alloc, calls)?;
+        let row = no_traces(alloc, calls as usize)?;
         rows.push(row)?;
     }
     Ok(rows)
