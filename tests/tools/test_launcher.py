@@ -27,6 +27,7 @@ case $1 in
     cp crates.txt "$kit/crates.txt"
     pwd >"$kit/folder"
     echo '== low'; echo 'rt: low: its tests are proved'; echo 'rt: low proved'
+    [ -f "$kit/note" ] && echo 'rt: note: nothing is kept'
     [ -f "$kit/slow" ] && sleep 1
     mkdir -p crates/pisdf/out && cp "$kit/program" crates/pisdf/out/pisdf && chmod +x crates/pisdf/out/pisdf
     echo 'rt: pisdf is kept: an earlier run on this machine proved it'; echo '2 passed, 0 failed' ;;
@@ -256,6 +257,12 @@ class Launcher(unittest.TestCase):
         error = self.call("run")[2]
         told = [line.split(" after ")[0] for line in error.splitlines() if "crates done" in line]
         self.assertEqual(told, ["pisdf: 1 of 2 crates done", "pisdf: 2 of 2 crates done"])
+        self.assertNotIn("note", error)
+
+    def test_a_note_of_the_toolchain_is_told(self):
+        write(os.path.join(self.kit, "note"), "")
+        error = self.call("run")[2]
+        self.assertIn("pisdf: note: nothing is kept\n", error)
 
     def test_the_program_is_built_of_a_copy_of_its_crates_alone(self):
         for name in ("low/specs/Lib.antt", "low/proofs/Lib.antt", "low/must-fail/a.edit", "low/README.md", "low/out/left", "pisdf/stdout", "pisdf/data/g.json", "tables/src/lib.rt"):

@@ -1,6 +1,7 @@
 //! Compares the calls of the libraries with tables of cases: each line of a table, a file of `data/`, is a JSON object
 //! with the inputs of a call and the answer that is wanted, or with a graph and cases of it. It prints each case whose answer is
-//! another, and at the end the number of cases of each table.
+//! another, and at the end the number of cases of each table. The tables `wrong_numbers` and `wrong_texts` have rows that want a
+//! wrong answer, or have none, on purpose: what is printed of them is stored too.
 #![tactic(auto)]
 
 mod answers;
@@ -14,7 +15,7 @@ use crate::table::{Table, run_table};
 use std::io;
 
 /// The tables, in the order of their lines in the output.
-const TABLES: [Table; 50] = [
+const TABLES: [Table; 52] = [
     Table {
         file: "names.jsonl",
         call: Call::IsName,
@@ -214,6 +215,14 @@ const TABLES: [Table; 50] = [
     Table {
         file: "counted.jsonl",
         call: Call::CountUp,
+    },
+    Table {
+        file: "wrong_numbers.jsonl",
+        call: Call::Counts,
+    },
+    Table {
+        file: "wrong_texts.jsonl",
+        call: Call::MakePath,
     },
 ];
 

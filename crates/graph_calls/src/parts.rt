@@ -4,15 +4,15 @@ use param_expr::Name;
 use serde_json::Value;
 use std::alloc::{AllocError, Global};
 
-/// The first two items of a list.
+/// The two items of a list.
 pub(crate) fn pair<'a>(
     list: &'a Value,
     what: &'static str,
 ) -> Result<(&'a Value, &'a Value), Trouble> {
-    let (Some(first), Some(second)) = (list.get(0usize), list.get(1usize)) else {
-        return Err(Trouble::Member(what));
-    };
-    Ok((first, second))
+    match (list.get(0usize), list.get(1usize), list.get(2usize)) {
+        (Some(first), Some(second), None) => Ok((first, second)),
+        _ => Err(Trouble::Member(what)),
+    }
 }
 
 /// A name that is this text.

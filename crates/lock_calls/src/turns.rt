@@ -40,6 +40,18 @@ fn text_of(alloc: Global, tally: &Tally) -> Result<String, AllocError> {
     format!(in alloc; "{counts:?}, {drawers:?}, {closed}")
 }
 
+/// The number that a member of a step is.
+fn number_in(step: &Value, name: &str) -> Option<u64> {
+    step.get(name).and_then(Value::as_u64)
+}
+
+/// Whether a step is one: it has a number `add` or `lend`, or the member `look`.
+fn is_step(step: &Value) -> bool {
+    number_in(step, "add").is_some()
+        || number_in(step, "lend").is_some()
+        || step.get("look").is_some()
+}
+
 /// A step of a worker: it adds the step's `add`, and closes the tally where the step has the member `last`; or else it lends itself a
 /// drawer with the label `lend`. Both answer whether there was memory for it. Or else it looks whether the tally is closed.
 fn step_once<R: Wait>(
@@ -52,10 +64,10 @@ fn step_once<R: Wait>(
     ensures lock { result.0.lock ≡ lock.now }
     ensures numbers { (result.0.known.number ≡ pass.known.number) × (length result.0.known.own ≡ length pass.known.own) × (result.0.known.workers ≡ pass.known.workers) }
 {
-    if let Some(amount) = step.get("add").and_then(Value::as_u64) {
+    if let Some(amount) = number_in(step, "add") {
         return add(rt, lock, pass, amount, step.get("last").is_some());
     }
-    match step.get("lend").and_then(Value::as_u64) {
+    match number_in(step, "lend") {
         Some(label) => lend(rt, lock, pass, label),
         None => look(rt, lock, pass),
     }
@@ -100,6 +112,9 @@ fn step_all<R: Wait>(
 /// What each of the row's `steps` of two workers answers, and then the tally's counts, its drawers, and whether it is closed.
 pub fn stepped<R: Wait>(rt: &R, alloc: Global, row: &Value) -> Result<Value, Trouble> {
     let steps = items(row, "steps")?;
+    if !steps.iter().all(is_step) {
+        return Err(Trouble::Member("steps"));
+    }
     let Ok((lock, all)) = Lock::start(alloc, empty(alloc), 2) else {
         return Err(Trouble::Memory);
     };
@@ -185,7 +200,7 @@ fn counted_up(counts: &[Count], worker: u32) -> i64 {
 }
 
 /// How many counts each of the row's `workers` has, where each, in a thread of its own, added 0, 1, 2 and so on, so many `times`, and
-/// they stand so in the tally; else -1 for it.
+/// they stand so in the tally; else -1 for it. At last how many counts the tally has.
 pub fn counted<R: Threads + Wait + Sync>(
     rt: &R,
     alloc: Global,
@@ -205,5 +220,6 @@ pub fn counted<R: Threads + Wait + Sync>(
     for worker in 0..workers {
         answers.push(counted_up(tally.counts.as_slice(), worker))?;
     }
-    answer_in(alloc, format!(in alloc; "{answers:?}"))
+    let all = tally.counts.len();
+    answer_in(alloc, format!(in alloc; "[{answers:?}, {all}]"))
 }

@@ -1,5 +1,5 @@
 // The board of an iteration, from its start to its outcome.
-ghost use Rattle.std.specs.Prelude.{◌≡◌, IfOk};
+ghost use Rattle.std.specs.Prelude.{◌≡◌, None, true, if◌then◌else◌, is_some, IfOk};
 ghost use Rattle.kernel_gate.specs.Signed.{unnamed};
 ghost use Rattle.firing_board.specs.Runs.{AreAllIdle};
 ghost use Rattle.quiescent_driver.specs.Endings.{EndsWith};
@@ -17,6 +17,8 @@ use worker_crew::{Workload, run_crew_by};
 /// Moves the compilations that are kept, if any are, into the board.
 pub fn lend_kept(board: &mut Board, kept: &mut Option<Kept>)
     requires { AreAllIdle board.old }
+    ensures board { board.new ≡ (if is_some kept.old then record board.old { kept = true } else board.old) }
+    ensures given { kept.new ≡ None }
     ensures key { board.new.key ≡ board.old.key }
     ensures idle { AreAllIdle board.new }
 {
