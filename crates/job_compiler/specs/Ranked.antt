@@ -1,5 +1,5 @@
--- The order in which the nodes of each home go.
-use Rattle.std.specs.Prelude.{◌≡◌, ℕ, ◌+◌, ◌*◌, ◌<◌, ◌≤◌, List, length, slice_index}
+-- The order in which the nodes of each home go, and that in which all nodes go.
+use Rattle.std.specs.Prelude.{◌≡◌, ℕ, ◌+◌, ◌*◌, ◌<◌, ◌≤◌, List, length, replicate, slice_index}
 use Rattle.ready_heap.specs.Groups.{RankingView, group_count}
 use Rattle.worker_mapping.specs.declared.mapping.Mapping.{Mapping}
 
@@ -16,3 +16,9 @@ pub record IsRankingOf (mapping : Mapping) (ranking : RankingView) : Type 0 wher
   pub homes : ranking.groups ≡ mapping.home
   pub keys : AreKeys mapping.priority ranking.keys
   pub few : (home : ℕ) → home < group_count ranking → (n : ℕ) × (n < length mapping.home) × (home ≤ slice_index mapping.home n)
+
+-- all nodes are one group, in the order of the keys
+pub record IsRankingOfAll (mapping : Mapping) (ranking : RankingView) : Type 0 where
+  pub one_group : ranking.groups ≡ replicate (length mapping.home) 0
+  pub keys : AreKeys mapping.priority ranking.keys
+  pub one : group_count ranking ≡ 1

@@ -7,12 +7,12 @@ use std::sync::Arc;
 use worker_mapping::Mapping;
 
 /// A level, ready to be run as a job: how often each actor fires and in which order, its single-rate graph, where the buffers
-/// of that graph lie in one run of cells, the priority and home of each of its nodes, the edges at their ports, and the order in
-/// which the nodes of each home go.
+/// of that graph lie in one run of cells, the priority and home of each of its nodes, the edges at their ports, and the orders
+/// in which the nodes of each home and all nodes go.
 ///
 /// The type keeps that all of these are those of the level, and the homes those for the number of workers, so that two
 /// compilations of one level for as many workers are the same. The edges at the ports are told by the level and its graph, and
-/// the order by the priorities and homes.
+/// the orders by the priorities and homes.
 #[derive(Drop)]
 pub struct Compiled {
     pub(crate) level: Level,
@@ -24,6 +24,7 @@ pub struct Compiled {
     pub(crate) mapping: Mapping,
     pub(crate) wiring: Wiring,
     pub(crate) ranking: Arc<Ranking>,
+    pub(crate) ranking_of_all: Arc<Ranking>,
 }
 
 impl Model for Compiled {
@@ -33,12 +34,12 @@ impl Model for Compiled {
 
     ghost use Rattle.job_compiler.specs.Compilation.{IsCompiled};
     ghost use Rattle.std.specs.Arc.{arc_value};
-    ghost use Rattle.job_compiler.specs.Ranked.{IsRankingOf};
+    ghost use Rattle.job_compiler.specs.Ranked.{IsRankingOf, IsRankingOfAll};
     ghost use Rattle.job_compiler.specs.Wired.{IsWiring};
 
     ghost view = { λ c. record { level = c.level; workers = c.workers; counts = c.counts; order = c.order; graph = c.graph; placement = c.placement; mapping = c.mapping } };
 
-    ghost invariant = { λ c. IsCompiled record { level = c.level; workers = c.workers; counts = c.counts; order = c.order; graph = c.graph; placement = c.placement; mapping = c.mapping } × IsWiring c.level c.graph c.wiring × IsRankingOf c.mapping (arc_value c.ranking) };
+    ghost invariant = { λ c. IsCompiled record { level = c.level; workers = c.workers; counts = c.counts; order = c.order; graph = c.graph; placement = c.placement; mapping = c.mapping } × IsWiring c.level c.graph c.wiring × IsRankingOf c.mapping (arc_value c.ranking) × IsRankingOfAll c.mapping (arc_value c.ranking_of_all) };
 }
 
 impl Compiled {
@@ -51,7 +52,7 @@ impl Compiled {
     ghost use Rattle.job_compiler.specs.Ends.{head_of, AreEndCounts};
     ghost use Rattle.job_compiler.specs.Rows.{IsMost};
     ghost use Rattle.job_compiler.specs.Wired.{entering, leaving, WireJobs};
-    ghost use Rattle.job_compiler.specs.Ranked.{IsRankingOf};
+    ghost use Rattle.job_compiler.specs.Ranked.{IsRankingOf, IsRankingOfAll};
 
     /// The level that was compiled.
     pub fn level(&self) -> &Level
@@ -127,5 +128,12 @@ impl Compiled {
         ensures { IsRankingOf self.now.mapping (arc_value result.now) }
     {
         &self.ranking
+    }
+
+    /// The ranking of all nodes as one group, in the same order.
+    pub fn ranking_of_all(&self) -> &Arc<Ranking>
+        ensures { IsRankingOfAll self.now.mapping (arc_value result.now) }
+    {
+        &self.ranking_of_all
     }
 }

@@ -4,7 +4,7 @@ ghost use Rattle.level_schedule.specs.Schedules.{IsUnscheduled};
 
 use crate::compiled::Compiled;
 use crate::parts::{copy_level, map_nodes, place_buffers};
-use crate::ranking::rank_nodes;
+use crate::ranking::{rank_all, rank_nodes};
 use crate::wiring::wire;
 use level_schedule::{LevelSchedule, Unscheduled, schedule};
 use sdf_level::Level;
@@ -35,6 +35,7 @@ pub fn compile(alloc: Global, level: &Level, workers: u32) -> Result<Compiled, U
     let mapping = map_nodes(alloc, &graph, &pairs, workers)?;
     let wiring = wire(alloc, level, &graph)?;
     let ranking = rank_nodes(alloc, &mapping)?;
+    let ranking_of_all = rank_all(alloc, &mapping)?;
     Ok(Compiled {
         level: copy_level(alloc, level)?,
         workers,
@@ -45,5 +46,6 @@ pub fn compile(alloc: Global, level: &Level, workers: u32) -> Result<Compiled, U
         mapping,
         wiring,
         ranking,
+        ranking_of_all,
     })
 }

@@ -1,7 +1,7 @@
-// The order in which the nodes of each home go.
+// The order in which the nodes of each home go, and that in which all nodes go.
 ghost use Rattle.std.specs.Prelude.{◌≡◌, ℕ, ◌<◌, ◌≤◌, ◌^◌, EachIndex, length, slice_index, IfOk};
 ghost use Rattle.std.specs.Arc.{arc_value};
-ghost use Rattle.job_compiler.specs.Ranked.{AreKeys, IsRankingOf};
+ghost use Rattle.job_compiler.specs.Ranked.{AreKeys, IsRankingOf, IsRankingOfAll};
 
 use ready_heap::Ranking;
 use std::alloc::{AllocError, Global};
@@ -46,5 +46,17 @@ pub(crate) fn rank_nodes(alloc: Global, mapping: &Mapping) -> Result<Arc<Ranking
     let homes = mapping.home.items();
     let keys = keys_of(alloc, mapping.priority.items())?;
     let ranking = Ranking::new(alloc, homes, &keys, count_of(homes))?;
+    Ok(Arc::new(alloc, ranking)?)
+}
+
+/// The ranking of the nodes as one group, in which they go in the same order.
+pub(crate) fn rank_all(alloc: Global, mapping: &Mapping) -> Result<Arc<Ranking>, AllocError>
+    requires few { length mapping.now.home < 2 ^ 32 }
+    requires priorities { length mapping.now.priority ≡ length mapping.now.home }
+    ensures { IfOk result (λ r. IsRankingOfAll mapping.now (arc_value r)) }
+{
+    let keys = keys_of(alloc, mapping.priority.items())?;
+    let group = vec![in alloc; 0u32; mapping.home.items().len()]?;
+    let ranking = Ranking::new(alloc, &group, &keys, 1)?;
     Ok(Arc::new(alloc, ranking)?)
 }

@@ -15,8 +15,8 @@ pub mod FirstFault
 pub mod JobStart
 pub mod Stored
 pub mod RoomSteps
-pub mod Firsts
 pub mod Sides
+pub mod Rankings
 pub mod StartReady
 pub mod Releasing
 pub mod Heads

@@ -9,6 +9,7 @@ pub mod Faults
 pub mod View
 pub mod Pick
 pub mod Ready
+pub mod Alike
 pub mod Calls
 pub mod Leased
 pub mod LiveLaws

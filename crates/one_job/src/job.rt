@@ -8,7 +8,6 @@ ghost use Rattle.job_flow.specs.Frames.{inputs, lens, on_edge};
 ghost use Rattle.job_flow.specs.Events.{IsQuiet};
 ghost use Rattle.job_flow.specs.Outcomes.{ended};
 
-use crate::choosing::first_head;
 use crate::leases::{give_inputs, give_outputs, take_ports};
 use crate::nodes::{is_child, keep_tokens, kind_of, reads_stored, writes_stored};
 use crate::ready::{ReadyNodes, is_quiet, release, released};
@@ -102,7 +101,7 @@ impl Job {
     fn first(&self, worker: u32, child: bool) -> Option<u32>
         ensures { IsFirst self.now.compilation.mapping worker (IsOffered self.now child) result }
     {
-        first_head(self.ready.heaps(child), self.compiled.mapping(), worker)
+        self.ready.side(child).first(worker)
     }
 
     /// What a node is.

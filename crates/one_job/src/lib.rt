@@ -2,7 +2,6 @@
 //! order that its edges allow, and finished with what they wrote.
 #![tactic(auto)]
 
-mod choosing;
 mod job;
 mod laws;
 mod leases;
@@ -10,6 +9,7 @@ mod nodes;
 mod opening;
 mod ready;
 mod rooms;
+mod side;
 mod stage;
 mod starting;
 mod stock;

@@ -1,36 +1,43 @@
-// Which nodes may be claimed, as heaps by home that each claim and each finish keeps.
+// Which nodes may be claimed, as each claim and each finish keeps it.
 ghost use Rattle.std.specs.Prelude.{IsTrue, ◌↔◌, ◌≡◌, ◌<◌, ◌^◌, ◌-◌, [], Bool, ℕ, None, true, false, length, slice_index, slice_index_or, slice_set, if◌then◌else◌, ◌==◌, IfOk};
 ghost use Rattle.std.specs.Arc.{arc_value};
 ghost use Rattle.ready_heap.specs.Heaps.{Holds};
 ghost use Rattle.one_job.specs.Ready.{side, put, none_ready, is_in, is_child_at, Releases, CanRelease, AreStarted};
+ghost use Rattle.one_job.specs.Alike.{IsOfAll};
 
 use crate::nodes::is_child;
+use crate::side::ReadySide;
 use job_compiler::Port;
-use ready_heap::{GroupedHeaps, Ranking};
+use ready_heap::Ranking;
 use sdf_level::{Edge, Node};
 use std::alloc::{AllocError, Global};
 use std::sync::Arc;
 
-/// The nodes that may be claimed, each in the group of its home: those that are jobs of their own, and the others.
+/// The nodes that may be claimed: those that are jobs of their own, and the others.
 #[derive(Drop)]
 pub(crate) struct ReadyNodes {
-    pub(crate) children: GroupedHeaps,
-    pub(crate) others: GroupedHeaps,
+    pub(crate) children: ReadySide,
+    pub(crate) others: ReadySide,
 }
 
 impl ReadyNodes {
-    /// None of the nodes that are ranked is in.
-    fn new(alloc: Global, ranking: &Arc<Ranking>) -> Result<ReadyNodes, AllocError>
+    /// None of the nodes that are ranked is in. `of_all` ranks them as one group.
+    fn new(
+        alloc: Global,
+        ranking: &Arc<Ranking>,
+        of_all: &Arc<Ranking>,
+    ) -> Result<ReadyNodes, AllocError>
+        requires { IsOfAll (arc_value ranking.now) (arc_value of_all.now) }
         ensures { IfOk result (λ r. r ≡ none_ready (arc_value ranking.now)) }
     {
         Ok(ReadyNodes {
-            children: GroupedHeaps::new(alloc, ranking.clone()?)?,
-            others: GroupedHeaps::new(alloc, ranking.clone()?)?,
+            children: ReadySide::new(alloc, ranking, of_all)?,
+            others: ReadySide::new(alloc, ranking, of_all)?,
         })
     }
 
     /// The nodes that are jobs of their own, or the others.
-    pub(crate) fn heaps(&self, child: bool) -> &GroupedHeaps
+    pub(crate) fn side(&self, child: bool) -> &ReadySide
         ensures { result.now ≡ side self.now child }
     {
         if child { &self.children } else { &self.others }
@@ -88,16 +95,18 @@ fn put_first(ready: &mut ReadyNodes, waiting: &[usize], nodes: &[Node], kinds: &
 pub(crate) fn start_ready(
     alloc: Global,
     ranking: &Arc<Ranking>,
+    of_all: &Arc<Ranking>,
     nodes: &[Node],
     kinds: &[Option<u32>],
     waiting: &[usize],
 ) -> Result<ReadyNodes, AllocError>
+    requires of_all { IsOfAll (arc_value ranking.now) (arc_value of_all.now) }
     requires few { length nodes.now < 2 ^ 32 }
     requires ranked { length (arc_value ranking.now).groups ≡ length nodes.now }
     requires waiting { length waiting.now ≡ length nodes.now }
     ensures { IfOk result (AreStarted (is_child_at nodes.now kinds.now) waiting.now (length waiting.now) (none_ready (arc_value ranking.now))) }
 {
-    let mut ready = ReadyNodes::new(alloc, ranking)?;
+    let mut ready = ReadyNodes::new(alloc, ranking, of_all)?;
     put_first(&mut ready, waiting, nodes, kinds);
     Ok(ready)
 }

@@ -52,7 +52,14 @@ pub fn start(
     let stages = free_stages(alloc, nodes.len())?;
     let outs = no_tokens(alloc, level.sinks.items().len())?;
     let left = no_tokens(alloc, level.links.items().len())?;
-    let ready = start_ready(alloc, compiled.ranking(), nodes, kinds.items(), &waiting)?;
+    let ready = start_ready(
+        alloc,
+        compiled.ranking(),
+        compiled.ranking_of_all(),
+        nodes,
+        kinds.items(),
+        &waiting,
+    )?;
     let sources_told = Snapshot::of(&sources);
     let stored_told = Snapshot::of(&stored);
     let mut sources = sources.into_items();

@@ -33,6 +33,7 @@ use Rattle.job_compiler.specs.contracts.cache.Kept as Kept
 use Rattle.job_compiler.specs.contracts.compiled.Compiled as Compiled
 use Rattle.one_job.specs.contracts.job.Job as Job
 use Rattle.one_job.specs.contracts.ready.ReadyNodes as ReadyNodes
+use Rattle.one_job.specs.contracts.side.ReadySide as ReadySide
 use Rattle.graph_firing.specs.contracts.nodes.running.Running as Running
 use Rattle.graph_firing.specs.contracts.job.OpenJob as OpenJob
 use Rattle.firing_board.specs.contracts.table.JobTable as JobTable
@@ -85,8 +86,11 @@ kept_send = search (compiled_send, compiled_sync, key.the_send, key.the_sync, lr
 heaps_send : IsSend GroupedHeaps.the_row
 heaps_send = search (ranking_send, ranking_sync, crosses, sendable) depth 30 fits 4000
 
+ready_side_send : IsSend ReadySide.the_row
+ready_side_send = search (heaps_send, crosses, sendable) depth 30 fits 4000
+
 ready_field_send : IsSend ReadyNodes.the_field.row
-ready_field_send = search (heaps_send, crosses, sendable) depth 30 fits 4000
+ready_field_send = search (ready_side_send, crosses, sendable) depth 30 fits 4000
 
 job_send : IsSend Job.the_row
 job_send = search (job_stage_send, compiled_send, compiled_sync, pool.the_send, ready_field_send, list.the_send, option.the_send, crosses, sendable) depth 30 fits 4000

@@ -151,6 +151,10 @@ fn asked_at(rows: &[Option<Row>], key: usize, worker: u32, calls: bool) -> Optio
 fn best_of(rows: &[Option<Row>], worker: u32, calls: bool) -> Option<Asked>
     ensures { IsBestOf worker calls rows.now (length rows.now) result }
 {
+    // A board of one job is asked the most often.
+    if rows.len() == 1 {
+        return asked_at(rows, 0, worker, calls);
+    }
     let mut best: Option<Asked> = None;
     for key in 0..rows.len() {
         best = better(rows, best, asked_at(rows, key, worker, calls));

@@ -16,10 +16,11 @@ use Rattle.one_job.specs.Pick.{is_child}
 use Rattle.one_job.specs.Rooms.{IsRoomOf}
 use Rattle.one_job.specs.Ready.{none_ready, is_child_at, AreStarted, KeepsReady}
 use Rattle.ready_heap.specs.Groups.{RankingView}
-use Rattle.job_compiler.specs.Ranked.{IsRankingOf}
+use Rattle.job_compiler.specs.Ranked.{IsRankingOf, IsRankingOfAll}
 use Rattle.job_compiler.specs.Ends.{head_of, AreEndCounts}
 use Rattle.job_compiler.specs.Compilation.{Compilation}
 use Rattle.one_job.proofs.ReadySteps.{start_ready_keeps}
+use Rattle.one_job.proofs.Rankings.{are_of_all}
 use Rattle.one_job.specs.View.{JobView, HasLists, graph_of}
 use Rattle.std.proofs.lemmas.List.{length-replicate}
 use Rattle.std.proofs.Common.{arith, ◌<◌, ◌≤◌}
@@ -76,7 +77,7 @@ left_are : (c : goal.In_ok-pool) → c.in_ok-left.left.items ≡ replicate (leng
 left_are c = c.in_ok-left.ensures
 
 height_is : (c : goal.In_ok-pool) → c.placement.result.now.height ≡ (arc_value c.args.compiled).placement.height
-height_is c = ap (λ x. x.height) (c.placement.ensures.value ∙ ap (λ x. x.placement) c.deref-7.ensures)
+height_is c = ap (λ x. x.height) (c.placement.ensures.value ∙ ap (λ x. x.placement) c.deref-8.ensures)
 
 cells_are : (c : goal.In_ok-pool) → c.in_ok-pool.pool.cells ≡ replicate c.placement.result.now.height (Rattle.std.proofs.Common.pos 0)
 cells_are c = c.in_ok-pool.ensures.cells
@@ -161,8 +162,17 @@ keeps_ready c =
     subst (AreEndCounts (length comp.graph.nodes) (map head_of comp.graph.edges)) (sym (waiting_are c))
     (subst (λ (x : Compilation). AreEndCounts (length x.graph.nodes) (map head_of x.graph.edges) c.wiring-wiring.result.now.into) (compiled_is c) c.wiring-wiring.ensures.into) in
     let started : AreStarted (is_child (view c)) into (length into) (none_ready ranking) ready =
-    subst (λ (t : Type 0). t) (λ t. AreStarted (is_child_at (nodes_are c t) (c.items-4.ensures t)) (c.deref-6.ensures.value t) (length (c.deref-6.ensures.value t)) (none_ready ranking) ready) c.in_ok-ready.ensures in
+    subst (λ (t : Type 0). t) (λ t. AreStarted (is_child_at (nodes_are c t) (c.items-4.ensures t)) (c.deref-7.ensures.value t) (length (c.deref-7.ensures.value t)) (none_ready ranking) ready) c.in_ok-ready.ensures in
     start_ready_keeps (view c) ranking into ready (marks_are c ∙ ap (λ k. replicate k Free) (ap length (nodes_are c))) ranked (kept c).mapped.homes.one_each counts started
+
+pub start_ready-requires-clause-of_all : goal.start_ready-requires-clause-of_all
+start_ready-requires-clause-of_all c =
+    let comp = arc_value c.args.compiled in
+    let ranking : RankingView = arc_value c.ranking.result.now in
+    let of_all : RankingView = arc_value c.ranking_of_all.result.now in
+    are_of_all comp.mapping ranking of_all
+    (subst (λ (x : Compilation). IsRankingOf x.mapping ranking) c.deref-5.ensures c.ranking.ensures)
+    (subst (λ (x : Compilation). IsRankingOfAll x.mapping of_all) c.deref-6.ensures c.ranking_of_all.ensures)
 
 pub make_stock-requires-clause-rows : goal.make_stock-requires-clause-rows
 make_stock-requires-clause-rows c =

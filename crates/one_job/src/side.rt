@@ -1,0 +1,104 @@
+// Nodes that may be claimed, of one sort, and the first of them for a worker.
+ghost use Rattle.std.specs.Prelude.{◌≡◌, ◌<◌, ◌↔◌, ℕ, IsTrue, false, true, length, slice_index_or, slice_set, IfOk};
+ghost use Rattle.std.specs.Arc.{arc_value};
+ghost use Rattle.ready_heap.specs.Heaps.{Holds};
+ghost use Rattle.ready_heap.specs.Groups.{IsLeastOf};
+ghost use Rattle.worker_mapping.specs.declared.mapping.Mapping.{Mapping};
+ghost use Rattle.one_job.specs.Pick.{IsFirst};
+ghost use Rattle.one_job.specs.Ready.{AreRanked, none_in};
+ghost use Rattle.one_job.specs.Alike.{IsLeast, IsOfAll};
+
+use ready_heap::{GroupedHeaps, Ranking};
+use std::alloc::{AllocError, Global};
+use std::marker::Model;
+use std::sync::Arc;
+
+/// Nodes of which some are in, each in the group of its home. The same nodes are also kept as one group, so that the first of all
+/// is found without a look at each home.
+#[derive(Drop)]
+pub(crate) struct ReadySide {
+    by_home: GroupedHeaps,
+    of_all: GroupedHeaps,
+}
+
+impl Model for ReadySide {
+    ghost use Rattle.ready_heap.specs.Groups.{HeapsView};
+    ghost use Rattle.one_job.specs.Alike.{AreAlike};
+
+    ghost Value = { HeapsView };
+
+    ghost view = { λ s. s.by_home };
+
+    ghost invariant = { λ s. AreAlike s.by_home s.of_all };
+}
+
+impl ReadySide {
+    /// None of the nodes that are ranked is in. `of_all` ranks them as one group.
+    ///
+    /// # Errors
+    ///
+    /// Want of memory.
+    pub(crate) fn new(
+        alloc: Global,
+        ranking: &Arc<Ranking>,
+        of_all: &Arc<Ranking>,
+    ) -> Result<ReadySide, AllocError>
+        requires { IsOfAll (arc_value ranking.now) (arc_value of_all.now) }
+        ensures { IfOk result (λ s. s ≡ none_in (arc_value ranking.now)) }
+    {
+        let by_home = GroupedHeaps::new(alloc, Arc::try_clone(ranking)?)?;
+        let of_all = GroupedHeaps::new(alloc, Arc::try_clone(of_all)?)?;
+        Ok(ReadySide { by_home, of_all })
+    }
+
+    /// Puts a node in.
+    pub(crate) fn insert(&mut self, node: u32)
+        requires below { node < length self.old.held }
+        requires new { slice_index_or self.old.held node false ≡ false }
+        ensures { self.new ≡ record self.old { held = slice_set self.old.held node true } }
+    {
+        self.by_home.insert(node);
+        self.of_all.insert(node);
+    }
+
+    /// Takes a node out.
+    pub(crate) fn remove(&mut self, node: u32)
+        requires { Holds self.old.held node }
+        ensures { self.new ≡ record self.old { held = slice_set self.old.held node false } }
+    {
+        self.by_home.remove(node);
+        self.of_all.remove(node);
+    }
+
+    /// Whether no node is in.
+    pub(crate) fn is_empty(&self) -> bool
+        ensures { IsTrue result ↔ ((n : ℕ) → Holds self.now.held n → ⊥) }
+    {
+        self.by_home.is_empty()
+    }
+
+    /// The first of the nodes that are in and whose home is the worker.
+    fn first_at_home(&self, worker: u32) -> Option<u32>
+        ensures { IsLeastOf self.now worker result }
+    {
+        self.by_home.least(worker as usize)
+    }
+
+    /// The first of all nodes that are in.
+    fn first_of_all(&self) -> Option<u32>
+        ensures { IsLeast self.now result }
+    {
+        self.of_all.least(0)
+    }
+
+    /// The node that is in and goes before all others that are: one whose home is the worker, where there is one, then that of
+    /// greatest priority, then that of least number.
+    pub(crate) fn first(&self, worker: u32) -> Option<u32>
+        ensures { (mapping : Mapping) → AreRanked mapping self.now → IsFirst mapping worker (Holds self.now.held) result }
+    {
+        match self.first_at_home(worker) {
+            Some(node) => Some(node),
+            None => self.first_of_all(),
+        }
+    }
+}
