@@ -28,6 +28,7 @@ case $1 in
     pwd >"$kit/folder"
     echo '== low'; echo 'rt: low: its tests are proved'; echo 'rt: low proved'
     [ -f "$kit/note" ] && echo 'rt: note: nothing is kept'
+    [ -f "$kit/stays" ] && { sleep 20 >/dev/null 2>&1 & }
     [ -f "$kit/slow" ] && sleep 1
     mkdir -p crates/pisdf/out && cp "$kit/program" crates/pisdf/out/pisdf && chmod +x crates/pisdf/out/pisdf
     echo 'rt: pisdf is kept: an earlier run on this machine proved it'; echo '2 passed, 0 failed' ;;
@@ -263,6 +264,25 @@ class Launcher(unittest.TestCase):
         write(os.path.join(self.kit, "note"), "")
         error = self.call("run")[2]
         self.assertIn("pisdf: note: nothing is kept\n", error)
+
+    def test_what_the_toolchain_leaves_behind_holds_no_later_call_up(self):
+        write(os.path.join(self.kit, "stays"), "")
+        self.built()
+        write(self.path("crates/low/src/lib.rt"), "three")
+        began = time.monotonic()
+        self.assertNotIn("this one waits", self.call("run")[2])
+        self.assertLess(time.monotonic() - began, 10)
+
+    def test_a_program_that_runs_is_not_written_over(self):
+        self.built()
+        os.link(self.path("crates/pisdf/out/pisdf"), self.path("running"))
+        write(os.path.join(self.kit, "program"), PROGRAM + "# another\n")
+        write(self.path("crates/low/src/lib.rt"), "three")
+        self.call("run")
+        with open(self.path("running"), encoding="utf-8") as file:
+            self.assertEqual(file.read(), PROGRAM)
+        with open(self.path("crates/pisdf/out/pisdf"), encoding="utf-8") as file:
+            self.assertEqual(file.read(), PROGRAM + "# another\n")
 
     def test_the_program_is_built_of_a_copy_of_its_crates_alone(self):
         for name in ("low/specs/Lib.antt", "low/proofs/Lib.antt", "low/must-fail/a.edit", "low/README.md", "low/out/left", "pisdf/stdout", "pisdf/data/g.json", "tables/src/lib.rt"):
