@@ -33,6 +33,7 @@ pub fn lists_text<T: Debug>(alloc: Global, lists: &[List<T>]) -> Result<String, 
     text.push(']')?;
     Ok(text)
 }
+
 /// The answer that this text is.
 ///
 /// # Errors

@@ -61,9 +61,9 @@ pub enum Call {
     StepHeaps,
     Meet,
     FireInBlocks,
-    TakeSteps,
-    TakeTurns,
-    CountUp,
+    StepLock,
+    TakeLockInTurn,
+    CountOnLock,
 }
 
 /// The answer of a call on the inputs of a row.
@@ -118,8 +118,8 @@ pub fn answer<R: Threads + Wait + Sync>(
         Call::StepHeaps => heaps::answers(alloc, row),
         Call::Meet => program::met(rt, alloc, row),
         Call::FireInBlocks => program::fired_in_blocks(rt, alloc, row),
-        Call::TakeSteps => turns::stepped(rt, alloc, row),
-        Call::TakeTurns => turns::taken_in_turn(rt, alloc, row),
-        Call::CountUp => turns::counted(rt, alloc, row),
+        Call::StepLock => turns::stepped(rt, alloc, row),
+        Call::TakeLockInTurn => turns::taken_in_turn(rt, alloc, row),
+        Call::CountOnLock => turns::counted(rt, alloc, row),
     }
 }

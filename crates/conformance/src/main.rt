@@ -1,7 +1,7 @@
 //! Compares the calls of the libraries with tables of cases: each line of a table, a file of `data/`, is a JSON object
 //! with the inputs of a call and the answer that is wanted, or with a graph and cases of it. It prints each case whose answer is
-//! another, and at the end the number of cases of each table. The tables `wrong_numbers` and `wrong_texts` have rows that want a
-//! wrong answer, or have none, on purpose: what is printed of them is stored too.
+//! another, and at the end the number of cases of each table. The tables whose names begin with `wrong` have rows on purpose
+//! that want a wrong answer or haven't their form: what is printed of them is stored too.
 #![tactic(auto)]
 
 mod answers;
@@ -15,7 +15,7 @@ use crate::table::{Table, run_table};
 use std::io;
 
 /// The tables, in the order of their lines in the output.
-const TABLES: [Table; 52] = [
+const TABLES: [Table; 53] = [
     Table {
         file: "names.jsonl",
         call: Call::IsName,
@@ -205,16 +205,16 @@ const TABLES: [Table; 52] = [
         call: Call::FireInBlocks,
     },
     Table {
-        file: "turns.jsonl",
-        call: Call::TakeSteps,
+        file: "lock_steps.jsonl",
+        call: Call::StepLock,
     },
     Table {
-        file: "in_turn.jsonl",
-        call: Call::TakeTurns,
+        file: "lock_in_turn.jsonl",
+        call: Call::TakeLockInTurn,
     },
     Table {
-        file: "counted.jsonl",
-        call: Call::CountUp,
+        file: "lock_counts.jsonl",
+        call: Call::CountOnLock,
     },
     Table {
         file: "wrong_numbers.jsonl",
@@ -223,6 +223,10 @@ const TABLES: [Table; 52] = [
     Table {
         file: "wrong_texts.jsonl",
         call: Call::MakePath,
+    },
+    Table {
+        file: "wrong_graphs.jsonl",
+        call: Call::Check,
     },
 ];
 

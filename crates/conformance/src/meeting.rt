@@ -4,8 +4,8 @@ use kernel_library::Library;
 use std::sync::atomic::{AtomicBool, AtomicU32, Ordering};
 use std::{hint, thread};
 
-/// How many turns a firing waits at most.
-const TURNS: u32 = 100_000_000;
+/// How many turns a firing waits at most, where a row doesn't say.
+pub(crate) const TURNS: u32 = 100_000_000;
 
 /// After so many turns another thread may run.
 const YIELDS: u32 = 16;
@@ -15,15 +15,17 @@ const YIELDS: u32 = 16;
 #[derive(Drop)]
 pub(crate) struct Meeting {
     workers: u32,
+    turns: u32,
     begun: AtomicU32,
     missed: AtomicBool,
 }
 
 impl Meeting {
-    /// A meeting of so many workers.
-    pub(crate) fn new(workers: u32) -> Meeting {
+    /// A meeting of so many workers, of whom each waits so many turns at most.
+    pub(crate) fn new(workers: u32, turns: u32) -> Meeting {
         Meeting {
             workers,
+            turns,
             begun: AtomicU32::new(0),
             missed: AtomicBool::new(false),
         }
@@ -42,7 +44,7 @@ impl Meeting {
     /// Waits until the meeting is full or missed.
     fn meet(&self) {
         self.begun.fetch_add(1, Ordering::SeqCst);
-        for turn in 0..TURNS {
+        for turn in 0..self.turns {
             if self.is_full() || self.missed.load(Ordering::SeqCst) {
                 return;
             }

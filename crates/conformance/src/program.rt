@@ -3,7 +3,7 @@ ghost use Rattle.std.specs.Prelude.{◌≡◌};
 ghost use Rattle.kernel_gate.specs.Table.{the_signatures};
 
 use crate::blocks::Blocks;
-use crate::meeting::Meeting;
+use crate::meeting::{Meeting, TURNS};
 use case_rows::{Trouble, small, small_or, text};
 use graph_calls::world::{failing_loads, failing_puts, files_of, text_after};
 use kernel_gate::Gate;
@@ -73,9 +73,9 @@ pub fn ran<R: Threads + Wait + Sync>(rt: &R, alloc: Global, row: &Value) -> Resu
 }
 
 /// As [`ran`], with kernels that wait for one another: and at last whether as many of them as the row's `workers` have begun
-/// before one of them went on.
+/// before one of them went on, each of which waits for so many `turns` at most.
 pub fn met<R: Threads + Wait + Sync>(rt: &R, alloc: Global, row: &Value) -> Result<Value, Trouble> {
-    let gate = Meeting::new(small(row, "workers")?);
+    let gate = Meeting::new(small(row, "workers")?, small_or(row, "turns", TURNS)?);
     let mut answers = answers(rt, alloc, row, &gate)?;
     answers.push(Value::from(gate.has_met()))?;
     Ok(Value::from(answers))

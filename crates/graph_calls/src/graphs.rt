@@ -59,6 +59,17 @@ impl Reader {
         }
     }
 
+    /// Keeps the trouble where a part isn't a list of so many items.
+    fn form(&mut self, part: &Value, least: usize, most: usize, name: &'static str) {
+        let long = match part.as_array() {
+            Some(list) => list.len(),
+            None => 0,
+        };
+        if long < least || long > most {
+            self.trouble = Some(Trouble::Member(name));
+        }
+    }
+
     /// The numbers of the part's member of this name.
     fn numbers(&mut self, part: &Value, name: &'static str) -> List<u32> {
         let alloc = self.alloc;
@@ -136,6 +147,7 @@ impl Part for Expr {
 
 impl Part for Param {
     fn read(reader: &mut Reader, value: &Value) -> Param {
+        reader.form(value, 2, 3, "params");
         let name = Name::read(reader, at(value, 0));
         let kind = match at(value, 1).as_str() {
             Some("in") => ParamKind::Inherited,
@@ -157,6 +169,7 @@ impl Part for Param {
 
 impl Part for Interface {
     fn read(reader: &mut Reader, value: &Value) -> Interface {
+        reader.form(value, 2, 2, "an interface");
         Interface {
             name: Name::read(reader, at(value, 0)),
             rate: Expr::read(reader, at(value, 1)),
@@ -166,6 +179,7 @@ impl Part for Interface {
 
 impl Part for Port {
     fn read(reader: &mut Reader, value: &Value) -> Port {
+        reader.form(value, 2, 2, "a port");
         Port {
             name: Name::read(reader, at(value, 0)),
             rate: Expr::read(reader, at(value, 1)),
@@ -219,6 +233,7 @@ fn end_of(reader: &mut Reader, value: &Value) -> End {
     if !value.is_array() {
         return End::Interface(first);
     }
+    reader.form(value, 2, 2, "an end");
     End::Port {
         actor: first,
         port: reader.kept(small_of(at(value, 1), "an end"), 0),
@@ -249,6 +264,7 @@ fn life_in(reader: &mut Reader, value: &Value, delay: &[i64]) -> Life {
 
 impl Part for Fifo {
     fn read(reader: &mut Reader, value: &Value) -> Fifo {
+        reader.form(value, 2, 4, "a FIFO");
         let alloc = reader.alloc;
         let none = List::new(Vec::new(alloc));
         let delay = match value.get(2usize) {

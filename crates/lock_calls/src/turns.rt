@@ -140,7 +140,7 @@ pub fn taken_in_turn<R: Wait>(rt: &R, alloc: Global, row: &Value) -> Result<Valu
     answer_in(alloc, format!(in alloc; "[{added}, {tally}]"))
 }
 
-// One number's counts, from 0 on.
+/// One number's counts, from 0 on.
 fn add_many<R: Wait>(rt: &R, lock: &Lock<Tally>, mut pass: Pass<Tally>, times: u64) -> Pass<Tally>
     requires { pass.lock ≡ lock.now }
     ensures lock { result.lock ≡ lock.now }
@@ -153,7 +153,7 @@ fn add_many<R: Wait>(rt: &R, lock: &Lock<Tally>, mut pass: Pass<Tally>, times: u
     pass
 }
 
-// Each number in a thread of its own.
+/// Each number in a thread of its own.
 fn add_beside<R: Threads + Wait + Sync>(
     rt: &R,
     lock: &Lock<Tally>,
