@@ -67,9 +67,6 @@ fn asked(heaps: &GroupedHeaps, step: &Value) -> Result<i64, Trouble> {
     if step.get("is_empty").is_some() {
         return Ok(i64::from(heaps.is_empty()));
     }
-    if step.get("groups").is_some() {
-        return Ok(i64::try_from(heaps.groups()).unwrap_or(-1));
-    }
     match heaps.least(small(step, "least")? as usize) {
         Some(n) => Ok(i64::from(n)),
         None => Ok(-1),

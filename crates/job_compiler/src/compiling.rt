@@ -4,7 +4,7 @@ ghost use Rattle.level_schedule.specs.Schedules.{IsUnscheduled};
 
 use crate::compiled::Compiled;
 use crate::parts::{copy_level, map_nodes, place_buffers};
-use crate::ranking::{rank_all, rank_nodes};
+use crate::ranking::{keys_of, rank_all, rank_nodes};
 use crate::wiring::wire;
 use level_schedule::{LevelSchedule, Unscheduled, schedule};
 use sdf_level::Level;
@@ -34,8 +34,9 @@ pub fn compile(alloc: Global, level: &Level, workers: u32) -> Result<Compiled, U
     let placement = place_buffers(alloc, &graph, &pairs)?;
     let mapping = map_nodes(alloc, &graph, &pairs, workers)?;
     let wiring = wire(alloc, level, &graph)?;
-    let ranking = rank_nodes(alloc, &mapping)?;
-    let ranking_of_all = rank_all(alloc, &mapping)?;
+    let keys = keys_of(alloc, mapping.priority.items())?;
+    let ranking = rank_nodes(alloc, &mapping, &keys)?;
+    let ranking_of_all = rank_all(alloc, &mapping, &keys)?;
     Ok(Compiled {
         level: copy_level(alloc, level)?,
         workers,

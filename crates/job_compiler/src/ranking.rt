@@ -24,7 +24,7 @@ fn count_of(homes: &[u32]) -> usize
 }
 
 /// For each node the key by which greater priority goes first, then lesser number.
-fn keys_of(alloc: Global, priorities: &[u64]) -> Result<Vec<u128>, AllocError>
+pub(crate) fn keys_of(alloc: Global, priorities: &[u64]) -> Result<Vec<u128>, AllocError>
     requires { length priorities.now < 2 ^ 32 }
     ensures { IfOk result (λ v. AreKeys priorities.now v.items) }
 {
@@ -38,25 +38,33 @@ fn keys_of(alloc: Global, priorities: &[u64]) -> Result<Vec<u128>, AllocError>
 
 /// The ranking of the nodes: each home is a group, in which the nodes of greater priority go first, then those of lesser
 /// number.
-pub(crate) fn rank_nodes(alloc: Global, mapping: &Mapping) -> Result<Arc<Ranking>, AllocError>
+pub(crate) fn rank_nodes(
+    alloc: Global,
+    mapping: &Mapping,
+    keys: &[u128],
+) -> Result<Arc<Ranking>, AllocError>
     requires few { length mapping.now.home < 2 ^ 32 }
     requires priorities { length mapping.now.priority ≡ length mapping.now.home }
+    requires keys { AreKeys mapping.now.priority keys.now }
     ensures { IfOk result (λ r. IsRankingOf mapping.now (arc_value r)) }
 {
     let homes = mapping.home.items();
-    let keys = keys_of(alloc, mapping.priority.items())?;
-    let ranking = Ranking::new(alloc, homes, &keys, count_of(homes))?;
+    let ranking = Ranking::new(alloc, homes, keys, count_of(homes))?;
     Ok(Arc::new(alloc, ranking)?)
 }
 
 /// The ranking of the nodes as one group, in which they go in the same order.
-pub(crate) fn rank_all(alloc: Global, mapping: &Mapping) -> Result<Arc<Ranking>, AllocError>
+pub(crate) fn rank_all(
+    alloc: Global,
+    mapping: &Mapping,
+    keys: &[u128],
+) -> Result<Arc<Ranking>, AllocError>
     requires few { length mapping.now.home < 2 ^ 32 }
     requires priorities { length mapping.now.priority ≡ length mapping.now.home }
+    requires keys { AreKeys mapping.now.priority keys.now }
     ensures { IfOk result (λ r. IsRankingOfAll mapping.now (arc_value r)) }
 {
-    let keys = keys_of(alloc, mapping.priority.items())?;
     let group = vec![in alloc; 0u32; mapping.home.items().len()]?;
-    let ranking = Ranking::new(alloc, &group, &keys, 1)?;
+    let ranking = Ranking::new(alloc, &group, keys, 1)?;
     Ok(Arc::new(alloc, ranking)?)
 }

@@ -28,9 +28,6 @@ module _ (j : JobView) (waiting : List ℕ) (claimed : ℕ) (ready : ReadyNodes)
       let priorities = compiled.mapped.priority.one_each in
       let groups = ap length by.groups in
       record {
-        there = omega arith;
-        home = omega arith;
-        priority = omega arith;
         narrow = omega arith;
         group = ap (λ g. slice_index g n) by.groups;
         key = by.keys.each n (omega arith);

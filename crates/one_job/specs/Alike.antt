@@ -3,7 +3,7 @@ use Rattle.std.specs.Prelude.{◌≡◌, ℕ, ◌≤◌, length, replicate, slic
 use Rattle.ready_heap.specs.Heaps.{Holds}
 use Rattle.ready_heap.specs.Groups.{HeapsView, RankingView}
 
--- the second ranking is that of the same keys as one group
+-- the second ranking has the same numbers with the same keys, as one group
 pub record IsOfAll (ranking of_all : RankingView) : Type 0 where
   pub one_group : of_all.groups ≡ replicate (length ranking.groups) 0
   pub keys : of_all.keys ≡ ranking.keys

@@ -3,7 +3,7 @@ use Rattle.std.specs.Prelude.{◌≡◌, ℕ, zero, suc, ◌+◌, ◌<◌, ◌�
 use Rattle.sdf_level.specs.declared.node.Node.{Node}
 use Rattle.sdf_level.specs.declared.single_rate.Edge.{Edge}
 use Rattle.ready_heap.specs.Heaps.{Holds}
-use Rattle.ready_heap.specs.Groups.{HeapsView, RankingView, group_count}
+use Rattle.ready_heap.specs.Groups.{HeapsView, RankingView}
 use Rattle.worker_mapping.specs.declared.mapping.Mapping.{Mapping}
 use Rattle.job_compiler.specs.Ranked.{IsKey, AreKeys}
 use Rattle.job_flow.specs.Graphs.{node_at}
@@ -31,7 +31,7 @@ put ready false n on = record ready { others = record ready.others { held = slic
 
 -- heaps of what is ranked so, of which none is in
 abbrev pub none_in : RankingView → HeapsView
-none_in ranking = record { groups = ranking.groups; keys = ranking.keys; held = replicate (length ranking.groups) false; count = group_count ranking }
+none_in ranking = record { groups = ranking.groups; keys = ranking.keys; held = replicate (length ranking.groups) false }
 
 abbrev pub none_ready : RankingView → ReadyNodes
 none_ready ranking = record { children = none_in ranking; others = none_in ranking }
@@ -62,9 +62,6 @@ pub record AreRankedBy (mapping : Mapping) (count : ℕ) (heaps : HeapsView) : T
 
 -- what is in has a home, a priority and a key of its own
 pub record IsRanked (mapping : Mapping) (heaps : HeapsView) (n : ℕ) : Type 0 where
-  pub there : n < length heaps.groups
-  pub home : n < length mapping.home
-  pub priority : n < length mapping.priority
   pub narrow : n < 4294967296
   pub group : slice_index heaps.groups n ≡ slice_index mapping.home n
   pub key : IsKey (slice_index mapping.priority n) n (slice_index heaps.keys n)

@@ -1,4 +1,4 @@
-// Which nodes may be claimed, as each claim and each finish keeps it.
+// The nodes that may be claimed, as each claim and each finish keeps them.
 ghost use Rattle.std.specs.Prelude.{IsTrue, ◌↔◌, ◌≡◌, ◌<◌, ◌^◌, ◌-◌, [], Bool, ℕ, None, true, false, length, slice_index, slice_index_or, slice_set, if◌then◌else◌, ◌==◌, IfOk};
 ghost use Rattle.std.specs.Arc.{arc_value};
 ghost use Rattle.ready_heap.specs.Heaps.{Holds};

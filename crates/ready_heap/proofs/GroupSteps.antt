@@ -123,7 +123,7 @@ module _ (groups keys starts numbers ranks : List ℕ) (keeps : KeepsRanks group
 
   module _ (words summary : List ℕ) (bits : KeepsBits numbers words summary) where
     abbrev pub view : HeapsView
-    view = record { groups = groups; keys = keys; held = held_by words ranks; count = length starts - 1 }
+    view = record { groups = groups; keys = keys; held = held_by words ranks }
 
     -- a number that is in has the bit of its rank
     bit_of_in : (g n : ℕ) → IsIn view g n → (n < length groups) × IsSet words (slice_index ranks n)

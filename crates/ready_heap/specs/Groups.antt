@@ -17,12 +17,11 @@ pub record RankingView : Type 0 where
 abbrev pub group_count : RankingView → ℕ
 group_count r = length r.starts - 1
 
--- the group and the key of each number, whether it is in, and how many groups there are
+-- the group and the key of each number, and whether it is in
 pub record HeapsView : Type 0 where
   pub groups : List ℕ
   pub keys : List ℕ
   pub held : List Bool
-  pub count : ℕ
 
 -- a number of a group that is in
 pub record IsIn (h : HeapsView) (group n : ℕ) : Type 0 where

@@ -1,8 +1,8 @@
 // Numbers in groups, each group in the order of its keys.
-ghost use Rattle.std.specs.Prelude.{◌≡◌, ◌<◌, ◌↔◌, ℕ, IsTrue, true, false, length, replicate, slice_index, slice_index_or, slice_set, EachIndex, IfOk};
+ghost use Rattle.std.specs.Prelude.{◌≡◌, ◌<◌, ◌↔◌, ℕ, IsTrue, true, false, length, replicate, slice_index_or, slice_set, IfOk};
 ghost use Rattle.std.specs.Arc.{arc_value};
 ghost use Rattle.ready_heap.specs.Heaps.{Holds};
-ghost use Rattle.ready_heap.specs.Groups.{IsLeastOf, group_count};
+ghost use Rattle.ready_heap.specs.Groups.{IsLeastOf};
 
 use crate::bits::{BITS, first_from, put_in, take_out};
 use crate::ranking::Ranking;
@@ -24,7 +24,7 @@ pub struct GroupedHeaps {
 
 impl Model for GroupedHeaps {
     ghost use Rattle.std.specs.Arc.{arc_value};
-    ghost use Rattle.ready_heap.specs.Groups.{HeapsView, IsRanked, KeepsBits, group_count, held_by};
+    ghost use Rattle.ready_heap.specs.Groups.{HeapsView, IsRanked, KeepsBits, held_by};
 
     ghost Value = { HeapsView };
 
@@ -32,7 +32,6 @@ impl Model for GroupedHeaps {
       groups = (arc_value h.ranking).groups;
       keys = (arc_value h.ranking).keys;
       held = held_by h.words.items (arc_value h.ranking).ranks;
-      count = group_count (arc_value h.ranking);
     } };
 
     ghost invariant = { λ h. IsRanked (arc_value h.ranking) × KeepsBits (arc_value h.ranking).numbers h.words.items h.summary.items };
@@ -45,7 +44,7 @@ impl GroupedHeaps {
     ///
     /// Want of memory.
     pub fn new(alloc: Global, ranking: Arc<Ranking>) -> Result<GroupedHeaps, AllocError>
-        ensures { IfOk result (λ h. h ≡ record { groups = (arc_value ranking).groups; keys = (arc_value ranking).keys; held = replicate (length (arc_value ranking).groups) false; count = group_count (arc_value ranking) }) }
+        ensures { IfOk result (λ h. h ≡ record { groups = (arc_value ranking).groups; keys = (arc_value ranking).keys; held = replicate (length (arc_value ranking).groups) false }) }
     {
         let words = vec![in alloc; 0u64; ranking.count().div_ceil(BITS)]?;
         let summary = vec![in alloc; 0u64; words.len().div_ceil(BITS)]?;
@@ -68,14 +67,6 @@ impl GroupedHeaps {
             Some(rank) if rank < end => Some(self.ranking.number(rank)),
             _ => None,
         }
-    }
-
-    /// How many groups there are.
-    pub fn groups(&self) -> usize
-        ensures count { result ≡ self.now.count }
-        ensures above { EachIndex self.now.groups (λ n. slice_index self.now.groups n < result) }
-    {
-        self.ranking.groups()
     }
 
     /// Whether no number is in.

@@ -38,3 +38,6 @@ returns-in_err-ranking-clause-only_compilation c = λ other is level workers. in
 
 pub returns-in_err-ranking_of_all-clause-only_compilation : goal.returns-in_err-ranking_of_all-clause-only_compilation
 returns-in_err-ranking_of_all-clause-only_compilation c = λ other is level workers. inr (search rules)
+
+pub returns-in_err-keys-clause-only_compilation : goal.returns-in_err-keys-clause-only_compilation
+returns-in_err-keys-clause-only_compilation c = λ other is level workers. inr (search rules)

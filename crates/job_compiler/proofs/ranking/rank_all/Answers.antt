@@ -8,8 +8,8 @@ returns c =
     let r = c.in_ok-ranking.ranking in
     let made = c.in_ok-ranking.ensures in
     let all : IsRankingOfAll c.args.mapping.now r = record {
-      one_group = made.groups ∙ c.deref.ensures.value ∙ c.in_ok-group.ensures.items_if_clones_equal (λ x y. y) ∙ ap (λ (h : List ℕ). replicate (length h) 0) c.items-2.ensures;
-      keys = subst (λ (p : List ℕ). AreKeys p r.keys) c.items.ensures (subst (AreKeys c.items.result.now) (sym (made.keys ∙ c.deref-2.ensures.value)) c.in_ok-keys.ensures);
+      one_group = made.groups ∙ c.deref.ensures.value ∙ c.in_ok-group.ensures.items_if_clones_equal (λ x y. y) ∙ ap (λ (h : List ℕ). replicate (length h) 0) c.items.ensures;
+      keys = subst (AreKeys c.args.mapping.now.priority) (sym made.keys) c.requires.keys;
       one = made.count;
     } in
     subst (λ (v : RankingView). IsRankingOfAll c.args.mapping.now v) (sym c.in_ok-new.ensures.ok) all

@@ -10,7 +10,7 @@ returns c =
     let Reached : List ℕ → Type 0 = λ homes. (home : ℕ) → home < group_count r → (n : ℕ) × (n < length homes) × (home ≤ slice_index homes n) in
     let all : IsRankingOf c.args.mapping.now r = record {
       homes = made.groups ∙ c.items-homes.ensures;
-      keys = subst (λ (p : List ℕ). AreKeys p r.keys) c.items.ensures (subst (AreKeys c.items.result.now) (sym (made.keys ∙ c.deref.ensures.value)) c.in_ok-keys.ensures);
+      keys = subst (AreKeys c.args.mapping.now.priority) (sym made.keys) c.requires.keys;
       few = subst Reached c.items-homes.ensures (λ home below. c.count_of.ensures.least home (subst (λ (k : ℕ). home < k) made.count below));
     } in
     subst (λ (v : RankingView). IsRankingOf c.args.mapping.now v) (sym c.in_ok-new.ensures.ok) all

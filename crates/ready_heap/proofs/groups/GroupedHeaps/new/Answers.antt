@@ -1,4 +1,4 @@
-use Rattle.std.proofs.Common.{◌≡◌, ◌-◌, false, length, replicate, ap, ◌∙◌, subst, arith}
+use Rattle.std.proofs.Common.{◌≡◌, false, length, replicate, ap, ◌∙◌, subst, arith}
 use Rattle.std.proofs.lemmas.Grind.{common_steps}
 use Rattle.std.specs.Arc.{arc_value}
 use Rattle.ready_heap.specs.Groups.{RankingView, IsRanked, held_by}
@@ -19,4 +19,4 @@ returns c =
     let r : RankingView = arc_value c.args.ranking in
     let ranked : IsRanked r = subst IsRanked c.deref.ensures c.count.ensures.kept in
     let held_is = ap (λ ws. held_by ws r.ranks) (c.in_ok-words.ensures.items_if_clones_equal (λ y h. h)) ∙ (held_none _ r.ranks ∙ ap (λ n. replicate n false) (ranks_long r.groups r.keys r.starts r.numbers r.ranks ranked)) in
-    λ t. record { groups = r.groups; keys = r.keys; held = held_is t; count = length r.starts - 1 }
+    λ t. record { groups = r.groups; keys = r.keys; held = held_is t }

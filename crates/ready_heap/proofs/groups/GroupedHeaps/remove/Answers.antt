@@ -1,4 +1,4 @@
-use Rattle.std.proofs.Common.{◌≡◌, ◌-◌, ◌<◌, length, sym, ap, ◌∙◌, subst, false}
+use Rattle.std.proofs.Common.{◌≡◌, ◌<◌, length, sym, ap, ◌∙◌, subst, false}
 use Rattle.std.specs.Prelude.{slice_index}
 use Rattle.std.specs.Arc.{arc_value}
 use Rattle.std.proofs.lemmas.List.{with_items_is}
@@ -38,4 +38,4 @@ returns c =
     let put : Puts (slice_index r.ranks c.args.n) false i.words.items c.take_out.new.words = subst (λ (t : Type 0). t) (λ t. Puts (rank_is t) false (c.deref_mut.ensures.value t) c.take_out.new.words) c.take_out.ensures.put in
     let after = held_after r.groups r.keys r.starts r.numbers r.ranks c.self.invariant.0 i.words.items i.summary.items c.self.invariant.1 c.args.n inside false c.take_out.new.words c.take_out.new.summary put c.take_out.ensures.summary short in
     let held_is = ap (λ ws. held_by ws r.ranks) same_words ∙ after in
-    rw (← c.self.view_is) (λ t. record { groups = r.groups; keys = r.keys; held = held_is t; count = length r.starts - 1 })
+    rw (← c.self.view_is) (λ t. record { groups = r.groups; keys = r.keys; held = held_is t })
