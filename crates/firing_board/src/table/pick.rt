@@ -151,7 +151,7 @@ fn asked_at(rows: &[Option<Row>], key: usize, worker: u32, calls: bool) -> Optio
 fn best_of(rows: &[Option<Row>], worker: u32, calls: bool) -> Option<Asked>
     ensures { IsBestOf worker calls rows.now (length rows.now) result }
 {
-    // Many a board has but one row as long as it lives, and nothing to compare.
+    // The most frequent case by far, without the best offer that the loop carries along.
     if rows.len() == 1 {
         return asked_at(rows, 0, worker, calls);
     }
