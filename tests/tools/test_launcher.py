@@ -29,6 +29,7 @@ case $1 in
     echo '== low'; echo 'rt: low: its tests are proved'; echo 'rt: low proved'
     [ -f "$kit/note" ] && echo 'rt: note: nothing is kept'
     [ -f "$kit/stays" ] && { sleep 20 >/dev/null 2>&1 & }
+    [ -f "$kit/waits" ] && { echo $$ >"$kit/pid.new"; mv "$kit/pid.new" "$kit/pid"; exec sleep 30; }
     [ -f "$kit/slow" ] && sleep 1
     mkdir -p crates/pisdf/out && cp "$kit/program" crates/pisdf/out/pisdf && chmod +x crates/pisdf/out/pisdf
     echo 'rt: pisdf is kept: an earlier run on this machine proved it'; echo '2 passed, 0 failed' ;;
@@ -272,6 +273,21 @@ class Launcher(unittest.TestCase):
         began = time.monotonic()
         self.assertNotIn("this one waits", self.call("run")[2])
         self.assertLess(time.monotonic() - began, 10)
+
+    def test_a_call_that_is_told_to_end_ends_the_toolchain(self):
+        write(os.path.join(self.kit, "waits"), "")
+        environment = {"PATH": self.kit + ":" + self.plain, "TMPDIR": self.room}
+        call = subprocess.Popen([self.path("pisdf"), "run"], env=environment, stdout=subprocess.PIPE, stderr=subprocess.PIPE)
+        while not os.path.exists(os.path.join(self.kit, "pid")):
+            time.sleep(0.02)
+        with open(os.path.join(self.kit, "pid"), encoding="utf-8") as file:
+            toolchain = int(file.read())
+        call.terminate()
+        call.communicate(timeout=20)
+        self.assertEqual(call.returncode, 143)
+        self.assertRaises(ProcessLookupError, os.kill, toolchain, 0)
+        with open(os.path.join(self.kit, "folder"), encoding="utf-8") as file:
+            self.assertFalse(os.path.exists(file.read().strip()))
 
     def test_a_program_that_runs_is_not_written_over(self):
         self.built()
