@@ -186,11 +186,12 @@ module _ (groups keys starts numbers ranks : List ℕ) (keeps : KeepsRanks group
         let held = held_at words ranks n holds in
         none (slice_index ranks n) (omega arith) held.1
 
-    pub empty_of : (result : Option ℕ) (empty : Bool) → is_some result ≡ not empty → IsNext words 0 result → IsTrue empty ↔ ((n : ℕ) → Holds (held_by words ranks) n → ⊥)
-    empty_of None true is none = ((λ yes n holds. none_in none n holds), (λ all. refl))
+    pub empty_of : (result : Option ℕ) (empty : Bool) → is_some result ≡ not empty → IsNext summary 0 result → IsTrue empty ↔ ((n : ℕ) → Holds (held_by words ranks) n → ⊥)
+    empty_of None true is none = ((λ yes n holds. none_in (λ k up set. none (k / 64) (omega arith) (bits.is_summary.each k set)) n holds), (λ all. refl))
     empty_of None false is none = absurd (false≢true is)
     empty_of (Some r) true is next = absurd (false≢true (sym is))
-    empty_of (Some r) false is next = ((λ yes. absurd (false≢true yes)), (λ all. absurd (all (slice_index numbers r) (in_of_bit r next.1))))
+    empty_of (Some r) false is next =
+        let one = bits.is_summary.some r next.1 in ((λ yes. absurd (false≢true yes)), (λ all. absurd (all (slice_index numbers one.0) (in_of_bit one.0 one.2))))
 
     -- ---- a bit is set or cleared
 

@@ -58,8 +58,8 @@ fn next_in_word(word: u64, from: u32) -> Option<u32>
     Some(left.trailing_zeros())
 }
 
-/// The first set bit of a row from one on.
-fn next_bit(words: &[u64], from: usize) -> Option<usize>
+/// The first set bit of a row from one on. It looks at one word after another.
+pub(crate) fn next_bit(words: &[u64], from: usize) -> Option<usize>
     requires { length words.now < 2 ^ 57 }
     ensures { IsNext words.now from result }
 {

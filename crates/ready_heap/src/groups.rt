@@ -4,7 +4,7 @@ ghost use Rattle.std.specs.Arc.{arc_value};
 ghost use Rattle.ready_heap.specs.Heaps.{Holds};
 ghost use Rattle.ready_heap.specs.Groups.{IsLeastOf};
 
-use crate::bits::{BITS, first_from, put_in, take_out};
+use crate::bits::{BITS, first_from, next_bit, put_in, take_out};
 use crate::ranking::Ranking;
 use std::alloc::{AllocError, Global};
 use std::marker::Model;
@@ -73,7 +73,7 @@ impl GroupedHeaps {
     pub fn is_empty(&self) -> bool
         ensures { IsTrue result ↔ ((n : ℕ) → Holds self.now.held n → ⊥) }
     {
-        first_from(&self.words, &self.summary, 0).is_none()
+        next_bit(&self.summary, 0).is_none()
     }
 
     /// Puts a number in.
