@@ -1,5 +1,5 @@
 -- A job at its start.
-use Rattle.std.proofs.Common.{◌≡◌, ℕ, suc, ℤ, ◌+◌, ◌<◌, ◌≤◌, ⊎_elim, Bool, true, false, List, [], ◌∷◌, length, replicate, get_or, refl, sym, ap, ap₂, ◌∙◌, subst, arith}
+use Rattle.std.proofs.Common.{◌≡◌, ℕ, suc, ℤ, ◌+◌, ◌<◌, ◌≤◌, ⊎_elim, Bool, true, false, List, [], ◌∷◌, length, map, replicate, get_or, refl, sym, ap, ap₂, ◌∙◌, subst, arith}
 use Rattle.std.specs.Prelude.{◌==◌, ◌&&◌, Option, Some, None, slice_index, slice_index_or, if◌then◌else◌}
 use Rattle.std.proofs.lemmas.Bool.{cases_lt, false≢true, and_parts, eqb-true}
 use Rattle.std.proofs.lemmas.List.{get_or-replicate, get_or_past, length-replicate}
@@ -8,7 +8,9 @@ use Rattle.sdf_level.specs.declared.link.Link.{Link}
 use Rattle.sdf_level.specs.declared.node.Node.{Node}
 use Rattle.sdf_level.specs.declared.node.Node.TheVariants as node
 use Rattle.sdf_level.specs.declared.single_rate.Edge.{Edge}
-use Rattle.job_compiler.specs.Compilation.{IsCompiled}
+use Rattle.job_compiler.specs.Compilation.{Compilation, IsCompiled}
+use Rattle.job_compiler.specs.Wired.{WireJobs}
+use Rattle.sdf_level.specs.LevelRun.{HaveDelays}
 use Rattle.job_flow.specs.Graphs.{JobGraph, IsJobGraph, node_at}
 use Rattle.job_flow.specs.Frames.{Values, lengths_read, in_lens, arriving_size}
 use Rattle.job_flow.specs.Outcomes.{sunk, left_over}
@@ -19,9 +21,14 @@ use Rattle.one_job.specs.Places.{edge_at, buffer_at}
 use Rattle.one_job.specs.Live.{IsLent, AreOut}
 use Rattle.one_job.specs.Ports.{writes_stored, row_of, AreWired, port_size}
 use Rattle.one_job.specs.Opening.{AreMade}
-use Rattle.one_job.specs.View.{JobView, graph_of, HasLists}
+use Rattle.one_job.specs.View.{JobView, graph_of, job_graph, HasLists}
 use Rattle.one_job.specs.Invariants.{Parts, HasRoom, HasStock, IsPoolOf, Keeps}
 use Rattle.one_job.proofs.Wires.{enters_at, writes_one}
+
+-- the rows of the ports, whatever compilation was read
+pub wired_by : (one comp : Compilation) (ins outs : List (List (Option ℕ))) → one ≡ comp → WireJobs one.level one.graph ins outs
+    → (sources stored : List (List ℤ)) → map length sources ≡ comp.level.sources → HaveDelays comp.level.links stored → AreWired (job_graph comp sources stored) ins outs
+wired_by one comp ins outs same wires sources stored fit have = subst (λ (x : Compilation). WireJobs x.level x.graph ins outs) same wires sources stored fit have
 
 -- the edge at the first port of a node is there
 pub first_there : (job : JobGraph ℤ) (entering leaving : List (List (Option ℕ))) → AreWired job entering leaving → (n e : ℕ) → get_or (row_of entering n) 0 None ≡ Some e → e < length job.edges

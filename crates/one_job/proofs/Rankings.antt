@@ -1,11 +1,12 @@
 -- The ranking of all nodes has the keys of the ranking by homes.
-use Rattle.std.proofs.Common.{◌≡◌, ℕ, ◌<◌, ◌≤◌, ⊎_elim, List, false, length, replicate, slice_index, sym, ap, ◌∙◌, arith}
+use Rattle.std.proofs.Common.{◌≡◌, ℕ, ◌<◌, ◌≤◌, ⊎_elim, Bool, true, false, List, length, refl, replicate, slice_index, sym, ap, ◌∙◌, arith}
+use Rattle.std.specs.Prelude.{IsTrue, Some, None, if◌then◌else◌}
 use Rattle.std.proofs.lemmas.List.{ext_get_or, get_or-replicate, get_or_past, length-replicate}
 use Rattle.std.proofs.lemmas.Bool.{cases_lt}
 use Rattle.ready_heap.specs.Groups.{RankingView}
 use Rattle.worker_mapping.specs.declared.mapping.Mapping.{Mapping}
 use Rattle.job_compiler.specs.Ranked.{AreKeys, IsRankingOf, IsRankingOfAll}
-use Rattle.one_job.specs.Alike.{AreAlike, IsOfAll}
+use Rattle.one_job.specs.Alike.{AreAlike, AreKeptAlike, AreOneGroup, IsOfAll}
 use Rattle.one_job.specs.Ready.{none_in}
 
 keys_are_one : (priority one two : List ℕ) → AreKeys priority one → AreKeys priority two → one ≡ two
@@ -34,3 +35,8 @@ none_alike ranking of_all is = record {
   keys = is.keys;
   held = ap (λ (k : ℕ). replicate k false) (ap length is.one_group ∙ length-replicate (length ranking.groups) 0);
 }
+
+-- where they have one group, there is no need of others
+pub none_kept : (ranking of_all : RankingView) (one_home : Bool) → IsOfAll ranking of_all → (IsTrue one_home → AreOneGroup ranking.groups) → AreKeptAlike (none_in ranking) (if one_home then None else Some (none_in of_all))
+none_kept ranking of_all true is one = one refl
+none_kept ranking of_all false is one = none_alike ranking of_all is

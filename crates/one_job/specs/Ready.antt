@@ -5,7 +5,8 @@ use Rattle.sdf_level.specs.declared.single_rate.Edge.{Edge}
 use Rattle.ready_heap.specs.Heaps.{Holds}
 use Rattle.ready_heap.specs.Groups.{HeapsView, RankingView}
 use Rattle.worker_mapping.specs.declared.mapping.Mapping.{Mapping}
-use Rattle.job_compiler.specs.Ranked.{IsKey, AreKeys}
+use Rattle.job_compiler.specs.Compilation.{Compilation}
+use Rattle.job_compiler.specs.Ranked.{IsKey, AreKeys, IsRankingOf}
 use Rattle.job_flow.specs.Graphs.{node_at}
 use Rattle.one_job.specs.Marks.{Mark, Phase, IsFree, IsClaimed, IsFinished, IsFailed, phase}
 use Rattle.one_job.specs.Places.{edge_at}
@@ -150,3 +151,9 @@ pub record AreStarted (child : ℕ → Bool) (waiting : List ℕ) (count : ℕ) 
   pub sorted : AreSorted child ready
   pub in_now : (n : ℕ) → n < count → slice_index waiting n ≡ 0 → is_in child ready n ≡ true
   pub only : (n : ℕ) → is_in child ready n ≡ true → (n < count) × (slice_index waiting n ≡ 0)
+
+-- of a compiled level those nodes are in that wait for none, in some ranking of its nodes
+pub record AreFirstReady (c : Compilation) (kinds : List (Option ℕ)) (waiting : List ℕ) (ready : ReadyNodes) : Type 0 where
+  pub ranking : RankingView
+  pub ranked : IsRankingOf c.mapping ranking
+  pub started : AreStarted (is_child_at c.graph.nodes kinds) waiting (length waiting) (none_ready ranking) ready

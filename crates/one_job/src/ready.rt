@@ -2,12 +2,12 @@
 ghost use Rattle.std.specs.Prelude.{IsTrue, ◌↔◌, ◌≡◌, ◌<◌, ◌^◌, ◌-◌, [], Bool, ℕ, None, true, false, length, slice_index, slice_index_or, slice_set, if◌then◌else◌, ◌==◌, IfOk};
 ghost use Rattle.std.specs.Arc.{arc_value};
 ghost use Rattle.ready_heap.specs.Heaps.{Holds};
-ghost use Rattle.one_job.specs.Ready.{side, put, none_ready, is_in, is_child_at, Releases, CanRelease, AreStarted};
-ghost use Rattle.one_job.specs.Alike.{IsOfAll};
+ghost use Rattle.one_job.specs.Ready.{side, put, none_ready, is_in, is_child_at, Releases, CanRelease, AreStarted, AreFirstReady};
+ghost use Rattle.one_job.specs.Alike.{AreOneGroup, IsOfAll};
 
 use crate::nodes::is_child;
 use crate::side::ReadySide;
-use job_compiler::Port;
+use job_compiler::{Compiled, Port};
 use ready_heap::Ranking;
 use sdf_level::{Edge, Node};
 use std::alloc::{AllocError, Global};
@@ -21,18 +21,20 @@ pub(crate) struct ReadyNodes {
 }
 
 impl ReadyNodes {
-    /// None of the nodes that are ranked is in. `of_all` ranks them as one group.
+    /// None of the nodes that are ranked is in. `of_all` ranks them as one group. `one_home` says that all have home 0.
     fn new(
         alloc: Global,
         ranking: &Arc<Ranking>,
         of_all: &Arc<Ranking>,
+        one_home: bool,
     ) -> Result<ReadyNodes, AllocError>
-        requires { IsOfAll (arc_value ranking.now) (arc_value of_all.now) }
+        requires of_all { IsOfAll (arc_value ranking.now) (arc_value of_all.now) }
+        requires one_home { IsTrue one_home → AreOneGroup (arc_value ranking.now).groups }
         ensures { IfOk result (λ r. r ≡ none_ready (arc_value ranking.now)) }
     {
         Ok(ReadyNodes {
-            children: ReadySide::new(alloc, ranking, of_all)?,
-            others: ReadySide::new(alloc, ranking, of_all)?,
+            children: ReadySide::new(alloc, ranking, of_all, one_home)?,
+            others: ReadySide::new(alloc, ranking, of_all, one_home)?,
         })
     }
 
@@ -91,23 +93,36 @@ fn put_first(ready: &mut ReadyNodes, waiting: &[usize], nodes: &[Node], kinds: &
     }
 }
 
-/// The nodes that may be claimed at the start of a job: those that wait for none.
+/// Whether all nodes have home 0.
+fn have_home_zero(homes: &[u32]) -> bool
+    ensures { IsTrue result ↔ AreOneGroup homes.now }
+{
+    for home in homes {
+        if *home != 0 {
+            return false;
+        }
+    }
+    true
+}
+
+/// The nodes that may be claimed at the start of a job of this compilation: those that wait for none.
 pub(crate) fn start_ready(
     alloc: Global,
-    ranking: &Arc<Ranking>,
-    of_all: &Arc<Ranking>,
-    nodes: &[Node],
+    compiled: &Compiled,
     kinds: &[Option<u32>],
     waiting: &[usize],
 ) -> Result<ReadyNodes, AllocError>
-    requires of_all { IsOfAll (arc_value ranking.now) (arc_value of_all.now) }
-    requires few { length nodes.now < 2 ^ 32 }
-    requires ranked { length (arc_value ranking.now).groups ≡ length nodes.now }
-    requires waiting { length waiting.now ≡ length nodes.now }
-    ensures { IfOk result (AreStarted (is_child_at nodes.now kinds.now) waiting.now (length waiting.now) (none_ready (arc_value ranking.now))) }
+    requires { length waiting.now ≡ length compiled.now.graph.nodes }
+    ensures { IfOk result (AreFirstReady compiled.now kinds.now waiting.now) }
 {
-    let mut ready = ReadyNodes::new(alloc, ranking, of_all)?;
-    put_first(&mut ready, waiting, nodes, kinds);
+    let one_home = have_home_zero(compiled.mapping().home.items());
+    let mut ready = ReadyNodes::new(
+        alloc,
+        compiled.ranking(),
+        compiled.ranking_of_all(),
+        one_home,
+    )?;
+    put_first(&mut ready, waiting, compiled.graph().nodes.items(), kinds);
     Ok(ready)
 }
 

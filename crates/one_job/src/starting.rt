@@ -2,13 +2,19 @@
 ghost use Rattle.std.specs.Prelude.{◌≡◌, length, map, replicate, IfOk};
 ghost use Rattle.std.specs.Arc.{arc_value};
 ghost use Rattle.sdf_level.specs.LevelRun.{HaveDelays};
+ghost use Rattle.job_compiler.specs.Ends.{AreEndCounts, head_of};
+ghost use Rattle.job_compiler.specs.Wired.{entering};
 ghost use Rattle.one_job.specs.Marks.{Free};
+ghost use Rattle.one_job.specs.Opening.{AreFirstTokens, AreMade};
+ghost use Rattle.one_job.specs.Ready.{AreFirstReady};
 ghost use Rattle.one_job.specs.Rooms.{IsRoomOf};
+ghost use Rattle.one_job.specs.Staged.{mark_of};
 
 use crate::job::Job;
 use crate::opening::{free_stages, no_tokens};
-use crate::ready::start_ready;
+use crate::ready::{ReadyNodes, start_ready};
 use crate::rooms::room_size;
+use crate::stage::Stage;
 use crate::stock::make_stock;
 use cell_pool::Pool;
 use job_compiler::Compiled;
@@ -17,6 +23,99 @@ use sdf_level::List;
 use std::alloc::{AllocError, Global};
 use std::snapshot::Snapshot;
 use std::sync::Arc;
+
+/// The tokens that lie ready for each node of a job of this compilation, whose sources give `sources` and whose links hold
+/// `stored`.
+fn first_stock(
+    alloc: Global,
+    compiled: &Compiled,
+    sources: List<List<i64>>,
+    stored: List<List<i64>>,
+) -> Result<Vec<List<i64>>, AllocError>
+    requires sources { map length sources ≡ compiled.now.level.sources }
+    requires stored { HaveDelays compiled.now.level.links stored }
+    ensures { IfOk result (λ stock. AreMade compiled.now.graph.nodes compiled.now.graph.edges (entering compiled.now.level compiled.now.graph) sources stored stock.items) }
+{
+    edges_have_ports::<i64>();
+    // With its level a compilation tells that it is one of that level.
+    let _level = compiled.level();
+    let graph = compiled.graph();
+    let mut sources = sources.into_items();
+    let mut stored = stored.into_items();
+    make_stock(
+        alloc,
+        graph.nodes.items(),
+        graph.edges.items(),
+        &compiled.wiring().entering,
+        &mut sources,
+        &mut stored,
+    )
+}
+
+/// The tokens of a job at its start: those that lie ready for its nodes, and none that its sinks keep or that are left on its
+/// links.
+#[derive(Drop)]
+struct FirstTokens {
+    stock: Vec<List<i64>>,
+    outs: Vec<List<i64>>,
+    left: Vec<List<i64>>,
+}
+
+/// The first tokens of a job of this compilation, whose sources give `sources` and whose links hold `stored`.
+fn first_tokens(
+    alloc: Global,
+    compiled: &Compiled,
+    sources: List<List<i64>>,
+    stored: List<List<i64>>,
+) -> Result<FirstTokens, AllocError>
+    requires sources { map length sources ≡ compiled.now.level.sources }
+    requires stored { HaveDelays compiled.now.level.links stored }
+    ensures { IfOk result (AreFirstTokens compiled.now sources stored) }
+{
+    let level = compiled.level();
+    let stock = first_stock(alloc, compiled, sources, stored)?;
+    let outs = no_tokens(alloc, level.sinks.items().len())?;
+    let left = no_tokens(alloc, level.links.items().len())?;
+    Ok(FirstTokens { stock, outs, left })
+}
+
+/// The parts of a job at its start that take memory, but for its cells: how far its nodes are, how many edges each waits for,
+/// those that may be claimed, and the tokens.
+#[derive(Drop)]
+struct FirstParts {
+    stages: Vec<Stage>,
+    waiting: Vec<usize>,
+    ready: ReadyNodes,
+    tokens: FirstTokens,
+}
+
+/// The first parts of a job of this compilation, whose actors have these kernels, whose sources give `sources` and whose links
+/// hold `stored`.
+fn first_parts(
+    alloc: Global,
+    compiled: &Compiled,
+    kinds: &[Option<u32>],
+    sources: List<List<i64>>,
+    stored: List<List<i64>>,
+) -> Result<FirstParts, AllocError>
+    requires sources { map length sources ≡ compiled.now.level.sources }
+    requires stored { HaveDelays compiled.now.level.links stored }
+    ensures free { IfOk result (λ nodes. map mark_of nodes.stages.items ≡ replicate (length compiled.now.graph.nodes) Free) }
+    ensures waiting { IfOk result (λ nodes. AreEndCounts (length compiled.now.graph.nodes) (map head_of compiled.now.graph.edges) nodes.waiting.items) }
+    ensures ready { IfOk result (λ nodes. AreFirstReady compiled.now kinds.now nodes.waiting.items nodes.ready) }
+    ensures tokens { IfOk result (λ nodes. AreFirstTokens compiled.now sources stored nodes.tokens) }
+{
+    let tokens = first_tokens(alloc, compiled, sources, stored)?;
+    let waiting = compiled.wiring().into.items().to_vec(alloc)?;
+    let stages = free_stages(alloc, compiled.graph().nodes.items().len())?;
+    let ready = start_ready(alloc, compiled, kinds, &waiting)?;
+    Ok(FirstParts {
+        stages,
+        waiting,
+        ready,
+        tokens,
+    })
+}
 
 /// A job of a compiled level, in which each node is free. `kinds` has for each actor the place of its kernel, or none where
 /// its firings are jobs of their own; `args` has each actor's arguments, `sources` the tokens of each source, and `stored`
@@ -44,35 +143,12 @@ pub fn start(
     ensures free { IfOk result (λ j. j.marks ≡ replicate (length (arc_value compiled).graph.nodes) Free) }
 {
     edges_have_ports::<i64>();
-    let nodes = compiled.graph().nodes.items();
-    let edges = compiled.graph().edges.items();
-    let level = compiled.level();
-    let wiring = compiled.wiring();
-    let waiting = wiring.into.items().to_vec(alloc)?;
-    let stages = free_stages(alloc, nodes.len())?;
-    let outs = no_tokens(alloc, level.sinks.items().len())?;
-    let left = no_tokens(alloc, level.links.items().len())?;
-    let ready = start_ready(
-        alloc,
-        compiled.ranking(),
-        compiled.ranking_of_all(),
-        nodes,
-        kinds.items(),
-        &waiting,
-    )?;
+    // With its level a compilation tells that it is one of that level.
+    let _level = compiled.level();
+    let size = room_size(compiled.wiring(), args.items());
     let sources_told = Snapshot::of(&sources);
     let stored_told = Snapshot::of(&stored);
-    let mut sources = sources.into_items();
-    let mut stored = stored.into_items();
-    let stock = make_stock(
-        alloc,
-        nodes,
-        edges,
-        &wiring.entering,
-        &mut sources,
-        &mut stored,
-    )?;
-    let size = room_size(wiring, args.items());
+    let nodes = first_parts(alloc, &compiled, kinds.items(), sources, stored)?;
     let pool = Pool::start(alloc, compiled.placement().height, u32::MAX)?;
     Ok(Job {
         compiled,
@@ -80,15 +156,15 @@ pub fn start(
         args,
         sources: sources_told,
         stored: stored_told,
-        stages,
-        waiting,
-        ready,
+        stages: nodes.stages,
+        waiting: nodes.waiting,
+        ready: nodes.ready,
         claimed: 0,
-        stock,
+        stock: nodes.tokens.stock,
         size,
         pool,
-        outs,
-        left,
+        outs: nodes.tokens.outs,
+        left: nodes.tokens.left,
         alloc,
     })
 }

@@ -87,7 +87,7 @@ heaps_send : IsSend GroupedHeaps.the_row
 heaps_send = search (ranking_send, ranking_sync, crosses, sendable) depth 30 fits 4000
 
 ready_side_send : IsSend ReadySide.the_row
-ready_side_send = search (heaps_send, crosses, sendable) depth 30 fits 4000
+ready_side_send = search (heaps_send, option.the_send, crosses, sendable) depth 30 fits 4000
 
 ready_field_send : IsSend ReadyNodes.the_field.row
 ready_field_send = search (ready_side_send, crosses, sendable) depth 30 fits 4000
