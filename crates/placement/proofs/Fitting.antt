@@ -1,5 +1,5 @@
 -- One buffer after another gets its offset.
-use Rattle.std.proofs.Common.{◌≡◌, ◌≢◌, ℕ, suc, ◌+◌, ◌-◌, ◌*◌, ◌/◌, ◌^◌, ◌<◌, ◌≤◌, ◌⊎◌, inl, inr, ⊎_elim, List, [], ◌∷◌, length, get_or, set, take, slice_index, sum, sum_by, All, Any, IsPermutation, refl, sym, ◌∙◌, arith}
+use Rattle.std.proofs.Common.{◌≡◌, ◌≢◌, ℕ, suc, ◌+◌, ◌-◌, ◌*◌, ◌/◌, ◌^◌, ◌<◌, ◌≤◌, ◌⊎◌, inl, inr, ⊎_elim, List, [], ◌∷◌, length, get_or, set, slice_index, sum, All, Any, IsPermutation, refl, sym, ◌∙◌, arith}
 use Rattle.std.proofs.lemmas.Bool.{cases_lt}
 use Rattle.std.proofs.lemmas.List.{get_or-set_same, get_or-set_other, length-set}
 use Rattle.std.proofs.lemmas.List.Elements.{All-cons, All-weaker}
@@ -8,6 +8,7 @@ use Rattle.std.proofs.lemmas.List.Sums.{sum_by_more, sum_by-take-le}
 use Rattle.placement_checker.specs.Placed.{end_of, Relates, Valid, StandsEarlier, Fits, Tight}
 use Rattle.placement_checker.specs.Rows.{RowHas, IsRowOf}
 use Rattle.placement.specs.Placing.{IsPlacingOrder, Rise, IsOpenTo, Blocks, IsLast, StandsAt}
+use Rattle.placement.specs.Progress.{IsPlaced, PlacedSoFar}
 use Rattle.placement.specs.declared.gap.Placed.{Placed}
 
 -- an element with this property stands in the same list in another order too
@@ -89,26 +90,7 @@ module _ (sizes : List ℕ) where
       apart : (j k : ℕ) → j < k → k < length order → slice_index order j ≢ slice_index order k
       apart j k below inside = λ same. never_earlier (slice_index order k) (let e = o.earlier j k below inside in rw same at e)
 
-      -- p is the buffer at one of the first i places of the order
-      pub record IsPlaced (offsets : List ℕ) (i : ℕ) (p : Placed) : Type 0 where
-        pub place : ℕ
-        pub before : place < i
-        pub is : slice_index order place ≡ p.number
-        pub begins : p.offset ≡ slice_index offsets p.number
-        pub ends : p.end ≡ end_of sizes offsets p.number
-
-      -- the first i buffers of the order have their offsets
-      pub record PlacedSoFar (i : ℕ) (placed : List Placed) (offsets : List ℕ) (height : ℕ) : Type 0 where
-        pub long : length offsets ≡ length sizes
-        pub known : All (IsPlaced offsets i) placed
-        pub all : (k : ℕ) → k < i → Any (λ (p : Placed). p.number ≡ slice_index order k) placed
-        pub above : (k : ℕ) → k < i → end_of sizes offsets (slice_index order k) ≤ height
-        pub reached : (height ≡ 0) ⊎ ((k : ℕ) × (k < i) × (end_of sizes offsets (slice_index order k) ≡ height))
-        pub low : height ≤ sum_by (λ (e : ℕ). slice_index sizes e) (take i order)
-        pub fits : (k : ℕ) → k < i → Fits sizes X offsets (slice_index order k) (slice_index offsets (slice_index order k))
-        pub least : (k lower : ℕ) → k < i → lower < slice_index offsets (slice_index order k) → Fits sizes X offsets (slice_index order k) lower → ⊥
-
-      pub none_placed : (offsets : List ℕ) → length offsets ≡ length sizes → PlacedSoFar 0 [] offsets 0
+      pub none_placed : (offsets : List ℕ) → length offsets ≡ length sizes → PlacedSoFar sizes X order 0 [] offsets 0
       none_placed offsets long = record {
         long = long;
         known = λ k d inside. absurd (omega arith);
@@ -120,7 +102,7 @@ module _ (sizes : List ℕ) where
         least = λ k lower below. absurd (omega arith);
       }
 
-      pub all_placed : (i : ℕ) (placed : List Placed) (offsets : List ℕ) (height : ℕ) → length order ≤ i → i ≤ length order → PlacedSoFar i placed offsets height → Tight sizes X offsets height
+      pub all_placed : (i : ℕ) (placed : List Placed) (offsets : List ℕ) (height : ℕ) → length order ≤ i → i ≤ length order → PlacedSoFar sizes X order i placed offsets height → Tight sizes X offsets height
       all_placed i placed offsets height whole within so_far = record {
         fits = λ e inside. let found = o.all e inside in let h = so_far.fits found.0 (let k = found.1 in omega arith) in rw found.2 at h;
         least = λ e lower inside below fits.
@@ -133,7 +115,7 @@ module _ (sizes : List ℕ) where
             so_far.reached;
       }
 
-      module _ (i : ℕ) (placed : List Placed) (offsets : List ℕ) (height : ℕ) (inside : i < length order) (filled : All (λ (size : ℕ). 1 ≤ size) sizes) (few : sum sizes < 2 ^ 32) (so_far : PlacedSoFar i placed offsets height) where
+      module _ (i : ℕ) (placed : List Placed) (offsets : List ℕ) (height : ℕ) (inside : i < length order) (filled : All (λ (size : ℕ). 1 ≤ size) sizes) (few : sum sizes < 2 ^ 32) (so_far : PlacedSoFar sizes X order i placed offsets height) where
         -- the sizes of the first buffers and of the next
         pub room : height + slice_index sizes (slice_index order i) < 2 ^ 32
         room =
@@ -291,12 +273,12 @@ module _ (sizes : List ℕ) where
                 (λ (before : slice_index offsets some.1.number ≤ lower). record { cell = lower; in_one = (omega arith, omega arith); in_other = (omega arith, omega arith) })
                 (cases_lt lower (slice_index offsets some.1.number)))
 
-            known_next : All (IsPlaced next_offsets (i + 1)) next_placed
+            known_next : All (IsPlaced sizes order next_offsets (i + 1)) next_placed
             known_next =
-                All-permutation (IsPlaced next_offsets (i + 1)) (record { number = slice_index order i; offset = offset; end = offset + slice_index sizes (slice_index order i) } ∷ placed) next_placed moved
-                (All-cons (IsPlaced next_offsets (i + 1)) (record { number = slice_index order i; offset = offset; end = offset + slice_index sizes (slice_index order i) }) placed
+                All-permutation (IsPlaced sizes order next_offsets (i + 1)) (record { number = slice_index order i; offset = offset; end = offset + slice_index sizes (slice_index order i) } ∷ placed) next_placed moved
+                (All-cons (IsPlaced sizes order next_offsets (i + 1)) (record { number = slice_index order i; offset = offset; end = offset + slice_index sizes (slice_index order i) }) placed
                 (record { place = i; before = omega arith; is = refl; begins = sym own; ends = rw own refl })
-                (All-weaker (IsPlaced offsets i) (IsPlaced next_offsets (i + 1))
+                (All-weaker (IsPlaced sizes order offsets i) (IsPlaced sizes order next_offsets (i + 1))
                 (λ p old.
                 let here : slice_index next_offsets p.number ≡ slice_index offsets p.number = rw (← old.is) (same_before old.place old.before) in
                 record {
@@ -316,7 +298,7 @@ module _ (sizes : List ℕ) where
                 (λ (last : i ≤ k). let here : i ≡ k = omega arith in (0, record { number = slice_index order i; offset = offset; end = offset + slice_index sizes (slice_index order i) }, omega arith, refl, rw here refl))
                 (cases_lt k i))
 
-            pub one_more_placed : PlacedSoFar (i + 1) next_placed next_offsets new_height
+            pub one_more_placed : PlacedSoFar sizes X order (i + 1) next_placed next_offsets new_height
             one_more_placed = record {
               long = length-set offsets (slice_index order i) offset ∙ so_far.long;
               known = known_next;

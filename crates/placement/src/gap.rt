@@ -7,7 +7,7 @@ ghost use Rattle.placement.specs.declared.gap.Placed.{Placed};
 use placement_checker::has_bit;
 
 /// A buffer in the cells from `offset` up to `end`.
-#[derive(Clone, Copy, Debug)]
+#[derive(Clone, Copy)]
 pub(crate) struct Placed {
     pub(crate) number: u32,
     pub(crate) offset: u32,
@@ -15,7 +15,7 @@ pub(crate) struct Placed {
 }
 
 /// The buffers placed so far, by their offsets: a few large ones, and small ones of at most `limit` cells.
-#[derive(Debug, Drop)]
+#[derive(Drop)]
 pub(crate) struct Buffers {
     pub(crate) small: Vec<Placed>,
     pub(crate) large: Vec<Placed>,
@@ -23,7 +23,7 @@ pub(crate) struct Buffers {
 }
 
 /// A buffer that looks for its offset.
-#[derive(Clone, Copy, Debug)]
+#[derive(Clone, Copy)]
 pub(crate) struct Sought<'a> {
     pub(crate) size: u32,
     /// A bit for each buffer that excludes it.
@@ -31,7 +31,7 @@ pub(crate) struct Sought<'a> {
 }
 
 /// How far a search has come: to an offset, and to a place among the buffers.
-#[derive(Clone, Copy, Debug)]
+#[derive(Clone, Copy)]
 struct Gap {
     place: usize,
     offset: u32,

@@ -8,7 +8,7 @@ use crate::opening::{Spots, opened};
 use placement_checker::has_bit;
 
 /// What is known of the search before.
-#[derive(Debug, Drop)]
+#[derive(Drop)]
 pub(crate) struct Before {
     /// The buffer that was placed.
     pub(crate) buffer: Option<Placed>,

@@ -7,5 +7,6 @@ mod least;
 mod opening;
 mod order;
 mod placing;
+mod progress;
 
 pub use placing::{Placement, place};

@@ -7,7 +7,7 @@ ghost use Rattle.placement.specs.Placing.{IsNarrow, IsOpenTo, IsFree, IsShut};
 use crate::gap::{Buffers, Sought, search};
 
 /// Where each buffer that is placed lies, by number: its first cell, and how many it has.
-#[derive(Clone, Copy, Debug)]
+#[derive(Clone, Copy)]
 pub(crate) struct Spots<'a> {
     pub(crate) offsets: &'a [u32],
     pub(crate) sizes: &'a [u32],
