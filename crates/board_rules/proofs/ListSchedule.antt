@@ -12,7 +12,7 @@ use Rattle.worker_mapping.specs.Schedule.{AreHomes, EachEntry, GoesFirst, IsCand
 use Rattle.worker_mapping.specs.declared.entry.Entry.{Entry}
 use Rattle.worker_mapping.proofs.Entries.{EachEntry-push, is_placed-other, is_placed-own, times_placed-push, unplaced_below-push}
 use Rattle.worker_mapping.proofs.Homes.{HaveHomes, HaveHomes-more, nodes-there}
-use Rattle.worker_mapping.proofs.Growing.{unplaced_below}
+use Rattle.worker_mapping.specs.Growing.{unplaced_below}
 use Rattle.worker_mapping.proofs.Lists.{each-at}
 use Rattle.worker_mapping.proofs.Placing.{every_placed}
 use Rattle.worker_mapping.proofs.Priorities.{IsPriority-from, priority_of}

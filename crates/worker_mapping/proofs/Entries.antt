@@ -7,7 +7,7 @@ use Rattle.std.proofs.lemmas.Bool.{cases_eq, eq-eqb, ne_eqb, lt-ltb}
 use Rattle.worker_mapping.specs.Graph.{CostedGraph, nodes_after, nodes_before, greatest}
 use Rattle.worker_mapping.specs.Schedule.{last_end, end_of, is_placed, times_placed, ready_time, EachEntry}
 use Rattle.sdf_level.specs.Lists.{occurrences}
-use Rattle.worker_mapping.proofs.Growing.{waiting_for, unplaced_below}
+use Rattle.worker_mapping.specs.Growing.{waiting_for, unplaced_below}
 use Rattle.worker_mapping.specs.declared.entry.Entry.{Entry}
 use Rattle.worker_mapping.proofs.Lists.{greatest-append, greatest-le, each-map, each-filter, each-always}
 

@@ -1,7 +1,6 @@
 pub mod CostsSoFar
 pub mod Opening
 pub mod Queued
-pub mod Growing
 pub mod Lists
 pub mod Edges
 pub mod Adjacent

@@ -9,7 +9,7 @@ use Rattle.worker_mapping.specs.Schedule.{free_time, end_of, is_placed, times_pl
 use Rattle.worker_mapping.specs.Choice.{Candidate, IsNotAfter, candidate_of, IsNext}
 use Rattle.sdf_level.specs.Lists.{occurrences}
 use Rattle.worker_mapping.specs.Release.{Releases}
-use Rattle.worker_mapping.proofs.Growing.{waiting_for, unplaced_below, most_cost, Follows}
+use Rattle.worker_mapping.specs.Growing.{waiting_for, unplaced_below, most_cost, Follows}
 use Rattle.worker_mapping.specs.Neighbours.{AreCounted}
 use Rattle.worker_mapping.specs.declared.entry.Entry.{Entry}
 use Rattle.worker_mapping.proofs.Lists.{each-weaker, each-append, each-contains}

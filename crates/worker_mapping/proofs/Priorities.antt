@@ -7,7 +7,7 @@ use Rattle.std.proofs.lemmas.List.Elements.{Contains-push_cases}
 use Rattle.std.proofs.lemmas.Bool.{cases_eq}
 use Rattle.worker_mapping.specs.Graph.{CostedGraph, nodes_after, greatest, IsPriority, AreThere, Rise}
 use Rattle.worker_mapping.specs.Ranked.{IsByRank}
-use Rattle.worker_mapping.proofs.Growing.{most_cost}
+use Rattle.worker_mapping.specs.Growing.{most_cost}
 use Rattle.worker_mapping.proofs.Lists.{greatest-le, each-weaker, each-map, each-always, map-agree}
 use Rattle.worker_mapping.proofs.Edges.{after_is_there}
 

@@ -1,24 +1,18 @@
 -- The queues of candidates give the choice of the rule: start times never fall.
-use Rattle.std.proofs.Common.{◌≡◌, ℕ, zero, suc, ◌<◌, ◌≤◌, ◌⊎◌, ◌↔◌, inl, inr, ⊎_elim, eqb, not, List, [], ◌∷◌, ◌++◌, max, map, length, set, slice_index, get_or, arith, refl, sym, ap, subst, ◌∙◌}
+use Rattle.std.proofs.Common.{◌≡◌, ℕ, zero, suc, ◌<◌, ◌≤◌, ◌⊎◌, ◌↔◌, inl, inr, ⊎_elim, eqb, not, List, [], ◌∷◌, max, map, length, set, slice_index, get_or, arith, refl, sym, ap, subst, ◌∙◌}
 use Rattle.std.specs.List.{Contains, filter}
 use Rattle.std.proofs.lemmas.Bool.{cases_lt, cases_eq, ne_eqb, eqb-false, not-true, lt-ltb}
 use Rattle.std.proofs.lemmas.List.{get_or-map, length-map, length-set, get_or-set_same, get_or-set_other}
 use Rattle.std.proofs.lemmas.List.Elements.{Contains-append_left, Contains-append_right, Contains-append_cases}
 use Rattle.sdf_level.specs.Lists.{occurrences}
 use Rattle.worker_mapping.specs.Choice.{Candidate, IsNotAfter, candidate_of, IsNext}
+use Rattle.worker_mapping.specs.Growing.{node_in, nodes_of, Queued}
 use Rattle.worker_mapping.specs.Queues.{urgency, time_of, Takes, Queues}
 use Rattle.worker_mapping.specs.Release.{Releases}
 use Rattle.worker_mapping.specs.declared.entry.Entry.{Entry}
 use Rattle.worker_mapping.proofs.Opening.{Key, Contains-split, Contains-none}
 use Rattle.worker_mapping.proofs.Placing.{Contains-filter, Contains-filtered}
 use Rattle.worker_mapping.proofs.Releasing.{occurrences-from_Contains}
-
-abbrev node_in : Key → ℕ
-node_in key = key.1
-
--- all candidates, those first that may start
-abbrev pub nodes_of : List Key → List Key → List ℕ
-nodes_of due later = map node_in due ++ map node_in later
 
 Contains-map : (keys : List Key) (key : Key) → Contains keys key → Contains (map node_in keys) key.1
 Contains-map keys key at = (at.0, (let below = at.1 in let long = length-map keys node_in in omega arith), get_or-map node_in keys at.0 key key.1 at.1 ∙ ap node_in at.2)
@@ -42,13 +36,6 @@ module _ (due later : List Key) where
       (λ (first : Contains (map node_in due) n). inl (Contains-unmap due n first))
       (λ (second : Contains (map node_in later) n). inr (Contains-unmap later n second))
       (Contains-append_cases (map node_in due) (map node_in later) n at)
-
--- Those that may start were ready at the last start, and go by their priorities; the others by their times. The next start
--- isn't before the last one.
-pub record Queued (priority ready free : List ℕ) (now : ℕ) (due later : List Key) : Type 0 where
-  pub due_each : (key : Key) → Contains due key → (key.0 ≡ urgency priority key.1) × (slice_index ready key.1 ≤ now)
-  pub later_each : (key : Key) → Contains later key → key.0 ≡ slice_index ready key.1
-  pub onward : ((w : ℕ) → w < length free → now ≤ slice_index free w) ⊎ ((n : ℕ) → Contains (nodes_of due later) n → now ≤ slice_index ready n)
 
 time_above : (now free : ℕ) (due later : List Key) → max now free ≤ time_of now free due later
 time_above now free [] [] = omega arith

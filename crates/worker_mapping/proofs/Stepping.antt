@@ -1,29 +1,25 @@
 -- The queues beside the lists that follow a schedule, one entry more.
-use Rattle.std.proofs.Common.{◌≡◌, ℕ, ◌+◌, ◌*◌, ◌^◌, ◌<◌, ◌≤◌, ⊎_elim, List, [], ◌∷◌, ◌++◌, length, slice_index, get_or, set, arith, refl}
+use Rattle.std.proofs.Common.{◌≡◌, ℕ, ◌+◌, ◌^◌, ◌<◌, ◌≤◌, ⊎_elim, List, [], ◌∷◌, ◌++◌, length, slice_index, get_or, set, arith, refl, ◌∙◌}
 use Rattle.std.specs.List.{AllByRecursion, Contains, All}
 use Rattle.std.proofs.lemmas.List.{length_push}
-use Rattle.std.proofs.lemmas.List.Elements.{Contains-get_or}
+use Rattle.std.proofs.lemmas.List.Elements.{All-from_recursion, Contains-get_or}
 use Rattle.sdf_level.specs.Lists.{occurrences}
 use Rattle.worker_mapping.specs.Graph.{CostedGraph, nodes_after, nodes_before, AreThere, Rise}
 use Rattle.worker_mapping.specs.Neighbours.{AreCounted}
-use Rattle.worker_mapping.specs.Schedule.{IsChoice, EachEntry, IsSchedule}
+use Rattle.worker_mapping.specs.Schedule.{IsChoice, IsSchedule}
 use Rattle.worker_mapping.specs.Choice.{IsNext}
 use Rattle.worker_mapping.specs.Queues.{Takes, Queues}
 use Rattle.worker_mapping.specs.Release.{ArePlacesOfZero, Releases}
 use Rattle.worker_mapping.specs.declared.entry.Entry.{Entry}
-use Rattle.worker_mapping.proofs.Growing.{Follows, most_cost, unplaced_below}
+use Rattle.worker_mapping.specs.declared.growing.Growing.{Growing}
+use Rattle.worker_mapping.specs.declared.growing.Work.{Work}
+use Rattle.worker_mapping.specs.Growing.{nodes_of, most_cost, unplaced_below, Schedules, IsWork, Begins, HasTaken, graph_in}
+use Rattle.worker_mapping.proofs.Edges.{heads_are_there}
 use Rattle.worker_mapping.proofs.Opening.{Key}
-use Rattle.worker_mapping.proofs.Queued.{Queued, nodes_of, due_in, later_in, IsNext-from, Releases-queued, Queued-next, Queued-first, nodes-first}
+use Rattle.worker_mapping.proofs.Queued.{due_in, later_in, IsNext-from, Releases-queued, Queued-next, Queued-first, nodes-first}
 use Rattle.worker_mapping.proofs.Entries.{EachEntry-push, unplaced_below-push}
 use Rattle.worker_mapping.proofs.Placing.{Follows-none, waits-none, ready_small, ready-le, free-le, starts, node_there, node_unplaced, worker_there, enough, IsChoice-from, Follows-push, IsSchedule-from}
 use Rattle.worker_mapping.proofs.Lists.{each-contains}
-
--- what is kept while a schedule grows
-pub record Schedules (graph : CostedGraph) (workers : ℕ) (priority : List ℕ) (placed : List Entry) (waiting ready free : List ℕ) (now : ℕ) (due later : List Key) : Type 0 where
-  pub each : EachEntry (IsChoice graph workers priority) [] placed
-  pub follows : Follows graph workers placed waiting ready (nodes_of due later) free
-  pub queued : Queued priority ready free now due later
-  pub slow : now ≤ length placed * most_cost
 
 pub Schedules-first : (graph : CostedGraph) (workers : ℕ) (priority waiting ready free candidates : List ℕ) (later : List Key) → AreCounted graph.nodes graph.edges waiting → length ready ≡ graph.nodes → ((n : ℕ) → slice_index ready n ≡ 0) → length free ≡ workers → ((n : ℕ) → slice_index free n ≡ 0)
     → ArePlacesOfZero waiting candidates → Queues candidates ready [] later → Schedules graph workers priority [] waiting ready free 0 [] later
@@ -100,3 +96,38 @@ pub finished : (graph : CostedGraph) (workers : ℕ) (priority ranks : List ℕ)
 finished graph workers priority ranks placed waiting ready free now due later there rise no_due no_later s =
     let none : nodes_of due later ≡ [] = rw (no_due, no_later) refl in
     IsSchedule-from graph workers priority ranks placed waiting ready free there rise (rw none at s.follows) s.each
+
+-- those that wait for none are queued
+pub Schedules-begun : (w : Work) (g : Growing) (later : List Key) → Begins w g → Queues g.candidates.items g.ready.items [] later → Schedules (graph_in w) w.workers w.priority.now g.entries.items g.waiting.items g.ready.items g.free.items g.now g.due.keys later
+Schedules-begun w g later b queues = rw (b.none, b.now, b.due) (Schedules-first (graph_in w) w.workers w.priority.now g.waiting.items g.ready.items g.free.items g.candidates.items later b.waiting b.ready_long b.ready b.free_long b.free b.candidates queues)
+
+-- an entry was taken
+module _ (w : Work) (e : Entry) (g : Growing) (is : IsWork w) (t : HasTaken w e g) where
+  small : (n : ℕ) → slice_index w.priority.now n ≤ 18446744073709551615
+  small n = let fits = is.small n in omega arith
+
+  pub entry_there : e.node < w.nodes
+  entry_there = taken_there (graph_in w) w.workers w.priority.now g.entries.items g.waiting.items g.ready.items g.free.items t.now t.due t.later t.so_far small g.now g.due.keys g.later.keys e t.takes
+
+  heads_below : AllByRecursion (λ n. n < w.nodes) (nodes_after w.edges.now e.node)
+  heads_below = heads_are_there w.nodes w.edges.now e.node is.edges
+
+  pub heads_there : All (λ n. (n < length g.waiting.items) × (n < length g.ready.items)) (nodes_after w.edges.now e.node)
+  heads_there =
+      let all = All-from_recursion (λ n. n < w.nodes) (nodes_after w.edges.now e.node) heads_below in
+      rw (t.so_far.follows.waiting_long, t.so_far.follows.ready_long) (λ k d below. let n = all k d below in (n, n))
+
+  pub heads_wait : (n : ℕ) → occurrences n (nodes_after w.edges.now e.node) ≤ slice_index g.waiting.items n
+  heads_wait = taken_enough (graph_in w) w.workers w.priority.now g.entries.items g.waiting.items g.ready.items g.free.items t.now t.due t.later t.so_far small g.now g.due.keys g.later.keys e t.takes heads_below
+
+  pub one_fewer : unplaced_below (g.entries.items ++ e ∷ []) w.nodes + 1 ≡ unplaced_below g.entries.items w.nodes
+  one_fewer = taken_less (graph_in w) w.workers w.priority.now g.entries.items g.waiting.items g.ready.items g.free.items t.now t.due t.later t.so_far small g.now g.due.keys g.later.keys e t.takes
+
+  module _ (waiting' ready' freed : List ℕ) (released : Releases (nodes_after w.edges.now e.node) e.end g.waiting.items g.ready.items [] waiting' ready' freed) where
+    pub released_there : All (λ n. n < length ready') freed
+    released_there =
+        let long : length ready' ≡ w.nodes = released.ready_long ∙ t.so_far.follows.ready_long in
+        rw long (freed_below (graph_in w) e.node freed g.waiting.items g.ready.items waiting' ready' e.end heads_below released)
+
+    pub Schedules-entered : (later'' : List Key) → Queues freed ready' g.later.keys later'' → Schedules (graph_in w) w.workers w.priority.now (g.entries.items ++ e ∷ []) waiting' ready' (set g.free.items e.worker e.end) g.now g.due.keys later''
+    Schedules-entered later'' queues = Schedules-more (graph_in w) w.workers w.priority.now g.entries.items g.waiting.items g.ready.items g.free.items t.now t.due t.later t.so_far small g.now g.due.keys g.later.keys e t.takes heads_below (is.cheap e.node) waiting' ready' freed later'' released queues

@@ -7,3 +7,4 @@ pub mod Neighbours
 pub mod Choice
 pub mod Queues
 pub mod Release
+pub mod Growing

@@ -5,9 +5,11 @@
 mod choice;
 mod costs;
 mod entry;
+mod growing;
 mod mapping;
 mod neighbours;
 mod priority;
+mod release;
 mod schedule;
 mod scheduled;
 

@@ -3,7 +3,7 @@ use Rattle.std.proofs.lemmas.List.{nil_from_length, length-map}
 use Rattle.std.proofs.lemmas.List.Elements.{All-from_recursion}
 use Rattle.std.proofs.lemmas.Grind.{common_steps}
 use Rattle.worker_mapping.specs.Graph.{CostedGraph, nodes_after, greatest}
-use Rattle.worker_mapping.proofs.Growing.{most_cost}
+use Rattle.worker_mapping.specs.Growing.{most_cost}
 use Rattle.worker_mapping.proofs.Adjacent.{AreAfter-at}
 use Rattle.worker_mapping.proofs.Priorities.{AreRanked, AreRanked-first, AreRanked-last, AreRanked-step, last_is, heads_inside, next_small}
 use Rattle.worker_mapping.proofs.priority.priorities.Goals as goal

@@ -1,7 +1,7 @@
 use Rattle.std.proofs.Common.{◌≡◌, length, arith}
 use Rattle.worker_mapping.proofs.Places.{place_here, place_not_here}
-use Rattle.worker_mapping.proofs.schedule.places_of_zero.Goals as goal
-use Rattle.worker_mapping.proofs.schedule.places_of_zero.Goals.{then-count-eq0+in_ok-push, else-count-eq0}
+use Rattle.worker_mapping.proofs.release.places_of_zero.Goals as goal
+use Rattle.worker_mapping.proofs.release.places_of_zero.Goals.{then-count-eq0+in_ok-push, else-count-eq0}
 
 pub loop-place-preserved : goal.loop-place-preserved
 loop-place-preserved c =

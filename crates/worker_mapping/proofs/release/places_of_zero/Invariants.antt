@@ -1,6 +1,6 @@
 use Rattle.std.proofs.Common.{◌≡◌, ℕ, ◌<◌, ◌↔◌, slice_index}
 use Rattle.std.specs.List.{Contains}
-use Rattle.worker_mapping.proofs.schedule.places_of_zero.Given as goal
+use Rattle.worker_mapping.proofs.release.places_of_zero.Given as goal
 
 -- the places so far
 abbrev pub invariant-loop-place : goal.invariant-loop-place

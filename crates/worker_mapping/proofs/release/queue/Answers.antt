@@ -2,7 +2,7 @@ use Rattle.std.proofs.Common.{◌≡◌, ◌<◌, [], ℕ, length, arith}
 use Rattle.std.proofs.lemmas.List.{nil_from_length}
 use Rattle.std.proofs.lemmas.List.Elements.{All-contains, Contains-push}
 use Rattle.worker_mapping.proofs.Opening.{QueuedSoFar-more, all_queued}
-use Rattle.worker_mapping.proofs.schedule.queue.Goals as goal
+use Rattle.worker_mapping.proofs.release.queue.Goals as goal
 
 pub bounds-ready-node : goal.bounds-ready-node
 bounds-ready-node c =

@@ -1,6 +1,6 @@
 use Rattle.std.proofs.Common.{length}
 use Rattle.worker_mapping.proofs.Opening.{QueuedSoFar}
-use Rattle.worker_mapping.proofs.schedule.queue.Given as goal
+use Rattle.worker_mapping.proofs.release.queue.Given as goal
 
 abbrev pub invariant-loop-node : goal.invariant-loop-node
 invariant-loop-node l = QueuedSoFar l.fn.candidates.items l.candidates.items l.ready l.fn.later.keys l.later.keys

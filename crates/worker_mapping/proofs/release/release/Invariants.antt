@@ -1,6 +1,6 @@
 use Rattle.std.proofs.Common.{take}
 use Rattle.worker_mapping.specs.Release.{Releases}
-use Rattle.worker_mapping.proofs.schedule.release.Given as goal
+use Rattle.worker_mapping.proofs.release.release.Given as goal
 
 -- the nodes so far have been released
 abbrev pub invariant-loop-head : goal.invariant-loop-head

@@ -1,8 +1,8 @@
 use Rattle.std.proofs.Common.{◌≡◌, ℕ, ◌-◌, ◌<◌, length, get_or, take, slice_index, arith}
 use Rattle.std.proofs.lemmas.List.{take_more, get_or-set_same}
 use Rattle.worker_mapping.proofs.Releasing.{occurrences-take-lt, Releases-waits, Releases-frees}
-use Rattle.worker_mapping.proofs.schedule.release.Goals as goal
-use Rattle.worker_mapping.proofs.schedule.release.Goals.{then-waiting-n-eq0+in_ok-push, else-waiting-n-eq0}
+use Rattle.worker_mapping.proofs.release.release.Goals as goal
+use Rattle.worker_mapping.proofs.release.release.Goals.{then-waiting-n-eq0+in_ok-push, else-waiting-n-eq0}
 
 pub overflow_sub-waiting : goal.overflow_sub-waiting
 overflow_sub-waiting c =
