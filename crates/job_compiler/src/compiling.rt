@@ -1,16 +1,42 @@
 ghost use Rattle.std.specs.Prelude.{◌≡◌, ◌⊎◌, ◌≤◌, IfOk, IfErr};
 ghost use Rattle.job_compiler.specs.Compilation.{Compilation, IsCompiled};
-ghost use Rattle.level_schedule.specs.Schedules.{IsUnscheduled};
+ghost use Rattle.level_schedule.specs.Schedules.{IsScheduled, IsUnscheduled};
 
 use crate::compiled::Compiled;
-use crate::parts::{copy_level, map_nodes, place_buffers};
-use crate::ranking::{keys_of, rank_all, rank_nodes};
-use crate::wiring::wire;
+use crate::parts::graph_parts;
 use level_schedule::{LevelSchedule, Unscheduled, schedule};
 use sdf_level::Level;
 use single_rate::expand;
-use std::alloc::Global;
-use worker_mapping::edge_pairs;
+use std::alloc::{AllocError, Global};
+
+/// The compilation of a level that has this schedule.
+fn compile_scheduled(
+    alloc: Global,
+    level: &Level,
+    workers: u32,
+    schedule: LevelSchedule,
+) -> Result<Compiled, AllocError>
+    requires workers { 1 ≤ workers }
+    requires schedule { IsScheduled level.now schedule }
+    ensures compiled { IfOk result (λ c. (c.level ≡ level.now) × (c.workers ≡ workers)) }
+    ensures kept { IfOk result IsCompiled }
+{
+    let LevelSchedule { counts, order } = schedule;
+    let graph = expand(alloc, level, counts.items(), order.items())?;
+    let parts = graph_parts(alloc, level, &graph, workers)?;
+    Ok(Compiled {
+        level: parts.level,
+        workers,
+        counts,
+        order,
+        graph,
+        placement: parts.placement,
+        mapping: parts.mapping,
+        wiring: parts.wiring,
+        ranking: parts.ranking,
+        ranking_of_all: parts.ranking_of_all,
+    })
+}
 
 /// Compiles a level for this number of workers. There is at most one compilation.
 ///
@@ -28,25 +54,6 @@ pub fn compile(alloc: Global, level: &Level, workers: u32) -> Result<Compiled, U
     ensures only_compilation { (c : Compilation) → IsCompiled c → c.level ≡ level.now → c.workers ≡ workers → (result ≡ Ok c) ⊎ (result ≡ Err Unscheduled.Memory) }
     ensures only_fault { (fault : Unscheduled) → IsUnscheduled level.now fault → (result ≡ Err fault) ⊎ (result ≡ Err Unscheduled.Memory) }
 {
-    let LevelSchedule { counts, order } = schedule(alloc, level)?;
-    let graph = expand(alloc, level, counts.items(), order.items())?;
-    let pairs = edge_pairs(alloc, graph.edges.items())?;
-    let placement = place_buffers(alloc, &graph, &pairs)?;
-    let mapping = map_nodes(alloc, &graph, &pairs, workers)?;
-    let wiring = wire(alloc, level, &graph)?;
-    let keys = keys_of(alloc, mapping.priority.items())?;
-    let ranking = rank_nodes(alloc, &mapping, &keys)?;
-    let ranking_of_all = rank_all(alloc, &mapping, &keys)?;
-    Ok(Compiled {
-        level: copy_level(alloc, level)?,
-        workers,
-        counts,
-        order,
-        graph,
-        placement,
-        mapping,
-        wiring,
-        ranking,
-        ranking_of_all,
-    })
+    let scheduled = schedule(alloc, level)?;
+    Ok(compile_scheduled(alloc, level, workers, scheduled)?)
 }

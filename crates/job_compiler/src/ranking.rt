@@ -24,7 +24,7 @@ fn count_of(homes: &[u32]) -> usize
 }
 
 /// For each node the key by which greater priority goes first, then lesser number.
-pub(crate) fn keys_of(alloc: Global, priorities: &[u64]) -> Result<Vec<u128>, AllocError>
+fn keys_of(alloc: Global, priorities: &[u64]) -> Result<Vec<u128>, AllocError>
     requires { length priorities.now < 2 ^ 32 }
     ensures { IfOk result (λ v. AreKeys priorities.now v.items) }
 {
@@ -38,11 +38,7 @@ pub(crate) fn keys_of(alloc: Global, priorities: &[u64]) -> Result<Vec<u128>, Al
 
 /// The ranking of the nodes: each home is a group, in which the nodes of greater priority go first, then those of lesser
 /// number.
-pub(crate) fn rank_nodes(
-    alloc: Global,
-    mapping: &Mapping,
-    keys: &[u128],
-) -> Result<Arc<Ranking>, AllocError>
+fn rank_nodes(alloc: Global, mapping: &Mapping, keys: &[u128]) -> Result<Arc<Ranking>, AllocError>
     requires few { length mapping.now.home < 2 ^ 32 }
     requires priorities { length mapping.now.priority ≡ length mapping.now.home }
     requires keys { AreKeys mapping.now.priority keys.now }
@@ -54,11 +50,7 @@ pub(crate) fn rank_nodes(
 }
 
 /// The ranking of the nodes as one group, in which they go in the same order.
-pub(crate) fn rank_all(
-    alloc: Global,
-    mapping: &Mapping,
-    keys: &[u128],
-) -> Result<Arc<Ranking>, AllocError>
+fn rank_all(alloc: Global, mapping: &Mapping, keys: &[u128]) -> Result<Arc<Ranking>, AllocError>
     requires few { length mapping.now.home < 2 ^ 32 }
     requires priorities { length mapping.now.priority ≡ length mapping.now.home }
     requires keys { AreKeys mapping.now.priority keys.now }
@@ -67,4 +59,24 @@ pub(crate) fn rank_all(
     let group = vec![in alloc; 0u32; mapping.home.items().len()]?;
     let ranking = Ranking::new(alloc, &group, keys, 1)?;
     Ok(Arc::new(alloc, ranking)?)
+}
+
+/// The rankings of the nodes: with each home as a group, and with all nodes as one.
+#[derive(Drop)]
+pub(crate) struct Rankings {
+    pub(crate) by_home: Arc<Ranking>,
+    pub(crate) of_all: Arc<Ranking>,
+}
+
+/// Both rankings of the nodes.
+pub(crate) fn rank(alloc: Global, mapping: &Mapping) -> Result<Rankings, AllocError>
+    requires few { length mapping.now.home < 2 ^ 32 }
+    requires priorities { length mapping.now.priority ≡ length mapping.now.home }
+    ensures by_home { IfOk result (λ ranks. IsRankingOf mapping.now (arc_value ranks.by_home)) }
+    ensures of_all { IfOk result (λ ranks. IsRankingOfAll mapping.now (arc_value ranks.of_all)) }
+{
+    let keys = keys_of(alloc, mapping.priority.items())?;
+    let by_home = rank_nodes(alloc, mapping, &keys)?;
+    let of_all = rank_all(alloc, mapping, &keys)?;
+    Ok(Rankings { by_home, of_all })
 }
