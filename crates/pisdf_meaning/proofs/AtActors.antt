@@ -21,7 +21,7 @@ use Rattle.pisdf_model.specs.declared.graph.Graphs.{Graphs}
 use Rattle.pisdf_model.specs.declared.graph.Interface as interface
 use Rattle.sdf_level.specs.Invariants.{how_many}
 use Rattle.sdf_level.specs.Run.{is_into_actor}
-use Rattle.pisdf_meaning.specs.Configuring.{config_firing, early_in}
+use Rattle.pisdf_meaning.specs.Configuring.{Leaves, child_leaves, config_firing}
 use Rattle.pisdf_meaning.specs.Endings.{Ends}
 use Rattle.pisdf_meaning.specs.Kernels.{FitsKernel}
 use Rattle.pisdf_meaning.specs.Meaning.{MeansWithin}
@@ -31,8 +31,10 @@ use Rattle.pisdf_meaning.specs.Prepared.{IsPrepared}
 use Rattle.pisdf_meaning.specs.Running.{FiresActor, FiresBody, FiresChild, child_fires, child_firing, kernel_fires}
 use Rattle.pisdf_meaning.specs.Sound.{BodyFits, ChildWithin, GraphFits, IsConfiguration, KnowsBody, NestsWithin, actor_at, no_actor}
 use Rattle.pisdf_meaning.specs.States.{tokens_at}
+use Rattle.pisdf_meaning.specs.declared.firing.Configured.{Configured}
 use Rattle.pisdf_meaning.specs.declared.firing.Firing.{Firing}
 use Rattle.pisdf_meaning.specs.declared.firing.Given.{Given}
+use Rattle.pisdf_meaning.specs.declared.firing.Made.{Made}
 use Rattle.pisdf_meaning.specs.declared.outcome.TraceRow.{TraceRow}
 use Rattle.pisdf_meaning.specs.declared.parts.Prepared as prepared_parts
 use Rattle.pisdf_meaning.specs.declared.refusal.Refusal.{Refusal}
@@ -237,12 +239,12 @@ module _ (signatures : List Counts) (n : ℕ) (graphs : Graphs) (g : Graph) (fir
     pub config_outs : get_or early.outs number [] ≡ (early_of graphs.graphs place (tokens_at early.args number)).outputs
     config_outs = config_child_known.1
 
-    module _ (items : List Graph) (inner : Firing) (items_are : items ≡ graphs.graphs) (inner_is : inner ≡ config_firing items g firing (configuration_at g number a) place) where
+    module _ (inner : Firing) (inner_is : inner ≡ config_firing graphs.graphs g firing (configuration_at g number a) place) where
       graph_is : inner.graph ≡ place
       graph_is = ap (λ (f : Firing). f.graph) inner_is
 
       inherited_is : inner.inherited ≡ tokens_at early.args number
-      inherited_is = ap (λ (f : Firing). f.inherited) inner_is ∙ ap (λ (l : List Graph). tokens_at (early_in l firing).args number) items_are ∙ ap (λ (e : EarlyView). tokens_at e.args number) (sym underway.early_is)
+      inherited_is = ap (λ (f : Firing). f.inherited) inner_is ∙ ap (λ (e : EarlyView). tokens_at e.args number) (sym underway.early_is)
 
       pub inner_nests : NestsWithin n graphs.graphs inner.graph
       inner_nests = subst (NestsWithin n graphs.graphs) (sym graph_is) config_nests
@@ -261,29 +263,38 @@ module _ (signatures : List Counts) (n : ℕ) (graphs : Graphs) (g : Graph) (fir
       pub inner_outs : (known : EarlyView) (o : Option (Option EarlyView)) → o ≡ slice_get (trees_of early.children) number → o ≡ Some (Some known) → known.outputs ≡ get_or early.outs number []
       inner_outs known o is found = ap (λ (e : EarlyView). e.outputs) (same_known o known (early_of graphs.graphs place (tokens_at early.args number)) found (is ∙ config_child)) ∙ sym config_outs
 
+      pub config_leaves_so : (given : Given) → MeansWithin n graphs.graphs inner (Ok given) → (one : Configured) → Ok one ≡ child_leaves (Ok given) →
+          Leaves graphs.graphs (MeansWithin n graphs.graphs) g firing (configuration_at g number a) x.body (Ok one)
+      config_leaves_so given means one leaves =
+          let P : Firing → Type 0 = λ f. MeansWithin n graphs.graphs f (Ok given) in
+          let Q : Body → Type 0 = λ body. Leaves graphs.graphs (MeansWithin n graphs.graphs) g firing (configuration_at g number a) body (Ok one) in
+          subst Q (sym body_is) (Ok given, subst P inner_is means, leaves)
+
 -- ---- the firing of a child
 
-module _ (n : ℕ) (graphs items : List Graph) (firing : Firing) (x : Actor) (place k : ℕ) (args : List ℤ) (read counted : List (List ℤ)) (child : Graph) (interfaces : List interface.Interface) (inner : Firing)
-    (items_are : items ≡ graphs) (counted_are : counted ≡ read) (child_at : slice_get graphs place ≡ Some child) (interfaces_are : interfaces ≡ child.inputs)
+module _ (graphs items : List Graph) (firing : Firing) (x : Actor) (place k : ℕ) (args : List ℤ) (read counted : List (List ℤ)) (inputs : ℕ) (inner : Firing)
+    (items_are : items ≡ graphs) (counted_are : counted ≡ read) (inputs_is : inputs ≡ length (inputs_of (slice_get items place)))
     (ports : input_count graphs x.body ≡ length (inputs_of (slice_get graphs place))) (reads : length read ≡ level_inputs graphs x)
-    (inner_is : inner ≡ child_firing items firing x.name k args (nat_lt (length interfaces) (length counted)) place (length interfaces) read) where
-  ports_are : length interfaces ≡ input_count graphs x.body
-  ports_are = ap (λ (l : List interface.Interface). length l) (interfaces_are ∙ ap inputs_of (sym child_at)) ∙ sym ports
+    (inner_is : inner ≡ child_firing items firing x.name k args (nat_lt inputs (length counted)) place inputs read) where
+  ports_are : inputs ≡ input_count graphs x.body
+  ports_are = inputs_is ∙ ap (λ (l : List Graph). length (inputs_of (slice_get l place))) items_are ∙ sym ports
 
-  keeps_is : nat_lt (length interfaces) (length counted) ≡ has_state graphs x
+  pub keeps_is : nat_lt inputs (length counted) ≡ has_state graphs x
   keeps_is = ap (λ m. nat_lt m (length counted)) ports_are ∙ ap (λ (l : List (List ℤ)). nat_lt (input_count graphs x.body) (length l)) counted_are ∙ keeps_so (input_count graphs x.body) (length read) (has_state graphs x) reads
 
-  inner_so : inner ≡ child_firing graphs firing x.name k args (has_state graphs x) place (input_count graphs x.body) read
-  inner_so = inner_is ∙ ap (λ (l : List Graph). child_firing l firing x.name k args (nat_lt (length interfaces) (length counted)) place (length interfaces) read) items_are
-      ∙ ap (λ b. child_firing graphs firing x.name k args b place (length interfaces) read) keeps_is ∙ ap (λ m. child_firing graphs firing x.name k args (has_state graphs x) place m read) ports_are
+  pub inner_so : inner ≡ child_firing graphs firing x.name k args (has_state graphs x) place (input_count graphs x.body) read
+  inner_so = inner_is ∙ ap (λ (l : List Graph). child_firing l firing x.name k args (nat_lt inputs (length counted)) place inputs read) items_are
+      ∙ ap (λ b. child_firing graphs firing x.name k args b place inputs read) keeps_is ∙ ap (λ m. child_firing graphs firing x.name k args (has_state graphs x) place m read) ports_are
 
-  pub child_made_so : (given : Given) (trace : List TraceRow) (outs : List (List ℤ)) → MeansWithin n graphs inner (Ok given) → trace ≡ given.trace → Ok outs ≡ child_fires (nat_lt (length interfaces) (length counted)) (Ok given) →
-      FiresChild graphs (MeansWithin n graphs) firing args x place k trace read (Ok outs)
-  child_made_so given trace outs means same made =
+module _ (n : ℕ) (graphs : List Graph) (firing : Firing) (x : Actor) (place k : ℕ) (args : List ℤ) (read : List (List ℤ)) (inner : Firing)
+    (inner_is : inner ≡ child_firing graphs firing x.name k args (has_state graphs x) place (input_count graphs x.body) read) where
+  pub child_made_so : (keeps : Bool) → keeps ≡ has_state graphs x → (given : Given) → MeansWithin n graphs inner (Ok given) → (made : Made) → made.trace ≡ given.trace → Ok made.outs ≡ child_fires keeps (Ok given) →
+      FiresChild graphs (MeansWithin n graphs) firing args x place k made.trace read (Ok made.outs)
+  child_made_so keeps keeps_are given means made same outs =
       let P : Firing → Type 0 = λ f. MeansWithin n graphs f (Ok given) in
-      (Ok given, subst P inner_so means, same, made ∙ ap (λ b. child_fires b (Ok given)) keeps_is)
+      (Ok given, subst P inner_is means, same, outs ∙ ap (λ b. child_fires b (Ok given)) keeps_are)
 
   pub child_refused_so : (refusal : Refusal) → MeansWithin n graphs inner (Err refusal) → (trace : List TraceRow) → FiresChild graphs (MeansWithin n graphs) firing args x place k trace read (Err refusal)
   child_refused_so refusal means trace =
       let P : Firing → Type 0 = λ f. MeansWithin n graphs f (Err refusal) in
-      (Err refusal, subst P inner_so means, tt, refl)
+      (Err refusal, subst P inner_is means, tt, refl)

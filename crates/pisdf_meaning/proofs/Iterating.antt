@@ -39,8 +39,10 @@ module _ (graphs : Graphs) (ins state : List (List ℤ)) (top : Graph) (firing :
   pub top_here : slice_get graphs.graphs firing.graph ≡ Some top
   top_here = ap (slice_get graphs.graphs) graph_is ∙ top_at
 
-  pub top_nests : (n : ℕ) → NestsWithin n graphs.graphs graphs.top → NestsWithin n graphs.graphs firing.graph
-  top_nests n nests = subst (NestsWithin n graphs.graphs) (sym graph_is) nests
+  pub top_nests : (n : ℕ) → n ≡ nesting_limit → NestsWithin nesting_limit graphs.graphs graphs.top → NestsWithin n graphs.graphs firing.graph
+  top_nests n most nests =
+      let P : ℕ → Type 0 = λ m. NestsWithin m graphs.graphs graphs.top in
+      subst (NestsWithin n graphs.graphs) (sym graph_is) (subst P (sym most) nests)
 
   pub top_underway : (signatures : List Counts) (early : EarlyView) → AreValid graphs → AreRunnable signatures graphs → early ≡ early_of graphs.graphs graphs.top [] → early_faults graphs.graphs graphs.top [] ≡ [] →
       IsUnderway signatures (nesting_limit - 1) graphs top firing early
@@ -54,11 +56,14 @@ module _ (graphs : Graphs) (ins state : List (List ℤ)) (top : Graph) (firing :
         sound = subst P (sym firing_is) sound;
       }
 
-  pub top_ends : (end : End) → Means graphs.graphs firing end → IterationEnds graphs ins state end
-  top_ends end means = let P : Firing → Type 0 = λ f. Means graphs.graphs f end in record { top = top; top_is = top_at; means = subst P firing_is means }
+  pub top_ends : (n : ℕ) → n ≡ nesting_limit → (end : End) → MeansWithin n graphs.graphs firing end → IterationEnds graphs ins state end
+  top_ends n most end means =
+      let P : ℕ → Type 0 = λ m. MeansWithin m graphs.graphs firing end in
+      let Q : Firing → Type 0 = λ f. Means graphs.graphs f end in
+      record { top = top; top_is = top_at; means = subst Q firing_is (subst P most means) }
 
-  pub top_gives : (given : Given) → Means graphs.graphs firing (Ok given) → IterationGives graphs ins state (iteration_of given) given.state
-  top_gives given means = record { given = given; ends = top_ends (Ok given) means; iteration_is = refl; state_is = refl }
+  pub top_gives : (n : ℕ) → n ≡ nesting_limit → (given : Given) → MeansWithin n graphs.graphs firing (Ok given) → IterationGives graphs ins state (iteration_of given) given.state
+  top_gives n most given means = record { given = given; ends = top_ends n most (Ok given) means; iteration_is = refl; state_is = refl }
 
   -- ---- to the level
 

@@ -40,6 +40,14 @@ module _ {T : Type 0} where
   err-map P Q turn (Ok v) holds = tt
   err-map P Q turn (Err e) holds = refused-map P Q turn e holds
 
+  -- what is never refused is refused in no way
+  pub none_refused : (P : Refusal → Type 0) (result : Result T PlainFault) → IfErr result (IfRefused (λ refusal. ⊥)) → IfErr result (IfRefused P)
+  none_refused P result never = err-map (λ refusal. ⊥) P (λ refusal none. absurd none) result never
+
+  pub on-map2 : (P Q R : Type 0) → (P → Q → R) → (result : Result T PlainFault) → OnOk result P → OnOk result Q → OnOk result R
+  on-map2 P Q R turn (Ok v) p q = turn p q
+  on-map2 P Q R turn (Err e) p q = tt
+
   pub ok-on : (P R : T → Type 0) (Q : Type 0) → ((v : T) → Q → P v → R v) → (result : Result T PlainFault) → OnOk result Q → IfOk result P → IfOk result R
   ok-on P R Q turn (Ok v) q p = turn v q p
   ok-on P R Q turn (Err e) q p = tt

@@ -1,5 +1,5 @@
 -- Steps of the recursion over graphs nested in each other.
-use Rattle.std.proofs.Common.{◌≡◌, ℕ, zero, suc, ◌+◌, ◌-◌, ◌<◌, ◌≤◌, ℤ, Bool, true, false, if◌then◌else◌, ⊎_elim, slice_index, List, [], ◌∷◌, ◌++◌, length, map, get_or, slice_get, Some, Result, Ok, Err, refl, ap, sym, ◌∙◌, subst, arith}
+use Rattle.std.proofs.Common.{◌≡◌, ℕ, zero, suc, ◌+◌, ◌-◌, ◌<◌, ◌≤◌, ℤ, Bool, true, false, if◌then◌else◌, ⊎_elim, slice_index, List, [], ◌∷◌, ◌++◌, length, map, get_or, slice_get, Some, Result, Ok, Err, IfOk, IfErr, ◌⊎◌, inl, inr, refl, ap, sym, ◌∙◌, subst, arith}
 use Rattle.std.specs.List.{All, flat_map}
 use Rattle.std.proofs.lemmas.Bool.{cases_lt, eq-eqb}
 use Rattle.std.proofs.lemmas.List.{get_or-map, get_or_past, length-append, length-map}
@@ -23,10 +23,11 @@ use Rattle.sdf_level.specs.Run.{input, inputs, inputs_below, is_into_actor}
 use Rattle.sdf_level.specs.declared.link.Link.{Link}
 use Rattle.sdf_level.specs.declared.turn.Turn.{Turn}
 use Rattle.pisdf_meaning.specs.Configuring.{Configures, Leaves, configurations, early_in}
-use Rattle.pisdf_meaning.specs.Endings.{End, Ends}
+use Rattle.pisdf_meaning.specs.Endings.{Answers, End, Ends, IfRefused}
 use Rattle.pisdf_meaning.specs.Meaning.{FiresGraph, MeansWithin}
 use Rattle.pisdf_meaning.specs.Nested.{HaveLeft, Holds, IsUnderway, actor_fires, configuration_at, outs_count, rates_count}
 use Rattle.pisdf_meaning.specs.PartsOf.{ArePartsOf}
+use Rattle.pisdf_meaning.specs.Planned.{IsPlanned, LevelRefused, PlanRefused}
 use Rattle.pisdf_meaning.specs.Preparing.{Schedules, level_in, rated, resolved}
 use Rattle.pisdf_meaning.specs.Prepared.{IsPrepared}
 use Rattle.pisdf_meaning.specs.Running.{HaveRows, RunsLevel, Traces, actor_starts, fifo_starts, given_by, link_starts, source_tokens, traces_below}
@@ -39,11 +40,14 @@ use Rattle.pisdf_meaning.specs.declared.firing.Given.{Given}
 use Rattle.pisdf_meaning.specs.declared.outcome.TraceRow.{TraceRow}
 use Rattle.param_resolver.specs.declared.level_set.LevelSet.{LevelSet}
 use Rattle.pisdf_meaning.specs.declared.parts.Prepared.{Prepared}
+use Rattle.pisdf_meaning.specs.declared.planning.Planned.{Planned}
+use Rattle.pisdf_meaning.specs.declared.refusal.PlainFault.{PlainFault}
+use Rattle.pisdf_meaning.specs.declared.refusal.PlainFault.TheVariants.{Refused, Memory}
 use Rattle.pisdf_meaning.specs.declared.refusal.Refusal.{Refusal}
 use Rattle.pisdf_meaning.proofs.AtActors.{holds_of}
 use Rattle.pisdf_meaning.proofs.FileOrder.{length-kept_at}
 use Rattle.pisdf_meaning.proofs.OneByOne.{is_configuration_here, left_next, left_refused}
-use Rattle.pisdf_meaning.proofs.StepByStep.{fired_so, level_given, level_refused, refused_scheduling}
+use Rattle.pisdf_meaning.proofs.StepByStep.{fired_so, level_given, level_refused, refused_rating, refused_resolving, refused_scheduling}
 
 -- ---- from a graph to those that it holds
 
@@ -124,25 +128,17 @@ length-inputs_below sources b k (suc n) links lines =
 pub length-inputs : (sources : List (List ℤ)) (b k : ℕ) (links : List Link) (lines : List (List ℤ)) → length (inputs sources b k links lines) ≡ how_many (is_into_actor b) links
 length-inputs sources b k links lines = length-inputs_below sources b k (how_many (is_into_actor b) links) links lines
 
--- ---- the firing of a graph
+-- ---- what a firing gives
 
-module _ (graphs : List Graph) (ends : Ends) (g : Graph) (firing : Firing) (early : EarlyView) (early_is : early ≡ early_in graphs firing) (configured : List Configured) (all : Configures graphs ends g firing (Ok configured))
-    (values known : List ℤ) (known_is : known ≡ values) (values_are : Ok values ≡ resolved graphs g firing configured) (parts : LevelSet) (are : ArePartsOf graphs g early known parts) (rated_so : rated graphs g firing known ≡ Ok known) where
-  rated_values : rated graphs g firing values ≡ Ok values
-  rated_values = let P : List ℤ → Type 0 = λ v. rated graphs g firing v ≡ Ok v in subst P known_is rated_so
+pub given_here : (graphs items : List Graph) (g : Graph) (firing : Firing) (configured : List Configured) (q : List ℕ) (traces : Traces) (values known : List ℤ) (counts counted : List ℕ) (level : LevelView) (lines outs left : List (List ℤ)) →
+    items ≡ graphs → known ≡ values → counted ≡ counts → record { outs = outs; left = left } ≡ end_of level counted lines →
+    given_by items g firing configured known q traces record { outs = outs; left = left } ≡ given_by graphs g firing configured values q traces (end_of level counts lines)
+given_here graphs items g firing configured q traces values known counts counted level lines outs left items_are known_is counted_are ends_so =
+    let end : record { outs = outs; left = left } ≡ end_of level counts lines = ends_so ∙ ap (λ (n : List ℕ). end_of level n lines) counted_are in
+    ap (λ (l : List Graph). given_by l g firing configured known q traces record { outs = outs; left = left }) items_are
+    ∙ ap (λ (v : List ℤ). given_by graphs g firing configured v q traces record { outs = outs; left = left }) known_is ∙ ap (given_by graphs g firing configured values q traces) end
 
-  level_so : parts.level ≡ level_in graphs g firing values
-  level_so = are.level ∙ ap (λ (e : EarlyView). level_at graphs g e known) early_is ∙ ap (level_in graphs g firing) known_is
-
-  pub unscheduled_here : (refusal : Refusal) → Schedules g firing parts.level (Err refusal) → FiresGraph graphs ends g firing (Err refusal)
-  unscheduled_here refusal is =
-      let P : LevelView → Type 0 = λ l. Schedules g firing l (Err refusal) in
-      refused_scheduling graphs ends g firing configured all values values_are rated_values refusal (subst P level_so is)
-
-  pub fires_here : (s : LevelSchedule) (end : End) → IsScheduled parts.level s → RunsLevel graphs ends g firing configured values s.counts end → FiresGraph graphs ends g firing end
-  fires_here s end is runs =
-      let P : LevelView → Type 0 = λ l. IsScheduled l s in
-      fired_so graphs ends g firing configured all values values_are rated_values s end (subst P level_so is) runs
+-- ---- the plan of a level
 
 pub parts_here : (graphs items : List Graph) (g : Graph) (firing : Firing) (early : EarlyView) (values known : List ℤ) (parts : LevelSet) → items ≡ graphs → early ≡ early_in graphs firing → known ≡ values →
     ArePartsOf graphs g early known parts → ArePartsOf items g (early_in items firing) values parts
@@ -151,6 +147,104 @@ parts_here graphs items g firing early values known parts items_are early_is kno
     let Q : EarlyView → Type 0 = λ e. ArePartsOf graphs g e values parts in
     let R : List ℤ → Type 0 = λ v. ArePartsOf graphs g early v parts in
     subst P (sym items_are) (subst Q early_is (subst R known_is are))
+
+module _ (graphs : List Graph) (g : Graph) (firing : Firing) (early : EarlyView) (early_is : early ≡ early_in graphs firing) (configured : List Configured)
+    (values known : List ℤ) (known_is : known ≡ values) (values_are : Ok values ≡ resolved graphs g firing configured) where
+  pub plan_unrated : (refusal : Refusal) → rated graphs g firing known ≡ Err refusal → PlanRefused graphs g firing configured refusal
+  plan_unrated refusal is =
+      let P : List ℤ → Type 0 = λ v. rated graphs g firing v ≡ Err refusal in
+      inr (values, values_are, inl (subst P known_is is))
+
+  module _ (parts : LevelSet) (are : ArePartsOf graphs g early known parts) (rated_so : rated graphs g firing known ≡ Ok known) where
+    rated_values : rated graphs g firing values ≡ Ok values
+    rated_values = let P : List ℤ → Type 0 = λ v. rated graphs g firing v ≡ Ok v in subst P known_is rated_so
+
+    level_so : parts.level ≡ level_in graphs g firing values
+    level_so = are.level ∙ ap (λ (e : EarlyView). level_at graphs g e known) early_is ∙ ap (level_in graphs g firing) known_is
+
+    pub plan_unscheduled : (refusal : Refusal) → Schedules g firing parts.level (Err refusal) → PlanRefused graphs g firing configured refusal
+    plan_unscheduled refusal is =
+        let P : LevelView → Type 0 = λ l. Schedules g firing l (Err refusal) in
+        inr (values, values_are, inr (rated_values, subst P level_so is))
+
+    pub plan_made : (items : List Graph) (s : LevelSchedule) (p : Prepared) → items ≡ graphs → IsScheduled parts.level s → IsPrepared items g firing p → p.parts ≡ parts → p.values ≡ values → p.sources ≡ source_tokens g firing configured →
+        IsPlanned graphs g firing configured record { prepared = p; schedule = s }
+    plan_made items s p items_are is prepared parts_are same sources =
+        let P : List ℤ → Type 0 = λ v. Ok v ≡ resolved graphs g firing configured in
+        let Q : List ℤ → Type 0 = λ v. rated graphs g firing v ≡ Ok v in
+        let R : List Graph → Type 0 = λ l. IsPrepared l g firing p in
+        let S : LevelSet → Type 0 = λ q. IsScheduled q.level s in
+        record {
+          values = subst P (sym same) values_are;
+          rates = subst Q (sym same) rated_values;
+          prepared = subst R items_are prepared;
+          sources = sources;
+          schedule = subst S (sym parts_are) is;
+        }
+
+-- ---- the run of a level
+
+module _ (graphs : List Graph) (ends : Ends) (g : Graph) (firing : Firing) (configured : List Configured) (p : Prepared) (prepared : IsPrepared graphs g firing p) (sources_are : p.sources ≡ source_tokens g firing configured)
+    (s : LevelSchedule) (is : IsScheduled p.parts.level s) where
+  run_refused : (refusal : Refusal) → MeetsRefusal p.parts.level (actor_fires graphs ends g firing p.values) p.sources (link_starts graphs g firing) (actors_of s.order) refusal → RunsLevel graphs ends g firing configured p.values s.counts (Err refusal)
+  run_refused refusal meets =
+      let P : List (List ℤ) → Type 0 = λ l. MeetsRefusal p.parts.level (actor_fires graphs ends g firing p.values) l (link_starts graphs g firing) (actors_of s.order) refusal in
+      level_refused graphs ends g firing configured p.values p.parts.level prepared.parts.level s is refusal (subst P sources_are meets)
+
+  module _ (lines : List (List ℤ)) (rows : List (List TraceRow)) (given : Given) (run : HasRun p.parts.level (actor_fires graphs ends g firing p.values) p.sources (link_starts graphs g firing) (actors_of s.order) lines rows)
+      (gives : (traces : Traces) → HaveRows s.counts traces rows → given ≡ given_by graphs g firing configured p.values s.counts traces (end_of p.parts.level s.counts lines)) where
+    run_gives : RunsLevel graphs ends g firing configured p.values s.counts (Ok given)
+    run_gives =
+        let P : List (List ℤ) → Type 0 = λ l. HasRun p.parts.level (actor_fires graphs ends g firing p.values) l (link_starts graphs g firing) (actors_of s.order) lines rows in
+        level_given graphs ends g firing configured p.values p.parts.level prepared.parts.level s is lines rows given (subst P sources_are run) gives
+
+    given_outs : length given.outs ≡ length p.parts.level.sinks
+    given_outs =
+        let have : HaveRows s.counts run.traces rows = λ b. run.rows_are b ∙ ap (traces_below (run.traces b)) (is.order.order.admissible.counts b) in
+        ap (λ (x : Given). length x.outs) (gives run.traces have) ∙ length-kept_at 0 p.parts.level.sinks p.parts.level.links lines
+
+-- ---- the firing of a graph
+
+module _ (graphs : List Graph) (ends : Ends) (g : Graph) (firing : Firing) (configured slice : List Configured) (slice_is : slice ≡ configured) (all : Configures graphs ends g firing (Ok configured)) where
+  all_so : Configures graphs ends g firing (Ok slice)
+  all_so = let P : List Configured → Type 0 = λ l. Configures graphs ends g firing (Ok l) in subst P (sym slice_is) all
+
+  level_stops : (refusal : Refusal) (values : List ℤ) → Ok values ≡ resolved graphs g firing slice → LevelRefused graphs g firing values refusal → FiresGraph graphs ends g firing (Err refusal)
+  level_stops refusal values are (inl is) = refused_rating graphs ends g firing slice all_so values are refusal is
+  level_stops refusal values are (inr both) = refused_scheduling graphs ends g firing slice all_so values are both.0 refusal both.1
+
+  pub plan_stops : (refusal : Refusal) → PlanRefused graphs g firing slice refusal → FiresGraph graphs ends g firing (Err refusal)
+  plan_stops refusal (inl is) = refused_resolving graphs ends g firing slice all_so refusal is
+  plan_stops refusal (inr known) = level_stops refusal known.0 known.1 known.2
+
+  module _ (p : Planned) (plan : IsPlanned graphs g firing slice p) where
+    ran : (end : End) → RunsLevel graphs ends g firing slice p.prepared.values p.schedule.counts end → FiresGraph graphs ends g firing end
+    ran end runs =
+        let P : LevelView → Type 0 = λ l. IsScheduled l p.schedule in
+        fired_so graphs ends g firing slice all_so p.prepared.values plan.values plan.rates p.schedule end (subst P plan.prepared.parts.level plan.schedule) runs
+
+    pub run_stops : (order : List Turn) → order ≡ p.schedule.order → (refusal : Refusal) →
+        MeetsRefusal p.prepared.parts.level (actor_fires graphs ends g firing p.prepared.values) p.prepared.sources (link_starts graphs g firing) (actors_of order) refusal → FiresGraph graphs ends g firing (Err refusal)
+    run_stops order order_is refusal meets =
+        let P : List Turn → Type 0 = λ l. MeetsRefusal p.prepared.parts.level (actor_fires graphs ends g firing p.prepared.values) p.prepared.sources (link_starts graphs g firing) (actors_of l) refusal in
+        ran (Err refusal) (run_refused graphs ends g firing slice p.prepared plan.prepared plan.sources p.schedule plan.schedule refusal (subst P order_is meets))
+
+    module _ (order : List Turn) (order_is : order ≡ p.schedule.order) (lines : List (List ℤ)) (rows : List (List TraceRow))
+        (run : HasRun p.prepared.parts.level (actor_fires graphs ends g firing p.prepared.values) p.prepared.sources (link_starts graphs g firing) (actors_of order) lines rows) where
+      run_so : HasRun p.prepared.parts.level (actor_fires graphs ends g firing p.prepared.values) p.prepared.sources (link_starts graphs g firing) (actors_of p.schedule.order) lines rows
+      run_so = let P : List Turn → Type 0 = λ l. HasRun p.prepared.parts.level (actor_fires graphs ends g firing p.prepared.values) p.prepared.sources (link_starts graphs g firing) (actors_of l) lines rows in subst P order_is run
+
+      abbrev pub Gives : Result Given PlainFault → Type 0
+      Gives result = (q : List ℕ) (traces : Traces) → HaveRows q traces rows → IfOk result (λ given. given ≡ given_by graphs g firing slice p.prepared.values q traces (end_of p.prepared.parts.level p.schedule.counts lines))
+
+      pub run_ends : (result : Result Given PlainFault) → Gives result → IfErr result (IfRefused (λ refusal. ⊥)) → Answers (FiresGraph graphs ends g firing) result
+      run_ends (Ok given) gives never = ran (Ok given) (run_gives graphs ends g firing slice p.prepared plan.prepared plan.sources p.schedule plan.schedule lines rows given run_so (gives p.schedule.counts))
+      run_ends (Err (Refused refusal)) gives never = absurd never
+      run_ends (Err Memory) gives never = tt
+
+      pub run_fills : (count : ℕ) → length p.prepared.parts.level.sinks ≡ count → (result : Result Given PlainFault) → Gives result → IfOk result (λ given. length given.outs ≡ count)
+      run_fills count is (Ok given) gives = given_outs graphs ends g firing slice p.prepared plan.prepared plan.sources p.schedule plan.schedule lines rows given run_so (gives p.schedule.counts) ∙ is
+      run_fills count is (Err fault) gives = tt
 
 -- ---- configuration actors
 
@@ -180,32 +274,3 @@ module _ (graphs : List Graph) (ends : Ends) (g : Graph) (firing : Firing) (earl
 pub known_each : (signatures : List Counts) (n : ℕ) (graphs : Graphs) (g : Graph) (firing : Firing) (early : EarlyView) → IsUnderway signatures n graphs g firing early → length early.outs ≡ length (configurations g)
 known_each signatures n graphs g firing early underway =
     ap (λ (e : EarlyView). length e.outs) underway.early_is ∙ (underway.can.fit.know firing.graph g firing.inherited underway.here underway.sound).one_each
-
--- ---- the run of a level
-
-module _ (graphs : List Graph) (ends : Ends) (g : Graph) (firing : Firing) (configured : List Configured) (p : Prepared) (prepared : IsPrepared graphs g firing p) (sources_are : p.sources ≡ source_tokens g firing configured)
-    (s : LevelSchedule) (is : IsScheduled p.parts.level s) where
-  pub run_refused : (refusal : Refusal) → MeetsRefusal p.parts.level (actor_fires graphs ends g firing p.values) p.sources (link_starts graphs g firing) (actors_of s.order) refusal → RunsLevel graphs ends g firing configured p.values s.counts (Err refusal)
-  run_refused refusal meets =
-      let P : List (List ℤ) → Type 0 = λ l. MeetsRefusal p.parts.level (actor_fires graphs ends g firing p.values) l (link_starts graphs g firing) (actors_of s.order) refusal in
-      level_refused graphs ends g firing configured p.values p.parts.level prepared.parts.level s is refusal (subst P sources_are meets)
-
-  module _ (items : List Graph) (values : List ℤ) (counts : List ℕ) (items_are : items ≡ graphs) (values_are : values ≡ p.values) (counts_are : counts ≡ s.counts) (lines : List (List ℤ)) (rows : List (List TraceRow)) (given : Given) (outs left : List (List ℤ))
-      (run : HasRun p.parts.level (actor_fires graphs ends g firing p.values) p.sources (link_starts graphs g firing) (actors_of s.order) lines rows)
-      (ends_so : record { outs = outs; left = left } ≡ end_of p.parts.level counts lines)
-      (gives : (q : List ℕ) (traces : Traces) → HaveRows q traces rows → given ≡ given_by items g firing configured values q traces record { outs = outs; left = left }) where
-    given_so : (traces : Traces) → HaveRows s.counts traces rows → given ≡ given_by graphs g firing configured p.values s.counts traces (end_of p.parts.level s.counts lines)
-    given_so traces have =
-        let end : record { outs = outs; left = left } ≡ end_of p.parts.level s.counts lines = ends_so ∙ ap (λ (q : List ℕ). end_of p.parts.level q lines) counts_are in
-        gives s.counts traces have ∙ ap (λ (l : List Graph). given_by l g firing configured values s.counts traces record { outs = outs; left = left }) items_are
-        ∙ ap (λ (v : List ℤ). given_by graphs g firing configured v s.counts traces record { outs = outs; left = left }) values_are ∙ ap (given_by graphs g firing configured p.values s.counts traces) end
-
-    pub run_gives : RunsLevel graphs ends g firing configured p.values s.counts (Ok given)
-    run_gives =
-        let P : List (List ℤ) → Type 0 = λ l. HasRun p.parts.level (actor_fires graphs ends g firing p.values) l (link_starts graphs g firing) (actors_of s.order) lines rows in
-        level_given graphs ends g firing configured p.values p.parts.level prepared.parts.level s is lines rows given (subst P sources_are run) given_so
-
-    pub given_outs : length given.outs ≡ length p.parts.level.sinks
-    given_outs =
-        let have : HaveRows s.counts run.traces rows = λ b. run.rows_are b ∙ ap (traces_below (run.traces b)) (is.order.order.admissible.counts b) in
-        ap (λ (x : Given). length x.outs) (given_so run.traces have) ∙ length-kept_at 0 p.parts.level.sinks p.parts.level.links lines

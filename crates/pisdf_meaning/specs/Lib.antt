@@ -12,6 +12,7 @@ pub mod Turns
 pub mod PartsOf
 pub mod Nested
 pub mod Prepared
+pub mod Planned
 pub mod Laws
 pub mod Sizes
 pub mod TopLevel

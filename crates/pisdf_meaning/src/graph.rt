@@ -1,8 +1,7 @@
 // One firing of a graph, and of those that it holds.
-ghost use Rattle.std.specs.Prelude.{◌≡◌, ◌<◌, ◌+◌, [], length, slice_get, slice_index, slice_index_or, Some, Ok, Err, List as Seq, IfOk, IfErr, OnOk, if◌then◌else◌};
+ghost use Rattle.std.specs.Prelude.{◌≡◌, ◌<◌, ◌+◌, [], length, slice_get, slice_index_or, Ok, Err, List as Seq, IfOk, IfErr, OnOk};
 ghost use Rattle.std.specs.List.{All};
 ghost use Rattle.kernel_gate.specs.Signed.{unnamed};
-ghost use Rattle.level_schedule.specs.Schedules.{IsScheduled};
 ghost use Rattle.param_resolver.specs.EarlyCheck.{early_faults, early_of};
 ghost use Rattle.param_resolver.specs.Numbering.{level_inputs};
 ghost use Rattle.pisdf_model.specs.InterfaceWires.{is_configuration};
@@ -16,28 +15,25 @@ ghost use Rattle.pisdf_meaning.specs.Configuring.{Configures, Leaves, early_in};
 ghost use Rattle.pisdf_meaning.specs.Endings.{Answers, IfRefused};
 ghost use Rattle.pisdf_meaning.specs.Meaning.{FiresGraph, MeansWithin};
 ghost use Rattle.pisdf_meaning.specs.Nested.{CanRun, HaveLeft, Holds, IsUnderway, actor_fires, configuration_at, outs_count, rates_count};
+ghost use Rattle.pisdf_meaning.specs.Planned.{IsPlanned};
 ghost use Rattle.pisdf_meaning.specs.Prepared.{IsPrepared};
-ghost use Rattle.pisdf_meaning.specs.Running.{FiresChild, RunsLevel, link_starts, source_tokens};
+ghost use Rattle.pisdf_meaning.specs.Running.{FiresChild, link_starts};
 ghost use Rattle.pisdf_meaning.specs.Sound.{IsConfiguration, NestsWithin, actor_at};
 ghost use Rattle.pisdf_meaning.specs.States.{tokens_at};
 ghost use Rattle.pisdf_meaning.specs.Turns.{HasRun, MeetsRefusal, TurnFires, TurnRefused};
 ghost use Rattle.pisdf_meaning.specs.declared.outcome.TraceRow.{TraceRow as Row};
 
-use crate::children::{ChildCall, child_firing, child_left, child_made, config_firing};
+use crate::children::{ChildCall, begin_child, begin_config, child_left, child_made};
 use crate::firing::{Configured, Firing, Given, Made};
 use crate::firing_kernels::{ConfigCall, fire_kernel_actor, leave_config};
-use crate::giving::given_by;
 use crate::lists::tokens_at;
-use crate::parts::{Prepared, parts_of};
-use crate::preparing::{child_known, prepared, rates_at};
+use crate::parts::Prepared;
+use crate::planning::{Planned, finished, plan_level};
+use crate::preparing::{child_known, rates_at};
 use crate::refusal::PlainFault;
-use crate::resolving::resolved;
-use crate::rows::append_to;
-use crate::running::{RunState, ended, starting};
-use crate::scheduling::scheduled;
+use crate::running::{RunState, end_turn, starting};
 use kernel_gate::Gate;
-use level_lines::{put, read};
-use level_schedule::LevelSchedule;
+use level_lines::read;
 use param_resolver::Early;
 use pisdf_model::{Actor, Body, Graph, Graphs, is_configuration};
 use sdf_level::{List, Turn};
@@ -82,10 +78,9 @@ fn leave<K: Gate>(
             leave_config(alloc, gate, graph, early, firing, &call)
         }
         Body::ConfigChild { graph: child, .. } => {
-            let inputs = graphs.graphs.items()[*child as usize].inputs.items().len();
-            let inner = config_firing(
+            let inner = begin_config(
                 alloc,
-                graphs.graphs.items(),
+                graphs,
                 graph,
                 early,
                 firing,
@@ -93,11 +88,10 @@ fn leave<K: Gate>(
                 place,
                 &actor.name,
                 *child,
-                inputs,
             )?;
             let known = child_known(&early.children, number);
             let given = fire_graph(alloc, graphs, gate, known, &inner, levels)?;
-            Ok(child_left(alloc, given)?)
+            child_left(alloc, given)
         }
         Body::Kernel { .. } | Body::Child { .. } => unreachable!(),
     }
@@ -188,12 +182,9 @@ fn fire_child<K: Gate>(
     ensures fires { IfOk result (λ made. FiresChild graphs.now.graphs (MeansWithin levels graphs.now.graphs) firing.now call.now.args.now call.now.actor.now call.now.place call.now.turn made.trace read (Ok made.outs)) }
     ensures refused { IfErr result (IfRefused (λ refusal. (trace : Seq Row) → FiresChild graphs.now.graphs (MeansWithin levels graphs.now.graphs) firing.now call.now.args.now call.now.actor.now call.now.place call.now.turn trace read (Err refusal))) }
 {
-    let all = graphs.graphs.items();
-    let inputs = all[call.place as usize].inputs.items().len();
-    let keeps = read.items().len() > inputs;
-    let inner = child_firing(alloc, all, firing, call, keeps, inputs, read)?;
-    let given = fire_graph(alloc, graphs, gate, call.early, &inner, levels)?;
-    Ok(child_made(alloc, keeps, given)?)
+    let begun = begin_child(alloc, graphs, firing, call, read)?;
+    let given = fire_graph(alloc, graphs, gate, call.early, &begun.inner, levels)?;
+    child_made(alloc, begun.keeps, given)
 }
 
 /// A firing of an actor of a level, which reads these tokens.
@@ -270,14 +261,11 @@ fn take_turn<K: Gate>(
     ensures rows { OnOk result (length state.new.rows.items ≡ length state.old.rows.items) }
     ensures refused { IfErr result (IfRefused (TurnRefused (actor_fires graphs.now.graphs (MeansWithin levels graphs.now.graphs) graph.now firing.now prepared.now.values) prepared.now.sources prepared.now.parts.level.links turn.actor turn.turn (lists_of state.old.lines.items))) }
 {
-    let level = &prepared.parts.level;
-    let ports = &prepared.ports;
-    let sources = prepared.sources.items();
     let tokens = read(
         alloc,
-        level,
-        ports,
-        sources,
+        &prepared.parts.level,
+        &prepared.ports,
+        prepared.sources.items(),
         &state.lines,
         turn.actor,
         turn.turn,
@@ -285,15 +273,7 @@ fn take_turn<K: Gate>(
     let made = fire_actor(
         alloc, graphs, gate, graph, firing, prepared, turn, tokens, levels,
     )?;
-    put(
-        level,
-        ports,
-        &mut state.lines,
-        turn.actor,
-        made.outs.items(),
-    )?;
-    append_to(alloc, &mut state.rows, turn.actor, made.trace.items())?;
-    Ok(())
+    end_turn(alloc, prepared, turn, made, state)
 }
 
 /// Makes the firings of a level in this order, from the lines with which its links begin.
@@ -331,7 +311,7 @@ fn run_turns<K: Gate>(
     Ok(state)
 }
 
-/// Runs the level of a graph by its schedule.
+/// Runs the level of a graph as it was planned, and so ends the graph's firing.
 #[cycle(firing)]
 fn run<K: Gate>(
     alloc: Global,
@@ -340,30 +320,19 @@ fn run<K: Gate>(
     graph: &Graph,
     firing: &Firing,
     configured: &[Configured],
-    prepared: &Prepared,
-    schedule: &LevelSchedule,
+    plan: &Planned,
     levels: usize,
 ) -> Result<Given, PlainFault>
     requires holds { Holds (unnamed (K.kernels gate.now)) levels graphs.now graph.now }
-    requires prepared { IsPrepared graphs.now.graphs graph.now firing.now prepared.now }
-    requires sources { prepared.now.sources ≡ source_tokens graph.now firing.now configured.now }
-    requires schedule { IsScheduled prepared.now.parts.level schedule.now }
-    ensures runs { Answers (RunsLevel graphs.now.graphs (MeansWithin levels graphs.now.graphs) graph.now firing.now configured.now prepared.now.values schedule.now.counts) result }
-    ensures outs { IfOk result (λ given. length given.outs ≡ length prepared.now.parts.level.sinks) }
+    requires configures { Configures graphs.now.graphs (MeansWithin levels graphs.now.graphs) graph.now firing.now (Ok configured.now) }
+    requires plan { IsPlanned graphs.now.graphs graph.now firing.now configured.now plan.now }
+    ensures fires { Answers (FiresGraph graphs.now.graphs (MeansWithin levels graphs.now.graphs) graph.now firing.now) result }
+    ensures outs { IfOk result (λ given. length given.outs ≡ length plan.now.prepared.parts.level.sinks) }
 {
-    let order = schedule.order.items();
+    let order = plan.schedule.order.items();
+    let prepared = &plan.prepared;
     let state = run_turns(alloc, graphs, gate, graph, firing, prepared, order, levels)?;
-    let end = ended(alloc, &prepared.parts.level, schedule.counts.items(), state)?;
-    let values = prepared.values.items();
-    Ok(given_by(
-        alloc,
-        graphs.graphs.items(),
-        graph,
-        firing,
-        configured,
-        values,
-        end,
-    )?)
+    finished(alloc, graphs, graph, firing, configured, plan, state)
 }
 
 /// One firing of a graph, from whose actors on at most `levels` graphs are nested in each other.
@@ -382,29 +351,11 @@ fn fire_here<K: Gate>(
     ensures outs { IfOk result (λ given. length given.outs ≡ length early.now.outputs) }
 {
     let configured = configure(alloc, graphs, gate, graph, early, firing, levels)?;
-    let values = resolved(alloc, graphs, graph, early, firing, &configured)?;
-    let parts = parts_of(alloc, graphs, graph, early, firing, values.items())?;
-    let schedule = scheduled(alloc, graph, firing, &parts.level)?;
-    let prepared = prepared(
-        alloc,
-        graphs.graphs.items(),
-        graph,
-        firing,
-        &configured,
-        parts,
-        values,
-    )?;
-    run(
-        alloc,
-        graphs,
-        gate,
-        graph,
-        firing,
-        &configured,
-        &prepared,
-        &schedule,
-        levels,
-    )
+    let left = configured.as_slice();
+    let plan = plan_level(alloc, graphs, graph, early, firing, left)?;
+    let given = run(alloc, graphs, gate, graph, firing, left, &plan, levels);
+    drop(plan);
+    given
 }
 
 /// One firing of a graph, from which on at most `levels` graphs are nested in each other, and of which this is known

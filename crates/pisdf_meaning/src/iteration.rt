@@ -1,14 +1,14 @@
 // One iteration of a run.
-ghost use Rattle.std.specs.Prelude.{◌≡◌, ◌⊎◌, ℤ, List as Seq, [], Some, Ok, Err, slice_get, IfOk, IfErr, OnErr};
+ghost use Rattle.std.specs.Prelude.{◌≡◌, ◌⊎◌, ℤ, List as Seq, [], Ok, Err, IfOk, IfErr, OnErr, slice_get};
 ghost use Rattle.kernel_gate.specs.Signed.{unnamed};
 ghost use Rattle.param_resolver.specs.EarlyCheck.{early_faults, early_of};
 ghost use Rattle.param_resolver.specs.declared.level_set.LevelSet.{LevelSet as SetOfLevel};
+ghost use Rattle.pisdf_model.specs.Nesting.{nesting_limit};
 ghost use Rattle.pisdf_model.specs.Ports.{inherited_count};
 ghost use Rattle.pisdf_model.specs.Valid.{AreValid};
-ghost use Rattle.pisdf_model.specs.declared.graph.Graph.{Graph as OneGraph};
 ghost use Rattle.pisdf_meaning.specs.Endings.{IfRefused};
 ghost use Rattle.pisdf_meaning.specs.Run.{IterationEnds, IterationGives, top_firing};
-ghost use Rattle.pisdf_meaning.specs.Sound.{AreValidFor};
+ghost use Rattle.pisdf_meaning.specs.Sound.{AreRunnable, AreValidFor};
 ghost use Rattle.pisdf_meaning.specs.TopLevel.{IsTopLevel, TopLevelRefused};
 ghost use Rattle.pisdf_meaning.specs.declared.outcome.Iteration.{Iteration as Outcome};
 ghost use Rattle.pisdf_meaning.specs.declared.refusal.Refusal.{Refusal as Cause};
@@ -67,23 +67,39 @@ pub fn top_firing(
     })
 }
 
-/// What an iteration begins with: what is known of the top graph, and its firing with these inputs and this state.
-fn begin_iteration(
+/// The most graphs that may be nested in each other.
+fn most_nested() -> usize
+    ensures { result ≡ nesting_limit }
+{
+    MAX_NESTING
+}
+
+/// One iteration in one thread, of whose top graph this is known before it.
+fn iterate_from<K: Gate>(
     alloc: Global,
     graphs: &Graphs,
-    delays: &Delays,
+    early: &Early,
+    delays: &mut Delays,
     ins: &[List<i64>],
-) -> Result<(Early, Firing), AllocError>
+    gate: &K,
+) -> Result<Iteration, PlainFault>
     requires valid { AreValid graphs.now }
-    requires none_inherited { inherited_count (slice_get graphs.now.graphs graphs.now.top) ≡ 0 }
+    requires runnable { AreRunnable (unnamed (K.kernels gate.now)) graphs.now }
+    requires known { early.now ≡ early_of graphs.now.graphs graphs.now.top [] }
     requires sound { early_faults graphs.now.graphs graphs.now.top [] ≡ [] }
-    ensures early { IfOk result (λ begun. begun.0 ≡ early_of graphs.now.graphs graphs.now.top []) }
-    ensures firing { IfOk result (λ begun. (top : OneGraph) → slice_get graphs.now.graphs graphs.now.top ≡ Some top → begun.1 ≡ top_firing top graphs.now.top ins.now delays.now.lists) }
+    ensures gives { IfOk result (λ iteration. IterationGives graphs.now ins.now delays.old.lists iteration delays.new.lists) }
+    ensures refused { IfErr result (IfRefused (λ refusal. IterationEnds graphs.now ins.now delays.old.lists (Err refusal))) }
+    ensures unchanged { OnErr result (delays.new ≡ delays.old) }
 {
-    let early = top_early(alloc, graphs)?;
     let top = &graphs.graphs.items()[graphs.top as usize];
     let firing = top_firing(alloc, top, graphs.top, delays, ins)?;
-    Ok((early, firing))
+    let levels = most_nested();
+    let given = fire_graph(alloc, graphs, gate, early, &firing, levels)?;
+    delays.lists = given.state;
+    Ok(Iteration {
+        outs: given.outs,
+        trace: given.trace,
+    })
 }
 
 /// One iteration in one thread, which gives or is refused.
@@ -101,13 +117,10 @@ fn iterate<K: Gate>(
     ensures unchanged { OnErr result (delays.new ≡ delays.old) }
 {
     runnable();
-    let (early, firing) = begin_iteration(alloc, graphs, delays, ins)?;
-    let given = fire_graph(alloc, graphs, gate, &early, &firing, MAX_NESTING)?;
-    delays.lists = given.state;
-    Ok(Iteration {
-        outs: given.outs,
-        trace: given.trace,
-    })
+    let early = top_early(alloc, graphs)?;
+    let end = iterate_from(alloc, graphs, &early, delays, ins, gate);
+    drop(early);
+    end
 }
 
 /// One iteration in one thread: a firing of the top graph (Desnos and others 2013, PiMM; Lee and Messerschmitt 1987), whose
@@ -141,6 +154,30 @@ pub fn plain_iteration<K: Gate>(
     iterate(alloc, graphs, delays, ins, gate)
 }
 
+/// The level to which an iteration leads, of whose top graph this is known before it, or its refusal on the way.
+fn lead_from<K: Gate>(
+    alloc: Global,
+    graphs: &Graphs,
+    early: &Early,
+    delays: &Delays,
+    ins: &[List<i64>],
+    gate: &K,
+) -> Result<LevelSet, PlainFault>
+    requires valid { AreValid graphs.now }
+    requires runnable { AreRunnable (unnamed (K.kernels gate.now)) graphs.now }
+    requires known { early.now ≡ early_of graphs.now.graphs graphs.now.top [] }
+    requires sound { early_faults graphs.now.graphs graphs.now.top [] ≡ [] }
+    ensures level { IfOk result (IsTopLevel graphs.now ins.now delays.now.lists) }
+    ensures refused { IfErr result (IfRefused (TopLevelRefused graphs.now ins.now delays.now.lists)) }
+{
+    let top = &graphs.graphs.items()[graphs.top as usize];
+    let firing = top_firing(alloc, top, graphs.top, delays, ins)?;
+    let levels = MAX_NESTING - 1;
+    let configured = configure(alloc, graphs, gate, top, early, &firing, levels)?;
+    let values = resolved(alloc, graphs, top, early, &firing, &configured)?;
+    parts_of(alloc, graphs, top, early, &firing, values.items())
+}
+
 /// The level to which an iteration leads, or its refusal on the way.
 fn lead_to_level<K: Gate>(
     alloc: Global,
@@ -155,12 +192,10 @@ fn lead_to_level<K: Gate>(
     ensures refused { IfErr result (IfRefused (TopLevelRefused graphs.now ins.now delays.now.lists)) }
 {
     runnable();
-    let (early, firing) = begin_iteration(alloc, graphs, delays, ins)?;
-    let top = &graphs.graphs.items()[graphs.top as usize];
-    let levels = MAX_NESTING - 1;
-    let configured = configure(alloc, graphs, gate, top, &early, &firing, levels)?;
-    let values = resolved(alloc, graphs, top, &early, &firing, &configured)?;
-    parts_of(alloc, graphs, top, &early, &firing, values.items())
+    let early = top_early(alloc, graphs)?;
+    let end = lead_from(alloc, graphs, &early, delays, ins, gate);
+    drop(early);
+    end
 }
 
 /// The level of the top graph in an iteration, once its configuration actors fired and its parameters have their values,

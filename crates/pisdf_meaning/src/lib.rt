@@ -21,6 +21,7 @@ mod needs;
 mod outcome;
 mod parts;
 mod path;
+mod planning;
 mod preparing;
 mod refusal;
 mod resolving;
