@@ -7,3 +7,4 @@ pub mod Sizes
 pub mod Parts
 pub mod Invariants
 pub mod Leases
+pub mod Starting

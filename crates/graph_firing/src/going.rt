@@ -15,7 +15,6 @@ use job_preparing::{CompileEnd, Configuring, JobGiven};
 use pisdf_meaning::Refusal;
 use std::alloc::{AllocError, Global};
 use std::mem;
-use std::sync::Arc;
 
 /// Goes on to the next stage from one that has no nodes.
 pub(crate) fn go_on(stage: &mut Stage, next: Stage)
@@ -49,9 +48,7 @@ pub(crate) fn next_stage(
             set,
             values,
         } => {
-            let _left = configuring.left();
-            let graphs = Arc::try_clone(configuring.graphs())?;
-            let running = run(alloc, graphs, configuring, compiled, set, values)?;
+            let running = run(alloc, configuring, compiled, set, values)?;
             Ok(Stage::Nodes(running))
         }
         CompileEnd::Refused(cause) => {

@@ -10,6 +10,8 @@ use Rattle.std.proofs.lemmas.Option.{get_or_from_slice_get, slice_get_within}
 use Rattle.kernel_gate.specs.Value.{lengths}
 use Rattle.param_resolver.specs.LevelOf.{AreOneEach, level_faults, links_of, sources_of}
 use Rattle.param_resolver.specs.Numbering.{acting}
+use Rattle.param_resolver.specs.declared.level_set.LevelSet.{LevelSet}
+use Rattle.job_compiler.specs.Compilation.{Compilation}
 use Rattle.param_resolver.specs.Refusal as part
 use Rattle.pisdf_model.specs.Valid.{AreValid}
 use Rattle.pisdf_model.specs.declared.graph.Graph.{Graph}
@@ -17,7 +19,7 @@ use Rattle.pisdf_model.specs.declared.graph.Graphs.{Graphs}
 use Rattle.pisdf_meaning.specs.Causes.{unless_refused}
 use Rattle.pisdf_meaning.specs.Configuring.{early_in}
 use Rattle.pisdf_meaning.specs.Preparing.{level_in}
-use Rattle.pisdf_meaning.specs.Running.{link_starts, source_tokens}
+use Rattle.pisdf_meaning.specs.Running.{chosen_rows, link_starts, source_tokens, value_at}
 use Rattle.pisdf_meaning.specs.TopLevel.{IsLevelSet}
 use Rattle.pisdf_meaning.specs.declared.outcome.TraceRow.{TraceRow}
 use Rattle.pisdf_meaning.specs.declared.firing.Configured.{Configured}
@@ -47,6 +49,8 @@ use Rattle.job_rules.specs.Words.{Answer}
 use Rattle.one_job.specs.Marks as one
 use Rattle.one_job.specs.View as leased
 use Rattle.job_preparing.specs.CompileTasks.{IsReadyWith}
+use Rattle.job_preparing.specs.View.{ConfiguringView, graph_in, left_by}
+use Rattle.graph_firing.specs.Nodes.Starting.{AreJobLists, AreNoTraces, AreOwnParts, Starts, fixed_by, fixed_from}
 use Rattle.graph_firing.specs.Nodes.Parts.{AreParts, Fixed, IsSetUp, KeepsAll, Stands, Start, call_count, fired, held_at, job_in, kind_of_actor, row_at, start_of, values_of}
 use Rattle.job_preparing.specs.Handing.{LeftSuits}
 use Rattle.graph_firing.specs.Nodes.Invariants.{view_with}
@@ -56,6 +60,10 @@ use Rattle.graph_firing.specs.declared.nodes.stage.Stage.{Stage}
 use Rattle.graph_firing.specs.declared.nodes.frames.Held.{Held}
 use Rattle.graph_firing.specs.declared.nodes.frames.Held.TheVariants.{Nothing}
 use Rattle.graph_firing.specs.declared.nodes.stage.Stage.TheVariants.{Free}
+use Rattle.graph_firing.specs.declared.nodes.starting.JobLists.{JobLists}
+use Rattle.graph_firing.specs.declared.nodes.starting.OwnParts.{OwnParts}
+use Rattle.graph_firing.specs.declared.nodes.starting.StartParts.{StartParts}
+use Rattle.graph_firing.specs.declared.nodes.starting.Started.{Started}
 
 -- ---- lists of one thing
 
@@ -123,23 +131,20 @@ pub record AreGiven (graphs : List Graph) (firing : Firing) (left : List Configu
   pub sources_long : lengths sources ≡ sources_of (graph_of graphs firing) (early_in graphs firing)
   pub stored_are : stored ≡ link_starts graphs (graph_of graphs firing) firing
 
--- the configuration actors have the same graphs
-module _ (gs asked : Graphs) (graphs_are : gs ≡ asked) (firing : Firing) (left : List Configured) where
-  pub suits_here : LeftSuits gs.graphs (graph_of asked.graphs firing) firing left → LeftSuits gs.graphs (graph_of gs.graphs firing) firing left
-  suits_here = subst (λ (x : Graphs). LeftSuits gs.graphs (graph_of x.graphs firing) firing left) (sym graphs_are)
-
-  -- as the code found them
-  pub given_here : (found : Firing) (all : List Graph) (x : Graph) (told : List Configured) (sources stored : List (List ℤ)) → found ≡ firing → all ≡ gs.graphs → x ≡ graph_of gs.graphs firing →
-      source_tokens (graph_of asked.graphs firing) firing told ≡ source_tokens (graph_of asked.graphs firing) firing left →
-      lengths (source_tokens (graph_of asked.graphs firing) firing told) ≡ sources_of (graph_of asked.graphs firing) (early_in asked.graphs firing) →
-      sources ≡ source_tokens x found told → stored ≡ link_starts all x found → AreGiven gs.graphs firing left sources stored
-  given_here found all x told sources stored found_is all_is here same long sources_are stored_are =
-      let there : sources ≡ source_tokens (graph_of asked.graphs firing) firing told = sources_are ∙ (λ k. source_tokens (here k) (found_is k) told) ∙ ap (λ (y : Graphs). source_tokens (graph_of y.graphs firing) firing told) graphs_are in
-      record {
-        sources_are = there ∙ same ∙ ap (λ (y : Graphs). source_tokens (graph_of y.graphs firing) firing left) (sym graphs_are);
-        sources_long = ap lengths there ∙ long ∙ ap (λ (y : Graphs). sources_of (graph_of y.graphs firing) (early_in y.graphs firing)) (sym graphs_are);
-        stored_are = stored_are ∙ (λ k. link_starts (all_is k) (here k) (found_is k));
-      }
+-- as the code found them
+pub lists_here : (v : ConfiguringView) (set : LevelSet) (lists : JobLists) (found : Firing) (all : List Graph) (x : Graph) (told : List Configured) → found ≡ v.firing → all ≡ v.graphs.graphs → x ≡ graph_in v →
+    source_tokens (graph_in v) v.firing told ≡ source_tokens (graph_in v) v.firing (left_by v) →
+    lengths (source_tokens (graph_in v) v.firing told) ≡ sources_of (graph_in v) (early_in v.graphs.graphs v.firing) →
+    lists.kinds ≡ map kind_of_actor (acting x) → lists.args ≡ set.args → lists.sources ≡ source_tokens x found told → lists.stored ≡ link_starts all x found → AreJobLists v set lists
+lists_here v set lists found all x told found_is all_is here same long kinds_are args_are sources_are stored_are =
+    let there : lists.sources ≡ source_tokens (graph_in v) v.firing told = sources_are ∙ (λ k. source_tokens (here k) (found_is k) told) in
+    record {
+      kinds_are = kinds_are ∙ (λ k. map kind_of_actor (acting (here k)));
+      args_are = args_are;
+      sources_are = there ∙ same;
+      sources_long = ap lengths there ∙ long;
+      stored_are = stored_are ∙ (λ k. link_starts (all_is k) (here k) (found_is k));
+    }
 
 -- ---- what isn't refused
 
@@ -265,3 +270,84 @@ module _ (f : Fixed) (workers : ℕ) (values : List ℤ) (valid : AreValid f.gra
         where
           nodes_are : j.compilation.graph.nodes ≡ (job_in f).nodes
           nodes_are = ap (λ (s : Start). s.compilation.graph.nodes) started ∙ nodes_here
+
+-- ---- a firing that is set up so
+
+-- what the job of leases was started with, and where its nodes are
+pub record IsStarted (c : Compilation) (lists : JobLists) (s : Started) : Type 0 where
+  pub compilation : s.job.compilation ≡ c
+  pub kinds : s.job.kinds ≡ lists.kinds
+  pub args : s.job.args ≡ lists.args
+  pub sources : s.job.sources ≡ lists.sources
+  pub stored : s.job.stored ≡ lists.stored
+  pub free : s.job.marks ≡ replicate (length c.graph.nodes) one.Free
+  pub nothing : s.held.items ≡ replicate (length s.held.items) Nothing
+  pub few : length s.held.items ≤ length s.job.compilation.graph.nodes
+  pub room : (n : ℕ) → n < length s.job.compilation.graph.nodes → is_child s.job n ≡ true → n < length s.held.items
+  pub stages : s.stages ≡ replicate (length c.graph.nodes) Free
+
+module _ (v : ConfiguringView) (c : Compilation) (set : LevelSet) (values : List ℤ) (valid : AreValid v.graphs) (fit : IsFit v.graphs.graphs v.firing) (suits : LeftSuits v.graphs.graphs (graph_in v) v.firing (left_by v))
+    (compiled : IsReadyWith v.graphs.graphs c.workers v.firing (left_by v) c set values) (own : OwnParts) (lists : JobLists) (lists_are : AreJobLists v set lists) where
+  given : AreGiven v.graphs.graphs v.firing (left_by v) lists.sources lists.stored
+  given = record { sources_are = lists_are.sources_are; sources_long = lists_are.sources_long; stored_are = lists_are.stored_are }
+
+  -- before there is a job
+  abbrev before : Fixed
+  before = fixed_from v.graphs v.firing (left_by v) v.firing.graph c set own no_block one.nowhere.room
+
+  pub kinds_fit : length lists.kinds ≡ c.level.actors
+  kinds_fit = kinds_asked before c.workers values valid fit suits compiled lists.sources lists.stored given lists.kinds lists.args lists_are.kinds_are lists_are.args_are
+
+  pub args_fit : ((of_all : List ℤ) → AreOneEach v.graphs.graphs (graph_in v) of_all) → length lists.args ≡ c.level.actors
+  args_fit each = args_asked before c.workers values valid fit suits compiled lists.sources lists.stored given lists.kinds lists.args lists_are.kinds_are lists_are.args_are (each (values_of before))
+
+  pub sources_fit : map length lists.sources ≡ c.level.sources
+  sources_fit = sources_asked before c.workers values valid fit suits compiled lists.sources lists.stored given
+
+  pub stored_fit : HaveDelays c.level.links lists.stored
+  stored_fit = stored_asked before c.workers values valid fit suits compiled lists.sources lists.stored given
+
+  module _ (own_are : AreOwnParts v.graphs.graphs (graph_in v) v.firing.path values own) (rows_are : AreNoTraces lists.kinds c.counts own.ending.traces.items) (s : Started) (started : IsStarted c lists s) where
+    abbrev parts : StartParts
+    parts = record { own = own; started = s }
+
+    abbrev f : Fixed
+    f = fixed_by v c set parts
+
+    values_here : values ≡ values_of f
+    values_here = sym (values_are f c.workers values valid fit suits compiled)
+
+    own_parts : AreParts f
+    own_parts = record {
+      place_is = refl;
+      path_is = own_are.path_is;
+      set_is = set_is f c.workers values valid fit suits compiled;
+      keeps_are = own_are.keeps_are;
+      names_are = own_are.names_are;
+      rows_are = own_are.rows_are ∙ ap (λ (l : List ℤ). chosen_rows v.firing.path l 0 (graph_in v).params) values_here;
+      exports_are = own_are.exports_are ∙ ap (λ (l : List ℤ). map (value_at l) (graph_in v).exports) values_here;
+      empty = own_are.empty;
+      none = own_are.none;
+      room = own_are.room;
+    }
+
+    start_is : start_of s.job ≡ record { compilation = c; kinds = lists.kinds; args = lists.args; sources = lists.sources; stored = lists.stored; block = s.job.block }
+    start_is = λ k. record { compilation = started.compilation k; kinds = started.kinds k; args = started.args k; sources = started.sources k; stored = started.stored k; block = s.job.block }
+
+    traces_are : (a : ℕ) → row_at own.ending.traces.items a ≡ replicate (call_count s.job.kinds c.counts a) []
+    traces_are a = rows_are.each a ∙ ap (λ (kinds : List (Option ℕ)). let none : List (List TraceRow) = replicate (call_count kinds c.counts a) [] in none) (sym started.kinds)
+
+    pub starts : Starts f parts
+    starts = record {
+      keeps = keeps_at_start f c.workers values valid fit suits compiled lists.sources lists.stored given lists.kinds lists.args lists_are.kinds_are lists_are.args_are s.job start_is started.kinds started.free s.stages started.stages
+          s.held.items started.nothing started.few started.room own.ending.traces.items rows_are.one_each traces_are own_parts;
+      free = marks_start f c.workers values valid fit suits compiled s.stages started.stages;
+      nothing = lents_start f c.workers values valid fit suits compiled s.stages started.stages;
+    }
+
+-- the same as it is found
+pub starts_so : (v : ConfiguringView) (c : Compilation) (set : LevelSet) (parts : StartParts) (graphs : Graphs) (firing : Firing) (left : List Configured) (place : ℕ) → graphs ≡ v.graphs → firing ≡ v.firing → left ≡ left_by v → place ≡ v.firing.graph →
+    Starts (fixed_by v c set parts) parts → Starts (fixed_from graphs firing left place c set parts.own parts.started.job.block parts.started.job.room) parts
+starts_so v c set parts graphs firing left place graphs_are firing_is left_is place_is =
+    let same : fixed_by v c set parts ≡ fixed_from graphs firing left place c set parts.own parts.started.job.block parts.started.job.room = λ k. fixed_from (sym graphs_are k) (sym firing_is k) (sym left_is k) (sym place_is k) c set parts.own parts.started.job.block parts.started.job.room in
+    subst (λ (f : Fixed). Starts f parts) same

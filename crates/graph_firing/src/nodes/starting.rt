@@ -12,10 +12,11 @@ ghost use Rattle.pisdf_model.specs.declared.actor.Actor.{Actor as ActorView};
 ghost use Rattle.pisdf_meaning.specs.Running.{chosen_row, chosen_rows, link_starts, source_tokens, value_at};
 ghost use Rattle.job_rules.specs.Meant.{IsFit};
 ghost use Rattle.job_preparing.specs.CompileTasks.{IsReadyWith};
-ghost use Rattle.job_preparing.specs.Handing.{LeftSuits};
 ghost use Rattle.job_preparing.specs.View.{IsReady, graph_in, left_by};
 ghost use Rattle.graph_firing.specs.Nodes.Parts.{kernel_in, kind_of_actor, prepared_with};
+ghost use Rattle.graph_firing.specs.Nodes.Starting.{AreJobLists, AreNoTraces, AreOwnParts, Starts, fixed_by};
 ghost use Rattle.graph_firing.specs.Nodes.View.{nodes_of};
+ghost use Rattle.graph_firing.specs.declared.nodes.stage.Stage.TheVariants.{Free as Waiting};
 
 use crate::nodes::ending::Ending;
 use crate::nodes::frames::{Held, nothing_held};
@@ -31,7 +32,7 @@ use pisdf_meaning::{
     Configured, Firing, Path, TraceRow, copy_lists, copy_name, exports_of, link_starts,
     source_tokens, value_at,
 };
-use pisdf_model::{Body, Graph, Graphs, Param, ParamKind};
+use pisdf_model::{Body, Graph, Param, ParamKind};
 use sdf_level::List;
 use std::alloc::{AllocError, Global};
 use std::collections::LinkedList;
@@ -231,6 +232,75 @@ fn level_parts(
     })
 }
 
+/// What a firing keeps beside its job: its path, the names of the actors of its level, and what is moved at its end.
+#[derive(Drop)]
+struct OwnParts {
+    path: Path,
+    names: Vec<Name>,
+    ending: Ending,
+}
+
+/// What a firing of this graph keeps beside its job, with these traces of what it calls.
+fn own_parts(
+    alloc: Global,
+    all: &[Graph],
+    graph: &Graph,
+    path: &Path,
+    places: &[u32],
+    values: &[i64],
+    traces: Vec<Vec<Trace>>,
+) -> Result<OwnParts, AllocError>
+    requires { places.now ≡ acting_places graph.now }
+    ensures parts { IfOk result (AreOwnParts all.now graph.now path.now values.now) }
+    ensures traces { IfOk result (λ own. own.ending.traces ≡ traces) }
+{
+    let own = own_rows(alloc, graph, path, values)?;
+    let parts = level_parts(alloc, all, graph, places)?;
+    Ok(OwnParts {
+        path: own.path,
+        names: parts.names,
+        ending: Ending {
+            keeps: parts.keeps,
+            rows: own.rows,
+            exports: own.exports,
+            state: parts.state,
+            traces,
+        },
+    })
+}
+
+/// What a firing is set up with before its job is started.
+#[derive(Drop)]
+struct SetUp {
+    lists: JobLists,
+    own: OwnParts,
+}
+
+/// What a firing is set up with whose configuration actors are ready, and which was compiled to this.
+fn set_up(
+    alloc: Global,
+    preparing: &Configuring,
+    compiled: &Compiled,
+    set: &LevelSet,
+    values: &[i64],
+) -> Result<SetUp, AllocError>
+    requires fit { IsFit preparing.now.graphs.graphs preparing.now.firing }
+    requires ready { IsReady preparing.now }
+    requires places { set.now.places ≡ acting_places (graph_in preparing.now) }
+    ensures lists { IfOk result (λ s. AreJobLists preparing.now set.now s.lists) }
+    ensures own { IfOk result (λ s. AreOwnParts preparing.now.graphs.graphs (graph_in preparing.now) preparing.now.firing.path values.now s.own) }
+    ensures traces { IfOk result (λ s. AreNoTraces s.lists.kinds compiled.now.counts s.own.ending.traces.items) }
+{
+    let firing = preparing.firing();
+    let all = preparing.graphs().graphs.items();
+    let graph = &all[firing.graph as usize];
+    let places = set.places.items();
+    let lists = job_lists(alloc, all, graph, firing, preparing.left(), set)?;
+    let traces = empty_rows(alloc, lists.kinds.items(), compiled.counts())?;
+    let own = own_parts(alloc, all, graph, &firing.path, places, values, traces)?;
+    Ok(SetUp { lists, own })
+}
+
 /// How long a list is that has an entry at the number of each node that fires a graph: empty where none does.
 fn room_needed(job: &Job, nodes: usize) -> usize
     requires many { nodes ≡ length job.now.compilation.graph.nodes }
@@ -245,13 +315,14 @@ fn room_needed(job: &Job, nodes: usize) -> usize
     needed
 }
 
-/// A job of leases, and what is held for its nodes that fire graphs.
+/// A job of leases, what is held for its nodes that fire graphs, and how far its nodes are.
 struct Started {
     job: Job,
     held: Vec<Held>,
+    stages: Stages,
 }
 
-/// The job of leases of a firing at its start, for which nothing is held.
+/// The job of leases of a firing at its start, in which each node is free and for which nothing is held.
 fn start_job(alloc: Global, compiled: Arc<Compiled>, lists: JobLists) -> Result<Started, AllocError>
     requires kinds { length lists.kinds ≡ (arc_value compiled).level.actors }
     requires args { length lists.args ≡ (arc_value compiled).level.actors }
@@ -263,6 +334,7 @@ fn start_job(alloc: Global, compiled: Arc<Compiled>, lists: JobLists) -> Result<
     ensures nothing { IfOk result (λ s. s.held.items ≡ replicate (length s.held.items) Held.Nothing) }
     ensures few { IfOk result (λ s. length s.held.items ≤ length s.job.compilation.graph.nodes) }
     ensures room { IfOk result (λ s. (n : ℕ) → n < length s.job.compilation.graph.nodes → is_child s.job n ≡ true → n < length s.held.items) }
+    ensures stages { IfOk result (λ s. s.stages ≡ replicate (length (arc_value compiled).graph.nodes) Waiting) }
 {
     let nodes = compiled.graph().nodes.items().len();
     let job = start(
@@ -278,6 +350,7 @@ fn start_job(alloc: Global, compiled: Arc<Compiled>, lists: JobLists) -> Result<
         Ok(held) => Ok(Started {
             job,
             held: nothing_held(held, needed),
+            stages: Stages::free(nodes),
         }),
         Err(error) => {
             job.end();
@@ -286,63 +359,77 @@ fn start_job(alloc: Global, compiled: Arc<Compiled>, lists: JobLists) -> Result<
     }
 }
 
-/// The nodes of a firing, in which each is free: its graphs, its configuration actors, which are ready, and what its
-/// compilation ended with: the compilation, the level and the values of the parameters. All memory of the firing but that
-/// of the calls is taken here.
+/// The parts of a firing at its start, but for those that it is handed.
+struct StartParts {
+    own: OwnParts,
+    started: Started,
+}
+
+/// These of a firing whose configuration actors are ready, and which was compiled to this.
+fn start_parts(
+    alloc: Global,
+    preparing: &Configuring,
+    compiled: &Arc<Compiled>,
+    set: &LevelSet,
+    values: &[i64],
+) -> Result<StartParts, AllocError>
+    requires valid { AreValid preparing.now.graphs }
+    requires fit { IsFit preparing.now.graphs.graphs preparing.now.firing }
+    requires ready { IsReady preparing.now }
+    requires compiled { IsReadyWith preparing.now.graphs.graphs (arc_value compiled.now).workers preparing.now.firing (left_by preparing.now) (arc_value compiled.now) set.now values.now }
+    ensures { IfOk result (λ parts. Starts (fixed_by preparing.now (arc_value compiled.now) set.now parts) parts) }
+{
+    level_by_actor();
+    let _left = preparing.left();
+    let shared = Arc::try_clone(compiled)?;
+    let SetUp { lists, own } = set_up(alloc, preparing, compiled, set, values)?;
+    let started = start_job(alloc, shared, lists)?;
+    Ok(StartParts { own, started })
+}
+
+/// The nodes of a firing, in which each is free: its configuration actors, which are ready, and what its compilation ended with:
+/// the compilation, the level and the values of the parameters. All memory of the firing but that of the calls is taken here.
 ///
 /// # Errors
 ///
 /// Want of memory.
 pub(crate) fn run(
     alloc: Global,
-    graphs: Arc<Graphs>,
     preparing: &Configuring,
     compiled: Arc<Compiled>,
     set: LevelSet,
     values: List<i64>,
 ) -> Result<Running, AllocError>
-    requires graphs { arc_value graphs ≡ preparing.now.graphs }
-    requires valid { AreValid (arc_value graphs) }
-    requires fit { IsFit (arc_value graphs).graphs preparing.now.firing }
+    requires valid { AreValid preparing.now.graphs }
+    requires fit { IsFit preparing.now.graphs.graphs preparing.now.firing }
     requires ready { IsReady preparing.now }
-    requires suits { LeftSuits (arc_value graphs).graphs (graph_in preparing.now) preparing.now.firing (left_by preparing.now) }
-    requires compiled { IsReadyWith (arc_value graphs).graphs (arc_value compiled).workers preparing.now.firing (left_by preparing.now) (arc_value compiled) set values }
-    ensures made_of { IfOk result (λ r. (r.graphs ≡ arc_value graphs) × (r.firing ≡ preparing.now.firing)) }
+    requires compiled { IsReadyWith preparing.now.graphs.graphs (arc_value compiled).workers preparing.now.firing (left_by preparing.now) (arc_value compiled) set values }
+    ensures made_of { IfOk result (λ r. (r.graphs ≡ preparing.now.graphs) × (r.firing ≡ preparing.now.firing)) }
     ensures compilation { IfOk result (λ r. (r.prepared ≡ prepared_with (left_by preparing.now) (arc_value compiled)) × (r.workers ≡ (arc_value compiled).workers) × (r.mapping ≡ (arc_value compiled).mapping)) }
     ensures cells { IfOk result (λ r. r.cells.compilation ≡ arc_value compiled) }
     ensures free { IfOk result (λ r. r.marks ≡ replicate (length (nodes_of r)) Free) }
     ensures nothing { IfOk result (λ r. r.lent ≡ replicate (length (nodes_of r)) None) }
 {
-    level_by_actor();
+    let graphs = Arc::try_clone(preparing.graphs())?;
+    let StartParts { own, started } = start_parts(
+        alloc,
+        preparing,
+        &compiled,
+        &set,
+        values.items(),
+    )?;
+    let Started { job, held, stages } = started;
     let firing = preparing.firing();
-    let all = graphs.graphs.items();
-    let graph = &all[firing.graph as usize];
-    let lists = job_lists(alloc, all, graph, firing, preparing.left(), &set)?;
-    let own = own_rows(alloc, graph, &firing.path, values.items())?;
-    let parts = level_parts(alloc, all, graph, set.places.items())?;
-    let traces = empty_rows(alloc, lists.kinds.items(), compiled.counts())?;
-    let stages = Stages::free(compiled.graph().nodes.items().len());
-    let told = Snapshot::of(firing);
-    let place = firing.graph;
-    let shared = Arc::try_clone(&compiled)?;
-    let Started { job, held } = start_job(alloc, compiled, lists)?;
-    let ending = Ending {
-        keeps: parts.keeps,
-        rows: own.rows,
-        exports: own.exports,
-        state: parts.state,
-        traces,
-    };
     Ok(Running {
         graphs,
-        compiled: shared,
-        firing: told,
+        compiled,
+        firing: Snapshot::of(firing),
         left: preparing.told_left(),
-        place,
+        place: firing.graph,
         path: own.path,
         set,
-        names: parts.names,
-        ending,
+        names: own.names,
+        ending: own.ending,
         stages,
         held,
         job,

@@ -1,47 +1,27 @@
-use Rattle.std.proofs.Common.{◌≡◌, Some, sym, ap, ◌∙◌, subst}
+use Rattle.std.proofs.Common.{Some, sym, ap, ◌∙◌, subst}
 use Rattle.std.specs.Arc.{arc_value}
 use Rattle.job_preparing.specs.CompileTasks.{IsEndOf}
 use Rattle.job_preparing.specs.View as preparing
 use Rattle.job_preparing.specs.declared.compiling.CompileEnd.{CompileEnd}
 use Rattle.job_rules.specs.Items.{Prepared}
-use Rattle.job_rules.specs.Meant.{IsFit}
 use Rattle.job_rules.specs.Words.{Schedules}
-use Rattle.pisdf_model.specs.Valid.{AreValid}
-use Rattle.pisdf_model.specs.declared.graph.Graphs.{Graphs}
 use Rattle.graph_firing.specs.Calls.{IsPlacedBy, compile_answer, nodes_by}
 use Rattle.graph_firing.proofs.Compiling.{many, runs_for}
 use Rattle.graph_firing.proofs.going.next_stage.Goals as goal
-
-pub run-requires-clause-valid : goal.run-requires-clause-valid
-run-requires-clause-valid c =
-    let same : arc_value c.in_ok-graphs-in-Ready.graphs ≡ c.args.configuring.now.graphs = c.in_ok-graphs-in-Ready.ensures ∙ c.graphs.ensures in
-    subst (λ (x : Graphs). AreValid x) (sym same) c.requires.valid
-
-pub run-requires-clause-fit : goal.run-requires-clause-fit
-run-requires-clause-fit c =
-    let same : arc_value c.in_ok-graphs-in-Ready.graphs ≡ c.args.configuring.now.graphs = c.in_ok-graphs-in-Ready.ensures ∙ c.graphs.ensures in
-    let P : Graphs → Type 0 = λ graphs. IsFit graphs.graphs c.args.configuring.now.firing in
-    subst P (sym same) c.requires.fit
-
-pub run-requires-clause-suits : goal.run-requires-clause-suits
-run-requires-clause-suits c =
-    let same : arc_value c.in_ok-graphs-in-Ready.graphs ≡ c.args.configuring.now.graphs = c.in_ok-graphs-in-Ready.ensures ∙ c.graphs.ensures in
-    rw same c.left-left.ensures.suits
 
 pub returns-in_ok-running-in-Ready : goal.returns-in_ok-running-in-Ready
 returns-in_ok-running-in-Ready c =
     let own = c.args.configuring.now in
     let r = c.in_ok-running-in-Ready.running in
     let made = c.in_ok-running-in-Ready.ensures in
-    let same : arc_value c.in_ok-graphs-in-Ready.graphs ≡ own.graphs = c.in_ok-graphs-in-Ready.ensures ∙ c.graphs.ensures in
     let P : CompileEnd → Type 0 = λ end. IsEndOf own.graphs.graphs c.args.workers own.firing (preparing.left_by own) end in
     record {
       runs = runs_for own c.args.workers (arc_value c.in-Ready.compiled) c.in-Ready.set c.in-Ready.values c.requires.ready (subst P c.in-Ready.is c.requires.end) r
-          (made.made_of.0 ∙ same) made.made_of.1 made.compilation.0 made.compilation.1 made.compilation.2 made.free made.nothing;
+          made.made_of.0 made.made_of.1 made.compilation.0 made.compilation.1 made.compilation.2 made.free made.nothing;
       marks_are = made.free;
       lent_are = made.nothing;
       many = many own c.args.workers (arc_value c.in-Ready.compiled) c.in-Ready.set c.in-Ready.values c.requires.ready (subst P c.in-Ready.is c.requires.end) r
-          (made.made_of.0 ∙ same) made.made_of.1 made.compilation.0 made.compilation.1 made.compilation.2 made.free made.nothing
+          made.made_of.0 made.made_of.1 made.compilation.0 made.compilation.1 made.compilation.2 made.free made.nothing
           ∙ sym (ap nodes_by c.in-Ready.is);
       placed =
           let R : CompileEnd → Type 0 = λ end. IsPlacedBy end (Some r.cells) in
