@@ -1,8 +1,6 @@
 -- A buffer joins the large ones or the small ones.
-use Rattle.std.proofs.Common.{ℕ, ◌+◌, ◌≤◌, List, ◌∷◌, ◌++◌, IsPermutation, arith}
-use Rattle.std.proofs.lemmas.List.Elements.{All-cons, All-weaker}
-use Rattle.std.proofs.lemmas.List.Sorted.{All-permutation, IsPermutation-trans, IsPermutation-sym, IsPermutation-middle, IsPermutation-append_left, IsPermutation-append_right}
-use Rattle.placement.specs.Placing.{IsNarrow}
+use Rattle.std.proofs.Common.{List, ◌∷◌, ◌++◌, IsPermutation}
+use Rattle.std.proofs.lemmas.List.Sorted.{IsPermutation-trans, IsPermutation-sym, IsPermutation-middle, IsPermutation-append_left, IsPermutation-append_right}
 use Rattle.placement.specs.declared.gap.Placed.{Placed}
 
 module _ (small large new : List Placed) (next : Placed) where
@@ -14,9 +12,3 @@ module _ (small large new : List Placed) (next : Placed) where
 
   pub same_small : IsPermutation (next ∷ small) new → IsPermutation (next ∷ (small ++ large)) (new ++ large)
   same_small moved = IsPermutation-append_left large (next ∷ small) new moved
-
-pub narrow_more : (small new : List Placed) (next : Placed) (limit higher : ℕ) → limit ≤ higher → next.end ≤ next.offset + higher → IsNarrow limit small → IsPermutation (next ∷ small) new → IsNarrow higher new
-narrow_more small new next limit higher up fits narrow moved =
-    All-permutation (λ (p : Placed). p.end ≤ p.offset + higher) (next ∷ small) new moved
-    (All-cons (λ (p : Placed). p.end ≤ p.offset + higher) next small fits
-    (All-weaker (λ (p : Placed). p.end ≤ p.offset + limit) (λ (p : Placed). p.end ≤ p.offset + higher) (λ p low. omega arith) small narrow))

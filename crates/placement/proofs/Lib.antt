@@ -5,3 +5,4 @@ pub mod Stepping
 pub mod Beginning
 pub mod Entering
 pub mod Shut
+pub mod Cut

@@ -3,7 +3,7 @@ use Rattle.std.proofs.Common.{◌≡◌, ℕ, ◌+◌, ◌*◌, ◌^◌, ◌<◌
 use Rattle.std.proofs.lemmas.Bool.{cases_lt}
 use Rattle.placement_checker.specs.Placed.{Relates}
 use Rattle.placement_checker.specs.Rows.{RowHas, IsRowOf}
-use Rattle.placement.specs.Placing.{IsPlacingOrder, Blocks, IsLeast}
+use Rattle.placement.specs.Placing.{in_order, IsPlacingOrder, Blocks, IsLeast}
 use Rattle.placement.specs.Progress.{placed_in, HasPlaced, IsEmpty, CanPlace, Keeps}
 use Rattle.placement.specs.declared.gap.Placed.{Placed}
 use Rattle.placement.specs.declared.progress.Progress.{Progress}
@@ -15,9 +15,8 @@ pub placed_first : (sizes : List ℕ) (X : ℕ → ℕ → Type 0) (range : ℕ)
 placed_first sizes X range order words p o empty wide few = record {
   so_far = rw (empty.small, empty.large, empty.height) (none_placed sizes X order o p.offsets.items empty.long);
   kept = record {
-    small = rw empty.small (λ i k d up inside. absurd (omega arith));
-    large = rw empty.large (λ i k d up inside. absurd (omega arith));
-    narrow = rw empty.small (λ k d inside. absurd (omega arith));
+    small = empty.small_order;
+    large = empty.large_order;
     few = rw empty.row few;
     rows = empty.row ∙ sym empty.last_row;
     told = rw empty.last tt;
@@ -44,13 +43,12 @@ module _ (sizes : List ℕ) (X : ℕ → ℕ → Type 0) (range : ℕ) (order : 
       there = o.inside i inside;
       filled = filled (slice_index order i) 0 (o.inside i inside);
       long = rw offsets h.so_far.long;
-      small = rw (row, placed) (open_to sizes X order o i (placed_in p) p.offsets.items p.height inside filled few h.so_far (length p.row.items) p.placed.small.items words h.kept.small (λ P all. all_left P p.placed.small.items p.placed.large.items all));
-      large = rw (row, placed) (open_to sizes X order o i (placed_in p) p.offsets.items p.height inside filled few h.so_far (length p.row.items) p.placed.large.items words h.kept.large (λ P all. all_right P p.placed.small.items p.placed.large.items all));
+      small = rw (row, placed) (open_to sizes X order o i (placed_in p) p.offsets.items p.height inside filled few h.so_far (length p.row.items) (in_order p.placed.small) words h.kept.small.rising (λ P all. all_left P (in_order p.placed.small) (in_order p.placed.large) all));
+      large = rw (row, placed) (open_to sizes X order o i (placed_in p) p.offsets.items p.height inside filled few h.so_far (length p.row.items) (in_order p.placed.large) words h.kept.large.rising (λ P all. all_right P (in_order p.placed.small) (in_order p.placed.large) all));
       standing = rw (offsets, placed) (all_standing sizes X order o i (placed_in p) p.offsets.items p.height inside filled few h.so_far);
       kept = record {
         small = rw placed h.kept.small;
         large = rw placed h.kept.large;
-        narrow = rw placed h.kept.narrow;
         few = rw row h.kept.few;
         rows = rw before (row ∙ h.kept.rows);
         told = rw (before, row) h.kept.told;
@@ -74,7 +72,6 @@ module _ (sizes : List ℕ) (X : ℕ → ℕ → Type 0) (range : ℕ) (order : 
         kept = record {
           small = keeps.small;
           large = keeps.large;
-          narrow = keeps.narrow;
           few = rw long h.kept.few;
           rows = rw keeps.last_row (long ∙ sym row);
           told = rw (keeps.last, long) (

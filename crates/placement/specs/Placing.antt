@@ -1,9 +1,19 @@
 -- The order of placing, the buffers placed so far, and the search for the next one's offset.
-use Rattle.std.specs.Prelude.{◌≡◌, ℕ, ◌+◌, ◌-◌, ◌/◌, ◌^◌, ◌<◌, ◌≤◌, ◌⊎◌, List, length, slice_index, slice_index_or, sum, sum_by, All, Any}
+use Rattle.std.specs.Prelude.{◌≡◌, ℕ, ◌+◌, ◌-◌, ◌/◌, ◌^◌, ◌<◌, ◌≤◌, ◌⊎◌, List, ◌++◌, reverse, length, slice_index, slice_index_or, sum, sum_by, All, Any}
 use Rattle.std.specs.List.Sorted.{IsNonDecreasingBy}
 use Rattle.placement_checker.specs.Placed.{StandsEarlier}
 use Rattle.placement_checker.specs.Rows.{RowHas}
+use Rattle.placement.specs.declared.by_offset.ByOffset.{ByOffset}
+use Rattle.placement.specs.declared.gap.Buffers.{Buffers}
 use Rattle.placement.specs.declared.gap.Placed.{Placed}
+
+-- the buffers before the cut and behind it
+abbrev pub in_order : ByOffset → List Placed
+in_order buffers = buffers.low.items ++ reverse buffers.high.items
+
+-- the small ones and the large ones
+abbrev pub all_in : Buffers → List Placed
+all_in buffers = in_order buffers.small ++ in_order buffers.large
 
 -- all numbers of buffers, each before those that it stands earlier than
 pub record IsPlacingOrder (sizes order : List ℕ) : Type 0 where
@@ -27,9 +37,20 @@ pub record IsOpenTo (words size : ℕ) (placed : List Placed) : Type 0 where
 abbrev pub Blocks : (ℕ → Type 0) → ℕ → ℕ → Placed → Type 0
 Blocks Others size offset p = Others p.number × (p.offset < offset + size) × (offset < p.end)
 
--- none of them has more cells
-abbrev pub IsNarrow : ℕ → List Placed → Type 0
-IsNarrow limit placed = All (λ (p : Placed). p.end ≤ p.offset + limit) placed
+-- at each place a cell at or before which the buffer there ends, and all before it
+pub record Reaches (placed : List Placed) (reach : List ℕ) : Type 0 where
+  pub long : length reach ≡ length placed
+  pub rising : IsNonDecreasingBy (λ (cell : ℕ). cell) reach
+  pub ends : (k : ℕ) (d : Placed) → k < length placed → (slice_index_or placed k d).end ≤ slice_index reach k
+
+-- so is what stands beside the buffers before the cut
+abbrev pub HasReach : ByOffset → Type 0
+HasReach buffers = Reaches buffers.low.items buffers.reach.items
+
+-- by their offsets, and beside those before the cut how far they reach
+pub record IsInOrder (buffers : ByOffset) : Type 0 where
+  pub rising : Rise (in_order buffers)
+  pub reach : HasReach buffers
 
 -- of those placed before this place the others end at or below the offset
 abbrev pub ArePassed : (ℕ → Type 0) → List Placed → ℕ → ℕ → Type 0

@@ -1,13 +1,13 @@
 -- How far a placing has come, and one step of it.
-use Rattle.std.specs.Prelude.{◌≡◌, ℕ, ◌*◌, ◌/◌, ◌^◌, ◌<◌, ◌≤◌, ◌⊎◌, ◌++◌, ◌∷◌, [], List, None, Some, IfSome, max, length, set, take, slice_index, sum_by, All, Any, IsPermutation}
+use Rattle.std.specs.Prelude.{◌≡◌, ℕ, ◌*◌, ◌/◌, ◌^◌, ◌<◌, ◌≤◌, ◌⊎◌, ◌∷◌, [], List, None, Some, IfSome, max, length, set, take, slice_index, sum_by, All, Any, IsPermutation}
 use Rattle.placement_checker.specs.Placed.{end_of, Fits}
-use Rattle.placement.specs.Placing.{Rise, IsNarrow, IsOpenTo, IsLast, StandsAt}
+use Rattle.placement.specs.Placing.{in_order, all_in, IsInOrder, IsOpenTo, IsLast, StandsAt}
 use Rattle.placement.specs.declared.gap.Placed.{Placed}
 use Rattle.placement.specs.declared.progress.Progress.{Progress}
 
 -- the buffers that are placed
 abbrev pub placed_in : Progress → List Placed
-placed_in p = p.placed.small.items ++ p.placed.large.items
+placed_in p = all_in p.placed
 
 -- p is the buffer at one of the first i places of the order
 pub record IsPlaced (sizes order offsets : List ℕ) (i : ℕ) (p : Placed) : Type 0 where
@@ -30,9 +30,8 @@ pub record PlacedSoFar (sizes : List ℕ) (X : ℕ → ℕ → Type 0) (order : 
 
 -- what a search of offsets goes by: the buffers by their offsets, the rows, and the buffer that was placed last
 pub record IsKept (p : Progress) : Type 0 where
-  pub small : Rise p.placed.small.items
-  pub large : Rise p.placed.large.items
-  pub narrow : IsNarrow p.placed.limit p.placed.small.items
+  pub small : IsInOrder p.placed.small
+  pub large : IsInOrder p.placed.large
   pub few : length p.row.items < 2 ^ 32
   pub rows : length p.row.items ≡ length p.before.row.items
   pub told : IfSome p.before.buffer (λ q. (q.number / 64 < length p.row.items) × (q.offset < q.end))
@@ -47,8 +46,10 @@ pub record HasPlaced (sizes : List ℕ) (X : ℕ → ℕ → Type 0) (range : �
 -- no buffer is placed of so many, and a row has so many words
 pub record IsEmpty (count words : ℕ) (p : Progress) : Type 0 where
   pub long : length p.offsets.items ≡ count
-  pub small : p.placed.small.items ≡ []
-  pub large : p.placed.large.items ≡ []
+  pub small : in_order p.placed.small ≡ []
+  pub large : in_order p.placed.large ≡ []
+  pub small_order : IsInOrder p.placed.small
+  pub large_order : IsInOrder p.placed.large
   pub row : length p.row.items ≡ words
   pub last_row : length p.before.row.items ≡ words
   pub last : p.before.buffer ≡ None
@@ -59,17 +60,16 @@ pub record CanPlace (sizes : List ℕ) (number : ℕ) (p : Progress) : Type 0 wh
   pub there : number < length sizes
   pub filled : 1 ≤ slice_index sizes number
   pub long : length p.offsets.items ≡ length sizes
-  pub small : IsOpenTo (length p.row.items) (slice_index sizes number) p.placed.small.items
-  pub large : IsOpenTo (length p.row.items) (slice_index sizes number) p.placed.large.items
+  pub small : IsOpenTo (length p.row.items) (slice_index sizes number) (in_order p.placed.small)
+  pub large : IsOpenTo (length p.row.items) (slice_index sizes number) (in_order p.placed.large)
   pub standing : All (StandsAt p.offsets.items sizes) (placed_in p)
   pub kept : IsKept p
 
 -- p' has one buffer more than p, which was placed last
 pub record Keeps (buffer : Placed) (p p' : Progress) : Type 0 where
   pub same : IsPermutation (buffer ∷ placed_in p) (placed_in p')
-  pub small : Rise p'.placed.small.items
-  pub large : Rise p'.placed.large.items
-  pub narrow : IsNarrow p'.placed.limit p'.placed.small.items
+  pub small : IsInOrder p'.placed.small
+  pub large : IsInOrder p'.placed.large
   pub offsets : p'.offsets.items ≡ set p.offsets.items buffer.number buffer.offset
   pub height : p'.height ≡ max p.height buffer.end
   pub row : p'.row.items ≡ p.before.row.items

@@ -1,10 +1,11 @@
 // The buffers placed so far, by their offsets, and where one more fits among them.
-ghost use Rattle.std.specs.Prelude.{ℕ, ◌+◌, ◌/◌, ◌^◌, ◌<◌, ◌≤◌, ◌++◌, length, slice_index_or};
+ghost use Rattle.std.specs.Prelude.{◌≡◌, ◌+◌, ◌/◌, ◌^◌, ◌<◌, ◌≤◌, [], length, IfOk};
 ghost use Rattle.placement_checker.specs.Rows.{RowHas};
-ghost use Rattle.placement.specs.Placing.{Rise, IsNarrow, IsOpenTo, IsFound, IsGap, ArePassed, IsBehind};
-ghost use Rattle.placement.specs.declared.gap.Placed.{Placed};
+ghost use Rattle.placement.specs.Placing.{in_order, all_in, IsInOrder, HasReach, IsOpenTo, IsFound, IsGap, ArePassed, IsBehind};
 
+use crate::by_offset::ByOffset;
 use placement_checker::has_bit;
+use std::alloc::{AllocError, Global};
 
 /// A buffer in the cells from `offset` up to `end`.
 #[derive(Clone, Copy)]
@@ -14,12 +15,25 @@ pub(crate) struct Placed {
     pub(crate) end: u32,
 }
 
-/// The buffers placed so far, by their offsets: a few large ones, and small ones of at most `limit` cells.
+/// The buffers placed so far: a few large ones, and the others.
 #[derive(Drop)]
 pub(crate) struct Buffers {
-    pub(crate) small: Vec<Placed>,
-    pub(crate) large: Vec<Placed>,
-    pub(crate) limit: u32,
+    pub(crate) small: ByOffset,
+    pub(crate) large: ByOffset,
+}
+
+impl Buffers {
+    /// No buffer, and room for so many small ones.
+    pub(crate) fn with_capacity(alloc: Global, count: usize) -> Result<Buffers, AllocError>
+        ensures small { IfOk result (λ buffers. in_order buffers.small ≡ []) }
+        ensures large { IfOk result (λ buffers. in_order buffers.large ≡ []) }
+        ensures order { IfOk result (λ buffers. IsInOrder buffers.small × IsInOrder buffers.large) }
+    {
+        Ok(Buffers {
+            small: ByOffset::with_capacity(alloc, count)?,
+            large: ByOffset::with_capacity(alloc, 0)?,
+        })
+    }
 }
 
 /// A buffer that looks for its offset.
@@ -49,35 +63,21 @@ fn pass(p: &Placed, sought: &Sought<'_>, offset: u32) -> u32
     p.end
 }
 
-/// The first of these buffers, none of which has more than `limit` cells, that may end behind the cell.
-fn first_behind(placed: &[Placed], limit: u32, cell: u32) -> usize
-    requires rising { Rise placed.now }
-    requires narrow { IsNarrow limit placed.now }
-    requires room { cell + 1 < 2 ^ 32 }
-    ensures { (k : ℕ) (d : Placed) → k < result → (slice_index_or placed.now k d).end ≤ cell }
-{
-    if cell + 1 < limit {
-        return 0;
-    }
-    let first = cell + 1 - limit;
-    placed.partition_point(|p: &Placed| p.offset < first)
-}
-
 /// The place of the first buffer, from one on, that begins behind a gap of the size, and the offset of the gap: the least
 /// from one on. Where that is not below `bound`, any offset from there on up to which there is no gap.
-fn next_gap(placed: &[Placed], sought: &Sought<'_>, from: Gap, bound: u32) -> Gap
-    requires placed { IsOpenTo (length sought.now.row.now) sought.now.size placed.now }
+fn next_gap(placed: &ByOffset, sought: &Sought<'_>, from: Gap, bound: u32) -> Gap
+    requires placed { IsOpenTo (length sought.now.row.now) sought.now.size (in_order placed.now) }
     requires filled { 1 ≤ sought.now.size }
     requires room { from.offset + sought.now.size < 2 ^ 32 }
-    requires passed { ArePassed (RowHas sought.now.row.now) placed.now from.place from.offset }
-    ensures { IsGap (RowHas sought.now.row.now) sought.now.size placed.now from.offset bound result.place result.offset }
+    requires passed { ArePassed (RowHas sought.now.row.now) (in_order placed.now) from.place from.offset }
+    ensures { IsGap (RowHas sought.now.row.now) sought.now.size (in_order placed.now) from.offset bound result.place result.offset }
 {
     let mut offset = from.offset;
     for k in from.place..placed.len() {
         if bound <= offset {
             return Gap { place: k, offset };
         }
-        let p = &placed[k];
+        let p = placed.at(k);
         if offset + sought.size <= p.offset {
             return Gap { place: k, offset };
         }
@@ -90,27 +90,21 @@ fn next_gap(placed: &[Placed], sought: &Sought<'_>, from: Gap, bound: u32) -> Ga
 }
 
 /// The search from a place among the small ones on: see `search`.
-fn search_from(
-    small: &[Placed],
-    large: &[Placed],
-    sought: &Sought<'_>,
-    start: Gap,
-    bound: u32,
-) -> u32
-    requires small { IsOpenTo (length sought.now.row.now) sought.now.size small.now }
-    requires large { IsOpenTo (length sought.now.row.now) sought.now.size large.now }
+fn search_from(placed: &Buffers, sought: &Sought<'_>, start: Gap, bound: u32) -> u32
+    requires small { IsOpenTo (length sought.now.row.now) sought.now.size (in_order placed.now.small) }
+    requires large { IsOpenTo (length sought.now.row.now) sought.now.size (in_order placed.now.large) }
     requires filled { 1 ≤ sought.now.size }
     requires room { start.offset + sought.now.size < 2 ^ 32 }
-    requires passed { ArePassed (RowHas sought.now.row.now) small.now start.place start.offset }
-    ensures { IsFound (RowHas sought.now.row.now) sought.now.size (small.now ++ large.now) start.offset bound result }
+    requires passed { ArePassed (RowHas sought.now.row.now) (in_order placed.now.small) start.place start.offset }
+    ensures { IsFound (RowHas sought.now.row.now) sought.now.size (all_in placed.now) start.offset bound result }
 {
     let mut from = start;
-    for k in 0..large.len() {
-        let gap = next_gap(small, sought, from, bound);
+    for k in 0..placed.large.len() {
+        let gap = next_gap(&placed.small, sought, from, bound);
         if bound <= gap.offset {
             return gap.offset;
         }
-        let p = &large[k];
+        let p = placed.large.at(k);
         if gap.offset + sought.size <= p.offset {
             return gap.offset;
         }
@@ -120,29 +114,27 @@ fn search_from(
             offset,
         };
     }
-    let last = next_gap(small, sought, from, bound);
+    let last = next_gap(&placed.small, sought, from, bound);
     last.offset
 }
 
 /// The least offset from `start` on at which the buffer overlaps none that its row has. Where it is not below `bound`, any
 /// offset from there on that is not above it.
 pub(crate) fn search(placed: &Buffers, sought: &Sought<'_>, start: u32, bound: u32) -> u32
-    requires small { IsOpenTo (length sought.now.row.now) sought.now.size placed.now.small.items }
-    requires large { IsOpenTo (length sought.now.row.now) sought.now.size placed.now.large.items }
-    requires narrow { IsNarrow placed.now.limit placed.now.small.items }
+    requires small { IsOpenTo (length sought.now.row.now) sought.now.size (in_order placed.now.small) }
+    requires large { IsOpenTo (length sought.now.row.now) sought.now.size (in_order placed.now.large) }
+    requires reach { HasReach placed.now.small }
     requires filled { 1 ≤ sought.now.size }
     requires room { start + sought.now.size < 2 ^ 32 }
-    ensures { IsFound (RowHas sought.now.row.now) sought.now.size (placed.now.small.items ++ placed.now.large.items) start bound result }
+    ensures { IsFound (RowHas sought.now.row.now) sought.now.size (all_in placed.now) start bound result }
 {
     if bound <= start {
         return start;
     }
-    let small = placed.small.as_slice();
-    let large = placed.large.as_slice();
-    let place = first_behind(small, placed.limit, start);
+    let place = placed.small.first_behind(start);
     let from = Gap {
         place,
         offset: start,
     };
-    search_from(small, large, sought, from, bound)
+    search_from(placed, sought, from, bound)
 }

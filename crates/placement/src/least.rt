@@ -1,7 +1,7 @@
 // The least offset of a buffer.
-ghost use Rattle.std.specs.Prelude.{ℕ, ◌≡◌, ◌+◌, ◌/◌, ◌^◌, ◌<◌, ◌≤◌, ◌++◌, length, All, Any, IfSome};
+ghost use Rattle.std.specs.Prelude.{ℕ, ◌≡◌, ◌+◌, ◌/◌, ◌^◌, ◌<◌, ◌≤◌, length, All, Any, IfSome};
 ghost use Rattle.placement_checker.specs.Rows.{RowHas};
-ghost use Rattle.placement.specs.Placing.{Blocks, IsNarrow, IsOpenTo, IsLast, IsLeast, StandsAt};
+ghost use Rattle.placement.specs.Placing.{in_order, all_in, Blocks, HasReach, IsOpenTo, IsLast, IsLeast, StandsAt};
 
 use crate::gap::{Buffers, Placed, Sought, search};
 use crate::opening::{Spots, opened};
@@ -19,13 +19,13 @@ pub(crate) struct Before {
 /// The least offset at which the buffer overlaps none that its row has, where one of these is in the way at each offset
 /// below `start`.
 fn first_fit(placed: &Buffers, sought: &Sought<'_>, start: u32) -> u32
-    requires small { IsOpenTo (length sought.now.row.now) sought.now.size placed.now.small.items }
-    requires large { IsOpenTo (length sought.now.row.now) sought.now.size placed.now.large.items }
-    requires narrow { IsNarrow placed.now.limit placed.now.small.items }
+    requires small { IsOpenTo (length sought.now.row.now) sought.now.size (in_order placed.now.small) }
+    requires large { IsOpenTo (length sought.now.row.now) sought.now.size (in_order placed.now.large) }
+    requires reach { HasReach placed.now.small }
     requires filled { 1 ≤ sought.now.size }
     requires room { start + sought.now.size < 2 ^ 32 }
-    requires blocked { (lower : ℕ) → lower < start → Any (Blocks (RowHas sought.now.row.now) sought.now.size lower) (placed.now.small.items ++ placed.now.large.items) }
-    ensures { IsLeast (RowHas sought.now.row.now) sought.now.size (placed.now.small.items ++ placed.now.large.items) result }
+    requires blocked { (lower : ℕ) → lower < start → Any (Blocks (RowHas sought.now.row.now) sought.now.size lower) (all_in placed.now) }
+    ensures { IsLeast (RowHas sought.now.row.now) sought.now.size (all_in placed.now) result }
 {
     search(placed, sought, start, u32::MAX)
 }
@@ -39,18 +39,18 @@ fn least_beside(
     last: &Placed,
     last_row: &[u64],
 ) -> u32
-    requires small { IsOpenTo (length sought.now.row.now) sought.now.size placed.now.small.items }
-    requires large { IsOpenTo (length sought.now.row.now) sought.now.size placed.now.large.items }
-    requires narrow { IsNarrow placed.now.limit placed.now.small.items }
+    requires small { IsOpenTo (length sought.now.row.now) sought.now.size (in_order placed.now.small) }
+    requires large { IsOpenTo (length sought.now.row.now) sought.now.size (in_order placed.now.large) }
+    requires reach { HasReach placed.now.small }
     requires filled { 1 ≤ sought.now.size }
     requires spots { length spots.now.offsets.now ≡ length spots.now.sizes.now }
     requires rows { length sought.now.row.now ≡ length last_row.now }
     requires few { length last_row.now < 2 ^ 32 }
     requires told { last.now.number / 64 < length sought.now.row.now }
     requires alike { last.now.offset + sought.now.size ≡ last.now.end }
-    requires last { IsLast last_row.now (placed.now.small.items ++ placed.now.large.items) last.now }
-    requires standing { All (StandsAt spots.now.offsets.now spots.now.sizes.now) (placed.now.small.items ++ placed.now.large.items) }
-    ensures { IsLeast (RowHas sought.now.row.now) sought.now.size (placed.now.small.items ++ placed.now.large.items) result }
+    requires last { IsLast last_row.now (all_in placed.now) last.now }
+    requires standing { All (StandsAt spots.now.offsets.now spots.now.sizes.now) (all_in placed.now) }
+    ensures { IsLeast (RowHas sought.now.row.now) sought.now.size (all_in placed.now) result }
 {
     let least = opened(placed, sought, spots, last_row, last.offset);
     if least < last.offset {
@@ -72,18 +72,18 @@ pub(crate) fn least_offset(
     sought: &Sought<'_>,
     before: &Before,
 ) -> u32
-    requires small { IsOpenTo (length sought.now.row.now) sought.now.size placed.now.small.items }
-    requires large { IsOpenTo (length sought.now.row.now) sought.now.size placed.now.large.items }
-    requires narrow { IsNarrow placed.now.limit placed.now.small.items }
+    requires small { IsOpenTo (length sought.now.row.now) sought.now.size (in_order placed.now.small) }
+    requires large { IsOpenTo (length sought.now.row.now) sought.now.size (in_order placed.now.large) }
+    requires reach { HasReach placed.now.small }
     requires filled { 1 ≤ sought.now.size }
     requires room { sought.now.size < 2 ^ 32 }
     requires spots { length spots.now.offsets.now ≡ length spots.now.sizes.now }
     requires rows { length sought.now.row.now ≡ length before.now.row.items }
     requires few { length sought.now.row.now < 2 ^ 32 }
     requires told { IfSome before.now.buffer (λ p. (p.number / 64 < length sought.now.row.now) × (p.offset < p.end)) }
-    requires last { IfSome before.now.buffer (IsLast before.now.row.items (placed.now.small.items ++ placed.now.large.items)) }
-    requires standing { All (StandsAt spots.now.offsets.now spots.now.sizes.now) (placed.now.small.items ++ placed.now.large.items) }
-    ensures { IsLeast (RowHas sought.now.row.now) sought.now.size (placed.now.small.items ++ placed.now.large.items) result }
+    requires last { IfSome before.now.buffer (IsLast before.now.row.items (all_in placed.now)) }
+    requires standing { All (StandsAt spots.now.offsets.now spots.now.sizes.now) (all_in placed.now) }
+    ensures { IsLeast (RowHas sought.now.row.now) sought.now.size (all_in placed.now) result }
 {
     let Some(last) = before.buffer else {
         return first_fit(placed, sought, 0);

@@ -1,6 +1,7 @@
 //! Offsets for the buffers of a graph in one run of cells: first fit, by size downwards.
 #![tactic(auto)]
 
+mod by_offset;
 mod enter;
 mod gap;
 mod least;

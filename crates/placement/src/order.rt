@@ -13,7 +13,7 @@ pub(crate) fn placing_order(alloc: Global, sizes: &[u32]) -> Result<Vec<u32>, Al
     for number in 0..sizes.len() as u32 {
         waiting.push((Reverse(sizes[number as usize]), number))?;
     }
-    waiting.sort_unstable();
+    waiting.sort()?;
     numbers(alloc, &waiting)
 }
 

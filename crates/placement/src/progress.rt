@@ -34,17 +34,13 @@ impl Progress {
     {
         Ok(Progress {
             offsets: vec![in alloc; u32::MAX; count]?,
-            placed: Buffers {
-                small: Vec::with_capacity(alloc, count)?,
-                large: Vec::new(alloc),
-                limit: 0,
-            },
             before: Before {
                 buffer: None,
                 row: vec![in alloc; 0u64; words]?,
             },
             row: vec![in alloc; 0u64; words]?,
             height: 0,
+            placed: Buffers::with_capacity(alloc, count)?,
         })
     }
 
@@ -67,7 +63,6 @@ impl Progress {
     /// Keeps where a buffer is placed.
     fn keep(&mut self, buffer: Placed) -> Result<(), AllocError>
         requires there { buffer.number < length self.old.offsets.items }
-        requires filled { buffer.offset < buffer.end }
         requires kept { IsKept self.old }
         ensures { OnOk result (Keeps buffer self.old self.new) }
     {

@@ -1,7 +1,7 @@
-use Rattle.std.proofs.Common.{◌≡◌, ◌+◌, ◌*◌, ◌/◌, ◌%◌, ◌<◌, ◌≤◌, ◌++◌, ⊎_elim, slice_index, subst, arith}
+use Rattle.std.proofs.Common.{◌≡◌, ◌+◌, ◌*◌, ◌/◌, ◌%◌, ◌<◌, ◌≤◌, ⊎_elim, slice_index, subst, arith}
 use Rattle.std.proofs.lemmas.Bool.{cases_lt}
 use Rattle.placement_checker.specs.Rows.{RowHas}
-use Rattle.placement.specs.Placing.{IsFree}
+use Rattle.placement.specs.Placing.{all_in, IsFree}
 use Rattle.placement.proofs.Beginning.{gained_bit, has_within}
 use Rattle.placement.proofs.Shut.{shut_lower}
 use Rattle.placement.proofs.opening.opened.Goals as goal
@@ -16,10 +16,10 @@ loop-k-preserved c =
           (λ (less : c.opened_in_word-least.result < c.loop-k.least). c.opened_in_word-least.ensures.free less)
           (λ (kept : c.loop-k.least ≤ c.opened_in_word-least.result).
           let same : c.loop-k.least ≡ c.opened_in_word-least.result = omega arith in
-          subst (IsFree (RowHas c.args.sought.now.row.now) c.args.sought.now.size (c.args.placed.now.small.items ++ c.args.placed.now.large.items)) same (c.loop-k.invariant.free (omega arith)))
+          subst (IsFree (RowHas c.args.sought.now.row.now) c.args.sought.now.size (all_in c.args.placed.now)) same (c.loop-k.invariant.free (omega arith)))
           (cases_lt c.opened_in_word-least.result c.loop-k.least);
       shut = λ e inside below has lacks. ⊎_elim
-          (λ (earlier : e / 64 < c.loop-k.k). shut_lower (RowHas c.args.sought.now.row.now) c.args.sought.now.size (c.args.placed.now.small.items ++ c.args.placed.now.large.items) (slice_index c.args.spots.now.offsets.now e) (slice_index c.args.spots.now.offsets.now e + slice_index c.args.spots.now.sizes.now e) c.loop-k.least c.opened_in_word-least.result lower (c.loop-k.invariant.shut e inside earlier has lacks))
+          (λ (earlier : e / 64 < c.loop-k.k). shut_lower (RowHas c.args.sought.now.row.now) c.args.sought.now.size (all_in c.args.placed.now) (slice_index c.args.spots.now.offsets.now e) (slice_index c.args.spots.now.offsets.now e + slice_index c.args.spots.now.sizes.now e) c.loop-k.least c.opened_in_word-least.result lower (c.loop-k.invariant.shut e inside earlier has lacks))
           (λ (last : c.loop-k.k ≤ e / 64).
           let here : e / 64 ≡ c.loop-k.k = omega arith in
           let place : 64 * c.loop-k.k + e % 64 ≡ e = omega arith in

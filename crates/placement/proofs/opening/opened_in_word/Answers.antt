@@ -1,9 +1,9 @@
-use Rattle.std.proofs.Common.{◌≡◌, ◌+◌, ◌<◌, ◌≤◌, ◌++◌, ◌∙◌, inl, inr, ⊎_elim, slice_index, subst, arith, rules, w64}
+use Rattle.std.proofs.Common.{◌≡◌, ◌+◌, ◌<◌, ◌≤◌, ◌∙◌, inl, inr, ⊎_elim, slice_index, subst, arith, rules, w64}
 use Rattle.std.proofs.lemmas.Bool.{cases_eq, cases_lt}
 use Rattle.std.proofs.lemmas.Nat.Bits.{bit_at-trailing_zeros, bit_at-zero}
 use Rattle.std.specs.Int.{trailing_zeros}
 use Rattle.placement_checker.specs.Rows.{RowHas}
-use Rattle.placement.specs.Placing.{IsFree}
+use Rattle.placement.specs.Placing.{all_in, IsFree}
 use Rattle.placement.proofs.Beginning.{cleared}
 use Rattle.placement.proofs.Shut.{shut_lower}
 use Rattle.placement.proofs.opening.opened_in_word.Goals as goal
@@ -25,12 +25,12 @@ loop-left-preserved c =
           (λ (less : c.opened_by-least.result < c.loop-left.least). c.opened_by-least.ensures.free less)
           (λ (kept : c.loop-left.least ≤ c.opened_by-least.result).
           let same : c.loop-left.least ≡ c.opened_by-least.result = omega arith in
-          subst (IsFree (RowHas c.args.sought.now.row.now) c.args.sought.now.size (c.args.placed.now.small.items ++ c.args.placed.now.large.items)) same (c.loop-left.invariant.free (omega arith)))
+          subst (IsFree (RowHas c.args.sought.now.row.now) c.args.sought.now.size (all_in c.args.placed.now)) same (c.loop-left.invariant.free (omega arith)))
           (cases_lt c.opened_by-least.result c.loop-left.least);
       shut = λ bit small inside set gone.
           elim (cases_eq bit (trailing_zeros w64 c.loop-left.left)) [
             | inl same ↦ rw same (c.opened_by-least.ensures.shut (rw same at inside))
-            | inr other ↦ shut_lower (RowHas c.args.sought.now.row.now) c.args.sought.now.size (c.args.placed.now.small.items ++ c.args.placed.now.large.items) (slice_index c.args.spots.now.offsets.now (c.args.first + bit)) (slice_index c.args.spots.now.offsets.now (c.args.first + bit) + slice_index c.args.spots.now.sizes.now (c.args.first + bit)) c.loop-left.least c.opened_by-least.result lower (c.loop-left.invariant.shut bit small inside set (λ still. gone (others bit small other ∙ still)))
+            | inr other ↦ shut_lower (RowHas c.args.sought.now.row.now) c.args.sought.now.size (all_in c.args.placed.now) (slice_index c.args.spots.now.offsets.now (c.args.first + bit)) (slice_index c.args.spots.now.offsets.now (c.args.first + bit) + slice_index c.args.spots.now.sizes.now (c.args.first + bit)) c.loop-left.least c.opened_by-least.result lower (c.loop-left.invariant.shut bit small inside set (λ still. gone (others bit small other ∙ still)))
           ];
     }
 

@@ -15,5 +15,5 @@ pub returns : goal.returns
 returns c =
     let all : c.loop-number.number ≡ length c.args.sizes.now = omega arith in
     let waiting : WaitingSoFar c.args.sizes.now c.loop-number.waiting.items (length c.args.sizes.now) = rw all at c.loop-number.invariant in
-    let order = placing_order_of c.args.sizes.now c.loop-number.waiting.items c.sort_unstable.new.self.items waiting c.sort_unstable.ensures.permutation c.sort_unstable.ensures.sorted in
+    let order = placing_order_of c.args.sizes.now c.loop-number.waiting.items c.sort.new.self.items waiting c.in_ok-sort.ensures.permutation c.in_ok-sort.ensures.sorted in
     IfOk-weaker c.numbers.result (λ v. v.items ≡ map (λ (w : Waiting). w.1) c.deref.result.now) (λ v. IsPlacingOrder c.args.sizes.now v.items) (λ v same. rw (same, c.deref.ensures.value) order) c.numbers.ensures
