@@ -3,7 +3,7 @@ ghost use Rattle.std.specs.Prelude.{◌≡◌, ◌≤◌, [], Some, IfErr, IfOk,
 ghost use Rattle.std.specs.Arc.{arc_value};
 ghost use Rattle.job_compiler.specs.Compilation.{IsCompiled};
 ghost use Rattle.job_preparing.specs.CompileTasks.{IsReadyWith, schedule_of};
-ghost use Rattle.job_preparing.specs.Making.{IsMadeAs};
+ghost use Rattle.job_preparing.specs.CompileTasks.{IsMadeAs};
 ghost use Rattle.job_rules.specs.Doing as doing;
 ghost use Rattle.job_rules.specs.Items.{graph_of};
 ghost use Rattle.job_rules.specs.Words as words;

@@ -87,7 +87,7 @@ impl Told {
             return Ok(());
         }
         let word = match end {
-            CompileEnd::Ready { .. } => "is ready",
+            CompileEnd::Ready(_) => "is ready",
             CompileEnd::Refused(_) => "is refused",
             CompileEnd::Memory => "has no memory",
         };

@@ -21,3 +21,4 @@ pub mod Started
 pub mod Compilations
 pub mod Abandoned
 pub mod Sound
+pub mod EndedLevels

@@ -6,6 +6,7 @@ use Rattle.board_rules.specs.Entries.{Step}
 use Rattle.board_rules.specs.Keys.{IsKey, Key}
 use Rattle.firing_board.specs.Table.View.{firings_of}
 use Rattle.firing_board.specs.Core.{HasMemory, IsLentToRunners, RowsHaveOwners, StandsAt, lent_of, runners}
+use Rattle.firing_board.specs.Keeping.{AreLevelsOf}
 use Rattle.firing_board.specs.Starved.{StarvesAt}
 use Rattle.firing_board.specs.View.{BoardView}
 use Rattle.firing_board.specs.Signatures.{counts_by}
@@ -22,7 +23,7 @@ abbrev pub key_of : Inside → Key
 key_of i = key_with (counts_by i.signatures) i.top.value i.core
 
 abbrev pub view_of : Inside → BoardView
-view_of i = record (view_with (key_of i) i.core i.starved) { kept = is_some i.kept }
+view_of i = record (view_with (key_of i) i.core i.starved) { kept = is_some i.keeping.kept }
 
 -- the open jobs, and what workers run of them, stand where steps were taken; where memory was wanted, what workers run does
 abbrev pub StandsOrStarves : Bool → Key → List Step → Core → Type 0
@@ -45,4 +46,4 @@ HasMemoryUnless false c = HasMemory c
 HasMemoryUnless true c = Unit {0}
 
 abbrev pub IsBoard : Inside → Type 0
-IsBoard i = Keeps (key_of i) i.core i.starved × (length i.compiling.items ≡ length i.core.running.items) × HasMemoryUnless i.starved i.core × (length i.core.rooms.slots.items ≡ length i.core.running.items)
+IsBoard i = Keeps (key_of i) i.core i.starved × AreLevelsOf i.core.table.graphs i.keeping.levels × HasMemoryUnless i.starved i.core × (length i.core.rooms.slots.items ≡ length i.core.running.items)

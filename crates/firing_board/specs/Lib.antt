@@ -14,6 +14,7 @@ pub mod Starved
 pub mod Opening
 pub mod Finding
 pub mod Handing
+pub mod Keeping
 pub mod Returning
 pub mod Beginning
 pub mod Closing

@@ -6,14 +6,14 @@ use crate::claim::{Claim, Ticket};
 use crate::claiming;
 use crate::ending::{BoardEnd, end_core, outcome_of};
 use crate::finishing::{finish_compilation, finish_frame, unless_wanted};
-use crate::keeping::{keep_ready, take_key};
+use crate::keeping::{Keeping, keep_ready};
 use crate::laws::tables_suit;
 use crate::signatures::Signatures;
-use crate::starting::{nothing_compiles, start_core};
+use crate::starting::start_core;
 use crate::state::Core;
 use board_journal::Journal;
 use board_rules::{boards_end, boards_keep, entries_tell_steps, few_jobs_are_open};
-use job_compiler::{Kept, Key};
+use job_compiler::Kept;
 use job_preparing::CompileEnd;
 use job_rules::rules_are_lawful;
 use kernel_gate::{Frame, KernelFault, Signature};
@@ -32,10 +32,7 @@ pub struct Board {
     pub(crate) signatures: Signatures,
     pub(crate) top: Snapshot<Firing>,
     pub(crate) core: Core,
-    /// The compilations that are kept from one board to the next.
-    pub(crate) kept: Option<Kept>,
-    /// By which key the compilation will be kept that a worker has.
-    pub(crate) compiling: Vec<Option<Key>>,
+    pub(crate) keeping: Keeping,
     /// Memory was wanted.
     pub(crate) starved: bool,
 }
@@ -116,14 +113,15 @@ impl Board {
         let firing = top_firing(alloc, top, graphs.top, delays, ins)?;
         let top = Snapshot::of(&firing);
         let signatures = Signatures::of(signatures);
-        let compiling = nothing_compiles(alloc, workers)?;
         let core = start_core(alloc, graphs, workers, firing, journal)?;
         Ok(Board {
             signatures,
             top,
             core,
-            kept: None,
-            compiling,
+            keeping: Keeping {
+                kept: None,
+                levels: None,
+            },
             starved: false,
         })
     }
@@ -146,13 +144,7 @@ impl Board {
         if self.starved {
             return Claim::Starved;
         }
-        let claimed = claiming::claim(
-            alloc,
-            &mut self.core,
-            worker,
-            &mut self.kept,
-            &mut self.compiling,
-        );
+        let claimed = claiming::claim(alloc, &mut self.core, &mut self.keeping, worker);
         match claimed {
             Ok(claim) => claim,
             Err(AllocError) => {
@@ -210,8 +202,7 @@ impl Board {
         ensures memory { end ≡ CompileEnd.Memory → IsErr result }
         ensures stays { self.old.starved ≡ true → self.new.starved ≡ true }
     {
-        let key = take_key(&mut self.compiling, ticket.worker);
-        keep_ready(&mut self.kept, key, &end);
+        keep_ready(alloc, self.core.table.graphs(), &mut self.keeping, &end);
         self.starved = finish_compilation(alloc, &mut self.core, self.starved, ticket.worker, end);
         unless_wanted(self.starved)
     }
@@ -240,7 +231,7 @@ impl Board {
     pub fn put_kept(&mut self, kept: Kept)
         ensures { self.new ≡ record self.old { kept = true } }
     {
-        self.kept = Some(kept);
+        self.keeping.kept = Some(kept);
     }
 
     /// Takes out the compilations that were put in, and those made since; none exactly where none are in the board.
@@ -248,7 +239,7 @@ impl Board {
         ensures taken { is_some result ≡ self.old.kept }
         ensures left { self.new ≡ record self.old { kept = false } }
     {
-        mem::replace(&mut self.kept, None)
+        mem::replace(&mut self.keeping.kept, None)
     }
 
     /// How the board ends, once its journal has ended, or memory was wanted and no worker runs anything.
@@ -266,8 +257,7 @@ impl Board {
             signatures: _,
             top: _,
             core,
-            kept: _,
-            compiling: _,
+            keeping: _,
             starved,
         } = self;
         outcome_of(alloc, core, starved)
@@ -282,8 +272,7 @@ impl Board {
             signatures: _,
             top: _,
             core,
-            kept: _,
-            compiling: _,
+            keeping: _,
             starved: _,
         } = self;
         end_core(core);

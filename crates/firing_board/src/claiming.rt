@@ -1,5 +1,5 @@
 // Hands out the item that is picked for a worker.
-ghost use Rattle.std.specs.Prelude.{ℕ, List as Seq, ◌≡◌, ◌≢◌, ◌+◌, ◌<◌, ◌↔◌, All, IfOk, IsTrue, None, OnErr, OnOk, Some, false, is_some, length, slice_index_or};
+ghost use Rattle.std.specs.Prelude.{ℕ, List as Seq, ◌≡◌, ◌≢◌, ◌+◌, ◌<◌, ◌↔◌, All, IfOk, IsTrue, None, OnErr, OnOk, Some, false, length, slice_index_or};
 ghost use Rattle.board_rules.specs.Entries.{item_of};
 ghost use Rattle.board_rules.specs.Keys.{Key as BoardKey};
 ghost use Rattle.firing_board.specs.FrameRooms.{TakesSlot, slot_at};
@@ -12,13 +12,14 @@ ghost use Rattle.graph_firing.specs.View.{IsOfferedCompilation, IsOfferedWork, c
 ghost use Rattle.firing_board.specs.Core.{HasMemory, IsNumbered};
 ghost use Rattle.firing_board.specs.Handing.{Enters, HandsCompilation, HandsFrame, HandsOut, MayEnter, claim_of};
 ghost use Rattle.firing_board.specs.Invariants.{view_with};
+ghost use Rattle.firing_board.specs.Keeping.{AreLevelsOf, KeepsAs};
 ghost use Rattle.firing_board.specs.OnCore.{ClaimsOn, KeepsKey, MayClaim, StarvesOn};
 ghost use Rattle.firing_board.specs.Wanting.{MayStarve};
 
 use crate::claim::{Claim, Ticket};
 use crate::finding::find;
 use crate::frame_rooms::FrameRooms;
-use crate::keeping::kept_for;
+use crate::keeping::{Keeping, at_hand};
 use crate::laws::tables_suit;
 use crate::numbering::number_of;
 use crate::run::Run;
@@ -26,10 +27,8 @@ use crate::state::Core;
 use crate::table::JobTable;
 use board_rules::{ItemName, boards_end, boards_keep, journals_grow};
 use graph_firing::{Handed, OpenJob};
-use job_compiler::{Compiled, Kept, Key};
 use job_rules::rules_are_lawful;
 use std::alloc::{AllocError, Global};
-use std::sync::Arc;
 
 /// An item other than the compilation, as the journal names it.
 fn item_at(job: &OpenJob, item: usize) -> ItemName
@@ -100,7 +99,7 @@ fn hand_frame(core: &mut Core, worker: u32, run: Run, item: ItemName) -> Claim
     with_ticket(ticket, handed)
 }
 
-/// Hands out a compilation, with one that is kept by its key where there is one.
+/// Hands out a compilation, with what is kept by its key.
 ///
 /// # Errors
 ///
@@ -108,19 +107,22 @@ fn hand_frame(core: &mut Core, worker: u32, run: Run, item: ItemName) -> Claim
 fn hand_compilation(
     alloc: Global,
     core: &mut Core,
+    keeping: &mut Keeping,
     worker: u32,
     run: Run,
-    compiled: Option<Arc<Compiled>>,
 ) -> Result<Claim, AllocError>
     requires enter { MayEnter core.old worker run }
     requires room { HasMemory core.old }
     requires offered { HasJob IsOfferedCompilation core.old.table run.row }
+    requires graphs { HasJob (λ job. AreLevelsOf job.graphs keeping.old.levels) core.old.table run.row }
     ensures handed { IfOk result (HandsCompilation core.old worker run core.new) }
     ensures room { OnOk result (HasMemory core.new) }
     ensures rooms { core.new.rooms ≡ core.old.rooms }
     ensures refused { OnErr result (core.new ≡ core.old) }
+    ensures keeps { KeepsAs keeping.old keeping.new }
 {
-    let task = core.table.claim_compile(alloc, run.row, compiled)?;
+    let at_hand = at_hand(alloc, keeping, core.table.job(run.row))?;
+    let task = core.table.claim_compile(alloc, run.row, at_hand)?;
     let ticket = enter(core, worker, run, ItemName::Compile);
     Ok(Claim::Compile(ticket, task))
 }
@@ -133,24 +135,26 @@ fn hand_compilation(
 fn hand_out(
     alloc: Global,
     core: &mut Core,
+    keeping: &mut Keeping,
     worker: u32,
     run: Run,
-    compiled: Option<Arc<Compiled>>,
 ) -> Result<Claim, AllocError>
     requires worker { worker < length core.old.running.items }
     requires idle { slice_index_or core.old.running.items worker None ≡ None }
     requires numbered { (path : Seq ℕ) × IsNumbered core.old.numbers.items core.old.journal.paths run.row path }
     requires offered { HasJob (λ job. IsOfferedWork job run.item) core.old.table run.row }
     requires room { HasMemory core.old }
+    requires graphs { HasJob (λ job. AreLevelsOf job.graphs keeping.old.levels) core.old.table run.row }
     ensures handed { IfOk result (HandsOut core.old worker run core.new) }
     ensures room { OnOk result (HasMemory core.new) }
     ensures slots { length core.new.rooms.slots.items ≡ length core.old.rooms.slots.items }
     ensures compiles { OnErr result (HasJob (λ job. run.item ≡ compilation_of job) core.old.table run.row) }
     ensures refused { OnErr result (core.new ≡ core.old) }
+    ensures keeps { KeepsAs keeping.old keeping.new }
 {
     let job = core.table.job(run.row);
     if run.item == job.compilation() {
-        hand_compilation(alloc, core, worker, run, compiled)
+        hand_compilation(alloc, core, keeping, worker, run)
     } else {
         let item = item_at(job, run.item);
         Ok(hand_frame(core, worker, run, item))
@@ -172,18 +176,17 @@ fn is_idle(running: &[Option<Run>]) -> bool
 pub(crate) fn claim(
     alloc: Global,
     core: &mut Core,
+    keeping: &mut Keeping,
     worker: u32,
-    kept: &mut Option<Kept>,
-    compiling: &mut Vec<Option<Key>>,
 ) -> Result<Claim, AllocError>
     requires may { (key : BoardKey) × MayClaim key core.old worker }
     requires room { HasMemory core.old }
-    requires compiling { length compiling.old.items ≡ length core.old.running.items }
+    requires graphs { AreLevelsOf core.old.table.graphs keeping.old.levels }
     ensures claimed { IfOk result (λ claim. (key : BoardKey) → MayClaim key core.old worker → ClaimsOn key core.old worker core.new claim) }
     ensures room { OnOk result (HasMemory core.new) }
     ensures refused { OnErr result ((key : BoardKey) → MayClaim key core.old worker → StarvesOn key core.old core.new) }
     ensures licensed { OnErr result ((key : BoardKey) → MayClaim key core.old worker → MayStarve (view_with key core.old false) worker) }
-    ensures kept { KeepsKey core.old core.new × (length compiling.new.items ≡ length compiling.old.items) × (is_some kept.new ≡ is_some kept.old) }
+    ensures kept { KeepsKey core.old core.new × KeepsAs keeping.old keeping.new }
 {
     boards_keep();
     boards_end();
@@ -191,10 +194,7 @@ pub(crate) fn claim(
     rules_are_lawful();
     tables_suit();
     match find(alloc, core, worker)? {
-        Some(run) => {
-            let compiled = look_up(alloc, core, worker, run, kept, compiling);
-            hand_out(alloc, core, worker, run, compiled)
-        }
+        Some(run) => hand_out(alloc, core, keeping, worker, run),
         None => {
             if is_idle(core.running.as_slice()) {
                 Ok(Claim::Finished)
@@ -202,29 +202,5 @@ pub(crate) fn claim(
                 Ok(Claim::Wait)
             }
         }
-    }
-}
-
-/// The compilation that is kept for an item, where that is a compilation. The worker has its key then.
-fn look_up(
-    alloc: Global,
-    core: &Core,
-    worker: u32,
-    run: Run,
-    kept: &mut Option<Kept>,
-    compiling: &mut Vec<Option<Key>>,
-) -> Option<Arc<Compiled>>
-    requires worker { worker < length compiling.old.items }
-    requires offered { HasJob (λ job. IsOfferedWork job run.item) core.now.table run.row }
-    ensures { (length compiling.new.items ≡ length compiling.old.items) × (is_some kept.new ≡ is_some kept.old) }
-{
-    let job = core.table.job(run.row);
-    if run.item == job.compilation() {
-        let key = job.compile_key(alloc).ok();
-        let found = kept_for(kept, &key);
-        compiling[worker as usize] = key;
-        found
-    } else {
-        None
     }
 }

@@ -32,8 +32,8 @@ pub(crate) fn room_for_nodes(journal: &mut Journal, end: &CompileEnd) -> Result<
     ensures kept { (journal.new.paths ≡ journal.old.paths) × (journal.new.entries ≡ journal.old.entries) × (journal.old.room ≤ journal.new.room) }
 {
     match end {
-        CompileEnd::Ready { compiled, .. } => {
-            journal.reserve(compiled.graph().nodes.items().len())
+        CompileEnd::Ready(level) => {
+            journal.reserve(level.made.compiled.graph().nodes.items().len())
         }
         CompileEnd::Refused(_) => Ok(()),
         CompileEnd::Memory => Ok(()),

@@ -1,5 +1,5 @@
 // The start of a board.
-ghost use Rattle.std.specs.Prelude.{◌≡◌, ◌≤◌, ◌+◌, ◌*◌, IfOk, None, OnOk, length, replicate};
+ghost use Rattle.std.specs.Prelude.{◌≡◌, ◌≤◌, ◌+◌, ◌*◌, IfOk, None, OnOk, replicate};
 ghost use Rattle.std.specs.Arc.{arc_value};
 ghost use Rattle.board_journal.specs.View.{IsEmpty};
 ghost use Rattle.job_preparing.specs.View.{HasInherited};
@@ -16,7 +16,6 @@ use crate::state::Core;
 use crate::table::JobTable;
 use board_journal::Journal;
 use graph_firing::OpenJob;
-use job_compiler::Key;
 use pisdf_meaning::Firing;
 use pisdf_model::Graphs;
 use std::alloc::{AllocError, Global};
@@ -27,18 +26,6 @@ pub(crate) fn nothing_runs(alloc: Global, workers: u32) -> Result<Vec<Option<Run
     ensures { IfOk result (λ running. running.items ≡ replicate workers None) }
 {
     vec![in alloc; None; workers as usize]
-}
-
-/// No worker has a compilation.
-pub(crate) fn nothing_compiles(alloc: Global, workers: u32) -> Result<Vec<Option<Key>>, AllocError>
-    ensures { IfOk result (λ compiling. length compiling.items ≡ workers) }
-{
-    let mut compiling = Vec::new(alloc);
-    for worker in 0..workers {
-        let _worker = worker;
-        compiling.push(None)?;
-    }
-    Ok(compiling)
 }
 
 /// The memory that a board has at its start: in the journal for the entries of the top job, and a slot for the room of each

@@ -1,7 +1,6 @@
 // The table of open jobs and its calls.
 ghost use Rattle.std.specs.Prelude.{◌≡◌, ◌≢◌, ◌+◌, ◌≤◌, ◌<◌, ℕ, IfOk, IsOk, None, OnErr, OnOk, Some, length};
 ghost use Rattle.std.specs.Arc.{arc_value};
-ghost use Rattle.std.specs.Option.{option_map};
 
 mod begins;
 mod opening;
@@ -13,8 +12,7 @@ pub(crate) use begins::Begins;
 use begins::begins_with;
 use board_rules::boards_keep;
 use graph_firing::{Handed, OpenJob, open};
-use job_compiler::Compiled;
-use job_preparing::{CompileEnd, CompileTask, JobGiven};
+use job_preparing::{AtHand, CompileEnd, CompileTask, JobGiven};
 use job_rules::rules_are_lawful;
 use kernel_gate::{Frame, KernelFault, Room};
 use opening::{child_place, child_steps, count_rows, end_rows, top_row, vacant_key};
@@ -52,6 +50,7 @@ impl Model for JobTable {
 impl JobTable {
     ghost use Rattle.job_preparing.specs.CompileTasks.{IsEndOf};
     ghost use Rattle.job_preparing.specs.Handing.{answer_with, mark_at};
+    ghost use Rattle.job_preparing.specs.Levels.{SuitsKey, compilation_in};
     ghost use Rattle.job_preparing.specs.View.{HasInherited};
     ghost use Rattle.job_rules.specs.Meant.{IsFit};
     ghost use Rattle.nested_jobs.specs.Marks.{Busy, Done, Free};
@@ -59,11 +58,18 @@ impl JobTable {
     ghost use Rattle.pisdf_model.specs.Valid.{AreValid};
     ghost use Rattle.graph_firing.specs.Calls.{IsHanded, IsSoundFor, frame_of};
     ghost use Rattle.graph_firing.specs.Rooms.{HasRoomFor, TakesRoom, is_node, slot_after};
-    ghost use Rattle.graph_firing.specs.View.{IsOfferedCall, IsOfferedCompilation, IsOfferedWork, compilation_of, left_by, task};
+    ghost use Rattle.graph_firing.specs.View.{IsOfferedCall, IsOfferedCompilation, IsOfferedWork, compilation_of, key_in, left_by, task};
     ghost use Rattle.firing_board.specs.Table.Asked.{IsPicked};
     ghost use Rattle.firing_board.specs.Table.Calls.{AsksAsBefore, BeginsWith, FinishesIn, IsStarted, LendsAsBefore, LendsItem, MarksItem, OpensChild, SpoilsItem};
     ghost use Rattle.firing_board.specs.Table.Closing.{Closes, IsClosingFrom, RowsStay};
     ghost use Rattle.firing_board.specs.Table.View.{HasJob, NothingIsLent, free_items, keys_of, lent_in};
+
+    /// The graphs.
+    pub(crate) fn graphs(&self) -> &Graphs
+        ensures { result.now ≡ self.now.graphs }
+    {
+        &self.graphs
+    }
 
     /// A table of one job, the top one, of which nothing is claimed. The jobs will be mapped on so many workers.
     ///
@@ -85,7 +91,7 @@ impl JobTable {
         let own = Arc::try_clone(&graphs)?;
         // Rows must be spent: from here on no `?` stands.
         let mut rows = Vec::with_capacity(alloc, 8)?;
-        match open(alloc, own, workers, firing) {
+        match open(alloc, own, workers, firing, None) {
             Ok(job) => {
                 rows.push_reserved(Some(top_row(alloc, job)));
                 Ok(JobTable {
@@ -156,8 +162,9 @@ impl JobTable {
         let place = child_place(alloc, row_in(&self.rows[row]), item)?;
         let steps = child_steps(alloc, row_in(&self.rows[row]), item)?;
         let graphs = Arc::try_clone(&self.graphs)?;
+        let known = row_in(&self.rows[row]).job.known(item);
         let firing = job_in(&mut self.rows[row]).call(alloc, item)?;
-        let job = open(alloc, graphs, self.workers, firing)?;
+        let job = open(alloc, graphs, self.workers, firing, known)?;
         put_row(
             &mut self.rows[key],
             Row {
@@ -185,7 +192,7 @@ impl JobTable {
         job_in(&mut self.rows[row]).claim(item, slot)
     }
 
-    /// Claims the compilation of a job, for which one may be at hand that is kept by its key.
+    /// Claims the compilation of a job, for which this is at hand that is kept by its key.
     ///
     /// # Errors
     ///
@@ -194,17 +201,18 @@ impl JobTable {
         &mut self,
         alloc: Global,
         row: usize,
-        kept: Option<Arc<Compiled>>,
+        at_hand: AtHand,
     ) -> Result<CompileTask, AllocError>
-        requires { HasJob IsOfferedCompilation self.old row }
-        ensures task { IfOk result (λ task. HasJob (λ job. task ≡ record { graphs = job.graphs; workers = job.workers; firing = job.firing; left = left_by job; kept = option_map arc_value kept }) self.old row) }
+        requires offered { HasJob IsOfferedCompilation self.old row }
+        requires suits { HasJob (λ job. SuitsKey job.graphs.graphs (key_in job) at_hand) self.old row }
+        ensures task { IfOk result (λ task. HasJob (λ job. task ≡ record { graphs = job.graphs; workers = job.workers; firing = job.firing; left = left_by job; kept = compilation_in at_hand }) self.old row) }
         ensures claimed { OnOk result (HasJob (λ job. MarksItem row (compilation_of job) Busy self.old self.new) self.old row) }
         ensures fewer { OnOk result (free_items self.old ≡ free_items self.new + 1) }
         ensures refused { OnErr result (self.new ≡ self.old) }
         ensures lent { LendsAsBefore self.old self.new }
         ensures asked { AsksAsBefore self.old self.new }
     {
-        job_in(&mut self.rows[row]).claim_compile(alloc, kept)
+        job_in(&mut self.rows[row]).claim_compile(alloc, at_hand)
     }
 
     /// Finishes an item whose frame is out: it comes back with what its kernel or its node wrote, or with the fault of the

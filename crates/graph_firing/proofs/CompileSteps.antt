@@ -1,11 +1,8 @@
 -- The claim and the finish of a job's compilation.
 use Rattle.std.proofs.Common.{◌≡◌, ◌≢◌, ◌⊎◌, ⊎_elim, ℕ, zero, suc, ◌+◌, ◌<◌, ◌≤◌, List, [], ◌∷◌, ◌++◌, length, replicate, get_or, set, Option, Some, None, is_some, true, unwrap_or, Result, Ok, Err, IfOk, refl, sym, ap, ◌∙◌, subst, arith}
 use Rattle.std.specs.Arc.{arc_value}
-use Rattle.std.specs.Global.{Global}
-use Rattle.std.specs.Option.{option_map}
 use Rattle.std.specs.declared.alloc.AllocError.{AllocError}
-use Rattle.std.specs.declared.sync.Arc.{Arc}
-use Rattle.job_compiler.specs.declared.compiled.Compiled.{Compiled}
+use Rattle.job_compiler.specs.Compilation.{Compilation}
 use Rattle.kernel_gate.specs.Value.{Places}
 use Rattle.nested_jobs.specs.Marks.{Mark, Free, Busy, Done}
 use Rattle.pisdf_meaning.specs.declared.firing.Configured.{Configured}
@@ -18,6 +15,8 @@ use Rattle.job_rules.specs.Meant.{IsFit}
 use Rattle.job_rules.specs.Words.{Answer, Schedules, Refuses}
 use Rattle.job_rules.specs.Items.{compile_number}
 use Rattle.job_preparing.specs.CompileTasks.{CompileView, IsEndOf}
+use Rattle.job_preparing.specs.Levels.{SuitsKey}
+use Rattle.job_preparing.specs.declared.levels.AtHand.{AtHand}
 use Rattle.job_preparing.specs.Handing.{lent_at, mark_at}
 use Rattle.job_preparing.specs.View as preparing
 use Rattle.job_preparing.specs.View.{ConfiguringView}
@@ -39,9 +38,9 @@ use Rattle.graph_firing.proofs.Totals.{free_copies, total_append}
 -- ---- what the compilation answers
 
 pub compile_answers : (graphs : List Graph) (workers : ℕ) (firing : Firing) (left : List Configured) (end : CompileEnd) (a : Answer) → IsFit graphs firing → IsEndOf graphs workers firing left end → compile_answer firing end ≡ Some a → doing.IsCompiled graphs firing left a
-compile_answers graphs workers firing left (compiling.Ready compiled set values) a fit is answer =
+compile_answers graphs workers firing left (compiling.Ready level) a fit is answer =
     let same : Schedules _ ≡ a = cc in
-    subst (doing.IsCompiled graphs firing left) same (schedules_so graphs workers firing left (arc_value compiled) set values is fit)
+    subst (doing.IsCompiled graphs firing left) same (schedules_so graphs workers firing left (arc_value (arc_value level).made.compiled) (arc_value level).made.set (arc_value level).made.values is.made fit)
 compile_answers graphs workers firing left (compiling.Refused cause) a fit is answer =
     let same : Refuses record { path = firing.path; cause = cause } ≡ a = cc in
     subst (doing.IsCompiled graphs firing left) same is
@@ -49,7 +48,7 @@ compile_answers graphs workers firing left compiling.Memory a fit is answer = ab
 
 -- a job that is refused has no cells
 refused_unplaced : (firing : Firing) (end : CompileEnd) (refusal : Refusal) → compile_answer firing end ≡ Some (Refuses refusal) → IsPlacedBy end None
-refused_unplaced firing (compiling.Ready compiled set values) refusal is = absurd (cc)
+refused_unplaced firing (compiling.Ready level) refusal is = absurd (cc)
 refused_unplaced firing (compiling.Refused cause) refusal is = refl
 refused_unplaced firing compiling.Memory refusal is = refl
 
@@ -203,10 +202,16 @@ module _ (c : ConfiguringView) (workers : ℕ) (stage : Stage) (keeps : KeepsWit
   key_of_ready (Ok key) made = made ∙ key_is
   key_of_ready (Err error) made = tt
 
-  abbrev Task : Option (Arc Compiled Global) → List Configured → OpenView → CompileView
-  Task kept left x = record { graphs = x.graphs; workers = x.workers; firing = x.firing; left = left; kept = option_map arc_value kept }
+  -- what is at hand suits the job
+  pub suits_so : (at_hand : AtHand) → SuitsKey v.graphs.graphs (key_in v) at_hand → SuitsKey c.graphs.graphs (preparing.key_of (preparing.graph_in c) workers c.firing (preparing.left_by c)) at_hand
+  suits_so at_hand suits =
+      let P : OpenView → Type 0 = λ x. SuitsKey x.graphs.graphs (key_in v) at_hand in
+      subst (λ key. SuitsKey c.graphs.graphs key at_hand) (sym key_is) (subst P (sym is) suits)
 
-  pub task_view : (kept : Option (Arc Compiled Global)) → Task kept (preparing.left_by c) (view_with c workers stage) ≡ Task kept (left_by v) v
+  abbrev Task : Option Compilation → List Configured → OpenView → CompileView
+  Task kept left x = record { graphs = x.graphs; workers = x.workers; firing = x.firing; left = left; kept = kept }
+
+  pub task_view : (kept : Option Compilation) → Task kept (preparing.left_by c) (view_with c workers stage) ≡ Task kept (left_by v) v
   task_view kept = ap (λ (l : List Configured). Task kept l (view_with c workers stage)) (sym left_is) ∙ ap (Task kept (left_by v)) is
 
   pub ready_compiling : stage ≡ Compiling → preparing.IsReady c

@@ -1,5 +1,5 @@
 -- Steps of nodes by the numbers of items.
-use Rattle.std.proofs.Common.{◌≡◌, ◌≢◌, ◌⊎◌, ⊎_elim, inl, inr, ℕ, true, ◌+◌, ◌-◌, ◌≤◌, List, Option, Some, None, Result, Ok, Err, IfOk, OnErr, sym, ap, ◌∙◌, subst, arith}
+use Rattle.std.proofs.Common.{◌≡◌, ◌≢◌, ◌⊎◌, ⊎_elim, inl, inr, ℕ, true, ◌+◌, ◌-◌, ◌≤◌, List, Option, Some, None, IfSome, Result, Ok, Err, IfOk, OnErr, sym, ap, ◌∙◌, subst, arith}
 use Rattle.std.proofs.lemmas.Bool.{lt-ltb}
 use Rattle.std.specs.declared.alloc.AllocError.{AllocError}
 use Rattle.kernel_gate.specs.Value.{FrameView, Places}
@@ -7,6 +7,8 @@ use Rattle.kernel_gate.specs.declared.fault.KernelFault.{KernelFault}
 use Rattle.kernel_gate.specs.declared.room.RoomSize.{RoomSize}
 use Rattle.nested_jobs.specs.Marks.{Busy, Open, Done}
 use Rattle.nested_jobs.specs.Rules.{Call}
+use Rattle.param_resolver.specs.EarlyView.{EarlyView}
+use Rattle.pisdf_meaning.specs.Configuring.{early_in}
 use Rattle.pisdf_meaning.specs.declared.firing.Configured.{Configured}
 use Rattle.pisdf_meaning.specs.declared.firing.Firing.{Firing}
 use Rattle.pisdf_meaning.specs.declared.refusal.Refusal.{Refusal}
@@ -19,7 +21,7 @@ use Rattle.job_preparing.specs.declared.handing.JobGiven.{JobGiven}
 use Rattle.graph_firing.specs.View.{IsOfferedCall, IsOfferedWork, OpenView, compilation_of, task}
 use Rattle.graph_firing.specs.Calls.{IsHanded, IsSoundFor, frame_of, with_item, with_mark}
 use Rattle.graph_firing.specs.Invariants.{KeepsWith, compile_mark, node_lent, view_with}
-use Rattle.graph_firing.specs.Stages.{CallsNode, ClaimsNode, FinishesCall, FinishesNode, HasNodes, HoldsFrames, MayAnswer, MayCall, MayClaim, MayFinish, NodesGoOn}
+use Rattle.graph_firing.specs.Stages.{CallsNode, ClaimsNode, FinishesCall, FinishesNode, HasNodes, HoldsFrames, KnowsCalled, MayAnswer, MayCall, MayClaim, MayFinish, NodesGoOn}
 use Rattle.graph_firing.specs.Rooms.{HasRoomFor, is_node}
 use Rattle.graph_firing.specs.declared.handed.Handed.{Handed}
 use Rattle.graph_firing.specs.declared.stage.Stage.{Stage}
@@ -86,6 +88,9 @@ module _ (c : ConfiguringView) (workers : ℕ) (stage : Stage) (keeps : KeepsWit
 
     pub call_ok : IsOfferedCall v item → HasNodes (MayCall n) stage
     call_ok call = let P : OpenView → Type 0 = λ x. IsOfferedCall x item in steps.may_call c workers n item at stage keeps (subst P (sym is) call)
+
+    pub known_ok : (known : Option EarlyView) → HasNodes (KnowsCalled n known) stage → IfSome known (λ early. (firing : Firing) → task v item ≡ Some (Call firing) → early ≡ early_in v.graphs.graphs firing)
+    known_ok known has = let P : OpenView → Type 0 = λ x. IfSome known (λ early. (firing : Firing) → task x item ≡ Some (Call firing) → early ≡ early_in x.graphs.graphs firing) in subst P is (steps.knows c workers n item at known stage keeps has)
 
     pub finish_ok : (frame : FrameView) (sound : Type 0) → mark_at v.marks item ≡ Busy → lent_at v.lent item ≡ Some frame.places → IsSoundFor (task v item) sound → HasNodes (MayFinish n frame sound) stage
     finish_ok frame sound busy lent sound_so =

@@ -1,5 +1,5 @@
 -- Steps of nodes, as steps of their job.
-use Rattle.std.proofs.Common.{◌≡◌, ℕ, ◌+◌, ◌<◌, ◌&&◌, nat_lt, ◌⊎◌, ⊎_elim, inl, inr, Bool, true, false, ℤ, List, length, Option, Some, None, Result, Ok, Err, if◌then◌else◌, refl, sym, ap, ◌∙◌, subst, arith, ltb-true}
+use Rattle.std.proofs.Common.{◌≡◌, ℕ, ◌+◌, ◌<◌, ◌&&◌, nat_lt, ◌⊎◌, ⊎_elim, inl, inr, Bool, true, false, ℤ, List, length, Option, Some, None, IfSome, Result, Ok, Err, if◌then◌else◌, refl, sym, ap, ◌∙◌, subst, arith, ltb-true}
 use Rattle.std.proofs.lemmas.Bool.{and_parts, le-ltb}
 use Rattle.std.specs.declared.alloc.AllocError.{AllocError}
 use Rattle.kernel_gate.specs.Value.{FrameView, Places}
@@ -11,6 +11,8 @@ use Rattle.pisdf_model.specs.declared.graph.Graph.{Graph}
 use Rattle.pisdf_model.specs.declared.graph.Graphs.{Graphs}
 use Rattle.sdf_level.specs.declared.node.Node.{Node}
 use Rattle.sdf_level.specs.declared.node.Node.TheVariants as node
+use Rattle.param_resolver.specs.EarlyView.{EarlyView}
+use Rattle.pisdf_meaning.specs.Configuring.{early_in}
 use Rattle.pisdf_meaning.specs.declared.firing.Firing.{Firing}
 use Rattle.pisdf_meaning.specs.declared.refusal.Refusal.{Refusal}
 use Rattle.job_flow.specs.Graphs.{node_at}
@@ -30,7 +32,7 @@ use Rattle.graph_firing.specs.Calls.{IsHanded, IsHandedFor, IsSoundFor, frame_of
 use Rattle.graph_firing.specs.Invariants.{KeepsWith, node_lent, node_marks, view_with}
 use Rattle.graph_firing.specs.Rooms.{HasRoomFor}
 use Rattle.graph_firing.specs.Running.{RunsFor}
-use Rattle.graph_firing.specs.Stages.{CallsNode, ClaimsNode, FinishesCall, FinishesNode, HasNodes, HoldsFrames, MayAnswer, MayCall, MayClaim, MayFinish, NodesGoOn, with_node, with_node_mark}
+use Rattle.graph_firing.specs.Stages.{CallsNode, ClaimsNode, FinishesCall, FinishesNode, HasNodes, HoldsFrames, KnowsCalled, MayAnswer, MayCall, MayClaim, MayFinish, NodesGoOn, with_node, with_node_mark}
 use Rattle.graph_firing.specs.declared.handed.Handed.{Handed}
 use Rattle.graph_firing.specs.declared.stage.Stage.{Stage}
 use Rattle.graph_firing.specs.declared.stage.Stage.TheVariants.{Waiting, Compiling, Refused, Nodes}
@@ -206,6 +208,16 @@ module _ (c : ConfiguringView) (workers n item : ℕ) (at : item ≡ compile_num
       let runs : RunsFor c workers r = keeps.stage_fits in
       let P : Graphs → Type 0 = λ graphs. HasInherited graphs.graphs firing in
       (marked_so r new (Open firing) keeps went.2, task_is r keeps ∙ went.0, subst P runs.graphs_are went.1)
+
+  -- what is known of the graph that a node asks to fire is so of the job that the item calls
+  pub knows : (known : Option EarlyView) (stage : Stage) → KeepsWith c workers stage → HasNodes (KnowsCalled n known) stage → IfSome known (λ early. (firing : Firing) → task (v stage) item ≡ Some (Call firing) → early ≡ early_in (v stage).graphs.graphs firing)
+  knows None stage keeps has = tt
+  knows (Some early) Waiting keeps has = absurd has
+  knows (Some early) Compiling keeps has = absurd has
+  knows (Some early) (Refused refusal) keeps has = absurd has
+  knows (Some early) (Nodes r) keeps has = λ firing is.
+      let runs : RunsFor c workers r = keeps.stage_fits in
+      has firing (sym (task_is r keeps) ∙ is) ∙ ap (λ (graphs : Graphs). early_in graphs.graphs firing) runs.graphs_are
 
   pub unopened : (error : AllocError) (old new : Stage) → KeepsWith c workers old → NodesGoOn (CallsNode n (Err error)) old new → (new ≡ old) ⊎ MarkedSo old new Busy
   unopened error Waiting new keeps went = absurd went

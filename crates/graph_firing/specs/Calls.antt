@@ -83,13 +83,13 @@ IsSoundFor (Some (Work (words.Compiles firing left))) sound = sound
 
 -- what it answers that ended so, but for want of memory
 abbrev pub compile_answer : Firing → CompileEnd → Option Answer
-compile_answer firing (Ready compiled set values) = Some (words.Schedules (schedule_of (arc_value compiled)))
+compile_answer firing (Ready level) = Some (words.Schedules (schedule_of (arc_value (arc_value level).made.compiled)))
 compile_answer firing (Refused cause) = Some (words.Refuses record { path = firing.path; cause = cause })
 compile_answer firing Memory = None
 
 -- how many nodes are there then
 abbrev pub nodes_by : CompileEnd → ℕ
-nodes_by (Ready compiled set values) = length (arc_value compiled).graph.nodes
+nodes_by (Ready level) = length (arc_value (arc_value level).made.compiled).graph.nodes
 nodes_by (Refused cause) = 0
 nodes_by Memory = 0
 
@@ -99,7 +99,7 @@ PlacedIn compilation None = ⊥
 PlacedIn compilation (Some cells) = cells.compilation ≡ compilation
 
 abbrev pub IsPlacedBy : CompileEnd → Option JobCells → Type 0
-IsPlacedBy (Ready compiled set values) cells = PlacedIn (arc_value compiled) cells
+IsPlacedBy (Ready level) cells = PlacedIn (arc_value (arc_value level).made.compiled) cells
 IsPlacedBy (Refused cause) cells = cells ≡ None
 IsPlacedBy Memory cells = cells ≡ None
 

@@ -1,5 +1,5 @@
 -- What becomes of a job in each of its stages.
-use Rattle.std.specs.Prelude.{◌≡◌, ◌≢◌, ◌⊎◌, ℕ, ◌+◌, ◌<◌, ◌==◌, Bool, true, false, not, length, replicate, Option, Some, None, Result, Ok, Err, slice_index, slice_set}
+use Rattle.std.specs.Prelude.{◌≡◌, ◌≢◌, ◌⊎◌, ℕ, ◌+◌, ◌<◌, ◌==◌, Bool, true, false, not, length, replicate, Option, Some, None, IfSome, Result, Ok, Err, slice_index, slice_set}
 use Rattle.std.specs.declared.alloc.AllocError.{AllocError}
 use Rattle.kernel_gate.specs.Rooms.{Suffices}
 use Rattle.kernel_gate.specs.Value.{FrameView, Places}
@@ -23,6 +23,8 @@ use Rattle.job_rules.specs.Words as words
 use Rattle.job_rules.specs.Words.{Answer, answer_of}
 use Rattle.nested_jobs.specs.Marks.{Mark, Free, Busy, Done, Open}
 use Rattle.nested_jobs.specs.Rules.{Call}
+use Rattle.param_resolver.specs.EarlyView.{EarlyView}
+use Rattle.pisdf_meaning.specs.Configuring.{early_in}
 use Rattle.pisdf_meaning.specs.declared.firing.Firing.{Firing}
 use Rattle.pisdf_meaning.specs.declared.refusal.Refusal.{Refusal}
 use Rattle.graph_firing.specs.Calls.{IsHandedFor, IsPlacedBy, compile_answer, frame_of, nodes_by}
@@ -116,6 +118,10 @@ pub record ClaimsNode (n : ℕ) (handed : Handed) (old new : RunningView) : Type
 abbrev pub CallsNode : ℕ → Result Firing AllocError → RunningView → RunningView → Type 0
 CallsNode n (Ok firing) old new = (running.task old n ≡ Some (Call firing)) × HasInherited old.graphs.graphs firing × (new ≡ with_node_mark old n (Open firing))
 CallsNode n (Err error) old new = (new ≡ old) ⊎ (new ≡ with_node_mark old n Busy)
+
+-- what is known, if it is, is so of the graph that a node asks to fire
+abbrev pub KnowsCalled : ℕ → Option EarlyView → RunningView → Type 0
+KnowsCalled n known r = IfSome known (λ early. (firing : Firing) → running.task r n ≡ Some (Call firing) → early ≡ early_in r.graphs.graphs firing)
 
 -- a node may be claimed
 pub record MayClaim (n : ℕ) (r : RunningView) : Type 0 where

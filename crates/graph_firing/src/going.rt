@@ -43,12 +43,8 @@ pub(crate) fn next_stage(
     ensures { IfOk result (GoesOnWith configuring.now workers end) }
 {
     match end {
-        CompileEnd::Ready {
-            compiled,
-            set,
-            values,
-        } => {
-            let running = run(alloc, configuring, compiled, set, values)?;
+        CompileEnd::Ready(level) => {
+            let running = run(alloc, configuring, level)?;
             Ok(Stage::Nodes(running))
         }
         CompileEnd::Refused(cause) => {

@@ -1,7 +1,5 @@
 // One open job and its events.
-ghost use Rattle.std.specs.Prelude.{◌≡◌, ◌≢◌, ◌⊎◌, ◌↔◌, ◌<◌, ◌-◌, None, Some, IfOk, IsOk, IsTrue, MatchOption, OnErr, OnOk, slice_index};
-ghost use Rattle.std.specs.Arc.{arc_value};
-ghost use Rattle.std.specs.Option.{option_map};
+ghost use Rattle.std.specs.Prelude.{◌≡◌, ◌≢◌, ◌⊎◌, ◌↔◌, ◌<◌, ◌-◌, None, Some, IfOk, IfSome, IsOk, IsTrue, MatchOption, OnErr, OnOk, slice_index};
 
 use crate::going::{end_stage, go_on, next_stage, refused_early};
 use crate::handed::Handed;
@@ -11,16 +9,15 @@ use crate::places::nth_configuration;
 use crate::slot::{put_room, take_room};
 use crate::stage::Stage;
 use crate::stage_nodes::{
-    call_node, claim_node, finish_node, finish_node_call, node_number, node_step,
+    call_node, claim_node, finish_node, finish_node_call, known_node, node_number, node_step,
 };
 use job_compiler::{Compiled, Key};
-use job_preparing::{CompileEnd, CompileTask, Configuring, JobGiven};
+use job_preparing::{AtHand, CompileEnd, CompileTask, Configuring, JobGiven, KnownEarly};
 use kernel_gate::{Frame, KernelFault, Room, RoomSize};
 use one_job::cells_have_one_owner;
 use pisdf_meaning::{Firing, Refusal};
 use std::alloc::{AllocError, Global};
 use std::marker::Model;
-use std::sync::Arc;
 
 /// One firing of a graph, as a job of which each item is claimed once and finished once. Its configuration actors have the
 /// numbers from 0 on in file order, then comes its compilation, and then the nodes of its single-rate graph. It is neither
@@ -51,8 +48,11 @@ impl Model for OpenJob {
 impl OpenJob {
     ghost use Rattle.job_preparing.specs.Handing.{answer_with, end_of, lent_at, mark_at, EndSuits, IsNothingLent};
     ghost use Rattle.job_preparing.specs.CompileTasks.{IsEndOf};
+    ghost use Rattle.job_preparing.specs.Levels.{SuitsKey, compilation_in};
     ghost use Rattle.job_preparing.specs.View.{HasInherited};
     ghost use Rattle.job_rules.specs.Words.{answer_of};
+    ghost use Rattle.pisdf_meaning.specs.Configuring.{early_in};
+    ghost use Rattle.pisdf_meaning.specs.declared.firing.Firing.{Firing as FiringOf};
     ghost use Rattle.nested_jobs.specs.Marks.{Busy, Done, Open};
     ghost use Rattle.nested_jobs.specs.Rules.{Call};
     ghost use Rattle.graph_firing.specs.View.{HasItem, IsOfferedCall, IsOfferedCompilation, IsOfferedWork, IsQuiet, compilation_of, graph_in, key_in, left_by, outcome_in, task};
@@ -208,7 +208,7 @@ impl OpenJob {
         self.configuring.key(alloc, self.workers)
     }
 
-    /// Claims the compilation, for which one may be at hand that is kept by its key.
+    /// Claims the compilation, for which this is at hand that is kept by its key.
     ///
     /// # Errors
     ///
@@ -216,17 +216,31 @@ impl OpenJob {
     pub fn claim_compile(
         &mut self,
         alloc: Global,
-        kept: Option<Arc<Compiled>>,
+        at_hand: AtHand,
     ) -> Result<CompileTask, AllocError>
-        requires { IsOfferedCompilation self.old }
+        requires offered { IsOfferedCompilation self.old }
+        requires suits { SuitsKey self.old.graphs.graphs (key_in self.old) at_hand }
         ensures there { HasItem self.old (compilation_of self.old) }
-        ensures task { IfOk result (λ task. task ≡ record { graphs = self.old.graphs; workers = self.old.workers; firing = self.old.firing; left = left_by self.old; kept = option_map arc_value kept }) }
+        ensures task { IfOk result (λ task. task ≡ record { graphs = self.old.graphs; workers = self.old.workers; firing = self.old.firing; left = left_by self.old; kept = compilation_in at_hand }) }
         ensures claimed { OnOk result (self.new ≡ with_mark self.old (compilation_of self.old) Busy) }
         ensures refused { OnErr result (self.new ≡ self.old) }
     {
-        let task = self.configuring.compile_task(alloc, self.workers, kept)?;
+        let task = self.configuring.compile_task(alloc, self.workers, at_hand)?;
         go_on(&mut self.stage, Stage::Compiling);
         Ok(task)
+    }
+
+    /// What is known of the graph of the job that an item calls, if it is.
+    pub fn known(&self, item: usize) -> Option<KnownEarly>
+        requires { IsOfferedCall self.now item }
+        ensures { IfSome result (λ early. (firing : FiringOf) → task self.now item ≡ Some (Call firing) → early ≡ early_in self.now.graphs.graphs firing) }
+    {
+        let compilation = self.configuring.count() as usize;
+        if item < compilation {
+            None
+        } else {
+            known_node(&self.stage, item - compilation - 1)
+        }
     }
 
     /// Opens an item that calls a job: the firing that is to be opened.

@@ -3,12 +3,12 @@ ghost use Rattle.std.specs.Prelude.{◌≡◌, ◌<◌, length, IsOk};
 ghost use Rattle.graph_firing.specs.Calls.{frame_of};
 ghost use Rattle.graph_firing.specs.Nodes.Calls.{frame_of as node_frame};
 ghost use Rattle.graph_firing.specs.Nodes.View.{nodes_of};
-ghost use Rattle.graph_firing.specs.Stages.{CallsNode, ClaimsNode, FinishesCall, FinishesNode, HasNodes, HoldsFrames, IsNode, IsNodeStep, MayAnswer, MayCall, MayClaim, MayFinish, NodesGoOn, handed_as};
+ghost use Rattle.graph_firing.specs.Stages.{CallsNode, ClaimsNode, FinishesCall, FinishesNode, HasNodes, HoldsFrames, IsNode, IsNodeStep, KnowsCalled, MayAnswer, MayCall, MayClaim, MayFinish, NodesGoOn, handed_as};
 
 use crate::handed::Handed;
 use crate::nodes::Running;
 use crate::stage::Stage;
-use job_preparing::JobGiven;
+use job_preparing::{JobGiven, KnownEarly};
 use kernel_gate::{Frame, KernelFault, Room};
 use pisdf_meaning::{Firing, Refusal};
 use std::alloc::{AllocError, Global};
@@ -61,6 +61,15 @@ pub(crate) fn claim_node(stage: &mut Stage, node: usize, room: Room) -> Handed
     let running = stage.nodes_mut();
     let n = number_of(running, node);
     handed_node(running.claim(n, room))
+}
+
+/// What is known of the graph that a node asks to fire, if it is.
+pub(crate) fn known_node(stage: &Stage, node: usize) -> Option<KnownEarly>
+    requires { HasNodes (MayCall node) stage.now }
+    ensures { HasNodes (KnowsCalled node result) stage.now }
+{
+    let running = stage.nodes();
+    running.known(number_of(running, node))
 }
 
 /// Opens a node that fires a graph.

@@ -1,4 +1,4 @@
--- What a cache does to its entries, seen as keys with compilations.
+-- What a cache does to its entries, seen as keys with values.
 use Rattle.std.proofs.Common.{◌≡◌, suc, ◌+◌, ◌-◌, ◌≤◌, Bool, true, false, cond, ◌&&◌, List, [], ◌∷◌, map, length, take, Option, Some, None, refl, ap, sym, ◌∙◌, arith}
 use Rattle.std.specs.Option.{option_map, option_map_or}
 use Rattle.std.specs.Map.{lookup, lookup_entry, remove_entry}
@@ -10,9 +10,8 @@ use Rattle.std.proofs.lemmas.List.{take_all, length-take, take-map}
 use Rattle.lru.specs.LruCache.{LruCache, promoted, put_entries}
 use Rattle.lru.proofs.CallerLemmas.{Contains-lookup_entry}
 use Rattle.job_compiler.specs.declared.key.Key.{Key}
-use Rattle.job_compiler.specs.Compilation.{Compilation}
 use Rattle.job_compiler.specs.Keys.{is_key}
-use Rattle.job_compiler.specs.Entries.{compilations, kept_limit}
+use Rattle.job_compiler.specs.Entries.{values_kept, kept_limit}
 
 both-left : (a b : Bool) → (a && b) ≡ true → a ≡ true
 both-left true b h = refl
@@ -70,15 +69,15 @@ module _ {K X : Type 0} (test : K → Bool) where
     | Some e ↦ λ h. omega arith
   ]) (length-remove_entry es)
 
-module _ {Z : Type 0} (c : LruCache Key (Arc Compilation Z)) (k : Key) (v : Arc Compilation Z) (room : c.cap ≡ kept_limit) (within : length c.entries ≤ kept_limit) where
-  abbrev es : List (Key × Arc Compilation Z)
+module _ {T Z : Type 0} (c : LruCache Key (Arc T Z)) (k : Key) (v : Arc T Z) (room : c.cap ≡ kept_limit) (within : length c.entries ≤ kept_limit) where
+  abbrev es : List (Key × Arc T Z)
   es = c.entries
 
-  abbrev after : Option (Key × Arc Compilation Z) → List (Key × Arc Compilation Z)
+  abbrev after : Option (Key × Arc T Z) → List (Key × Arc T Z)
   after o = option_map_or (λ e. (e.0, v) ∷ remove_entry (is_key k) es) o ((k, v) ∷ take (c.cap - 1) es)
 
   -- the new entry first, then the others, at most the limit in all
-  after_put : (o : Option (Key × Arc Compilation Z)) → lookup_entry (is_key k) es ≡ o → after o ≡ take kept_limit ((k, v) ∷ remove_entry (is_key k) es)
+  after_put : (o : Option (Key × Arc T Z)) → lookup_entry (is_key k) es ≡ o → after o ≡ take kept_limit ((k, v) ∷ remove_entry (is_key k) es)
   after_put None none =
       let kept = none_removed (is_key k) es none in
       rw (kept, room) refl
@@ -88,11 +87,11 @@ module _ {Z : Type 0} (c : LruCache Key (Arc Compilation Z)) (k : Key) (v : Arc 
       let whole = take_all kept_limit ((k, v) ∷ remove_entry (is_key k) es) (omega arith) in
       rw (← own) (sym whole)
 
-  pub put-compilations : compilations (put_entries is_key c k v) ≡ take kept_limit ((k, arc_value v) ∷ remove_entry (is_key k) (compilations es))
-  put-compilations =
-      ap (λ (list : List (Key × Arc Compilation Z)). compilations list) (after_put (lookup_entry (is_key k) es) refl)
-      ∙ sym (take-map (λ (e : Key × Arc Compilation Z). (e.0, arc_value e.1)) kept_limit ((k, v) ∷ remove_entry (is_key k) es))
-      ∙ ap (λ (rest : List (Key × Compilation)). take kept_limit ((k, arc_value v) ∷ rest)) (sym (remove_entry-valued arc_value (is_key k) es))
+  pub put-values : values_kept (put_entries is_key c k v) ≡ take kept_limit ((k, arc_value v) ∷ remove_entry (is_key k) (values_kept es))
+  put-values =
+      ap (λ (list : List (Key × Arc T Z)). values_kept list) (after_put (lookup_entry (is_key k) es) refl)
+      ∙ sym (take-map (λ (e : Key × Arc T Z). (e.0, arc_value e.1)) kept_limit ((k, v) ∷ remove_entry (is_key k) es))
+      ∙ ap (λ (rest : List (Key × T)). take kept_limit ((k, arc_value v) ∷ rest)) (sym (remove_entry-valued arc_value (is_key k) es))
 
   pub length-put : length (put_entries is_key c k v) ≤ kept_limit
   length-put =

@@ -5,52 +5,63 @@ use std::alloc::AllocError;
 use std::marker::Model;
 use std::sync::Arc;
 
-/// The compilations that were used last, at most 64 of them. Contracts see them as a list of keys with their
-/// compilations, the one used last first.
+/// The values that were used last, at most 64 of them, each with the key by which it is found. Contracts see them as a list of
+/// keys with their values, the one used last first.
 #[derive(Drop)]
-pub struct Kept {
-    pub(crate) cache: LruCache<Key, Arc<Compiled>>,
+pub struct LastUsed<T> {
+    pub(crate) cache: LruCache<Key, Arc<T>>,
 }
 
-impl Model for Kept {
+/// The compilations that were used last.
+pub type Kept = LastUsed<Compiled>;
+
+impl<T> Model for LastUsed<T> {
     ghost use Rattle.std.specs.Prelude.{List};
     ghost use Rattle.job_compiler.specs.declared.key.Key.{Key};
-    ghost use Rattle.job_compiler.specs.Compilation.{Compilation};
 
-    ghost Value = { List (Key × Compilation) };
+    ghost Value = { List (Key × T) };
 
-    ghost use Rattle.job_compiler.specs.Entries.{compilations, IsKept};
+    ghost use Rattle.job_compiler.specs.Entries.{values_kept, IsKept};
 
-    ghost view = { λ k. compilations k.cache.entries };
+    ghost view = { λ k. values_kept k.cache.entries };
 
     ghost invariant = { λ k. IsKept k.cache };
 }
 
-impl Kept {
-    ghost use Rattle.std.specs.Prelude.{◌≡◌, ◌∷◌, IfOk, OnOk, OnErr, option_map, take};
+impl<T: Drop> LastUsed<T> {
+    ghost use Rattle.std.specs.Prelude.{◌≡◌, ◌∷◌, IfOk, OnOk, OnErr, is_some, option_map, take};
     ghost use Rattle.std.specs.Arc.{arc_value};
     ghost use Rattle.std.specs.Map.{lookup, remove_entry};
     ghost use Rattle.lru.specs.LruCache.{promoted};
     ghost use Rattle.job_compiler.specs.Keys.{is_key};
     ghost use Rattle.job_compiler.specs.Entries.{kept_limit};
 
-    /// One more owner of the compilation that is kept with the key, if one is.
-    fn shared(&self, key: &Key) -> Result<Option<Arc<Compiled>>, AllocError>
+    /// One more owner of the value that is kept with the key, if one is.
+    fn shared(&self, key: &Key) -> Result<Option<Arc<T>>, AllocError>
         ensures { IfOk result (λ found. option_map arc_value found ≡ lookup (is_key key.now) self.now) }
     {
         match self.cache.peek(key) {
-            Some(compiled) => Ok(Some(compiled.clone()?)),
+            Some(value) => Ok(Some(value.clone()?)),
             None => Ok(None),
         }
     }
 
-    /// The compilation that is kept with the key, or `None` where none is. It is then the one used last, also where there is
-    /// no memory.
+    /// Whether a value is kept with the key.
+    pub fn has(&self, key: &Key) -> bool
+        ensures { result ≡ is_some (lookup (is_key key.now) self.now) }
+    {
+        match self.cache.peek(key) {
+            Some(_) => true,
+            None => false,
+        }
+    }
+
+    /// The value that is kept with the key, or `None` where none is. It is then the one used last, also where there is no memory.
     ///
     /// # Errors
     ///
-    /// Want of memory, for one more owner of the compilation.
-    pub fn find(&mut self, key: &Key) -> Result<Option<Arc<Compiled>>, AllocError>
+    /// Want of memory, for one more owner of the value.
+    pub fn find(&mut self, key: &Key) -> Result<Option<Arc<T>>, AllocError>
         ensures found { IfOk result (λ found. option_map arc_value found ≡ lookup (is_key key.now) self.old) }
         ensures front { self.new ≡ promoted (is_key key.now) self.old }
     {
@@ -59,17 +70,17 @@ impl Kept {
         found
     }
 
-    /// Keeps a compilation with a key, as the one used last. An older one with this key goes, and if there are then too many
-    /// the one that was used longest ago.
+    /// Keeps a value with a key, as the one used last. An older one with this key goes, and if there are then too many the one
+    /// that was used longest ago.
     ///
     /// # Errors
     ///
     /// Want of memory. What is kept is then as it was.
-    pub fn keep(&mut self, key: Key, compiled: Arc<Compiled>) -> Result<(), AllocError>
-        ensures kept { OnOk result (self.new ≡ take kept_limit ((key, arc_value compiled) ∷ remove_entry (is_key key) self.old)) }
+    pub fn keep(&mut self, key: Key, value: Arc<T>) -> Result<(), AllocError>
+        ensures kept { OnOk result (self.new ≡ take kept_limit ((key, arc_value value) ∷ remove_entry (is_key key) self.old)) }
         ensures refused { OnErr result (self.new ≡ self.old) }
     {
-        self.cache.put(key, compiled)?;
+        self.cache.put(key, value)?;
         Ok(())
     }
 }

@@ -1,4 +1,7 @@
+ghost use Rattle.std.specs.Prelude.{◌≡◌, IfOk};
+
 use sdf_level::List;
+use std::alloc::{AllocError, Global};
 use std::hash::{Hash, Hasher};
 
 /// What a kept compilation is found by: its graph, the number of workers, and the values of the graph's inherited and then of
@@ -8,6 +11,23 @@ pub struct Key {
     pub graph: u32,
     pub workers: u32,
     pub values: List<i64>,
+}
+
+impl Key {
+    /// An equal key.
+    ///
+    /// # Errors
+    ///
+    /// Want of memory.
+    pub fn copy(&self, alloc: Global) -> Result<Key, AllocError>
+        ensures { IfOk result (λ copy. copy ≡ self.now) }
+    {
+        Ok(Key {
+            graph: self.graph,
+            workers: self.workers,
+            values: List::new(Vec::from_slice(alloc, self.values.items())?),
+        })
+    }
 }
 
 impl PartialEq for Key {

@@ -15,10 +15,10 @@ mod ranking;
 mod rows;
 mod wiring;
 
-pub use cache::Kept;
+pub use cache::{Kept, LastUsed};
 pub use compiled::Compiled;
 pub use compiling::compile;
-pub use keeping::kept;
+pub use keeping::{kept, none_used};
 pub use key::Key;
 pub use laws::one_compilation;
 pub use level_schedule::{Unscheduled as CompileFault, What};

@@ -147,17 +147,19 @@ module _ (graphs : List Graph) (firing : Firing) (left : List Configured) where
 
     pub only_ready : OneCompilation → (workers : ℕ) (end : CompileEnd) → IsEndOf graphs workers firing left end → (c : Compilation) (set : LevelSet) (values : List ℤ) → IsReadyWith graphs workers firing left c set values →
         IsReadyAs c set values end ⊎ (end ≡ Memory)
-    only_ready one workers (Ready compiled own found) is c set values ready =
-        let same : found ≡ values = let e : Ok found ≡ Ok values = sym is.values_are ∙ ready.values_are in cc in
-        let P : List ℤ → Type 0 = λ v. IsLevelSet graphs g firing v own in
-        let sets : own ≡ set = one_set graphs g firing values own set (subst P same is.set_is) ready.set_is in
-        inl (one (arc_value compiled) c is.compiled ready.compiled (is.level_is ∙ ap (λ (s : LevelSet). s.level) sets ∙ sym ready.level_is) (is.workers_are ∙ sym ready.workers_are), sets, same)
+    only_ready one workers (Ready level) is c set values ready =
+        let made = (arc_value level).made in
+        let own = is.made in
+        let same : made.values ≡ values = let e : Ok made.values ≡ Ok values = sym own.values_are ∙ ready.values_are in cc in
+        let P : List ℤ → Type 0 = λ v. IsLevelSet graphs g firing v made.set in
+        let sets : made.set ≡ set = one_set graphs g firing values made.set set (subst P same own.set_is) ready.set_is in
+        inl (one (arc_value made.compiled) c own.compiled ready.compiled (own.level_is ∙ ap (λ (s : LevelSet). s.level) sets ∙ sym ready.level_is) (own.workers_are ∙ sym ready.workers_are), sets, same)
     only_ready one workers (Refused cause) is c set values ready = absurd (both_ways workers c set values _ ready is)
     only_ready one workers Memory is c set values ready = inr refl
 
     pub only_refused : (workers : ℕ) (end : CompileEnd) → IsEndOf graphs workers firing left end → (cause : Cause) → doing.IsCompiled graphs firing left (words.Refuses record { path = firing.path; cause = cause }) →
         (end ≡ Refused cause) ⊎ (end ≡ Memory)
-    only_refused workers (Ready compiled own found) is cause refused = absurd (both_ways workers (arc_value compiled) own found _ is refused)
+    only_refused workers (Ready level) is cause refused = let made = (arc_value level).made in absurd (both_ways workers (arc_value made.compiled) made.set made.values _ is.made refused)
     only_refused workers (Refused other) is cause refused =
         let own : Refusal = record { path = firing.path; cause = other } in
         let wanted : Refusal = record { path = firing.path; cause = cause } in

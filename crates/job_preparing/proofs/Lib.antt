@@ -14,3 +14,4 @@ pub mod Started
 pub mod Marked
 pub mod OwnBlocks
 pub mod Compiled
+pub mod ByKeys

@@ -16,6 +16,7 @@ use Rattle.job_rules.specs.Meant.{IsFit}
 use Rattle.job_preparing.specs.Unclaimed.{AreUnclaimed}
 use Rattle.job_preparing.specs.Stages.{lent_of, mark_of}
 use Rattle.job_preparing.specs.Standing.{ArePlaces, Keeps, nothing}
+use Rattle.job_preparing.specs.View.{HasInherited}
 use Rattle.job_preparing.specs.declared.stage.Stage.{Stage}
 
 module _ (graphs : Graphs) (firing : Firing) (places : List ℕ) (stages : List Stage) (frames : List (Option FrameView)) (h : Graph) (g_is : h ≡ graph_of graphs.graphs firing) (placed : ArePlaces h places) (unclaimed : AreUnclaimed graphs.graphs h firing (length places) stages frames) where
@@ -25,11 +26,12 @@ module _ (graphs : Graphs) (firing : Firing) (places : List ℕ) (stages : List 
   own_unclaimed : AreUnclaimed graphs.graphs (graph_of graphs.graphs firing) firing (length places) stages frames
   own_unclaimed = subst (λ (x : Graph). AreUnclaimed graphs.graphs x firing (length places) stages frames) g_is unclaimed
 
-  pub start_keeps : (early : EarlyView) (left : List Configured) (traces : List (List TraceRow)) → AreValid graphs → IsFit graphs.graphs firing → early ≡ early_in graphs.graphs firing →
+  pub start_keeps : (early : EarlyView) (left : List Configured) (traces : List (List TraceRow)) → AreValid graphs → IsFit graphs.graphs firing → HasInherited graphs.graphs firing → early ≡ early_in graphs.graphs firing →
       left ≡ replicate (length places) nothing → traces ≡ replicate (length places) [] → Keeps graphs firing early places stages frames left traces
-  start_keeps early left traces valid fit early_is left_is traces_are = record {
+  start_keeps early left traces valid fit inherited early_is left_is traces_are = record {
     valid = valid;
     fit = fit;
+    inherited = inherited;
     early_is = early_is;
     places_are = own_places;
     one_stage = own_unclaimed.one_stage;

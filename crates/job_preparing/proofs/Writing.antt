@@ -51,6 +51,7 @@ module _ (graphs : Graphs) (firing : Firing) (early : EarlyView) (places : List 
     put = record {
       valid = kept.valid;
       fit = kept.fit;
+      inherited = kept.inherited;
       early_is = kept.early_is;
       places_are = kept.places_are;
       one_stage = length-set stages n stage ∙ kept.one_stage;

@@ -15,4 +15,4 @@ view_of i = record {
 }
 
 abbrev pub IsConfiguring : Inside → Type 0
-IsConfiguring i = Keeps (arc_value i.graphs) i.firing (arc_value i.early) i.places.items i.stages.items i.frames.items i.left.items i.traces.items
+IsConfiguring i = Keeps (arc_value i.graphs) i.firing i.early i.places.items i.stages.items i.frames.items i.left.items i.traces.items

@@ -9,5 +9,6 @@ pub mod Tasked
 pub mod Unclaimed
 pub mod Ending
 pub mod Unscheduled
-pub mod Making
 pub mod Traces
+pub mod Levels
+pub mod Known

@@ -23,7 +23,7 @@ use Rattle.job_rules.specs.Meant.{IsFit}
 use Rattle.job_rules.specs.Words as words
 use Rattle.job_rules.specs.Words.{Asked, Spot}
 use Rattle.job_preparing.specs.Handing.{AsksFor}
-use Rattle.job_preparing.specs.View.{task_of}
+use Rattle.job_preparing.specs.View.{HasInherited, task_of}
 use Rattle.job_preparing.specs.declared.handing.JobGiven.{JobGiven}
 use Rattle.job_preparing.specs.declared.stage.Spare.{Spare}
 use Rattle.job_preparing.specs.declared.stage.Stage.{Stage}
@@ -108,6 +108,7 @@ nothing = record { outs = []; sets = []; state = []; trace = [] }
 pub record Keeps (graphs : Graphs) (firing : Firing) (early : EarlyView) (places : List ℕ) (stages : List Stage) (frames : List (Option FrameView)) (left : List Configured) (traces : List (List TraceRow)) : Type 0 where
   pub valid : AreValid graphs
   pub fit : IsFit graphs.graphs firing
+  pub inherited : HasInherited graphs.graphs firing
   pub early_is : early ≡ early_in graphs.graphs firing
   pub places_are : ArePlaces (graph_of graphs.graphs firing) places
   pub one_stage : length stages ≡ length places

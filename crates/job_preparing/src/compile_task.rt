@@ -1,32 +1,54 @@
 // The compilation of a firing, apart from its job.
-ghost use Rattle.std.specs.Prelude.{◌≡◌};
+ghost use Rattle.std.specs.Prelude.{◌≡◌, IfOk};
+ghost use Rattle.std.specs.Arc.{arc_value};
+ghost use Rattle.job_preparing.specs.Tasked.{EndsTask, IsKeptTask, IsTask, kept_view, task_view};
 
-use crate::compiling::{CompileEnd, Made, make};
+use crate::compiling::{CompileEnd, Made, ReadyLevel, make};
+use crate::known::KnownEarly;
 use crate::left_told::LeftTold;
-use job_compiler::{Compiled, one_compilation};
-use param_resolver::Early;
+use job_compiler::{Compiled, Key, one_compilation};
 use pisdf_meaning::{Configured, Firing, PlainFault};
 use pisdf_model::Graphs;
-use std::alloc::Global;
+use std::alloc::{AllocError, Global};
 use std::marker::Model;
 use std::snapshot::Snapshot;
 use std::sync::Arc;
 
 /// The compilation of one firing of a graph, whose configuration actors all gave something. It owns what it needs, so that it
-/// is made while others go on with the job. That lies in a box, so that a claim is small, of which the task is a part.
+/// is made while others go on with the job.
 #[derive(Drop)]
 pub struct CompileTask {
-    pub(crate) parts: Box<Parts>,
+    pub(crate) way: Way,
 }
 
-/// What a compilation needs.
+/// How a compilation comes to its level. What it needs lies in a box, so that a claim is small, of which the task is a part.
+#[derive(Drop)]
+pub(crate) enum Way {
+    /// The level is kept.
+    Kept(KeptTask),
+    /// It is made.
+    Make(Box<Parts>),
+}
+
+/// A level that is kept by the firing's key. All else is for contracts alone.
+#[derive(Drop)]
+pub(crate) struct KeptTask {
+    pub(crate) level: Arc<ReadyLevel>,
+    pub(crate) graphs: Snapshot<Arc<Graphs>>,
+    pub(crate) workers: Snapshot<u32>,
+    pub(crate) whole: Snapshot<Firing>,
+    pub(crate) told: LeftTold,
+}
+
+/// What a compilation needs that is made.
 #[derive(Drop)]
 pub(crate) struct Parts {
     pub(crate) graphs: Arc<Graphs>,
-    pub(crate) early: Arc<Early>,
+    pub(crate) early: KnownEarly,
     pub(crate) workers: u32,
     pub(crate) firing: Firing,
     pub(crate) left: Vec<Configured>,
+    pub(crate) key: Key,
     pub(crate) kept: Option<Arc<Compiled>>,
     // The firing itself and what its configuration actors left, of which the task has what it looks at.
     pub(crate) whole: Snapshot<Firing>,
@@ -43,11 +65,55 @@ impl Model for CompileTask {
 
     ghost coded = { Prim.hlevel (codes, tree_code) };
 
-    ghost use Rattle.job_preparing.specs.Tasked.{IsTask, task_view};
+    ghost use Rattle.job_preparing.specs.Tasked.{IsWay, way_view};
 
-    ghost view = { λ t. task_view t.parts.value };
+    ghost view = { λ t. way_view t.way };
 
-    ghost invariant = { λ t. IsTask t.parts.value };
+    ghost invariant = { λ t. IsWay t.way };
+}
+
+/// The level of a firing that was made, with its key.
+fn keyed_level(alloc: Global, key: &Key, made: Made) -> Result<Arc<ReadyLevel>, AllocError>
+    ensures { IfOk result (λ level. arc_value level ≡ record { key = key.now; made = made }) }
+{
+    let key = key.copy(alloc)?;
+    Ok(Arc::new(alloc, ReadyLevel { key, made })?)
+}
+
+/// Makes the level: the values of the parameters, then the level with its rates, then its schedule and all else. The compilation
+/// that came with the task is taken where it is of this level and of as many workers, else a new one is made.
+fn make_level(alloc: Global, parts: &Parts) -> CompileEnd
+    requires { IsTask parts.now }
+    ensures { EndsTask (task_view parts.now) result }
+{
+    let made = make(
+        alloc,
+        &parts.graphs,
+        parts.early.get(),
+        &parts.firing,
+        &parts.left,
+        parts.workers,
+        &parts.kept,
+    );
+    match made {
+        Ok(made) => match keyed_level(alloc, &parts.key, made) {
+            Ok(level) => CompileEnd::Ready(level),
+            Err(AllocError) => CompileEnd::Memory,
+        },
+        Err(PlainFault::Refused(refusal)) => CompileEnd::Refused(refusal.cause),
+        Err(PlainFault::Memory) => CompileEnd::Memory,
+    }
+}
+
+/// The level that is kept.
+fn kept_level(task: &KeptTask) -> CompileEnd
+    requires { IsKeptTask task.now }
+    ensures { EndsTask (kept_view task.now) result }
+{
+    match Arc::try_clone(&task.level) {
+        Ok(level) => CompileEnd::Ready(level),
+        Err(AllocError) => CompileEnd::Memory,
+    }
 }
 
 impl CompileTask {
@@ -63,11 +129,13 @@ impl CompileTask {
     pub fn has_kept(&self) -> bool
         ensures { result ≡ is_some self.now.kept }
     {
-        self.parts.kept.is_some()
+        match &self.way {
+            Way::Kept(_) => true,
+            Way::Make(parts) => parts.kept.is_some(),
+        }
     }
 
-    /// Makes the compilation: the values of the parameters, then the level with its rates, then its schedule and all else. The
-    /// compilation that came with the task is taken where it is of this level and of as many workers, else a new one is made.
+    /// How the compilation ends: with the level that came with the task, else with the one that is made.
     pub fn run(&self, alloc: Global) -> CompileEnd
         ensures end { IsEndOf self.now.graphs.graphs self.now.workers self.now.firing self.now.left result }
 
@@ -77,30 +145,9 @@ impl CompileTask {
         ensures only_refused { (cause : Cause) → doing.IsCompiled self.now.graphs.graphs self.now.firing self.now.left (words.Refuses record { path = self.now.firing.path; cause = cause }) → (result ≡ CompileEnd.Refused cause) ⊎ (result ≡ CompileEnd.Memory) }
     {
         one_compilation();
-        let parts: &Parts = &self.parts;
-        let made = make(
-            alloc,
-            &parts.graphs,
-            &parts.early,
-            &parts.firing,
-            &parts.left,
-            parts.workers,
-            &parts.kept,
-        );
-        match made {
-            Ok(
-                Made {
-                    compiled,
-                    set,
-                    values,
-                },
-            ) => CompileEnd::Ready {
-                compiled,
-                set,
-                values,
-            },
-            Err(PlainFault::Refused(refusal)) => CompileEnd::Refused(refusal.cause),
-            Err(PlainFault::Memory) => CompileEnd::Memory,
+        match &self.way {
+            Way::Kept(task) => kept_level(task),
+            Way::Make(parts) => make_level(alloc, parts),
         }
     }
 }

@@ -7,10 +7,10 @@ ghost use Rattle.pisdf_meaning.specs.Endings.{IfRefused};
 ghost use Rattle.job_rules.specs.Doing as doing;
 ghost use Rattle.job_rules.specs.Items.{graph_of};
 ghost use Rattle.job_rules.specs.Words as words;
-ghost use Rattle.job_preparing.specs.Making.{IsMadeAs};
+ghost use Rattle.job_preparing.specs.CompileTasks.{IsMadeAs};
 
 use crate::kept_one::compiled_for;
-use job_compiler::Compiled;
+use job_compiler::{Compiled, Key};
 use param_resolver::{Early, LevelSet};
 use pisdf_meaning::{Cause, Configured, Firing, PlainFault, parts_of, resolved};
 use pisdf_model::Graphs;
@@ -21,12 +21,8 @@ use std::sync::Arc;
 /// How the compilation of a firing ends.
 #[derive(Drop)]
 pub enum CompileEnd {
-    /// The compilation of its level, the level with what its actors fire, and the values of the graph's parameters.
-    Ready {
-        compiled: Arc<Compiled>,
-        set: LevelSet,
-        values: List<i64>,
-    },
+    /// What it makes.
+    Ready(Arc<ReadyLevel>),
     /// The firing is refused for this.
     Refused(Cause),
     /// There was no memory.
@@ -40,6 +36,13 @@ pub struct Made {
     pub compiled: Arc<Compiled>,
     pub set: LevelSet,
     pub values: List<i64>,
+}
+
+/// What a compilation made, with the key of its firing. It serves each firing with this key.
+#[derive(Drop)]
+pub struct ReadyLevel {
+    pub key: Key,
+    pub made: Made,
 }
 
 /// The values of the parameters, the level and its compilation for so many workers, in this order. The compilation that is kept

@@ -1,10 +1,12 @@
 // The configuration actors of a firing.
 use crate::asking::{config_call, line_for};
-use crate::compile_task::{CompileTask, Parts};
+use crate::compile_task::{CompileTask, KeptTask, Parts, Way};
 use crate::ending::{keep, kernel_given};
 use crate::handing::{ConfiguredFiring, JobGiven};
 use crate::kept_one::key_for;
+use crate::known::KnownEarly;
 use crate::left_told::LeftTold;
+use crate::levels::AtHand;
 use crate::slim::{slim_firing, slim_left};
 use crate::stage::{
     Stage, all_finished, all_gave, first_call, first_kernel, first_refused, line_of, put, spare_of,
@@ -28,7 +30,7 @@ use std::sync::Arc;
 pub struct Configuring {
     pub(crate) graphs: Arc<Graphs>,
     pub(crate) firing: Firing,
-    pub(crate) early: Arc<Early>,
+    pub(crate) early: KnownEarly,
     // The place of each among the actors of the graph.
     pub(crate) places: Vec<usize>,
     pub(crate) stages: Vec<Stage>,
@@ -68,6 +70,8 @@ impl Configuring {
     ghost use Rattle.job_rules.specs.Items.{compile_number, first_refusal};
     ghost use Rattle.job_rules.specs.Words.{answer_of};
     ghost use Rattle.job_preparing.specs.Handing.{AreOwnBlocks, EndSuits, IsFrameFor, IsLeast, LeftSuits, answer_with, answers, end_of, lent_at, mark_at, with_traces, without_trace};
+    ghost use Rattle.job_preparing.specs.Levels.{SuitsKey, compilation_in};
+    ghost use Rattle.job_preparing.specs.Tasked.{IsTask, task_view};
     ghost use Rattle.job_preparing.specs.View.{HasInherited, IsOfferedCall, IsOfferedWork, IsReady, IsSettled, graph_in, key_of, left_by, task};
 
     /// How many configuration actors the graph has.
@@ -102,7 +106,7 @@ impl Configuring {
     pub fn early(&self) -> &Early
         ensures { result.now ≡ early_in self.now.graphs.graphs self.now.firing }
     {
-        &self.early
+        self.early.get()
     }
 
     /// The first configuration actor that fires a kernel and isn't claimed yet.
@@ -159,7 +163,7 @@ impl Configuring {
             alloc,
             &self.graphs,
             graph,
-            &self.early,
+            self.early.get(),
             &self.firing,
             n,
             self.places[n],
@@ -279,34 +283,67 @@ impl Configuring {
         key_for(alloc, graph, &self.firing, &self.left, workers)
     }
 
-    /// The compilation of the firing for so many workers, with one that is kept by the firing's key, if one is.
+    /// What the compilation of the firing for so many workers needs, with a compilation that is kept by the firing's key, if one
+    /// is.
+    fn parts(
+        &self,
+        alloc: Global,
+        workers: u32,
+        key: Key,
+        kept: Option<Arc<Compiled>>,
+    ) -> Result<Parts, AllocError>
+        requires ready { IsReady self.now }
+        requires workers { 1 ≤ workers }
+        requires key { key ≡ key_of (graph_in self.now) workers self.now.firing (left_by self.now) }
+        ensures task { IfOk result IsTask }
+        ensures view { IfOk result (λ parts. task_view parts ≡ record { graphs = self.now.graphs; workers = workers; firing = self.now.firing; left = left_by self.now; kept = option_map arc_value kept }) }
+    {
+        Ok(Parts {
+            graphs: Arc::try_clone(&self.graphs)?,
+            early: self.early.share()?,
+            workers,
+            firing: slim_firing(alloc, &self.firing)?,
+            left: slim_left(alloc, &self.left)?,
+            key,
+            kept,
+            whole: Snapshot::of(&self.firing),
+            told: self.told_left(),
+        })
+    }
+
+    /// The compilation of the firing for so many workers, for which this is at hand that is kept by the firing's key.
     ///
     /// # Errors
     ///
-    /// Want of memory.
+    /// Want of memory, only where no level is at hand.
     pub fn compile_task(
         &self,
         alloc: Global,
         workers: u32,
-        kept: Option<Arc<Compiled>>,
+        at_hand: AtHand,
     ) -> Result<CompileTask, AllocError>
         requires ready { IsReady self.now }
         requires workers { 1 ≤ workers }
-        ensures { IfOk result (λ t. t ≡ record { graphs = self.now.graphs; workers = workers; firing = self.now.firing; left = left_by self.now; kept = option_map arc_value kept }) }
+        requires suits { SuitsKey self.now.graphs.graphs (key_of (graph_in self.now) workers self.now.firing (left_by self.now)) at_hand }
+        ensures { IfOk result (λ t. t ≡ record { graphs = self.now.graphs; workers = workers; firing = self.now.firing; left = left_by self.now; kept = compilation_in at_hand }) }
     {
-        let parts = Parts {
-            graphs: Arc::try_clone(&self.graphs)?,
-            early: Arc::try_clone(&self.early)?,
-            workers,
-            firing: slim_firing(alloc, &self.firing)?,
-            left: slim_left(alloc, &self.left)?,
-            kept,
-            whole: Snapshot::of(&self.firing),
-            told: self.told_left(),
-        };
-        Ok(CompileTask {
-            parts: Box::new(alloc, parts)?,
-        })
+        match at_hand {
+            AtHand::Level(level) => Ok(CompileTask {
+                way: Way::Kept(KeptTask {
+                    level,
+                    graphs: Snapshot::of(&self.graphs),
+                    workers: Snapshot::of(&workers),
+                    whole: Snapshot::of(&self.firing),
+                    told: self.told_left(),
+                }),
+            }),
+            AtHand::Key(key, kept) => {
+                let parts = self.parts(alloc, workers, key, kept)?;
+                Ok(CompileTask {
+                    way: Way::Make(Box::new(alloc, parts)?),
+                })
+            }
+        }
     }
 
     /// The first refusal of a configuration actor, in file order. The others are given up.

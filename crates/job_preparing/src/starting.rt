@@ -1,5 +1,5 @@
 // The configuration actors of a firing at its start.
-ghost use Rattle.std.specs.Prelude.{◌≡◌, ◌<◌, [], length, replicate, slice_get, Some, None, IfOk, All};
+ghost use Rattle.std.specs.Prelude.{◌≡◌, ◌<◌, [], length, replicate, slice_get, Some, None, IfOk, IfSome, All};
 ghost use Rattle.std.specs.Arc.{arc_value};
 ghost use Rattle.nested_jobs.specs.Marks.{Free};
 ghost use Rattle.pisdf_model.specs.Valid.{AreValid};
@@ -12,6 +12,7 @@ ghost use Rattle.job_preparing.specs.View.{HasInherited};
 
 use crate::asking::{Unclaimed, config_places, early_for, unclaimed_actor};
 use crate::configuring::Configuring;
+use crate::known::KnownEarly;
 use crate::stage::Stage;
 use crate::trace::Trace;
 use kernel_gate::Frame;
@@ -105,8 +106,31 @@ fn unclaimed_actors(
     Ok(UnclaimedActors { stages, frames })
 }
 
-/// The configuration actors of a firing of a graph, none of which is claimed. All memory that their kernels need beside the
-/// kernels' own is taken here.
+/// What is known of the graph of a firing: what its caller knows, or else what the early check finds.
+///
+/// # Errors
+///
+/// Want of memory.
+fn known_for(
+    alloc: Global,
+    graphs: &Graphs,
+    firing: &Firing,
+    known: Option<KnownEarly>,
+) -> Result<KnownEarly, AllocError>
+    requires valid { AreValid graphs.now }
+    requires fit { IsFit graphs.now.graphs firing.now }
+    requires inherited { HasInherited graphs.now.graphs firing.now }
+    requires known { IfSome known (λ early. early ≡ early_in graphs.now.graphs firing.now) }
+    ensures { IfOk result (λ early. early ≡ early_in graphs.now.graphs firing.now) }
+{
+    match known {
+        Some(early) => Ok(early),
+        None => KnownEarly::alone(alloc, early_for(alloc, graphs, firing)?),
+    }
+}
+
+/// The configuration actors of a firing of a graph, none of which is claimed. `known` is what the firing's caller knows of the
+/// graph, if it does. All memory that their kernels need beside the kernels' own is taken here.
 ///
 /// # Errors
 ///
@@ -115,28 +139,34 @@ pub fn configure(
     alloc: Global,
     graphs: Arc<Graphs>,
     firing: Firing,
+    known: Option<KnownEarly>,
 ) -> Result<Configuring, AllocError>
     requires valid { AreValid (arc_value graphs) }
     requires fit { IsFit (arc_value graphs).graphs firing }
     requires inherited { HasInherited (arc_value graphs).graphs firing }
+    requires known { IfSome known (λ early. early ≡ early_in (arc_value graphs).graphs firing) }
     ensures made_of { IfOk result (λ v. (v.graphs ≡ arc_value graphs) × (v.firing ≡ firing)) }
     ensures free { IfOk result (λ v. v.marks ≡ replicate (compile_number (graph_of (arc_value graphs).graphs firing)) Free) }
     ensures lent { IfOk result (λ v. v.lent ≡ replicate (compile_number (graph_of (arc_value graphs).graphs firing)) None) }
 {
     early_unfolds();
-    let early = early_for(alloc, &graphs, &firing)?;
+    let early = known_for(alloc, &graphs, &firing, known)?;
     let graph = &graphs.graphs.items()[firing.graph as usize];
     let places = config_places(alloc, graph)?;
     let left = nothing_left(alloc, places.len())?;
     let traces = no_traces(alloc, places.len())?;
-    let shared = Arc::new(alloc, early)?;
     let UnclaimedActors { stages, frames } = unclaimed_actors(
-        alloc, &graphs, graph, &shared, &firing, &places,
+        alloc,
+        &graphs,
+        graph,
+        early.get(),
+        &firing,
+        &places,
     )?;
     Ok(Configuring {
         graphs,
         firing,
-        early: shared,
+        early,
         places,
         stages,
         frames,

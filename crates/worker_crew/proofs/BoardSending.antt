@@ -2,8 +2,6 @@
 use denote.Param.Send.{IsSend, IsSync, sendable}
 use Rattle.std.proofs.Crossing.{crosses}
 use Rattle.std.proofs.collections.LinkedList.TheSendSync as linked
-use Rattle.std.proofs.hash.BuildHasherDefault.TheSendSync as build_hasher
-use Rattle.std.proofs.hash.FoldHasher.TheSendSync as fold_hasher
 use Rattle.std.proofs.option.Option.TheSendSync as option
 use Rattle.param_expr.proofs.name.Name.TheSendSync as name
 use Rattle.param_resolver.proofs.known.Early.TheLaws.TheKnot as early
@@ -14,8 +12,6 @@ use Rattle.pisdf_meaning.proofs.firing.Firing.TheSendSync as firing
 use Rattle.pisdf_meaning.proofs.outcome.TraceRow.TheSendSync as row
 use Rattle.pisdf_meaning.proofs.path.Path.TheSendSync as path
 use Rattle.pisdf_meaning.proofs.refusal.Refusal.TheSendSync as refusal
-use Rattle.job_compiler.proofs.key.Key.TheSendSync as key
-use Rattle.lru.proofs.cache.LruCache.TheSendSync as lru_cache
 use Rattle.job_preparing.proofs.trace.Rows.TheLaws.TheKnot as rows
 use Rattle.board_journal.proofs.kept.Entries.TheSendSync as entries
 use Rattle.board_journal.proofs.history.Past.TheLaws.TheKnot as past
@@ -23,13 +19,17 @@ use Rattle.firing_board.proofs.frame_rooms.FrameRooms.TheSendSync as frame_rooms
 use Rattle.firing_board.proofs.run.Run.TheSendSync as run
 use Rattle.param_resolver.specs.contracts.known.Early as Early
 use Rattle.param_resolver.specs.contracts.level_set.LevelSet as LevelSet
+use Rattle.job_preparing.specs.contracts.compiling.Made as Made
+use Rattle.job_preparing.specs.contracts.compiling.ReadyLevel as ReadyLevel
 use Rattle.job_preparing.specs.contracts.configuring.Configuring as Configuring
 use Rattle.job_preparing.specs.contracts.handing.JobGiven as JobGiven
+use Rattle.job_preparing.specs.contracts.known.KnownEarly as KnownEarly
 use Rattle.job_preparing.specs.contracts.left_told.LeftTold as LeftTold
+use Rattle.job_preparing.specs.contracts.levels.KeptLevels as KeptLevels
 use Rattle.job_preparing.specs.contracts.trace.Trace as Trace
 use Rattle.ready_heap.specs.contracts.groups.GroupedHeaps as GroupedHeaps
 use Rattle.ready_heap.specs.contracts.ranking.Ranking as Ranking
-use Rattle.job_compiler.specs.contracts.cache.Kept as Kept
+use Rattle.job_compiler.proofs.cache.LastUsed.TheSendSync as last_used
 use Rattle.job_compiler.specs.contracts.compiled.Compiled as Compiled
 use Rattle.one_job.specs.contracts.job.Job as Job
 use Rattle.one_job.specs.contracts.ready.ReadyNodes as ReadyNodes
@@ -40,6 +40,7 @@ use Rattle.firing_board.specs.contracts.table.JobTable as JobTable
 use Rattle.board_journal.specs.contracts.history.History as History
 use Rattle.board_journal.specs.contracts.journal.Journal as Journal
 use Rattle.firing_board.specs.contracts.board.Board as Board
+use Rattle.firing_board.specs.contracts.keeping.Keeping as Keeping
 use Rattle.firing_board.specs.contracts.state.Core as Core
 use Rattle.sdf_level.proofs.level.Level.TheSendSync as level
 use Rattle.sdf_level.proofs.list.List.TheSendSync as list
@@ -80,8 +81,29 @@ compiled_send = search (ranking_send, ranking_sync, level.the_send, turn.the_sen
 compiled_sync : IsSync Compiled.the_row
 compiled_sync = search (ranking_send, ranking_sync, level.the_sync, turn.the_sync, list.the_sync, crosses, sendable) depth 30 fits 4000
 
-kept_send : IsSend Kept.the_row
-kept_send = search (compiled_send, compiled_sync, key.the_send, key.the_sync, lru_cache.the_send, build_hasher.the_send, fold_hasher.the_send, crosses, sendable) depth 60 fits 20000
+level_set_field_sync : IsSync LevelSet.the_field.row
+level_set_field_sync = search (early_sync, crosses, sendable) depth 60 fits 20000
+
+made_field_send : IsSend Made.the_field.row
+made_field_send = search (level_set_field_send, compiled_send, compiled_sync, list.the_send, crosses, sendable) depth 60 fits 20000
+
+made_field_sync : IsSync Made.the_field.row
+made_field_sync = search (level_set_field_sync, compiled_send, compiled_sync, list.the_sync, crosses, sendable) depth 60 fits 20000
+
+level_field_send : IsSend ReadyLevel.the_field.row
+level_field_send = search (made_field_send, crosses, sendable) depth 60 fits 20000
+
+level_field_sync : IsSync ReadyLevel.the_field.row
+level_field_sync = search (made_field_sync, crosses, sendable) depth 60 fits 20000
+
+levels_send : IsSend KeptLevels.the_row
+levels_send = search (level_field_send, level_field_sync, last_used.the_send, crosses, sendable) depth 60 fits 20000
+
+keeping_field_send : IsSend Keeping.the_field.row
+keeping_field_send = search (levels_send, compiled_send, compiled_sync, last_used.the_send, crosses, sendable) depth 60 fits 20000
+
+known_send : IsSend KnownEarly.the_row
+known_send = search (early_send, early_sync, level_field_send, level_field_sync, crosses, sendable) depth 60 fits 20000
 
 heaps_send : IsSend GroupedHeaps.the_row
 heaps_send = search (ranking_send, ranking_sync, crosses, sendable) depth 30 fits 4000
@@ -105,7 +127,7 @@ preparing_stage_send : IsSend PreparingStage.the_row
 preparing_stage_send = search (told_send, spare.the_field_send, refusal.the_field_send, crosses, sendable) depth 20
 
 configuring_send : IsSend Configuring.the_row
-configuring_send = search (preparing_stage_send, graphs_send, graphs_sync, early_send, early_sync, firing.the_field_send, configured.the_send, frame.the_send, trace_send, option.the_send, crosses, sendable) depth 30 fits 4000
+configuring_send = search (preparing_stage_send, graphs_send, graphs_sync, known_send, firing.the_field_send, configured.the_send, frame.the_send, trace_send, option.the_send, crosses, sendable) depth 30 fits 4000
 
 left_told_send : IsSend LeftTold.the_row
 left_told_send = search (crosses, sendable) depth 20
@@ -117,7 +139,7 @@ running_held_send : IsSend RunningHeld.the_row
 running_held_send = search (frame.the_send, refusal.the_field_send, crosses, sendable) depth 20
 
 running_send : IsSend Running.the_row
-running_send = search (running_stages_send, running_held_send, left_told_send, graphs_send, graphs_sync, level_set_field_send, job_send, compiled_send, compiled_sync, path.the_send, name.the_send, trace_send, list.the_send, crosses, sendable) depth 60 fits 6000
+running_send = search (running_stages_send, running_held_send, left_told_send, graphs_send, graphs_sync, level_field_send, level_field_sync, job_send, path.the_send, name.the_send, trace_send, list.the_send, crosses, sendable) depth 60 fits 6000
 
 open_send : IsSend OpenJob.the_row
 open_send = search (configuring_send, running_send, crosses, sendable) depth 60 fits 20000
@@ -135,4 +157,4 @@ core_field_send : IsSend Core.the_field.row
 core_field_send = search (table_send, frame_rooms.the_field_send, run.the_send, journal_send, given_send, refusal.the_send, crosses, sendable) depth 60 fits 20000
 
 pub board_send : IsSend Board.the_row
-board_send = search (core_field_send, kept_send, key.the_send, crosses, sendable) depth 60 fits 20000
+board_send = search (core_field_send, keeping_field_send, crosses, sendable) depth 60 fits 20000

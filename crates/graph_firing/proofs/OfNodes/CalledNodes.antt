@@ -11,6 +11,7 @@ use Rattle.pisdf_model.specs.declared.actor.Actor.{Actor}
 use Rattle.pisdf_model.specs.declared.actor.Body.{Body}
 use Rattle.pisdf_model.specs.declared.actor.Body.TheVariants.{Kernel, Config, Child, ConfigChild}
 use Rattle.pisdf_model.specs.declared.graph.Graph.{Graph}
+use Rattle.pisdf_meaning.specs.Configuring.{early_in}
 use Rattle.pisdf_meaning.specs.declared.firing.Firing.{Firing}
 use Rattle.pisdf_meaning.specs.declared.outcome.TraceRow.{TraceRow}
 use Rattle.pisdf_meaning.specs.declared.refusal.Refusal.{Refusal}
@@ -239,12 +240,20 @@ module _ (f : Fixed) (stages : List Stage) (held : List Held) (rows : List (Vec 
         let l : length own.args ≡ length (acting g) = ap (λ (x : LevelSet). length x.args) is ∙ ap (λ (l : List (List ℤ)). length l) keeps.parts.set_is.args ∙ (many G g (values_of f)).args in
         omega arith
 
+    pub child_early : EachPlaced → (own : LevelSet) (a : ℕ) → a ≡ calls.a → own ≡ f.set → slice_get own.children a ≡ Some (Some (early_of G calls.place (arg_values (values_of f) calls.exprs)))
+    child_early each own a same is =
+        ap (λ (x : LevelSet). slice_get x.children a) is ∙ ap₂ (λ (l : List (Option EarlyView)) b. slice_get l b) keeps.parts.set_is.children same ∙ (each G g (values_of f) calls.a calls.actor calls.own).child
+        ∙ ap (λ b. Some (child_of G (values_of f) b)) calls.body_is
+
     pub child_known : EachPlaced → (own : LevelSet) (a : ℕ) → a ≡ calls.a → own ≡ f.set → (early : EarlyView) × (slice_get own.children a ≡ Some (Some early))
-    child_known each own a same is = (
-      early_of G calls.place (arg_values (values_of f) calls.exprs),
-      ap (λ (x : LevelSet). slice_get x.children a) is ∙ ap₂ (λ (l : List (Option EarlyView)) b. slice_get l b) keeps.parts.set_is.children same ∙ (each G g (values_of f) calls.a calls.actor calls.own).child
-          ∙ ap (λ b. Some (child_of G (values_of f) b)) calls.body_is,
-    )
+    child_known each own a same is = (early_of G calls.place (arg_values (values_of f) calls.exprs), child_early each own a same is)
+
+    -- what the level has of an actor that calls is known of the graph that is called
+    pub called_early : EachPlaced → (a : ℕ) → a ≡ calls.a → (d : Firing) → d ≡ offered.job → slice_get f.set.children a ≡ Some (Some (early_in G d))
+    called_early each a same d d_is =
+        let places : calls.place ≡ d.graph = sym (graph_is offered.job calls) ∙ ap (λ (x : Firing). x.graph) (sym d_is) in
+        let values : arg_values (values_of f) calls.exprs ≡ d.inherited = sym (inherited_is offered.job calls) ∙ ap (λ (x : Firing). x.inherited) (sym d_is) in
+        child_early each f.set a same refl ∙ ap₂ (λ p (l : List ℤ). Some (Some (early_of G p l))) places values
 
     pub caller_is : (graphs : List Graph) (caller : Actor) (a : ℕ) → graphs ≡ G → a ≡ calls.a → ((h : Graph) → slice_get graphs f.place ≡ Some h → slice_get (acting h) a ≡ Some caller) → slice_get (acting g) a ≡ Some caller
     caller_is graphs caller a are same at = at g (ap₂ (λ (l : List Graph) p. slice_get l p) are keeps.parts.place_is ∙ here f stages held rows j keeps)

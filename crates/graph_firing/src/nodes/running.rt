@@ -1,5 +1,5 @@
 // The nodes of one compiled firing, and their events.
-ghost use Rattle.std.specs.Prelude.{◌≡◌, ◌⊎◌, ◌<◌, ◌==◌, true, length, slice_index, slice_set, Some, None, Ok, IsOk, IfOk, OnErr};
+ghost use Rattle.std.specs.Prelude.{◌≡◌, ◌⊎◌, ◌<◌, ◌==◌, true, length, slice_index, slice_set, Some, None, Ok, IsOk, IfOk, IfSome, OnErr};
 ghost use Rattle.nested_jobs.specs.Marks.{Busy, Open, Done};
 ghost use Rattle.kernel_gate.specs.Rooms.{Suffices};
 ghost use Rattle.nested_jobs.specs.Rules.{Call};
@@ -20,11 +20,11 @@ use crate::nodes::stages::Stages;
 use crate::nodes::writing::write_child;
 use job_compiler::Compiled;
 use job_flow::{faults_renamed, ready_stays};
-use job_preparing::{ConfiguredFiring, JobGiven, LeftTold};
+use job_preparing::{ConfiguredFiring, JobGiven, KnownEarly, LeftTold, ReadyLevel};
 use kernel_gate::{Frame, KernelFault, Room, RoomSize, told_of};
 use one_job::{Job, JobEnd};
 use param_expr::Name;
-use param_resolver::{LevelSet, level_by_actor};
+use param_resolver::level_by_actor;
 use pisdf_meaning::{Firing, Path, Refusal};
 use pisdf_model::Graphs;
 use sdf_level::{Node, TokenName};
@@ -38,13 +38,13 @@ use std::sync::Arc;
 /// finished once. It is neither `Drop` nor `Clone`: it is given up by `outcome` or `end`.
 pub(crate) struct Running {
     pub(crate) graphs: Arc<Graphs>,
-    pub(crate) compiled: Arc<Compiled>,
+    // What the firing was compiled to.
+    pub(crate) level: Arc<ReadyLevel>,
     pub(crate) firing: Snapshot<Firing>,
     pub(crate) left: LeftTold,
     // The place of the graph in its file.
     pub(crate) place: u32,
     pub(crate) path: Path,
-    pub(crate) set: LevelSet,
     // The name of each actor of the level.
     pub(crate) names: Vec<Name>,
     // What is moved at the end. The list of states in it is empty. Of each actor that fires graphs there is a trace for each
@@ -76,6 +76,8 @@ impl Model for Running {
 
 impl Running {
     ghost use Rattle.job_rules.specs.Items.{step_of_node};
+    ghost use Rattle.pisdf_meaning.specs.Configuring.{early_in};
+    ghost use Rattle.pisdf_meaning.specs.declared.firing.Firing.{Firing as FiringOf};
     ghost use Rattle.graph_firing.specs.Nodes.View.{IsOfferedCall, IsOfferedWork, RunningView, graph_in, is_quiet, nodes_of, outcome_of, task};
     ghost use Rattle.graph_firing.specs.Nodes.Calls.{IsEndOfCall, IsHanded, IsLeft, frame_of};
     ghost use Rattle.graph_firing.specs.Nodes.Leases.{LendsNodes};
@@ -140,7 +142,9 @@ impl Running {
         graphs_numbered();
         level_by_actor();
         match self.job.node(node) {
-            Node::Firing { actor, turn } => (self.set.places.items()[actor as usize], turn),
+            Node::Firing { actor, turn } => {
+                (self.level.made.set.places.items()[actor as usize], turn)
+            },
             Node::Source(_)
             | Node::Init(_)
             | Node::End(_)
@@ -197,6 +201,22 @@ impl Running {
         self.job.finish(node, frame, answer)
     }
 
+    /// What is known of the graph that a node asks to fire; none where there is no memory for one more owner of that.
+    pub(crate) fn known(&self, node: u32) -> Option<KnownEarly>
+        requires { IsOfferedCall self.now node }
+        ensures { IfSome result (λ early. (d : FiringOf) → task self.now node ≡ Some (Call d) → early ≡ early_in self.now.graphs.graphs d) }
+    {
+        level_by_actor();
+        faults_renamed::<i64, u8, Refusal>();
+        ready_stays::<i64, u8, ()>();
+        let which = self.job.node(node);
+        let (actor, _turn) = firing_of(which);
+        match KnownEarly::of_caller(&self.level, actor) {
+            Ok(early) => Some(early),
+            Err(AllocError) => None,
+        }
+    }
+
     /// Calls the firing of a graph that a node asks for.
     ///
     /// # Errors
@@ -219,7 +239,7 @@ impl Running {
         let caller = caller_of(
             self.graphs.graphs.items(),
             self.place,
-            &self.set,
+            &self.level.made.set,
             &self.ending.keeps,
             actor,
             turn,
@@ -287,12 +307,11 @@ impl Running {
         faults_renamed::<i64, u8, Refusal>();
         let Running {
             graphs,
-            compiled,
+            level,
             firing: _,
             left: _,
             place,
             path,
-            set: _,
             names,
             ending,
             stages: _,
@@ -302,7 +321,7 @@ impl Running {
         } = self;
         match job.outcome() {
             JobEnd::Fault { node, code } => {
-                let which = compiled.graph().nodes.items()[node as usize];
+                let which = level.made.compiled.graph().nodes.items()[node as usize];
                 let called = take_refusal(held, node as usize);
                 Err(refusal_of(alloc, path, names, which, called, code))
             }
@@ -320,12 +339,11 @@ impl Running {
     {
         let Running {
             graphs: _,
-            compiled: _,
+            level: _,
             firing: _,
             left: _,
             place: _,
             path: _,
-            set: _,
             names: _,
             ending: _,
             stages: _,

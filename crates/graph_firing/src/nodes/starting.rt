@@ -11,7 +11,7 @@ ghost use Rattle.pisdf_model.specs.Valid.{AreValid};
 ghost use Rattle.pisdf_model.specs.declared.actor.Actor.{Actor as ActorView};
 ghost use Rattle.pisdf_meaning.specs.Running.{chosen_row, chosen_rows, link_starts, source_tokens, value_at};
 ghost use Rattle.job_rules.specs.Meant.{IsFit};
-ghost use Rattle.job_preparing.specs.CompileTasks.{IsReadyWith};
+ghost use Rattle.job_preparing.specs.CompileTasks.{IsMadeAs, IsReadyWith};
 ghost use Rattle.job_preparing.specs.View.{IsReady, graph_in, left_by};
 ghost use Rattle.graph_firing.specs.Nodes.Parts.{kernel_in, kind_of_actor, prepared_with};
 ghost use Rattle.graph_firing.specs.Nodes.Starting.{AreJobLists, AreNoTraces, AreOwnParts, Starts, fixed_by};
@@ -24,7 +24,7 @@ use crate::nodes::given::empty_rows;
 use crate::nodes::running::Running;
 use crate::nodes::stages::Stages;
 use job_compiler::Compiled;
-use job_preparing::{Configuring, Trace, acting_at, keeps_at};
+use job_preparing::{Configuring, Made, ReadyLevel, Trace, acting_at, keeps_at};
 use one_job::{Job, start};
 use param_expr::Name;
 use param_resolver::{LevelSet, level_by_actor};
@@ -387,8 +387,8 @@ fn start_parts(
     Ok(StartParts { own, started })
 }
 
-/// The nodes of a firing, in which each is free: its configuration actors, which are ready, and what its compilation ended with:
-/// the compilation, the level and the values of the parameters. All memory of the firing but that of the calls is taken here.
+/// The nodes of a firing, in which each is free: its configuration actors, which are ready, and what it was compiled to. All memory
+/// of the firing but that of the calls is taken here.
 ///
 /// # Errors
 ///
@@ -396,38 +396,36 @@ fn start_parts(
 pub(crate) fn run(
     alloc: Global,
     preparing: &Configuring,
-    compiled: Arc<Compiled>,
-    set: LevelSet,
-    values: List<i64>,
+    level: Arc<ReadyLevel>,
 ) -> Result<Running, AllocError>
     requires valid { AreValid preparing.now.graphs }
     requires fit { IsFit preparing.now.graphs.graphs preparing.now.firing }
     requires ready { IsReady preparing.now }
-    requires compiled { IsReadyWith preparing.now.graphs.graphs (arc_value compiled).workers preparing.now.firing (left_by preparing.now) (arc_value compiled) set values }
+    requires compiled { IsMadeAs preparing.now.graphs.graphs (arc_value (arc_value level).made.compiled).workers preparing.now.firing (left_by preparing.now) (arc_value level).made }
     ensures made_of { IfOk result (λ r. (r.graphs ≡ preparing.now.graphs) × (r.firing ≡ preparing.now.firing)) }
-    ensures compilation { IfOk result (λ r. (r.prepared ≡ prepared_with (left_by preparing.now) (arc_value compiled)) × (r.workers ≡ (arc_value compiled).workers) × (r.mapping ≡ (arc_value compiled).mapping)) }
-    ensures cells { IfOk result (λ r. r.cells.compilation ≡ arc_value compiled) }
+    ensures compilation { IfOk result (λ r. (r.prepared ≡ prepared_with (left_by preparing.now) (arc_value (arc_value level).made.compiled)) × (r.workers ≡ (arc_value (arc_value level).made.compiled).workers) × (r.mapping ≡ (arc_value (arc_value level).made.compiled).mapping)) }
+    ensures cells { IfOk result (λ r. r.cells.compilation ≡ arc_value (arc_value level).made.compiled) }
     ensures free { IfOk result (λ r. r.marks ≡ replicate (length (nodes_of r)) Free) }
     ensures nothing { IfOk result (λ r. r.lent ≡ replicate (length (nodes_of r)) None) }
 {
     let graphs = Arc::try_clone(preparing.graphs())?;
+    let made: &Made = &level.made;
     let StartParts { own, started } = start_parts(
         alloc,
         preparing,
-        &compiled,
-        &set,
-        values.items(),
+        &made.compiled,
+        &made.set,
+        made.values.items(),
     )?;
     let Started { job, held, stages } = started;
     let firing = preparing.firing();
     Ok(Running {
         graphs,
-        compiled,
+        level,
         firing: Snapshot::of(firing),
         left: preparing.told_left(),
         place: firing.graph,
         path: own.path,
-        set,
         names: own.names,
         ending: own.ending,
         stages,

@@ -22,6 +22,7 @@ use Rattle.firing_board.proofs.Idle.{finished, waits}
 use Rattle.firing_board.proofs.Openings.{if_ok_with, on_err, on_err_by}
 use Rattle.firing_board.proofs.Rows.{the_same}
 use Rattle.firing_board.proofs.Starving.{starves}
+use Rattle.firing_board.proofs.EndedLevels.{levels_same}
 use Rattle.firing_board.proofs.claiming.claim.Goals as goal
 
 pub returns-in_err-run-clause-refused : goal.returns-in_err-run-clause-refused
@@ -141,3 +142,10 @@ returns-else-is_idle-clause-claimed c = λ key may.
 
 pub hand_out-requires-clause-idle : goal.hand_out-requires-clause-idle
 hand_out-requires-clause-idle c = ap (λ rs. get_or rs.items c.args.worker None) c.in_ok-run.ensures.kept.running_is ∙ c.requires.may.1.idle
+
+pub hand_out-requires-clause-graphs : goal.hand_out-requires-clause-graphs
+hand_out-requires-clause-graphs c =
+    let may = c.requires.may.1 in
+    let found = subst (λ (o : Option Run). Finds c.requires.may.0 may.keeps.taken c.args.core.now c.args.worker c.find.new.core o) c.in-Some.is (c.in_ok-run.ensures.found c.requires.may.0 may.keeps.taken may.keeps.at) in
+    let same = (found.suits.rows c.in-Some.run'.row found.row found.here).graphs_are ∙ sym may.keeps.at.suits.graphs_are in
+    (found.row, found.here, levels_same c.args.core.now.table.graphs found.row.job.graphs c.args.keeping.now.levels same c.requires.graphs)

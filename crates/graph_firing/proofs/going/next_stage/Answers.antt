@@ -16,11 +16,11 @@ returns-in_ok-running-in-Ready c =
     let made = c.in_ok-running-in-Ready.ensures in
     let P : CompileEnd → Type 0 = λ end. IsEndOf own.graphs.graphs c.args.workers own.firing (preparing.left_by own) end in
     record {
-      runs = runs_for own c.args.workers (arc_value c.in-Ready.compiled) c.in-Ready.set c.in-Ready.values c.requires.ready (subst P c.in-Ready.is c.requires.end) r
+      runs = runs_for own c.args.workers (arc_value (arc_value c.in-Ready.level).made.compiled) (arc_value c.in-Ready.level).made.set (arc_value c.in-Ready.level).made.values c.requires.ready (subst P c.in-Ready.is c.requires.end).made r
           made.made_of.0 made.made_of.1 made.compilation.0 made.compilation.1 made.compilation.2 made.free made.nothing;
       marks_are = made.free;
       lent_are = made.nothing;
-      many = many own c.args.workers (arc_value c.in-Ready.compiled) c.in-Ready.set c.in-Ready.values c.requires.ready (subst P c.in-Ready.is c.requires.end) r
+      many = many own c.args.workers (arc_value (arc_value c.in-Ready.level).made.compiled) (arc_value c.in-Ready.level).made.set (arc_value c.in-Ready.level).made.values c.requires.ready (subst P c.in-Ready.is c.requires.end).made r
           made.made_of.0 made.made_of.1 made.compilation.0 made.compilation.1 made.compilation.2 made.free made.nothing
           ∙ sym (ap nodes_by c.in-Ready.is);
       placed =

@@ -14,15 +14,15 @@ graph_is c = c.index-items-firing.is ∙ graph_at (arc_value c.args.graphs).grap
 
 unclaimed : (c : goal.In_ok-stages) → AreUnclaimed (arc_value c.args.graphs).graphs c.index-items-firing.result c.args.firing (length c.in_ok-places.places.items) c.in_ok-stages.field-0.stages.items c.in_ok-stages.field-0.frames.items
 unclaimed c =
-    let P : Graphs → Type 0 = λ x. AreUnclaimed x.graphs c.index-items-firing.result c.args.firing (length c.deref-5.result.now) c.in_ok-stages.field-0.stages.items c.in_ok-stages.field-0.frames.items in
+    let P : Graphs → Type 0 = λ x. AreUnclaimed x.graphs c.index-items-firing.result c.args.firing (length c.deref-4.result.now) c.in_ok-stages.field-0.stages.items c.in_ok-stages.field-0.frames.items in
     let Q : List ℕ → Type 0 = λ l. AreUnclaimed (arc_value c.args.graphs).graphs c.index-items-firing.result c.args.firing (length l) c.in_ok-stages.field-0.stages.items c.in_ok-stages.field-0.frames.items in
-    subst Q c.deref-5.ensures.value (subst P c.deref-3.ensures c.in_ok-stages.ensures)
+    subst Q c.deref-4.ensures.value (subst P c.deref-3.ensures c.in_ok-stages.ensures)
 
 pub invariant_of-result : goal.invariant_of-result
 invariant_of-result c =
     start_keeps (arc_value c.args.graphs) c.args.firing c.in_ok-places.places.items c.in_ok-stages.field-0.stages.items c.in_ok-stages.field-0.frames.items c.index-items-firing.result (graph_is c) c.in_ok-places.ensures (unclaimed c)
-    (arc_value c.in_ok-shared.shared) c.in_ok-left.left.items c.in_ok-traces.traces.items c.requires.valid c.requires.fit
-    (c.in_ok-shared.ensures.ok ∙ c.in_ok-early.ensures ∙ ap (λ (x : Graphs). early_in x.graphs c.args.firing) c.deref.ensures)
+    c.in_ok-early.early c.in_ok-left.left.items c.in_ok-traces.traces.items c.requires.valid c.requires.fit c.requires.inherited
+    (c.in_ok-early.ensures ∙ ap (λ (x : Graphs). early_in x.graphs c.args.firing) c.deref.ensures)
     (c.in_ok-left.ensures ∙ ap (λ n. replicate n nothing) (c.len.ensures ∙ c.in_ok-places.places.ok.0))
     (c.in_ok-traces.ensures ∙ ap (λ n. replicate n []) (c.len-2.ensures ∙ c.in_ok-places.places.ok.0))
 

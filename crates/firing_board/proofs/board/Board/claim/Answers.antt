@@ -10,6 +10,7 @@ use Rattle.firing_board.specs.Wanting.{MayStarve}
 use Rattle.firing_board.proofs.Fields.{key_same}
 use Rattle.firing_board.proofs.KeptViews.{claims_as, enters_as, keeping, leases_as, may_claim_by, starves_as}
 use Rattle.firing_board.proofs.Rows.{all_go_on}
+use Rattle.firing_board.proofs.EndedLevels.{levels_same}
 use Rattle.firing_board.proofs.board.Board.claim.Goals as goal
 
 pub claim-claimed-requires-clause-may : goal.claim-claimed-requires-clause-may
@@ -29,7 +30,7 @@ invariant_of-self c =
     let may = may_claim_by c.entries_tell_steps.ensures.steps i c.self.invariant c.args.self.now c.self.view_is live c.args.worker c.requires in
     let same = key_same (counts_by i.signatures) i.top.value i.core new c.claim-claimed.ensures.kept.0 in (
       subst (λ (k : Key). Keeps k new i.starved) (sym same) (subst (λ (b : Bool). Keeps key new b) (sym live) (c.in-Ok.ensures.claimed key may).keeps),
-      c.claim-claimed.ensures.kept.1 ∙ (c.self.invariant.1 ∙ sym c.claim-claimed.ensures.kept.0.one_each),
+      levels_same i.core.table.graphs new.table.graphs c.claim-claimed.new.keeping.levels c.claim-claimed.ensures.kept.0.graphs_are (c.claim-claimed.ensures.kept.1.graphs i.core.table.graphs c.self.invariant.1),
       subst (λ (b : Bool). HasMemoryUnless b new) (sym live) c.in-Ok.ensures.room,
       c.claim-claimed.ensures.kept.0.slots_each ∙ (c.self.invariant.3 ∙ sym c.claim-claimed.ensures.kept.0.one_each),
     )
@@ -42,7 +43,7 @@ invariant_of-self-in-Err c =
     let may = may_claim_by c.entries_tell_steps.ensures.steps i c.self.invariant c.args.self.now c.self.view_is c.if-self.false c.args.worker c.requires in
     let same = key_same (counts_by i.signatures) i.top.value i.core new c.claim-claimed.ensures.kept.0 in (
       subst (λ (k : Key). Keeps k new true) (sym same) (c.in-Err.ensures.refused key may).keeps,
-      c.claim-claimed.ensures.kept.1 ∙ (c.self.invariant.1 ∙ sym c.claim-claimed.ensures.kept.0.one_each),
+      levels_same i.core.table.graphs new.table.graphs c.claim-claimed.new.keeping.levels c.claim-claimed.ensures.kept.0.graphs_are (c.claim-claimed.ensures.kept.1.graphs i.core.table.graphs c.self.invariant.1),
       tt,
       c.claim-claimed.ensures.kept.0.slots_each ∙ (c.self.invariant.3 ∙ sym c.claim-claimed.ensures.kept.0.one_each),
     )
@@ -60,14 +61,14 @@ returns-in-Ok-clause-claims c =
     let live = c.if-self.false in
     let new = c.claim-claimed.new.core in
     let w = c.args.worker in
-    let has = is_some i.kept in
+    let has = is_some i.keeping.kept in
     let may = may_claim_by c.entries_tell_steps.ensures.steps i c.self.invariant c.args.self.now c.self.view_is live w c.requires in
     let same = key_same (counts_by i.signatures) i.top.value i.core new c.claim-claimed.ensures.kept.0 in
     let before : keeping has (view_with key i.core false) ≡ c.args.self.now = ap (λ (b : Bool). keeping has (view_with key i.core b)) (sym live) ∙ c.self.view_is in
-    let after : keeping has (view_with key new false) ≡ keeping (is_some c.claim-claimed.new.kept) (view_with (key_with (counts_by i.signatures) i.top.value new) new i.starved) =
+    let after : keeping has (view_with key new false) ≡ keeping (is_some c.claim-claimed.new.keeping.kept) (view_with (key_with (counts_by i.signatures) i.top.value new) new i.starved) =
     ap (λ (b : Bool). keeping has (view_with key new b)) (sym live)
-    ∙ ap₂ (λ (k : Key) (h : Bool). keeping h (view_with k new i.starved)) (sym same) (sym c.claim-claimed.ensures.kept.2) in
-    subst (λ (b : BoardView). Claims b (keeping (is_some c.claim-claimed.new.kept) (view_with (key_with (counts_by i.signatures) i.top.value new) new i.starved)) w c.in-Ok.claim) before
+    ∙ ap₂ (λ (k : Key) (h : Bool). keeping h (view_with k new i.starved)) (sym same) (sym c.claim-claimed.ensures.kept.1.kept) in
+    subst (λ (b : BoardView). Claims b (keeping (is_some c.claim-claimed.new.keeping.kept) (view_with (key_with (counts_by i.signatures) i.top.value new) new i.starved)) w c.in-Ok.claim) before
     (subst (λ (b : BoardView). Claims (keeping has (view_with key i.core false)) b w c.in-Ok.claim) after
     (claims_as has (view_with key i.core false) (view_with key new false) w c.in-Ok.claim (c.in-Ok.ensures.claimed key may).claims))
 
@@ -78,14 +79,14 @@ returns-in-Ok-clause-enters c =
     let live = c.if-self.false in
     let new = c.claim-claimed.new.core in
     let w = c.args.worker in
-    let has = is_some i.kept in
+    let has = is_some i.keeping.kept in
     let may = may_claim_by c.entries_tell_steps.ensures.steps i c.self.invariant c.args.self.now c.self.view_is live w c.requires in
     let same = key_same (counts_by i.signatures) i.top.value i.core new c.claim-claimed.ensures.kept.0 in
     let before : keeping has (view_with key i.core false) ≡ c.args.self.now = ap (λ (b : Bool). keeping has (view_with key i.core b)) (sym live) ∙ c.self.view_is in
-    let after : keeping has (view_with key new false) ≡ keeping (is_some c.claim-claimed.new.kept) (view_with (key_with (counts_by i.signatures) i.top.value new) new i.starved) =
+    let after : keeping has (view_with key new false) ≡ keeping (is_some c.claim-claimed.new.keeping.kept) (view_with (key_with (counts_by i.signatures) i.top.value new) new i.starved) =
     ap (λ (b : Bool). keeping has (view_with key new b)) (sym live)
-    ∙ ap₂ (λ (k : Key) (h : Bool). keeping h (view_with k new i.starved)) (sym same) (sym c.claim-claimed.ensures.kept.2) in
-    subst (λ (b : BoardView). EntersAs b (keeping (is_some c.claim-claimed.new.kept) (view_with (key_with (counts_by i.signatures) i.top.value new) new i.starved)) w c.in-Ok.claim) before
+    ∙ ap₂ (λ (k : Key) (h : Bool). keeping h (view_with k new i.starved)) (sym same) (sym c.claim-claimed.ensures.kept.1.kept) in
+    subst (λ (b : BoardView). EntersAs b (keeping (is_some c.claim-claimed.new.keeping.kept) (view_with (key_with (counts_by i.signatures) i.top.value new) new i.starved)) w c.in-Ok.claim) before
     (subst (λ (b : BoardView). EntersAs (keeping has (view_with key i.core false)) b w c.in-Ok.claim) after
     (enters_as has (view_with key i.core false) (view_with key new false) w c.in-Ok.claim (c.in-Ok.ensures.claimed key may).enters))
 
@@ -107,8 +108,8 @@ returns-in-Err-clause-claims c =
     let new = c.claim-claimed.new.core in
     let may = may_claim_by c.entries_tell_steps.ensures.steps i c.self.invariant c.args.self.now c.self.view_is c.if-self.false c.args.worker c.requires in
     let same = key_same (counts_by i.signatures) i.top.value i.core new c.claim-claimed.ensures.kept.0 in
-    ap₂ (λ (k : Key) (h : Bool). keeping h (view_with k new true)) same c.claim-claimed.ensures.kept.2
-    ∙ (ap (keeping (is_some i.kept)) (c.in-Err.ensures.refused key may).starves ∙ ap (λ (b : BoardView). record b { starved = true; firings = firings_of new.table }) c.self.view_is)
+    ap₂ (λ (k : Key) (h : Bool). keeping h (view_with k new true)) same c.claim-claimed.ensures.kept.1.kept
+    ∙ (ap (keeping (is_some i.keeping.kept)) (c.in-Err.ensures.refused key may).starves ∙ ap (λ (b : BoardView). record b { starved = true; firings = firings_of new.table }) c.self.view_is)
 
 pub returns-in-Err-clause-enters : goal.returns-in-Err-clause-enters
 returns-in-Err-clause-enters c =
@@ -123,7 +124,7 @@ returns-in-Err-clause-licensed c = λ is was.
     let key = key_of i in
     let live = c.if-self.false in
     let w = c.args.worker in
-    let has = is_some i.kept in
+    let has = is_some i.keeping.kept in
     let may = may_claim_by c.entries_tell_steps.ensures.steps i c.self.invariant c.args.self.now c.self.view_is live w c.requires in
     let before : keeping has (view_with key i.core false) ≡ c.args.self.now = ap (λ (b : Bool). keeping has (view_with key i.core b)) (sym live) ∙ c.self.view_is in
     subst (λ (b : BoardView). MayStarve b w) before (starves_as has (view_with key i.core false) w (c.in-Err.ensures.licensed key may))
@@ -138,12 +139,12 @@ returns-in-Ok-clause-leases c =
     let live = c.if-self.false in
     let new = c.claim-claimed.new.core in
     let w = c.args.worker in
-    let has = is_some i.kept in
+    let has = is_some i.keeping.kept in
     let may = may_claim_by c.entries_tell_steps.ensures.steps i c.self.invariant c.args.self.now c.self.view_is live w c.requires in
     let same = key_same (counts_by i.signatures) i.top.value i.core new c.claim-claimed.ensures.kept.0 in
-    let after : keeping has (view_with key new false) ≡ keeping (is_some c.claim-claimed.new.kept) (view_with (key_with (counts_by i.signatures) i.top.value new) new i.starved) =
+    let after : keeping has (view_with key new false) ≡ keeping (is_some c.claim-claimed.new.keeping.kept) (view_with (key_with (counts_by i.signatures) i.top.value new) new i.starved) =
     ap (λ (b : Bool). keeping has (view_with key new b)) (sym live)
-    ∙ ap₂ (λ (k : Key) (h : Bool). keeping h (view_with k new i.starved)) (sym same) (sym c.claim-claimed.ensures.kept.2) in
+    ∙ ap₂ (λ (k : Key) (h : Bool). keeping h (view_with k new i.starved)) (sym same) (sym c.claim-claimed.ensures.kept.1.kept) in
     subst (λ (b : BoardView). LeasesFrame b w c.in-Ok.claim) after (leases_as has (view_with key new false) w c.in-Ok.claim (c.in-Ok.ensures.claimed key may).leases)
 
 pub returns-in-Ok-clause-firings : goal.returns-in-Ok-clause-firings
@@ -159,3 +160,6 @@ returns-in-Err-clause-firings c =
     let new = c.claim-claimed.new.core in
     let may = may_claim_by c.entries_tell_steps.ensures.steps i c.self.invariant c.args.self.now c.self.view_is c.if-self.false c.args.worker c.requires in
     subst (λ (b : BoardView). FiringsGoOn b.firings (firings_of new.table)) c.self.view_is (c.in-Err.ensures.refused (key_of i) may).firings
+
+pub claim-claimed-requires-clause-graphs : goal.claim-claimed-requires-clause-graphs
+claim-claimed-requires-clause-graphs c = c.self.invariant.1

@@ -11,6 +11,7 @@ use Rattle.firing_board.specs.View.{BoardView, lent_to}
 use Rattle.firing_board.proofs.Fields.{key_same}
 use Rattle.firing_board.proofs.KeptViews.{finishes_as, keeping, runs_as}
 use Rattle.firing_board.proofs.RoomSteps.{room_unless}
+use Rattle.firing_board.proofs.EndedLevels.{levels_same}
 use Rattle.firing_board.proofs.board.Board.finish_fire.Goals as goal
 
 pub finish_frame-requires-clause-may : goal.finish_frame-requires-clause-may
@@ -40,7 +41,7 @@ invariant_of-self c =
       lent = ap (λ (b : BoardView). lent_to b w) c.self.view_is ∙ c.requires.lent;
     } in
     let same = key_same (counts_by i.signatures) i.top.value i.core new kept in
-    (subst (λ (k : Key). Keeps k new after) (sym same) f.keeps, c.self.invariant.1 ∙ sym kept.one_each, room_unless i.starved after i.core new f.stays c.self.invariant.2 (λ live has. c.finish_frame.ensures.room has), kept.slots_each ∙ (c.self.invariant.3 ∙ sym kept.one_each))
+    (subst (λ (k : Key). Keeps k new after) (sym same) f.keeps, levels_same i.core.table.graphs new.table.graphs i.keeping.levels kept.graphs_are c.self.invariant.1, room_unless i.starved after i.core new f.stays c.self.invariant.2 (λ live has. c.finish_frame.ensures.room has), kept.slots_each ∙ (c.self.invariant.3 ∙ sym kept.one_each))
 
 pub returns-clause-finishes : goal.returns-clause-finishes
 returns-clause-finishes c =
@@ -55,7 +56,7 @@ returns-clause-finishes c =
       lent = ap (λ (b : BoardView). lent_to b w) c.self.view_is ∙ c.requires.lent;
     } in
     let same = key_same (counts_by i.signatures) i.top.value i.core new c.finish_frame.ensures.kept in
-    let has = is_some i.kept in
+    let has = is_some i.keeping.kept in
     let whole = finishes_as has (view_with key i.core i.starved) (view_with key new after) w f.finishes in
     subst (λ (b : BoardView). Finishes b (keeping has (view_with (key_with (counts_by i.signatures) i.top.value new) new after)) w) c.self.view_is
     (subst (λ (k : Key). Finishes (view_of i) (keeping has (view_with k new after)) w) (sym same) whole)

@@ -8,4 +8,4 @@ use Rattle.firing_board.proofs.board.Board.journal.Goals as goal
 pub returns-clause-sound : goal.returns-clause-sound
 returns-clause-sound c =
     let i = c.self.inside in
-    subst IsSound c.self.view_is (sound_as (is_some i.kept) (view_with (key_of i) i.core i.starved) (is_sound c.entries_tell_steps.ensures.steps (λ key is. c.rules_are_lawful.ensures key.graphs is.valid.valid) (key_of i) i.core i.starved c.self.invariant.0))
+    subst IsSound c.self.view_is (sound_as (is_some i.keeping.kept) (view_with (key_of i) i.core i.starved) (is_sound c.entries_tell_steps.ensures.steps (λ key is. c.rules_are_lawful.ensures key.graphs is.valid.valid) (key_of i) i.core i.starved c.self.invariant.0))

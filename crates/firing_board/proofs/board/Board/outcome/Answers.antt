@@ -28,6 +28,6 @@ returns c =
     if_ok c.outcome_of.result (EndsWith i.core i.starved) (EndsAs c.args.self)
     (λ (end : BoardEnd) (w : EndsWith i.core i.starved end).
     subst (λ (b : BoardView). EndsAs b end) c.self.view_is
-    (ends_as_kept (is_some i.kept) (view_with (key_of i) i.core i.starved) end
+    (ends_as_kept (is_some i.keeping.kept) (view_with (key_of i) i.core i.starved) end
     (ends_as c.entries_tell_steps.ensures.steps c.boards_end.ensures.ended c.boards_end.ensures.meant (key_of i) i.core i.starved c.self.invariant.0 over end w)))
     c.outcome_of.ensures

@@ -55,7 +55,7 @@ invariant_of-result c =
     let key_is : key_with (counts_by c.of-signatures.result) c.of-top.result.value i ≡ key =
     (λ x. record { graphs = graphs x; signatures = signatures x; delays = (held x).state; ins = (held x).inputs; workers = workers x }) in
     let keeps = begins c.boards_keep.ensures.start c.tables_suit.ensures.starts_with c.tables_suit.ensures.start key c.requires.key i s in
-    (subst (λ (k : Key). Keeps k i false) (sym key_is) keeps, c.in_ok-compiling.ensures ∙ sym keeps.one_each, c.in_ok-core.ensures.room, c.in_ok-core.ensures.room.for_frames.one_each)
+    (subst (λ (k : Key). Keeps k i false) (sym key_is) keeps, tt, c.in_ok-core.ensures.room, c.in_ok-core.ensures.room.for_frames.one_each)
 
 pub returns : goal.returns
 returns c =

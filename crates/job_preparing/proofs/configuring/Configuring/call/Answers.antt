@@ -34,7 +34,7 @@ module _ (i : Inside) (kept : IsConfiguring i) (n : ℕ) (old : ConfiguringView)
   offered = subst (λ (v : ConfiguringView). IsOfferedCall v n) (sym was) requires
 
   at : (s : Stage) × (slice_get i.stages.items n ≡ Some s)
-  at = stage_there (arc_value i.graphs) i.firing (arc_value i.early) i.places.items i.stages.items i.frames.items i.left.items i.traces.items kept n (Call offered.job) offered.task_is
+  at = stage_there (arc_value i.graphs) i.firing i.early i.places.items i.stages.items i.frames.items i.left.items i.traces.items kept n (Call offered.job) offered.task_is
 
   inside : n < length i.stages.items
   inside = slice_get_within i.stages.items n at.0 at.1
@@ -43,7 +43,7 @@ module _ (i : Inside) (kept : IsConfiguring i) (n : ℕ) (old : ConfiguringView)
   places_inside = let s = inside in let a = kept.one_stage in omega arith
 
   lends_nothing : lent_of at.0 ≡ None
-  lends_nothing = ap lent_of (calling_at (arc_value i.graphs) i.firing (arc_value i.early) i.places.items i.stages.items i.frames.items i.left.items i.traces.items kept n at.0 at.1 offered)
+  lends_nothing = ap lent_of (calling_at (arc_value i.graphs) i.firing i.early i.places.items i.stages.items i.frames.items i.left.items i.traces.items kept n at.0 at.1 offered)
 
   module _ (a : ℕ) (read : a ≡ get_or i.places.items n a) where
     each : (slice_get (configurations g) n ≡ Some (configuration_at g n a)) × IsConfiguration g n a
@@ -94,7 +94,7 @@ invariant_of-self c =
     let P : Firing → Type 0 = λ d. task (view_of c.self.inside) c.args.c ≡ Some (Call d) in
     let Q : Firing → Type 0 = λ d. (early_of (arc_value c.self.inside.graphs).graphs d.graph d.inherited).outputs ≡ config_rates (arc_value c.self.inside.graphs).graphs c.self.inside.firing c.args.c in
     let R : Firing → Type 0 = λ d. lengths d.state ≡ lengths (initial (arc_value c.self.inside.graphs).graphs d.graph) in
-    call_keeps (arc_value c.self.inside.graphs) c.self.inside.firing (arc_value c.self.inside.early) c.self.inside.places.items c.self.inside.stages.items c.self.inside.frames.items c.self.inside.left.items c.self.inside.traces.items c.self.invariant c.args.c s.0 s.1 Calls (offered c.self.inside c.self.invariant c.args.c c.args.self.now c.self.view_is c.requires) c.of.result c.in_ok-line.line (subst P told (task_now c))
+    call_keeps (arc_value c.self.inside.graphs) c.self.inside.firing c.self.inside.early c.self.inside.places.items c.self.inside.stages.items c.self.inside.frames.items c.self.inside.left.items c.self.inside.traces.items c.self.invariant c.args.c s.0 s.1 Calls (offered c.self.inside c.self.invariant c.args.c c.args.self.now c.self.view_is c.requires) c.of.result c.in_ok-line.line (subst P told (task_now c))
     (subst Q told (called_rates c.self.inside c.self.invariant c.args.c c.args.self.now c.self.view_is c.requires c.index.result.now c.index.ensures c.index-items-self.result (c.index-items-self.is ∙ graph_at (arc_value c.self.inside.graphs).graphs c.self.inside.firing c.self.invariant.fit c.items.result.now c.index-items-self.result (c.items.ensures ∙ ap (λ (x : Graphs). x.graphs) c.deref.ensures)) c.deref-2.result.now.graphs (ap (λ (x : Graphs). x.graphs) c.deref-2.ensures) c.in_ok-firing.firing c.in_ok-firing.ensures.rates))
     c.in_ok-line.ensures.empty
     (subst R told (called_state c.self.inside c.self.invariant c.args.c c.args.self.now c.self.view_is c.requires c.index.result.now c.index.ensures c.index-items-self.result (c.index-items-self.is ∙ graph_at (arc_value c.self.inside.graphs).graphs c.self.inside.firing c.self.invariant.fit c.items.result.now c.index-items-self.result (c.items.ensures ∙ ap (λ (x : Graphs). x.graphs) c.deref.ensures)) c.deref-2.result.now.graphs (ap (λ (x : Graphs). x.graphs) c.deref-2.ensures) c.in_ok-firing.firing c.in_ok-firing.ensures.state))
@@ -106,4 +106,4 @@ returns-clause-called c = ap (λ (v : ConfiguringView). task v c.args.c) (sym c.
 pub returns-clause-opened : goal.returns-clause-opened
 returns-clause-opened c =
     let s = at c.self.inside c.self.invariant c.args.c c.args.self.now c.self.view_is c.requires in
-    opened_only (arc_value c.self.inside.graphs) c.self.inside.firing (arc_value c.self.inside.early) c.self.inside.places.items c.self.inside.stages.items c.self.inside.frames.items c.self.inside.left.items c.self.inside.traces.items c.self.invariant c.args.c s.0 s.1 Calls c.args.self.now c.self.view_is (lends_nothing c.self.inside c.self.invariant c.args.c c.args.self.now c.self.view_is c.requires) (Open c.of.result c.in_ok-line.line) (mark.Open c.in_ok-firing.firing) (ap mark.Open c.of.ensures) refl
+    opened_only (arc_value c.self.inside.graphs) c.self.inside.firing c.self.inside.early c.self.inside.places.items c.self.inside.stages.items c.self.inside.frames.items c.self.inside.left.items c.self.inside.traces.items c.self.invariant c.args.c s.0 s.1 Calls c.args.self.now c.self.view_is (lends_nothing c.self.inside c.self.invariant c.args.c c.args.self.now c.self.view_is c.requires) (Open c.of.result c.in_ok-line.line) (mark.Open c.in_ok-firing.firing) (ap mark.Open c.of.ensures) refl

@@ -26,7 +26,7 @@ module _ (i : Inside) (kept : IsConfiguring i) (n : ℕ) (old : ConfiguringView)
   offered = subst (λ (v : ConfiguringView). IsOfferedWork v n) (sym was) requires
 
   at : (s : Stage) × (slice_get i.stages.items n ≡ Some s)
-  at = stage_there (arc_value i.graphs) i.firing (arc_value i.early) i.places.items i.stages.items i.frames.items i.left.items i.traces.items kept n (Work offered.work) offered.task_is
+  at = stage_there (arc_value i.graphs) i.firing i.early i.places.items i.stages.items i.frames.items i.left.items i.traces.items kept n (Work offered.work) offered.task_is
 
   inside : n < length i.stages.items
   inside = slice_get_within i.stages.items n at.0 at.1
@@ -35,7 +35,7 @@ module _ (i : Inside) (kept : IsConfiguring i) (n : ℕ) (old : ConfiguringView)
   frames_inside = let s = inside in let a = kept.one_stage in let b = kept.one_frame in omega arith
 
   waiting : (f : FrameView) × (get_or i.frames.items n None ≡ Some f)
-  waiting = has_frame (arc_value i.graphs) i.firing (arc_value i.early) i.places.items i.stages.items i.frames.items i.left.items i.traces.items kept n at.0 at.1 at.0 offered
+  waiting = has_frame (arc_value i.graphs) i.firing i.early i.places.items i.stages.items i.frames.items i.left.items i.traces.items kept n at.0 at.1 at.0 offered
 
 pub unreachable-requires : goal.unreachable-requires
 unreachable-requires c =
@@ -54,7 +54,7 @@ index_mut-requires-3 c = let s = inside c.self.inside c.self.invariant c.args.c 
 pub spare_of-spare-requires : goal.spare_of-spare-requires
 spare_of-spare-requires c =
     let is = element c.self.inside.stages.items c.args.c c.index_mut-2.result.now (inside c.self.inside c.self.invariant c.args.c c.args.self.now c.self.view_is c.requires) c.index_mut-2.ensures.value in
-    let has = has_spare (arc_value c.self.inside.graphs) c.self.inside.firing (arc_value c.self.inside.early) c.self.inside.places.items c.self.inside.stages.items c.self.inside.frames.items c.self.inside.left.items c.self.inside.traces.items c.self.invariant c.args.c c.index_mut-2.result.now is c.index_mut-2.result.now (offered c.self.inside c.self.invariant c.args.c c.args.self.now c.self.view_is c.requires) in
+    let has = has_spare (arc_value c.self.inside.graphs) c.self.inside.firing c.self.inside.early c.self.inside.places.items c.self.inside.stages.items c.self.inside.frames.items c.self.inside.left.items c.self.inside.traces.items c.self.invariant c.args.c c.index_mut-2.result.now is c.index_mut-2.result.now (offered c.self.inside c.self.invariant c.args.c c.args.self.now c.self.view_is c.requires) in
     some_of (spare_in c.replace.result) has.0 (ap spare_in c.replace.ensures.value ∙ has.1)
 
 frame_is : (c : goal.Joined-index_mut) → get_or c.self.inside.frames.items c.args.c None ≡ Some c.in-Some.frame
@@ -65,18 +65,18 @@ stage_is c = element c.self.inside.stages.items c.args.c c.index_mut-2.result.no
 
 pub invariant_of-self : goal.invariant_of-self
 invariant_of-self c =
-    let kept = claim_keeps (arc_value c.self.inside.graphs) c.self.inside.firing (arc_value c.self.inside.early) c.self.inside.places.items c.self.inside.stages.items c.self.inside.frames.items c.self.inside.left.items c.self.inside.traces.items c.self.invariant c.args.c c.index_mut-2.result.now (stage_is c) c.replace.new.dest (offered c.self.inside c.self.invariant c.args.c c.args.self.now c.self.view_is c.requires) c.in-Some.frame (frame_is c)
+    let kept = claim_keeps (arc_value c.self.inside.graphs) c.self.inside.firing c.self.inside.early c.self.inside.places.items c.self.inside.stages.items c.self.inside.frames.items c.self.inside.left.items c.self.inside.traces.items c.self.invariant c.args.c c.index_mut-2.result.now (stage_is c) c.replace.new.dest (offered c.self.inside c.self.invariant c.args.c c.args.self.now c.self.view_is c.requires) c.in-Some.frame (frame_is c)
     c.spare_of-spare.result (ap spare_in (sym c.replace.ensures.value) ∙ c.spare_of-spare.ensures) c.told_of.result c.told_of.ensures in
-    let P : Option FrameView → Type 0 = λ f. Keeps (arc_value c.self.inside.graphs) c.self.inside.firing (arc_value c.self.inside.early) c.self.inside.places.items
+    let P : Option FrameView → Type 0 = λ f. Keeps (arc_value c.self.inside.graphs) c.self.inside.firing c.self.inside.early c.self.inside.places.items
     (set (set c.self.inside.stages.items c.args.c c.replace.new.dest) c.args.c (Busy c.told_of.result c.spare_of-spare.result)) (set c.self.inside.frames.items c.args.c f) c.self.inside.left.items c.self.inside.traces.items in
     subst P (sym c.in-Some.ensures.after) kept
 
 pub returns-clause-frame : goal.returns-clause-frame
 returns-clause-frame c =
     let P : ConfiguringView → Type 0 = λ v. IsFrameFor (task v c.args.c) c.in-Some.frame in
-    subst P c.self.view_is (frame_for (arc_value c.self.inside.graphs) c.self.inside.firing (arc_value c.self.inside.early) c.self.inside.places.items c.self.inside.stages.items c.self.inside.frames.items c.self.inside.left.items c.self.inside.traces.items c.self.invariant c.args.c c.index_mut-2.result.now (stage_is c) c.replace.new.dest (offered c.self.inside c.self.invariant c.args.c c.args.self.now c.self.view_is c.requires) c.in-Some.frame (frame_is c))
+    subst P c.self.view_is (frame_for (arc_value c.self.inside.graphs) c.self.inside.firing c.self.inside.early c.self.inside.places.items c.self.inside.stages.items c.self.inside.frames.items c.self.inside.left.items c.self.inside.traces.items c.self.invariant c.args.c c.index_mut-2.result.now (stage_is c) c.replace.new.dest (offered c.self.inside c.self.invariant c.args.c c.args.self.now c.self.view_is c.requires) c.in-Some.frame (frame_is c))
 
 pub returns-clause-claimed : goal.returns-clause-claimed
 returns-clause-claimed c =
-    both_after (arc_value c.self.inside.graphs) c.self.inside.firing (arc_value c.self.inside.early) c.self.inside.places.items c.self.inside.stages.items c.self.inside.frames.items c.self.inside.left.items c.self.inside.traces.items c.self.invariant c.args.c c.index_mut-2.result.now (stage_is c) c.replace.new.dest c.args.self.now c.self.view_is
+    both_after (arc_value c.self.inside.graphs) c.self.inside.firing c.self.inside.early c.self.inside.places.items c.self.inside.stages.items c.self.inside.frames.items c.self.inside.left.items c.self.inside.traces.items c.self.invariant c.args.c c.index_mut-2.result.now (stage_is c) c.replace.new.dest c.args.self.now c.self.view_is
     (Busy c.told_of.result c.spare_of-spare.result) mark.Busy (Some c.in-Some.frame.places) refl (ap (λ (f : FrameView). Some f.places) c.told_of.ensures)

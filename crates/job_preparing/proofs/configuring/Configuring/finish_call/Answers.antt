@@ -27,7 +27,7 @@ module _ (i : Inside) (kept : IsConfiguring i) (n : ℕ) (old : ConfiguringView)
   stage_is = element i.stages.items n s (marked_inside i.stages.items n (λ free. (let e : mark.Open job ≡ mark.Free = sym is_open ∙ free in cc))) read
 
   lends_nothing : (between : Stage) → lent_of s ≡ None
-  lends_nothing between = open_lent s job (open_mark (arc_value i.graphs) i.firing (arc_value i.early) i.places.items i.stages.items i.frames.items i.left.items i.traces.items kept n s stage_is between job is_open)
+  lends_nothing between = open_lent s job (open_mark (arc_value i.graphs) i.firing i.early i.places.items i.stages.items i.frames.items i.left.items i.traces.items kept n s stage_is between job is_open)
 
   suits_own : (given : JobGiven) (end : Result JobGiven Refusal) → end ≡ Ok given → EndSuits old.graphs.graphs job (end_of end) → SuitsCall (arc_value i.graphs).graphs job (given_of given)
   suits_own given end is suits =
@@ -36,32 +36,32 @@ module _ (i : Inside) (kept : IsConfiguring i) (n : ℕ) (old : ConfiguringView)
       subst Q (sym was) (subst P is suits)
 
 pub keep-next-requires-clause-empty : goal.keep-next-requires-clause-empty
-keep-next-requires-clause-empty c = (called (arc_value c.self.inside.graphs) c.self.inside.firing (arc_value c.self.inside.early) c.self.inside.places.items c.self.inside.stages.items c.self.inside.frames.items c.self.inside.left.items c.self.inside.traces.items c.self.invariant c.args.c c.index_mut.result.now (stage_is c.self.inside c.self.invariant c.args.c c.args.self.now c.self.view_is c.requires.open.0 c.requires.open.1 c.index_mut.result.now c.index_mut.ensures.value) c.replace-stage.new.dest c.requires.open.0 (is_open c.self.inside c.self.invariant c.args.c c.args.self.now c.self.view_is c.requires.open.0 c.requires.open.1 c.index_mut.result.now c.index_mut.ensures.value) c.line_of-line.result (ap line_in (sym c.replace-stage.ensures.value) ∙ c.line_of-line.ensures)).empty
+keep-next-requires-clause-empty c = (called (arc_value c.self.inside.graphs) c.self.inside.firing c.self.inside.early c.self.inside.places.items c.self.inside.stages.items c.self.inside.frames.items c.self.inside.left.items c.self.inside.traces.items c.self.invariant c.args.c c.index_mut.result.now (stage_is c.self.inside c.self.invariant c.args.c c.args.self.now c.self.view_is c.requires.open.0 c.requires.open.1 c.index_mut.result.now c.index_mut.ensures.value) c.replace-stage.new.dest c.requires.open.0 (is_open c.self.inside c.self.invariant c.args.c c.args.self.now c.self.view_is c.requires.open.0 c.requires.open.1 c.index_mut.result.now c.index_mut.ensures.value) c.line_of-line.result (ap line_in (sym c.replace-stage.ensures.value) ∙ c.line_of-line.ensures)).empty
 
 pub keep-next-requires-clause-room : goal.keep-next-requires-clause-room
-keep-next-requires-clause-room c = line_room (arc_value c.self.inside.graphs) c.self.inside.firing (arc_value c.self.inside.early) c.self.inside.places.items c.self.inside.stages.items c.self.inside.frames.items c.self.inside.left.items c.self.inside.traces.items c.self.invariant c.args.c c.index_mut.result.now (stage_is c.self.inside c.self.invariant c.args.c c.args.self.now c.self.view_is c.requires.open.0 c.requires.open.1 c.index_mut.result.now c.index_mut.ensures.value) c.replace-stage.new.dest c.requires.open.0 (is_open c.self.inside c.self.invariant c.args.c c.args.self.now c.self.view_is c.requires.open.0 c.requires.open.1 c.index_mut.result.now c.index_mut.ensures.value) c.line_of-line.result (ap line_in (sym c.replace-stage.ensures.value) ∙ c.line_of-line.ensures) c.in-Ok.given (suits_own c.self.inside c.self.invariant c.args.c c.args.self.now c.self.view_is c.requires.open.0 c.requires.open.1 c.index_mut.result.now c.index_mut.ensures.value c.in-Ok.given c.args.end c.in-Ok.is c.requires.open.2)
+keep-next-requires-clause-room c = line_room (arc_value c.self.inside.graphs) c.self.inside.firing c.self.inside.early c.self.inside.places.items c.self.inside.stages.items c.self.inside.frames.items c.self.inside.left.items c.self.inside.traces.items c.self.invariant c.args.c c.index_mut.result.now (stage_is c.self.inside c.self.invariant c.args.c c.args.self.now c.self.view_is c.requires.open.0 c.requires.open.1 c.index_mut.result.now c.index_mut.ensures.value) c.replace-stage.new.dest c.requires.open.0 (is_open c.self.inside c.self.invariant c.args.c c.args.self.now c.self.view_is c.requires.open.0 c.requires.open.1 c.index_mut.result.now c.index_mut.ensures.value) c.line_of-line.result (ap line_in (sym c.replace-stage.ensures.value) ∙ c.line_of-line.ensures) c.in-Ok.given (suits_own c.self.inside c.self.invariant c.args.c c.args.self.now c.self.view_is c.requires.open.0 c.requires.open.1 c.index_mut.result.now c.index_mut.ensures.value c.in-Ok.given c.args.end c.in-Ok.is c.requires.open.2)
 
 pub invariant_of-self : goal.invariant_of-self
 invariant_of-self c =
-    let P : List Stage → Type 0 = λ l. Keeps (arc_value c.self.inside.graphs) c.self.inside.firing (arc_value c.self.inside.early) c.self.inside.places.items l c.self.inside.frames.items (set c.self.inside.left.items c.args.c c.keep-next.new.left) (set c.self.inside.traces.items c.args.c c.keep-next.new.trace) in
+    let P : List Stage → Type 0 = λ l. Keeps (arc_value c.self.inside.graphs) c.self.inside.firing c.self.inside.early c.self.inside.places.items l c.self.inside.frames.items (set c.self.inside.left.items c.args.c c.keep-next.new.left) (set c.self.inside.traces.items c.args.c c.keep-next.new.trace) in
     subst P (sym c.put.ensures)
-    (call_given_keeps (arc_value c.self.inside.graphs) c.self.inside.firing (arc_value c.self.inside.early) c.self.inside.places.items c.self.inside.stages.items c.self.inside.frames.items c.self.inside.left.items c.self.inside.traces.items c.self.invariant c.args.c c.index_mut.result.now (stage_is c.self.inside c.self.invariant c.args.c c.args.self.now c.self.view_is c.requires.open.0 c.requires.open.1 c.index_mut.result.now c.index_mut.ensures.value) c.replace-stage.new.dest c.requires.open.0 (is_open c.self.inside c.self.invariant c.args.c c.args.self.now c.self.view_is c.requires.open.0 c.requires.open.1 c.index_mut.result.now c.index_mut.ensures.value) c.line_of-line.result (ap line_in (sym c.replace-stage.ensures.value) ∙ c.line_of-line.ensures) c.in-Ok.given c.keep-next.result c.keep-next.new.left c.keep-next.new.trace (suits_own c.self.inside c.self.invariant c.args.c c.args.self.now c.self.view_is c.requires.open.0 c.requires.open.1 c.index_mut.result.now c.index_mut.ensures.value c.in-Ok.given c.args.end c.in-Ok.is c.requires.open.2) c.keep-next.ensures.stage c.keep-next.ensures.left c.keep-next.ensures.trace)
+    (call_given_keeps (arc_value c.self.inside.graphs) c.self.inside.firing c.self.inside.early c.self.inside.places.items c.self.inside.stages.items c.self.inside.frames.items c.self.inside.left.items c.self.inside.traces.items c.self.invariant c.args.c c.index_mut.result.now (stage_is c.self.inside c.self.invariant c.args.c c.args.self.now c.self.view_is c.requires.open.0 c.requires.open.1 c.index_mut.result.now c.index_mut.ensures.value) c.replace-stage.new.dest c.requires.open.0 (is_open c.self.inside c.self.invariant c.args.c c.args.self.now c.self.view_is c.requires.open.0 c.requires.open.1 c.index_mut.result.now c.index_mut.ensures.value) c.line_of-line.result (ap line_in (sym c.replace-stage.ensures.value) ∙ c.line_of-line.ensures) c.in-Ok.given c.keep-next.result c.keep-next.new.left c.keep-next.new.trace (suits_own c.self.inside c.self.invariant c.args.c c.args.self.now c.self.view_is c.requires.open.0 c.requires.open.1 c.index_mut.result.now c.index_mut.ensures.value c.in-Ok.given c.args.end c.in-Ok.is c.requires.open.2) c.keep-next.ensures.stage c.keep-next.ensures.left c.keep-next.ensures.trace)
 
 pub invariant_of-self-in-Err : goal.invariant_of-self-in-Err
 invariant_of-self-in-Err c =
-    let P : List Stage → Type 0 = λ l. Keeps (arc_value c.self.inside.graphs) c.self.inside.firing (arc_value c.self.inside.early) c.self.inside.places.items l c.self.inside.frames.items c.self.inside.left.items c.self.inside.traces.items in
-    subst P (sym c.put-in-Err.ensures) (refused_keeps (arc_value c.self.inside.graphs) c.self.inside.firing (arc_value c.self.inside.early) c.self.inside.places.items c.self.inside.stages.items c.self.inside.frames.items c.self.inside.left.items c.self.inside.traces.items c.self.invariant c.args.c c.index_mut.result.now (stage_is c.self.inside c.self.invariant c.args.c c.args.self.now c.self.view_is c.requires.open.0 c.requires.open.1 c.index_mut.result.now c.index_mut.ensures.value) c.replace-stage.new.dest c.in-Err.refusal)
+    let P : List Stage → Type 0 = λ l. Keeps (arc_value c.self.inside.graphs) c.self.inside.firing c.self.inside.early c.self.inside.places.items l c.self.inside.frames.items c.self.inside.left.items c.self.inside.traces.items in
+    subst P (sym c.put-in-Err.ensures) (refused_keeps (arc_value c.self.inside.graphs) c.self.inside.firing c.self.inside.early c.self.inside.places.items c.self.inside.stages.items c.self.inside.frames.items c.self.inside.left.items c.self.inside.traces.items c.self.invariant c.args.c c.index_mut.result.now (stage_is c.self.inside c.self.invariant c.args.c c.args.self.now c.self.view_is c.requires.open.0 c.requires.open.1 c.index_mut.result.now c.index_mut.ensures.value) c.replace-stage.new.dest c.in-Err.refusal)
 
 pub returns-in-Ok : goal.returns-in-Ok
 returns-in-Ok c =
     let mark_is : mark_of c.keep-next.result ≡ mark.Done (words.answer_of (end_of c.args.end)) =
     kept_mark c.in-Ok.given c.keep-next.result c.keep-next.ensures.stage ∙ ap (λ (e : Result JobGiven Refusal). mark.Done (words.answer_of (end_of e))) (sym c.in-Ok.is) in
     ap (λ (l : List Stage). the_view (arc_value c.self.inside.graphs) c.self.inside.firing (map mark_of l) (map lent_of l)) c.put.ensures
-    ∙ marks_only (arc_value c.self.inside.graphs) c.self.inside.firing (arc_value c.self.inside.early) c.self.inside.places.items c.self.inside.stages.items c.self.inside.frames.items c.self.inside.left.items c.self.inside.traces.items c.self.invariant c.args.c c.index_mut.result.now (stage_is c.self.inside c.self.invariant c.args.c c.args.self.now c.self.view_is c.requires.open.0 c.requires.open.1 c.index_mut.result.now c.index_mut.ensures.value) c.replace-stage.new.dest c.args.self.now c.self.view_is (lends_nothing c.self.inside c.self.invariant c.args.c c.args.self.now c.self.view_is c.requires.open.0 c.requires.open.1 c.index_mut.result.now c.index_mut.ensures.value c.replace-stage.new.dest) c.keep-next.result _ mark_is (kept_lent c.in-Ok.given c.keep-next.result c.keep-next.ensures.stage)
+    ∙ marks_only (arc_value c.self.inside.graphs) c.self.inside.firing c.self.inside.early c.self.inside.places.items c.self.inside.stages.items c.self.inside.frames.items c.self.inside.left.items c.self.inside.traces.items c.self.invariant c.args.c c.index_mut.result.now (stage_is c.self.inside c.self.invariant c.args.c c.args.self.now c.self.view_is c.requires.open.0 c.requires.open.1 c.index_mut.result.now c.index_mut.ensures.value) c.replace-stage.new.dest c.args.self.now c.self.view_is (lends_nothing c.self.inside c.self.invariant c.args.c c.args.self.now c.self.view_is c.requires.open.0 c.requires.open.1 c.index_mut.result.now c.index_mut.ensures.value c.replace-stage.new.dest) c.keep-next.result _ mark_is (kept_lent c.in-Ok.given c.keep-next.result c.keep-next.ensures.stage)
 
 pub returns-in-Err : goal.returns-in-Err
 returns-in-Err c =
     let mark_is : mark_of (Refused c.in-Err.refusal) ≡ mark.Done (words.answer_of (end_of c.args.end)) =
     ap (λ (e : Result JobGiven Refusal). mark.Done (words.answer_of (end_of e))) (sym c.in-Err.is) in
     ap (λ (l : List Stage). the_view (arc_value c.self.inside.graphs) c.self.inside.firing (map mark_of l) (map lent_of l)) c.put-in-Err.ensures
-    ∙ marks_only (arc_value c.self.inside.graphs) c.self.inside.firing (arc_value c.self.inside.early) c.self.inside.places.items c.self.inside.stages.items c.self.inside.frames.items c.self.inside.left.items c.self.inside.traces.items c.self.invariant c.args.c c.index_mut.result.now (stage_is c.self.inside c.self.invariant c.args.c c.args.self.now c.self.view_is c.requires.open.0 c.requires.open.1 c.index_mut.result.now c.index_mut.ensures.value) c.replace-stage.new.dest c.args.self.now c.self.view_is (lends_nothing c.self.inside c.self.invariant c.args.c c.args.self.now c.self.view_is c.requires.open.0 c.requires.open.1 c.index_mut.result.now c.index_mut.ensures.value c.replace-stage.new.dest) (Refused c.in-Err.refusal) _ mark_is refl
+    ∙ marks_only (arc_value c.self.inside.graphs) c.self.inside.firing c.self.inside.early c.self.inside.places.items c.self.inside.stages.items c.self.inside.frames.items c.self.inside.left.items c.self.inside.traces.items c.self.invariant c.args.c c.index_mut.result.now (stage_is c.self.inside c.self.invariant c.args.c c.args.self.now c.self.view_is c.requires.open.0 c.requires.open.1 c.index_mut.result.now c.index_mut.ensures.value) c.replace-stage.new.dest c.args.self.now c.self.view_is (lends_nothing c.self.inside c.self.invariant c.args.c c.args.self.now c.self.view_is c.requires.open.0 c.requires.open.1 c.index_mut.result.now c.index_mut.ensures.value c.replace-stage.new.dest) (Refused c.in-Err.refusal) _ mark_is refl

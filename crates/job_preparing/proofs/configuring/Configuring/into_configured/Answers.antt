@@ -9,9 +9,9 @@ pub returns-clause-left : goal.returns-clause-left
 returns-clause-left c =
     let ready = subst IsReady (sym c.self.view_is) c.requires in
     ap (λ l. with_traces l c.new-2.result) c.new.ensures ∙ ap (λ l. with_traces c.self.inside.left.items l) c.new-2.ensures
-    ∙ sym (left_is (arc_value c.self.inside.graphs) c.self.inside.firing (arc_value c.self.inside.early) c.self.inside.places.items c.self.inside.stages.items c.self.inside.frames.items c.self.inside.left.items c.self.inside.traces.items c.self.invariant ready) ∙ ap (λ (v : ConfiguringView). left_by v) c.self.view_is
+    ∙ sym (left_is (arc_value c.self.inside.graphs) c.self.inside.firing c.self.inside.early c.self.inside.places.items c.self.inside.stages.items c.self.inside.frames.items c.self.inside.left.items c.self.inside.traces.items c.self.invariant ready) ∙ ap (λ (v : ConfiguringView). left_by v) c.self.view_is
 
 pub returns-clause-configured : goal.returns-clause-configured
 returns-clause-configured c =
     let ready = subst IsReady (sym c.self.view_is) c.requires in
-    c.new.ensures ∙ slim (arc_value c.self.inside.graphs) c.self.inside.firing (arc_value c.self.inside.early) c.self.inside.places.items c.self.inside.stages.items c.self.inside.frames.items c.self.inside.left.items c.self.inside.traces.items c.self.invariant ready ∙ ap (λ (v : ConfiguringView). map without_trace (left_by v)) c.self.view_is
+    c.new.ensures ∙ slim (arc_value c.self.inside.graphs) c.self.inside.firing c.self.inside.early c.self.inside.places.items c.self.inside.stages.items c.self.inside.frames.items c.self.inside.left.items c.self.inside.traces.items c.self.invariant ready ∙ ap (λ (v : ConfiguringView). map without_trace (left_by v)) c.self.view_is

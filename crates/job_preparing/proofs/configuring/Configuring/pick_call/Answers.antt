@@ -15,7 +15,7 @@ overflow_cast-result c =
     let P : Option ℕ → Type 0 = λ o. IsFirst is_call c.self.inside.stages.items o in
     let at = subst P e (first_found is_call c.self.inside.stages.items) in
     let inside : c.in-Some.n < length c.self.inside.stages.items = slice_get_within c.self.inside.stages.items c.in-Some.n at.stage at.is in
-    let many = few (arc_value c.self.inside.graphs) c.self.inside.firing (arc_value c.self.inside.early) c.self.inside.places.items c.self.inside.stages.items c.self.inside.frames.items c.self.inside.left.items c.self.inside.traces.items c.self.invariant in
+    let many = few (arc_value c.self.inside.graphs) c.self.inside.firing c.self.inside.early c.self.inside.places.items c.self.inside.stages.items c.self.inside.frames.items c.self.inside.left.items c.self.inside.traces.items c.self.invariant in
     omega arith
 
 pub returns-in-Some : goal.returns-in-Some
@@ -23,11 +23,11 @@ returns-in-Some c =
     let e : position is_call c.self.inside.stages.items ≡ Some c.in-Some.n = ap (position is_call) (sym c.deref.ensures.value) ∙ sym c.in-Some.ensures in
     let P : Option ℕ → Type 0 = λ o. IsFirst is_call c.self.inside.stages.items o in
     let Q : ConfiguringView → Type 0 = λ v. IsLeast (IsOfferedCall v) (Some c.in-Some.n) in
-    subst Q c.self.view_is (picked_call (arc_value c.self.inside.graphs) c.self.inside.firing (arc_value c.self.inside.early) c.self.inside.places.items c.self.inside.stages.items c.self.inside.frames.items c.self.inside.left.items c.self.inside.traces.items c.self.invariant (Some c.in-Some.n) (subst P e (first_found is_call c.self.inside.stages.items)))
+    subst Q c.self.view_is (picked_call (arc_value c.self.inside.graphs) c.self.inside.firing c.self.inside.early c.self.inside.places.items c.self.inside.stages.items c.self.inside.frames.items c.self.inside.left.items c.self.inside.traces.items c.self.invariant (Some c.in-Some.n) (subst P e (first_found is_call c.self.inside.stages.items)))
 
 pub returns-in-None : goal.returns-in-None
 returns-in-None c =
     let e : position is_call c.self.inside.stages.items ≡ None = ap (position is_call) (sym c.deref.ensures.value) ∙ sym c.in-None.ensures in
     let P : Option ℕ → Type 0 = λ o. IsFirst is_call c.self.inside.stages.items o in
     let Q : ConfiguringView → Type 0 = λ v. IsLeast (IsOfferedCall v) None in
-    subst Q c.self.view_is (picked_call (arc_value c.self.inside.graphs) c.self.inside.firing (arc_value c.self.inside.early) c.self.inside.places.items c.self.inside.stages.items c.self.inside.frames.items c.self.inside.left.items c.self.inside.traces.items c.self.invariant None (subst P e (first_found is_call c.self.inside.stages.items)))
+    subst Q c.self.view_is (picked_call (arc_value c.self.inside.graphs) c.self.inside.firing c.self.inside.early c.self.inside.places.items c.self.inside.stages.items c.self.inside.frames.items c.self.inside.left.items c.self.inside.traces.items c.self.invariant None (subst P e (first_found is_call c.self.inside.stages.items)))

@@ -7,4 +7,4 @@ use Rattle.job_preparing.proofs.Readied.{refusal_first}
 use Rattle.job_preparing.proofs.configuring.Configuring.refusal.Goals as goal
 
 pub returns : goal.returns
-returns c = c.first_refused.ensures ∙ refusal_first (arc_value c.self.inside.graphs) c.self.inside.firing (arc_value c.self.inside.early) c.self.inside.places.items c.self.inside.stages.items c.self.inside.frames.items c.self.inside.left.items c.self.inside.traces.items c.self.invariant ∙ ap (λ (v : ConfiguringView). first_refusal (answers v.marks) 0 (compile_number (graph_in v))) c.self.view_is
+returns c = c.first_refused.ensures ∙ refusal_first (arc_value c.self.inside.graphs) c.self.inside.firing c.self.inside.early c.self.inside.places.items c.self.inside.stages.items c.self.inside.frames.items c.self.inside.left.items c.self.inside.traces.items c.self.invariant ∙ ap (λ (v : ConfiguringView). first_refusal (answers v.marks) 0 (compile_number (graph_in v))) c.self.view_is

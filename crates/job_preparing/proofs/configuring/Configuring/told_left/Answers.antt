@@ -14,5 +14,5 @@ returns c =
     let ready = subst IsReady (sym c.self.view_is) c.requires in
     ap (λ (v : Vec Configured Global). with_traces v.items c.of-2.result.value.items) c.of.ensures
     ∙ ap (λ (v : Vec (List TraceRow) Global). with_traces c.self.inside.left.items v.items) c.of-2.ensures
-    ∙ sym (left_is (arc_value c.self.inside.graphs) c.self.inside.firing (arc_value c.self.inside.early) c.self.inside.places.items c.self.inside.stages.items c.self.inside.frames.items c.self.inside.left.items c.self.inside.traces.items c.self.invariant ready)
+    ∙ sym (left_is (arc_value c.self.inside.graphs) c.self.inside.firing c.self.inside.early c.self.inside.places.items c.self.inside.stages.items c.self.inside.frames.items c.self.inside.left.items c.self.inside.traces.items c.self.invariant ready)
     ∙ ap left_by c.self.view_is

@@ -14,6 +14,7 @@ use Rattle.graph_firing.proofs.Rooms.{on_err_right, suffices_same}
 use Rattle.graph_firing.specs.declared.nodes.frames.Held.{Held}
 use Rattle.graph_firing.specs.declared.nodes.frames.Held.TheVariants.{Waits}
 use Rattle.graph_firing.specs.declared.nodes.stage.Stage.{Stage}
+use Rattle.job_preparing.specs.declared.compiling.ReadyLevel.{ReadyLevel}
 use Rattle.graph_firing.proofs.nodes.running.Running.call.Goals as goal
 
 pub claim-frame-requires-clause-enabled : goal.claim-frame-requires-clause-enabled
@@ -27,21 +28,21 @@ caller_of-caller-requires-clause-keeps c =
     let i = c.self.inside in
     let offered = subst (λ (v : RunningView). IsOfferedCall v c.args.node) (sym c.self.view_is) c.requires in
     let same = (numbers (fixed_of i) i.stages i.held.items i.ending.traces.items i.job c.self.invariant c.args.node c.faults_renamed.ensures.ready c.faults_renamed.ensures.inputs c.ready_stays.ensures.ready offered c.node-which.result c.firing_of-actor.result.0 c.firing_of-actor.result.1 c.node-which.ensures c.firing_of-actor.ensures).0 in
-    keeps_inside (fixed_of i) i.stages i.held.items i.ending.traces.items i.job c.self.invariant c.args.node c.faults_renamed.ensures.ready c.faults_renamed.ensures.inputs c.ready_stays.ensures.ready offered c.firing_of-actor.result.0 c.deref-2.result.now same c.deref-2.ensures.value
+    keeps_inside (fixed_of i) i.stages i.held.items i.ending.traces.items i.job c.self.invariant c.args.node c.faults_renamed.ensures.ready c.faults_renamed.ensures.inputs c.ready_stays.ensures.ready offered c.firing_of-actor.result.0 c.deref-3.result.now same c.deref-3.ensures.value
 
 pub caller_of-caller-requires-clause-set : goal.caller_of-caller-requires-clause-set
 caller_of-caller-requires-clause-set c =
     let i = c.self.inside in
     let offered = subst (λ (v : RunningView). IsOfferedCall v c.args.node) (sym c.self.view_is) c.requires in
     let same = (numbers (fixed_of i) i.stages i.held.items i.ending.traces.items i.job c.self.invariant c.args.node c.faults_renamed.ensures.ready c.faults_renamed.ensures.inputs c.ready_stays.ensures.ready offered c.node-which.result c.firing_of-actor.result.0 c.firing_of-actor.result.1 c.node-which.ensures c.firing_of-actor.ensures).0 in
-    set_inside (fixed_of i) i.stages i.held.items i.ending.traces.items i.job c.self.invariant c.args.node c.faults_renamed.ensures.ready c.faults_renamed.ensures.inputs c.ready_stays.ensures.ready offered c.level_by_actor.ensures.many c.firing_of-actor.result.0 same
+    subst (λ (l : ReadyLevel). c.firing_of-actor.result.0 < length l.made.set.places) (sym c.deref-2.ensures) (set_inside (fixed_of i) i.stages i.held.items i.ending.traces.items i.job c.self.invariant c.args.node c.faults_renamed.ensures.ready c.faults_renamed.ensures.inputs c.ready_stays.ensures.ready offered c.level_by_actor.ensures.many c.firing_of-actor.result.0 same)
 
 pub caller_of-caller-requires-clause-places : goal.caller_of-caller-requires-clause-places
 caller_of-caller-requires-clause-places c =
     let i = c.self.inside in
     let offered = subst (λ (v : RunningView). IsOfferedCall v c.args.node) (sym c.self.view_is) c.requires in
     let items_are = c.items.ensures ∙ ap (λ (x : Graphs). x.graphs) c.deref.ensures in
-    λ h at. places_are (fixed_of i) i.stages i.held.items i.ending.traces.items i.job c.self.invariant c.args.node c.faults_renamed.ensures.ready c.faults_renamed.ensures.inputs c.ready_stays.ensures.ready offered c.items.result.now h items_are at
+    λ h at. ap (λ (l : ReadyLevel). l.made.set.places) c.deref-2.ensures ∙ places_are (fixed_of i) i.stages i.held.items i.ending.traces.items i.job c.self.invariant c.args.node c.faults_renamed.ensures.ready c.faults_renamed.ensures.inputs c.ready_stays.ensures.ready offered c.items.result.now h items_are at
 
 pub caller_of-caller-requires-clause-there : goal.caller_of-caller-requires-clause-there
 caller_of-caller-requires-clause-there c =
@@ -56,7 +57,7 @@ called-result-requires-clause-args c =
     let i = c.self.inside in
     let offered = subst (λ (v : RunningView). IsOfferedCall v c.args.node) (sym c.self.view_is) c.requires in
     let items_are = c.items.ensures ∙ ap (λ (x : Graphs). x.graphs) c.deref.ensures in
-    let caller = caller_so (fixed_of i) i.stages i.held.items i.ending.traces.items i.job c.self.invariant c.args.node c.faults_renamed.ensures.ready c.faults_renamed.ensures.inputs c.ready_stays.ensures.ready offered c.caller_of-caller.result.graphs.now c.items.result.now c.caller_of-caller.result.set.now c.caller_of-caller.result.actor.now c.caller_of-caller.result.number c.caller_of-caller.result.turn c.firing_of-actor.result.0 c.firing_of-actor.result.1 c.caller_of-caller.result.keeps c.deref-2.result.now c.node-which.result c.node-which.ensures c.firing_of-actor.ensures items_are c.deref-2.ensures.value c.caller_of-caller.ensures.actor c.caller_of-caller.ensures.graphs c.caller_of-caller.ensures.number c.caller_of-caller.ensures.keeps in
+    let caller = caller_so (fixed_of i) i.stages i.held.items i.ending.traces.items i.job c.self.invariant c.args.node c.faults_renamed.ensures.ready c.faults_renamed.ensures.inputs c.ready_stays.ensures.ready offered c.caller_of-caller.result.graphs.now c.items.result.now c.caller_of-caller.result.set.now c.caller_of-caller.result.actor.now c.caller_of-caller.result.number c.caller_of-caller.result.turn c.firing_of-actor.result.0 c.firing_of-actor.result.1 c.caller_of-caller.result.keeps c.deref-3.result.now c.node-which.result c.node-which.ensures c.firing_of-actor.ensures items_are c.deref-3.ensures.value c.caller_of-caller.ensures.actor (c.caller_of-caller.ensures.graphs.0, c.caller_of-caller.ensures.graphs.1 ∙ ap (λ (l : ReadyLevel). l.made.set) c.deref-2.ensures) c.caller_of-caller.ensures.number c.caller_of-caller.ensures.keeps in
     args_inside (fixed_of i) i.stages i.held.items i.ending.traces.items i.job c.self.invariant c.args.node c.faults_renamed.ensures.ready c.faults_renamed.ensures.inputs c.ready_stays.ensures.ready offered c.level_by_actor.ensures.many c.caller_of-caller.result.set.now c.caller_of-caller.result.number caller.number_is caller.set_is
 
 pub called-result-requires-clause-known : goal.called-result-requires-clause-known
@@ -64,7 +65,7 @@ called-result-requires-clause-known c =
     let i = c.self.inside in
     let offered = subst (λ (v : RunningView). IsOfferedCall v c.args.node) (sym c.self.view_is) c.requires in
     let items_are = c.items.ensures ∙ ap (λ (x : Graphs). x.graphs) c.deref.ensures in
-    let caller = caller_so (fixed_of i) i.stages i.held.items i.ending.traces.items i.job c.self.invariant c.args.node c.faults_renamed.ensures.ready c.faults_renamed.ensures.inputs c.ready_stays.ensures.ready offered c.caller_of-caller.result.graphs.now c.items.result.now c.caller_of-caller.result.set.now c.caller_of-caller.result.actor.now c.caller_of-caller.result.number c.caller_of-caller.result.turn c.firing_of-actor.result.0 c.firing_of-actor.result.1 c.caller_of-caller.result.keeps c.deref-2.result.now c.node-which.result c.node-which.ensures c.firing_of-actor.ensures items_are c.deref-2.ensures.value c.caller_of-caller.ensures.actor c.caller_of-caller.ensures.graphs c.caller_of-caller.ensures.number c.caller_of-caller.ensures.keeps in
+    let caller = caller_so (fixed_of i) i.stages i.held.items i.ending.traces.items i.job c.self.invariant c.args.node c.faults_renamed.ensures.ready c.faults_renamed.ensures.inputs c.ready_stays.ensures.ready offered c.caller_of-caller.result.graphs.now c.items.result.now c.caller_of-caller.result.set.now c.caller_of-caller.result.actor.now c.caller_of-caller.result.number c.caller_of-caller.result.turn c.firing_of-actor.result.0 c.firing_of-actor.result.1 c.caller_of-caller.result.keeps c.deref-3.result.now c.node-which.result c.node-which.ensures c.firing_of-actor.ensures items_are c.deref-3.ensures.value c.caller_of-caller.ensures.actor (c.caller_of-caller.ensures.graphs.0, c.caller_of-caller.ensures.graphs.1 ∙ ap (λ (l : ReadyLevel). l.made.set) c.deref-2.ensures) c.caller_of-caller.ensures.number c.caller_of-caller.ensures.keeps in
     child_known (fixed_of i) i.stages i.held.items i.ending.traces.items i.job c.self.invariant c.args.node c.faults_renamed.ensures.ready c.faults_renamed.ensures.inputs c.ready_stays.ensures.ready offered c.level_by_actor.ensures.each c.caller_of-caller.result.set.now c.caller_of-caller.result.number caller.number_is caller.set_is
 
 pub called-result-requires-clause-child : goal.called-result-requires-clause-child
@@ -72,7 +73,7 @@ called-result-requires-clause-child c =
     let i = c.self.inside in
     let offered = subst (λ (v : RunningView). IsOfferedCall v c.args.node) (sym c.self.view_is) c.requires in
     let items_are = c.items.ensures ∙ ap (λ (x : Graphs). x.graphs) c.deref.ensures in
-    let caller = caller_so (fixed_of i) i.stages i.held.items i.ending.traces.items i.job c.self.invariant c.args.node c.faults_renamed.ensures.ready c.faults_renamed.ensures.inputs c.ready_stays.ensures.ready offered c.caller_of-caller.result.graphs.now c.items.result.now c.caller_of-caller.result.set.now c.caller_of-caller.result.actor.now c.caller_of-caller.result.number c.caller_of-caller.result.turn c.firing_of-actor.result.0 c.firing_of-actor.result.1 c.caller_of-caller.result.keeps c.deref-2.result.now c.node-which.result c.node-which.ensures c.firing_of-actor.ensures items_are c.deref-2.ensures.value c.caller_of-caller.ensures.actor c.caller_of-caller.ensures.graphs c.caller_of-caller.ensures.number c.caller_of-caller.ensures.keeps in
+    let caller = caller_so (fixed_of i) i.stages i.held.items i.ending.traces.items i.job c.self.invariant c.args.node c.faults_renamed.ensures.ready c.faults_renamed.ensures.inputs c.ready_stays.ensures.ready offered c.caller_of-caller.result.graphs.now c.items.result.now c.caller_of-caller.result.set.now c.caller_of-caller.result.actor.now c.caller_of-caller.result.number c.caller_of-caller.result.turn c.firing_of-actor.result.0 c.firing_of-actor.result.1 c.caller_of-caller.result.keeps c.deref-3.result.now c.node-which.result c.node-which.ensures c.firing_of-actor.ensures items_are c.deref-3.ensures.value c.caller_of-caller.ensures.actor (c.caller_of-caller.ensures.graphs.0, c.caller_of-caller.ensures.graphs.1 ∙ ap (λ (l : ReadyLevel). l.made.set) c.deref-2.ensures) c.caller_of-caller.ensures.number c.caller_of-caller.ensures.keeps in
     let body = calls_graph (fixed_of i) i.stages i.held.items i.ending.traces.items i.job c.self.invariant c.args.node c.faults_renamed.ensures.ready c.faults_renamed.ensures.inputs c.ready_stays.ensures.ready offered c.caller_of-caller.result.actor.now c.caller_of-caller.result.number caller.number_is caller.found in
     ((calls (fixed_of i) i.stages i.held.items i.ending.traces.items i.job c.self.invariant c.args.node c.faults_renamed.ensures.ready c.faults_renamed.ensures.inputs c.ready_stays.ensures.ready offered).place, (calls (fixed_of i) i.stages i.held.items i.ending.traces.items i.job c.self.invariant c.args.node c.faults_renamed.ensures.ready c.faults_renamed.ensures.inputs c.ready_stays.ensures.ready offered).exprs, body)
 
@@ -99,7 +100,7 @@ invariant_of-self c =
     let i = c.self.inside in
     let offered = subst (λ (v : RunningView). IsOfferedCall v c.args.node) (sym c.self.view_is) c.requires in
     let items_are = c.items.ensures ∙ ap (λ (x : Graphs). x.graphs) c.deref.ensures in
-    let caller = caller_so (fixed_of i) i.stages i.held.items i.ending.traces.items i.job c.self.invariant c.args.node c.faults_renamed.ensures.ready c.faults_renamed.ensures.inputs c.ready_stays.ensures.ready offered c.caller_of-caller.result.graphs.now c.items.result.now c.caller_of-caller.result.set.now c.caller_of-caller.result.actor.now c.caller_of-caller.result.number c.caller_of-caller.result.turn c.firing_of-actor.result.0 c.firing_of-actor.result.1 c.caller_of-caller.result.keeps c.deref-2.result.now c.node-which.result c.node-which.ensures c.firing_of-actor.ensures items_are c.deref-2.ensures.value c.caller_of-caller.ensures.actor c.caller_of-caller.ensures.graphs c.caller_of-caller.ensures.number c.caller_of-caller.ensures.keeps in
+    let caller = caller_so (fixed_of i) i.stages i.held.items i.ending.traces.items i.job c.self.invariant c.args.node c.faults_renamed.ensures.ready c.faults_renamed.ensures.inputs c.ready_stays.ensures.ready offered c.caller_of-caller.result.graphs.now c.items.result.now c.caller_of-caller.result.set.now c.caller_of-caller.result.actor.now c.caller_of-caller.result.number c.caller_of-caller.result.turn c.firing_of-actor.result.0 c.firing_of-actor.result.1 c.caller_of-caller.result.keeps c.deref-3.result.now c.node-which.result c.node-which.ensures c.firing_of-actor.ensures items_are c.deref-3.ensures.value c.caller_of-caller.ensures.actor (c.caller_of-caller.ensures.graphs.0, c.caller_of-caller.ensures.graphs.1 ∙ ap (λ (l : ReadyLevel). l.made.set) c.deref-2.ensures) c.caller_of-caller.ensures.number c.caller_of-caller.ensures.keeps in
     let body = calls_graph (fixed_of i) i.stages i.held.items i.ending.traces.items i.job c.self.invariant c.args.node c.faults_renamed.ensures.ready c.faults_renamed.ensures.inputs c.ready_stays.ensures.ready offered c.caller_of-caller.result.actor.now c.caller_of-caller.result.number caller.number_is caller.found in
     let made = called_ok (fixed_of i) i.stages i.held.items i.ending.traces.items i.job c.self.invariant c.args.node c.faults_renamed.ensures.ready c.faults_renamed.ensures.inputs c.ready_stays.ensures.ready offered c.called-result.result c.caller_of-caller.result.graphs.now c.caller_of-caller.result.set.now c.caller_of-caller.result.actor.now c.caller_of-caller.result.number c.caller_of-caller.result.turn c.caller_of-caller.result.keeps c.claim-frame.result.inputs caller c.claim-frame.ensures.inputs
     (c.called-result.ensures i.firing.value (calls (fixed_of i) i.stages i.held.items i.ending.traces.items i.job c.self.invariant c.args.node c.faults_renamed.ensures.ready c.faults_renamed.ensures.inputs c.ready_stays.ensures.ready offered).place (calls (fixed_of i) i.stages i.held.items i.ending.traces.items i.job c.self.invariant c.args.node c.faults_renamed.ensures.ready c.faults_renamed.ensures.inputs c.ready_stays.ensures.ready offered).exprs (sym c.self.invariant.parts.path_is) body) in
@@ -114,7 +115,7 @@ returns-clause-called c =
     let i = c.self.inside in
     let offered = subst (λ (v : RunningView). IsOfferedCall v c.args.node) (sym c.self.view_is) c.requires in
     let items_are = c.items.ensures ∙ ap (λ (x : Graphs). x.graphs) c.deref.ensures in
-    let caller = caller_so (fixed_of i) i.stages i.held.items i.ending.traces.items i.job c.self.invariant c.args.node c.faults_renamed.ensures.ready c.faults_renamed.ensures.inputs c.ready_stays.ensures.ready offered c.caller_of-caller.result.graphs.now c.items.result.now c.caller_of-caller.result.set.now c.caller_of-caller.result.actor.now c.caller_of-caller.result.number c.caller_of-caller.result.turn c.firing_of-actor.result.0 c.firing_of-actor.result.1 c.caller_of-caller.result.keeps c.deref-2.result.now c.node-which.result c.node-which.ensures c.firing_of-actor.ensures items_are c.deref-2.ensures.value c.caller_of-caller.ensures.actor c.caller_of-caller.ensures.graphs c.caller_of-caller.ensures.number c.caller_of-caller.ensures.keeps in
+    let caller = caller_so (fixed_of i) i.stages i.held.items i.ending.traces.items i.job c.self.invariant c.args.node c.faults_renamed.ensures.ready c.faults_renamed.ensures.inputs c.ready_stays.ensures.ready offered c.caller_of-caller.result.graphs.now c.items.result.now c.caller_of-caller.result.set.now c.caller_of-caller.result.actor.now c.caller_of-caller.result.number c.caller_of-caller.result.turn c.firing_of-actor.result.0 c.firing_of-actor.result.1 c.caller_of-caller.result.keeps c.deref-3.result.now c.node-which.result c.node-which.ensures c.firing_of-actor.ensures items_are c.deref-3.ensures.value c.caller_of-caller.ensures.actor (c.caller_of-caller.ensures.graphs.0, c.caller_of-caller.ensures.graphs.1 ∙ ap (λ (l : ReadyLevel). l.made.set) c.deref-2.ensures) c.caller_of-caller.ensures.number c.caller_of-caller.ensures.keeps in
     let body = calls_graph (fixed_of i) i.stages i.held.items i.ending.traces.items i.job c.self.invariant c.args.node c.faults_renamed.ensures.ready c.faults_renamed.ensures.inputs c.ready_stays.ensures.ready offered c.caller_of-caller.result.actor.now c.caller_of-caller.result.number caller.number_is caller.found in
     let made = called_ok (fixed_of i) i.stages i.held.items i.ending.traces.items i.job c.self.invariant c.args.node c.faults_renamed.ensures.ready c.faults_renamed.ensures.inputs c.ready_stays.ensures.ready offered c.called-result.result c.caller_of-caller.result.graphs.now c.caller_of-caller.result.set.now c.caller_of-caller.result.actor.now c.caller_of-caller.result.number c.caller_of-caller.result.turn c.caller_of-caller.result.keeps c.claim-frame.result.inputs caller c.claim-frame.ensures.inputs
     (c.called-result.ensures i.firing.value (calls (fixed_of i) i.stages i.held.items i.ending.traces.items i.job c.self.invariant c.args.node c.faults_renamed.ensures.ready c.faults_renamed.ensures.inputs c.ready_stays.ensures.ready offered).place (calls (fixed_of i) i.stages i.held.items i.ending.traces.items i.job c.self.invariant c.args.node c.faults_renamed.ensures.ready c.faults_renamed.ensures.inputs c.ready_stays.ensures.ready offered).exprs (sym c.self.invariant.parts.path_is) body) in
@@ -125,7 +126,7 @@ returns-clause-inherited c =
     let i = c.self.inside in
     let offered = subst (λ (v : RunningView). IsOfferedCall v c.args.node) (sym c.self.view_is) c.requires in
     let items_are = c.items.ensures ∙ ap (λ (x : Graphs). x.graphs) c.deref.ensures in
-    let caller = caller_so (fixed_of i) i.stages i.held.items i.ending.traces.items i.job c.self.invariant c.args.node c.faults_renamed.ensures.ready c.faults_renamed.ensures.inputs c.ready_stays.ensures.ready offered c.caller_of-caller.result.graphs.now c.items.result.now c.caller_of-caller.result.set.now c.caller_of-caller.result.actor.now c.caller_of-caller.result.number c.caller_of-caller.result.turn c.firing_of-actor.result.0 c.firing_of-actor.result.1 c.caller_of-caller.result.keeps c.deref-2.result.now c.node-which.result c.node-which.ensures c.firing_of-actor.ensures items_are c.deref-2.ensures.value c.caller_of-caller.ensures.actor c.caller_of-caller.ensures.graphs c.caller_of-caller.ensures.number c.caller_of-caller.ensures.keeps in
+    let caller = caller_so (fixed_of i) i.stages i.held.items i.ending.traces.items i.job c.self.invariant c.args.node c.faults_renamed.ensures.ready c.faults_renamed.ensures.inputs c.ready_stays.ensures.ready offered c.caller_of-caller.result.graphs.now c.items.result.now c.caller_of-caller.result.set.now c.caller_of-caller.result.actor.now c.caller_of-caller.result.number c.caller_of-caller.result.turn c.firing_of-actor.result.0 c.firing_of-actor.result.1 c.caller_of-caller.result.keeps c.deref-3.result.now c.node-which.result c.node-which.ensures c.firing_of-actor.ensures items_are c.deref-3.ensures.value c.caller_of-caller.ensures.actor (c.caller_of-caller.ensures.graphs.0, c.caller_of-caller.ensures.graphs.1 ∙ ap (λ (l : ReadyLevel). l.made.set) c.deref-2.ensures) c.caller_of-caller.ensures.number c.caller_of-caller.ensures.keeps in
     let body = calls_graph (fixed_of i) i.stages i.held.items i.ending.traces.items i.job c.self.invariant c.args.node c.faults_renamed.ensures.ready c.faults_renamed.ensures.inputs c.ready_stays.ensures.ready offered c.caller_of-caller.result.actor.now c.caller_of-caller.result.number caller.number_is caller.found in
     let made = called_ok (fixed_of i) i.stages i.held.items i.ending.traces.items i.job c.self.invariant c.args.node c.faults_renamed.ensures.ready c.faults_renamed.ensures.inputs c.ready_stays.ensures.ready offered c.called-result.result c.caller_of-caller.result.graphs.now c.caller_of-caller.result.set.now c.caller_of-caller.result.actor.now c.caller_of-caller.result.number c.caller_of-caller.result.turn c.caller_of-caller.result.keeps c.claim-frame.result.inputs caller c.claim-frame.ensures.inputs
     (c.called-result.ensures i.firing.value (calls (fixed_of i) i.stages i.held.items i.ending.traces.items i.job c.self.invariant c.args.node c.faults_renamed.ensures.ready c.faults_renamed.ensures.inputs c.ready_stays.ensures.ready offered).place (calls (fixed_of i) i.stages i.held.items i.ending.traces.items i.job c.self.invariant c.args.node c.faults_renamed.ensures.ready c.faults_renamed.ensures.inputs c.ready_stays.ensures.ready offered).exprs (sym c.self.invariant.parts.path_is) body) in

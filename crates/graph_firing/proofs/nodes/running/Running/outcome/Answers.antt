@@ -21,6 +21,8 @@ use Rattle.graph_firing.proofs.OfNodes.FiringEnds.{ends_done, failed_fires, fail
 use Rattle.graph_firing.proofs.OfNodes.OfferedNodes.{told_quiet}
 use Rattle.graph_firing.proofs.OfNodes.StartedFiring.{graph_inside, graph_is}
 use Rattle.graph_firing.proofs.OfNodes.SuitedEnds.{end_suits}
+use Rattle.std.specs.Arc.{arc_value}
+use Rattle.job_preparing.specs.declared.compiling.ReadyLevel.{ReadyLevel}
 use Rattle.graph_firing.proofs.nodes.running.Running.outcome.Goals as goal
 
 pub take_refusal-called-requires : goal.take_refusal-called-requires
@@ -44,19 +46,19 @@ outcome-requires c =
 pub bounds-items-node : goal.bounds-items-node
 bounds-items-node c =
     let i = c.self.inside in
-    let nodes_are : c.items.result.now ≡ i.job.compilation.graph.nodes = c.items.ensures ∙ ap (λ g. g.nodes) (c.graph.ensures.value ∙ ap (λ x. x.graph) c.deref.ensures) ∙ ap (λ (x : Compilation). x.graph.nodes) (sym c.self.invariant.set_up.compilation_is) in
+    let nodes_are : c.items.result.now ≡ i.job.compilation.graph.nodes = c.items.ensures ∙ ap (λ g. g.nodes) (c.graph.ensures.value ∙ ap (λ (x : Compilation). x.graph) (c.deref-in-Fault.ensures ∙ ap (λ (l : ReadyLevel). arc_value l.made.compiled) c.deref.ensures)) ∙ ap (λ (x : Compilation). x.graph.nodes) (sym c.self.invariant.set_up.compilation_is) in
     subst (λ (l : List Node). c.in-Fault.node < length l) (sym nodes_are) (failed_there (fixed_of i) i.stages i.held.items i.ending.traces.items i.job c.self.invariant c.faults_renamed.ensures.failure c.faults_renamed.ensures.ended c.in-Fault.node c.in-Fault.code (sym c.in-Fault.is ∙ c.outcome.ensures))
 
 pub refusal_of-requires : goal.refusal_of-requires
 refusal_of-requires c =
     let i = c.self.inside in
-    let nodes_are : c.items.result.now ≡ i.job.compilation.graph.nodes = c.items.ensures ∙ ap (λ g. g.nodes) (c.graph.ensures.value ∙ ap (λ x. x.graph) c.deref.ensures) ∙ ap (λ (x : Compilation). x.graph.nodes) (sym c.self.invariant.set_up.compilation_is) in
+    let nodes_are : c.items.result.now ≡ i.job.compilation.graph.nodes = c.items.ensures ∙ ap (λ g. g.nodes) (c.graph.ensures.value ∙ ap (λ (x : Compilation). x.graph) (c.deref-in-Fault.ensures ∙ ap (λ (l : ReadyLevel). arc_value l.made.compiled) c.deref.ensures)) ∙ ap (λ (x : Compilation). x.graph.nodes) (sym c.self.invariant.set_up.compilation_is) in
     subst (λ (l : List Node). IsFiring (node_at l c.in-Fault.node)) (sym nodes_are) (failed_fires (fixed_of i) i.stages i.held.items i.ending.traces.items i.job c.self.invariant c.faults_renamed.ensures.failure c.faults_renamed.ensures.ended c.in-Fault.node c.in-Fault.code (sym c.in-Fault.is ∙ c.outcome.ensures))
 
 pub returns-in-Fault-clause-end : goal.returns-in-Fault-clause-end
 returns-in-Fault-clause-end c =
     let i = c.self.inside in
-    let nodes_are : c.items.result.now ≡ i.job.compilation.graph.nodes = c.items.ensures ∙ ap (λ g. g.nodes) (c.graph.ensures.value ∙ ap (λ x. x.graph) c.deref.ensures) ∙ ap (λ (x : Compilation). x.graph.nodes) (sym c.self.invariant.set_up.compilation_is) in
+    let nodes_are : c.items.result.now ≡ i.job.compilation.graph.nodes = c.items.ensures ∙ ap (λ g. g.nodes) (c.graph.ensures.value ∙ ap (λ (x : Compilation). x.graph) (c.deref-in-Fault.ensures ∙ ap (λ (l : ReadyLevel). arc_value l.made.compiled) c.deref.ensures)) ∙ ap (λ (x : Compilation). x.graph.nodes) (sym c.self.invariant.set_up.compilation_is) in
     refused_here (fixed_of i) i.stages i.held.items i.ending.traces.items i.job c.self.invariant c.faults_renamed.ensures.failure c.faults_renamed.ensures.ended c.in-Fault.node c.in-Fault.code (sym c.in-Fault.is ∙ c.outcome.ensures) (node_at c.items.result.now c.in-Fault.node) c.take_refusal-called.result c.refusal_of.result (ap (λ (l : List Node). node_at l c.in-Fault.node) nodes_are) c.take_refusal-called.ensures c.refusal_of.ensures
     ∙ ap outcome_of c.self.view_is
 
