@@ -1,5 +1,6 @@
 //! Graphs that run on boards, by simulated workers, whose steps come in orders that tables tell, and by crews of threads: each line
-//! of a table is a JSON object with a graph, its tokens, and cases, each with the answer that is wanted.
+//! of a table is a JSON object with a graph, its tokens, and cases, each with the answer that is wanted. There is
+//! [`case_rows::Trouble`] where a line hasn't its form, or where there is no memory.
 #![tactic(auto)]
 
 mod cases;
@@ -9,9 +10,8 @@ mod giving_back;
 mod held;
 mod holding;
 mod iterations;
-mod table;
 mod texts;
 mod told;
 mod turns;
 
-pub use table::run_table;
+pub use cases::outcomes;

@@ -42,23 +42,23 @@ fn file_of(alloc: Global, bases: &Bases, name: &str, row: &Value) -> Result<Stri
     };
     let mut file = base.clone()?;
     for change in items(row, "changes")? {
-        let (Some(old), Some(new)) = (
-            change.get(0usize).and_then(Value::as_str),
-            change.get(1usize).and_then(Value::as_str),
+        let (Some(Value::String(old)), Some(Value::String(new))) = (
+            change.get(0usize),
+            change.get(1usize),
         ) else {
             return Err(Trouble::Member("changes"));
         };
-        file = changed(alloc, file.as_str(), old, new)?;
+        file = changed(alloc, file.as_str(), old.as_str(), new.as_str())?;
     }
     Ok(file)
 }
 
 /// Gives a row with a base its `file`.
 pub fn with_base(alloc: Global, bases: &Bases, row: &mut Value) -> Result<(), Trouble> {
-    let Some(name) = row.get("of").and_then(Value::as_str) else {
+    let Some(Value::String(name)) = row.get("of") else {
         return Ok(());
     };
-    let file = file_of(alloc, bases, name, row)?;
+    let file = file_of(alloc, bases, name.as_str(), row)?;
     let member = String::from_str(alloc, "file")?;
     let Some(members) = row.as_object_mut() else {
         return Err(Trouble::Member("of"));

@@ -127,7 +127,7 @@ fn are_parts(actors: u32, sources: &Vec<u32>, sinks: &Vec<u32>, links: &Vec<Link
 /// # Errors
 ///
 /// [`Trouble::Member`] where the lines are those of none: an end names no actor, a link has no actor or a delay at a source or sink, a
-/// rate is over its limit, or there are more than a million of them. [`Trouble::Memory`]..
+/// rate is over its limit, or there are more than a million of them. [`Trouble::Memory`].
 pub fn level_with(alloc: Global, actors: u32, lines: &[Line]) -> Result<Level, Trouble>
     ensures actors { IfOk result (λ level. level.actors ≡ actors) }
 {

@@ -16,12 +16,12 @@ mod row;
 mod table;
 mod trouble;
 
-pub use answers::{Parts, answer_in, answer_of_text, lists_text};
+pub use answers::{answer_in, answer_of_text, lists_text};
 pub use building::level_with;
 pub use levels::level_of;
 pub use lines::{End, Line};
 pub use notation::{bytes, bytes_of, quoted, text, text_of};
-pub use number_lists::{lists, lists_of, numbers, numbers_of, smalls, total};
+pub use number_lists::{lists, numbers, numbers_of, smalls, total};
 pub use row::{items, member, number, small, small_of, small_or, word};
 pub use table::{Outcome, Table, outcome_of};
 pub use trouble::Trouble;

@@ -5,7 +5,7 @@
 //   member `numbered` the marks that the written piece has are replaced as in the next form;
 // - `{"times": n, "each": text, "from": k}` is a text so many times, `#` in it replaced by the numbers from k on (from 0
 //   on where it isn't given), and `@` by the number after; `between` as before;
-// - `{"bytes": [n, ..]}` are these bytes, and `{"json": value}` the compact text of a value;
+// - `{"bytes": [n, ..]}` are these bytes;
 // - `{"quoted": piece}` is a piece with `"` in the place of each `'`.
 use crate::row::{items, member, number, small, word};
 use crate::trouble::Trouble;
@@ -31,7 +31,10 @@ fn push_numbered(text: &mut String, pattern: &str, at: u64) -> Result<(), Troubl
 
 /// What stands between two pieces.
 fn between(piece: &Value) -> &str {
-    piece.get("between").and_then(Value::as_str).unwrap_or("")
+    match piece.get("between") {
+        Some(Value::String(text)) => text.as_str(),
+        _ => "",
+    }
 }
 
 fn push_each(
@@ -40,7 +43,10 @@ fn push_each(
     piece: &Value,
     pattern: &str,
 ) -> Result<(), Trouble> {
-    let from = piece.get("from").and_then(Value::as_u64).unwrap_or(0);
+    let from = match piece.get("from") {
+        Some(from) => from.as_u64().unwrap_or(0),
+        None => 0,
+    };
     for place in 0..small(piece, "times")? {
         if place > 0 {
             bytes.extend_from_slice(between(piece).as_bytes())?;
@@ -105,16 +111,12 @@ fn push_quoted(bytes: &mut Vec<u8>, piece: &[u8]) -> Result<(), Trouble> {
 
 /// The bytes of an object that holds no other piece, behind those that are there.
 fn push_plain(alloc: Global, bytes: &mut Vec<u8>, piece: &Value) -> Result<(), Trouble> {
-    if let Some(numbers) = piece.get("bytes").and_then(Value::as_array) {
+    if let Some(Value::Array(numbers)) = piece.get("bytes") {
         return push_bytes(bytes, numbers.as_slice());
     }
-    if let Some(value) = piece.get("json") {
-        bytes.extend_from_slice(value.to_string(alloc)?.as_bytes())?;
-        return Ok(());
-    }
-    match piece.get("each").and_then(Value::as_str) {
-        Some(pattern) => push_each(alloc, bytes, piece, pattern),
-        None => Err(Trouble::Member("times")),
+    match piece.get("each") {
+        Some(Value::String(pattern)) => push_each(alloc, bytes, piece, pattern.as_str()),
+        _ => Err(Trouble::Member("times")),
     }
 }
 

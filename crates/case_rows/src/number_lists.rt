@@ -2,21 +2,13 @@
 // and `{"times": n, "from": k}` for n numbers from k on, with `"step": s` each s more than the one before. In a list of rows
 // `{"times": n, "rows": [row, ..], "step": [s, ..]}` stands for these rows of numbers n times, the numbers each time more by
 // their steps.
-ghost use Rattle.std.specs.Prelude.{◌≡◌, IfOk, IfSome, length, sum};
+ghost use Rattle.std.specs.Prelude.{◌≡◌, IfSome, sum};
 
-use crate::row::{items, small};
+use crate::row::{items, number_of, small};
 use crate::trouble::Trouble;
 use sdf_level::List;
 use serde_json::Value;
-use std::alloc::{AllocError, Global};
-
-/// The number that a value is.
-fn number_of(value: &Value, what: &'static str) -> Result<i64, Trouble> {
-    match value.as_i64() {
-        Some(number) => Ok(number),
-        None => Err(Trouble::Member(what)),
-    }
-}
+use std::alloc::Global;
 
 /// The numbers of a list, behind those that are there.
 fn push_each(numbers: &mut Vec<i64>, list: &[Value]) -> Result<(), Trouble> {
@@ -36,7 +28,10 @@ fn push_list(numbers: &mut Vec<i64>, list: &[Value], times: u32) -> Result<(), T
 
 /// The number that is the item's member of this name, where it has such a one.
 fn whole(item: &Value, name: &'static str) -> Option<i64> {
-    item.get(name).and_then(Value::as_i64)
+    match item.get(name) {
+        Some(value) => value.as_i64(),
+        None => None,
+    }
 }
 
 /// The first of the numbers that an item stands for, and how much more each next one is.
@@ -66,7 +61,7 @@ fn push_numbers(numbers: &mut Vec<i64>, item: &Value) -> Result<(), Trouble> {
         numbers.push(number)?;
         return Ok(());
     }
-    if let Some(list) = item.get("of").and_then(Value::as_array) {
+    if let Some(Value::Array(list)) = item.get("of") {
         return push_list(numbers, list.as_slice(), small(item, "times")?);
     }
     let (first, step) = first_and_step(item)?;
@@ -112,10 +107,10 @@ pub fn smalls(alloc: Global, row: &Value, name: &'static str) -> Result<Vec<u32>
 }
 
 /// The item's list so many times, behind those that are there.
-fn push_same(alloc: Global, lists: &mut Vec<Vec<i64>>, item: &Value) -> Result<(), Trouble> {
+fn push_same(alloc: Global, lists: &mut Vec<List<i64>>, item: &Value) -> Result<(), Trouble> {
     let list = items(item, "list")?;
     for _ in 0..small(item, "times")? {
-        lists.push(numbers_of(alloc, list)?)?;
+        lists.push(List::new(numbers_of(alloc, list)?))?;
     }
     Ok(())
 }
@@ -125,31 +120,15 @@ fn push_same(alloc: Global, lists: &mut Vec<Vec<i64>>, item: &Value) -> Result<(
 /// # Errors
 ///
 /// [`Trouble`].
-pub fn lists(alloc: Global, row: &Value, name: &'static str) -> Result<Vec<Vec<i64>>, Trouble> {
+pub fn lists(alloc: Global, row: &Value, name: &'static str) -> Result<List<List<i64>>, Trouble> {
     let mut lists = Vec::new(alloc);
     for list in items(row, name)? {
         match list.as_array() {
-            Some(items) => lists.push(numbers_of(alloc, items.as_slice())?)?,
+            Some(items) => lists.push(List::new(numbers_of(alloc, items.as_slice())?))?,
             None => push_same(alloc, &mut lists, list)?,
         }
     }
-    Ok(lists)
-}
-
-/// The lists as lists of tokens.
-///
-/// # Errors
-///
-/// Where there is no memory.
-pub fn lists_of(alloc: Global, lists: &[Vec<i64>]) -> Result<List<List<i64>>, AllocError>
-    ensures { IfOk result (λ l. length l ≡ length lists.now) }
-{
-    let mut all = Vec::with_capacity(alloc, lists.len())?;
-    for list in lists {
-        let tokens = list.as_slice().to_vec(alloc)?;
-        all.push(List::new(tokens))?;
-    }
-    Ok(List::new(all))
+    Ok(List::new(lists))
 }
 
 /// The sum of numbers, where it is one of 32 bits.

@@ -33,9 +33,21 @@ pub fn items<'a>(row: &'a Value, name: &'static str) -> Result<&'a [Value], Trou
 ///
 /// [`Trouble`].
 pub fn word<'a>(row: &'a Value, name: &'static str) -> Result<&'a str, Trouble> {
-    match row.get(name).and_then(Value::as_str) {
-        Some(text) => Ok(text),
-        None => Err(Trouble::Member(name)),
+    match row.get(name) {
+        Some(Value::String(text)) => Ok(text.as_str()),
+        _ => Err(Trouble::Member(name)),
+    }
+}
+
+/// The number that a value is.
+///
+/// # Errors
+///
+/// [`Trouble`], which names `what`.
+pub(crate) fn number_of(value: &Value, what: &'static str) -> Result<i64, Trouble> {
+    match value.as_i64() {
+        Some(number) => Ok(number),
+        None => Err(Trouble::Member(what)),
     }
 }
 
@@ -45,10 +57,7 @@ pub fn word<'a>(row: &'a Value, name: &'static str) -> Result<&'a str, Trouble> 
 ///
 /// [`Trouble`].
 pub fn number(row: &Value, name: &'static str) -> Result<i64, Trouble> {
-    match row.get(name).and_then(Value::as_i64) {
-        Some(number) => Ok(number),
-        None => Err(Trouble::Member(name)),
-    }
+    number_of(member(row, name)?, name)
 }
 
 /// The number of 32 bits that is the member of this name.
@@ -57,10 +66,7 @@ pub fn number(row: &Value, name: &'static str) -> Result<i64, Trouble> {
 ///
 /// [`Trouble`].
 pub fn small(row: &Value, name: &'static str) -> Result<u32, Trouble> {
-    match u32::try_from(number(row, name)?) {
-        Ok(number) => Ok(number),
-        Err(_) => Err(Trouble::Member(name)),
-    }
+    small_of(member(row, name)?, name)
 }
 
 /// The number of 32 bits that is the member of this name, or another one where there is no such member.
@@ -69,10 +75,10 @@ pub fn small(row: &Value, name: &'static str) -> Result<u32, Trouble> {
 ///
 /// [`Trouble`].
 pub fn small_or(row: &Value, name: &'static str, other: u32) -> Result<u32, Trouble> {
-    if row.get(name).is_none() {
-        return Ok(other);
+    match row.get(name) {
+        Some(value) => small_of(value, name),
+        None => Ok(other),
     }
-    small(row, name)
 }
 
 /// The number of 32 bits that a value is.

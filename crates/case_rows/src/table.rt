@@ -8,11 +8,9 @@ use serde_json::Value;
 use std::alloc::Global;
 use std::io;
 
-/// What became of a line.
+/// What became of a case.
 #[derive(Drop)]
 pub enum Outcome {
-    /// It is no case, but keeps a text for later ones.
-    NoCase,
     /// It gave the wanted answer.
     Same,
     /// It gave the second answer, where the first is wanted.
@@ -43,7 +41,7 @@ fn are_wanted(alloc: Global, wanted: &[Value], answers: &[Value]) -> Result<bool
 /// Whether an answer is the wanted one.
 fn is_wanted(alloc: Global, wanted: &Value, answer: &Value) -> Result<bool, Trouble> {
     match answer {
-        Value::Array(answers) if answers.first().is_some_and(Value::is_string) =>
+        Value::Array(answers) if matches!(answers.first(), Some(Value::String(_))) =>
             match wanted.as_array() {
                 Some(wanted) => are_wanted(alloc, wanted.as_slice(), answers.as_slice()),
                 None => Ok(false),
@@ -111,23 +109,21 @@ impl Table {
     ///
     /// Where nothing could be printed.
     pub fn see(&mut self, rt: &impl Print, outcome: Result<Outcome, Trouble>) -> io::Result<()> {
+        self.cases = self.cases.saturating_add(1);
+        if matches!(outcome, Ok(Outcome::Same)) {
+            return Ok(());
+        }
+        self.differences = self.differences.saturating_add(1);
         let file = self.file;
         let line = self.line;
         match outcome {
-            Ok(Outcome::NoCase) => return Ok(()),
-            Ok(Outcome::Same) => {
-                self.cases = self.cases.saturating_add(1);
-                return Ok(());
-            }
+            Ok(Outcome::Same) => Ok(()),
             Ok(Outcome::Different(wanted, got)) => {
-                println!(rt; "{file}, line {line}: wanted {wanted}, got {got}")?;
+                println!(rt; "{file}, line {line}: wanted {wanted}, got {got}")
             }
-            Err(Trouble::Member(name)) => println!(rt; "{file}, line {line}: {name} is wrong")?,
-            Err(Trouble::Memory) => println!(rt; "{file}, line {line}: no memory")?,
+            Err(Trouble::Member(name)) => println!(rt; "{file}, line {line}: {name} is wrong"),
+            Err(Trouble::Memory) => println!(rt; "{file}, line {line}: no memory"),
         }
-        self.cases = self.cases.saturating_add(1);
-        self.differences = self.differences.saturating_add(1);
-        Ok(())
     }
 
     /// Prints how many cases there are, and how many gave another answer than the wanted one.

@@ -1,13 +1,12 @@
 // The calls, each with the driver that makes it.
 use crate::program;
 use case_rows::Trouble;
+use frame_calls::{frames, kernels, leases};
 use graph_calls::{
     expressions, made_levels, models, reading, resolving, tokens, top_levels, world,
 };
 use job_calls::{heaps, jobs};
-use level_calls::{
-    bounds, compilations, frames, kernels, leases, lines, orderings, placements, schedules, solving,
-};
+use level_calls::{bounds, compilations, lines, orderings, placements, schedules, solving};
 use lock_calls::turns;
 use serde_json::Value;
 use std::alloc::Global;

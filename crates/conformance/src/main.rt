@@ -11,223 +11,64 @@ mod program;
 mod table;
 
 use crate::answers::Call;
-use crate::table::{Table, run_table};
+use crate::table::{run_boards, run_calls};
 use std::io;
 
-/// The tables, in the order of their lines in the output.
-const TABLES: [Table; 53] = [
-    Table {
-        file: "names.jsonl",
-        call: Call::IsName,
-    },
-    Table {
-        file: "expressions.jsonl",
-        call: Call::Print,
-    },
-    Table {
-        file: "values.jsonl",
-        call: Call::Eval,
-    },
-    Table {
-        file: "kernels.jsonl",
-        call: Call::Fire,
-    },
-    Table {
-        file: "token_files.jsonl",
-        call: Call::ReadTokens,
-    },
-    Table {
-        file: "rows.jsonl",
-        call: Call::WriteRows,
-    },
-    Table {
-        file: "levels.jsonl",
-        call: Call::Level,
-    },
-    Table {
-        file: "bases.jsonl",
-        call: Call::Base,
-    },
-    Table {
-        file: "repetitions.jsonl",
-        call: Call::Counts,
-    },
-    Table {
-        file: "places.jsonl",
-        call: Call::Place,
-    },
-    Table {
-        file: "orders.jsonl",
-        call: Call::Order,
-    },
-    Table {
-        file: "reaches.jsonl",
-        call: Call::Reach,
-    },
-    Table {
-        file: "placements.jsonl",
-        call: Call::Placement,
-    },
-    Table {
-        file: "mappings.jsonl",
-        call: Call::Map,
-    },
-    Table {
-        file: "checks.jsonl",
-        call: Call::Check,
-    },
-    Table {
-        file: "repeated_names.jsonl",
-        call: Call::Repeat,
-    },
-    Table {
-        file: "small_calls.jsonl",
-        call: Call::SmallCall,
-    },
-    Table {
-        file: "faults.jsonl",
-        call: Call::Fault,
-    },
-    Table {
-        file: "meanings.jsonl",
-        call: Call::Meaning,
-    },
-    Table {
-        file: "rewritten.jsonl",
-        call: Call::Rewrite,
-    },
-    Table {
-        file: "faults_of_versions.jsonl",
-        call: Call::Fault,
-    },
-    Table {
-        file: "rewritten_of_versions.jsonl",
-        call: Call::Rewrite,
-    },
-    Table {
-        file: "loads.jsonl",
-        call: Call::Load,
-    },
-    Table {
-        file: "puts.jsonl",
-        call: Call::Put,
-    },
-    Table {
-        file: "runs.jsonl",
-        call: Call::Run,
-    },
-    Table {
-        file: "jobs.jsonl",
-        call: Call::Run,
-    },
-    Table {
-        file: "frames.jsonl",
-        call: Call::Start,
-    },
-    Table {
-        file: "copies.jsonl",
-        call: Call::Copy,
-    },
-    Table {
-        file: "cuts.jsonl",
-        call: Call::Cut,
-    },
-    Table {
-        file: "pools.jsonl",
-        call: Call::Pool,
-    },
-    Table {
-        file: "lendings.jsonl",
-        call: Call::Lend,
-    },
-    Table {
-        file: "schedules.jsonl",
-        call: Call::Schedule,
-    },
-    Table {
-        file: "expansions.jsonl",
-        call: Call::Expand,
-    },
-    Table {
-        file: "bounds.jsonl",
-        call: Call::Bound,
-    },
-    Table {
-        file: "lines.jsonl",
-        call: Call::Line,
-    },
-    Table {
-        file: "resolutions.jsonl",
-        call: Call::Resolve,
-    },
-    Table {
-        file: "made_levels.jsonl",
-        call: Call::MakeLevel,
-    },
-    Table {
-        file: "first_states.jsonl",
-        call: Call::Begin,
-    },
-    Table {
-        file: "orderings.jsonl",
-        call: Call::OrderWorkers,
-    },
-    Table {
-        file: "compilations.jsonl",
-        call: Call::Compile,
-    },
-    Table {
-        file: "keepings.jsonl",
-        call: Call::Keep,
-    },
-    Table {
-        file: "top_levels.jsonl",
-        call: Call::TopLevel,
-    },
-    Table {
-        file: "paths.jsonl",
-        call: Call::MakePath,
-    },
-    Table {
-        file: "job_steps.jsonl",
-        call: Call::StepJob,
-    },
-    Table {
-        file: "heaps.jsonl",
-        call: Call::StepHeaps,
-    },
-    Table {
-        file: "meetings.jsonl",
-        call: Call::Meet,
-    },
-    Table {
-        file: "blocks.jsonl",
-        call: Call::FireInBlocks,
-    },
-    Table {
-        file: "lock_steps.jsonl",
-        call: Call::StepLock,
-    },
-    Table {
-        file: "lock_in_turn.jsonl",
-        call: Call::TakeLockInTurn,
-    },
-    Table {
-        file: "lock_counts.jsonl",
-        call: Call::CountOnLock,
-    },
-    Table {
-        file: "wrong_numbers.jsonl",
-        call: Call::Counts,
-    },
-    Table {
-        file: "wrong_texts.jsonl",
-        call: Call::MakePath,
-    },
-    Table {
-        file: "wrong_graphs.jsonl",
-        call: Call::Check,
-    },
+/// The tables, each with the call that it is about, in the order of their lines in the output.
+const TABLES: [(&str, Call); 53] = [
+    ("names.jsonl", Call::IsName),
+    ("expressions.jsonl", Call::Print),
+    ("values.jsonl", Call::Eval),
+    ("kernels.jsonl", Call::Fire),
+    ("token_files.jsonl", Call::ReadTokens),
+    ("rows.jsonl", Call::WriteRows),
+    ("levels.jsonl", Call::Level),
+    ("bases.jsonl", Call::Base),
+    ("repetitions.jsonl", Call::Counts),
+    ("places.jsonl", Call::Place),
+    ("orders.jsonl", Call::Order),
+    ("reaches.jsonl", Call::Reach),
+    ("placements.jsonl", Call::Placement),
+    ("mappings.jsonl", Call::Map),
+    ("checks.jsonl", Call::Check),
+    ("repeated_names.jsonl", Call::Repeat),
+    ("small_calls.jsonl", Call::SmallCall),
+    ("faults.jsonl", Call::Fault),
+    ("meanings.jsonl", Call::Meaning),
+    ("rewritten.jsonl", Call::Rewrite),
+    ("faults_of_versions.jsonl", Call::Fault),
+    ("rewritten_of_versions.jsonl", Call::Rewrite),
+    ("loads.jsonl", Call::Load),
+    ("puts.jsonl", Call::Put),
+    ("runs.jsonl", Call::Run),
+    ("jobs.jsonl", Call::Run),
+    ("frames.jsonl", Call::Start),
+    ("copies.jsonl", Call::Copy),
+    ("cuts.jsonl", Call::Cut),
+    ("pools.jsonl", Call::Pool),
+    ("lendings.jsonl", Call::Lend),
+    ("schedules.jsonl", Call::Schedule),
+    ("expansions.jsonl", Call::Expand),
+    ("bounds.jsonl", Call::Bound),
+    ("lines.jsonl", Call::Line),
+    ("resolutions.jsonl", Call::Resolve),
+    ("made_levels.jsonl", Call::MakeLevel),
+    ("first_states.jsonl", Call::Begin),
+    ("orderings.jsonl", Call::OrderWorkers),
+    ("compilations.jsonl", Call::Compile),
+    ("keepings.jsonl", Call::Keep),
+    ("top_levels.jsonl", Call::TopLevel),
+    ("paths.jsonl", Call::MakePath),
+    ("job_steps.jsonl", Call::StepJob),
+    ("heaps.jsonl", Call::StepHeaps),
+    ("meetings.jsonl", Call::Meet),
+    ("blocks.jsonl", Call::FireInBlocks),
+    ("lock_steps.jsonl", Call::StepLock),
+    ("lock_in_turn.jsonl", Call::TakeLockInTurn),
+    ("lock_counts.jsonl", Call::CountOnLock),
+    ("wrong_numbers.jsonl", Call::Counts),
+    ("wrong_texts.jsonl", Call::MakePath),
+    ("wrong_graphs.jsonl", Call::Check),
 ];
 
 /// The tables whose lines are graphs with cases, in the order of their lines in the output, which come last.
@@ -242,11 +83,6 @@ const BOARDS: [&str; 7] = [
 ];
 
 fn main(rt: HostRuntime) -> io::Result<()> {
-    for table in TABLES {
-        run_table(&rt, table)?;
-    }
-    for file in BOARDS {
-        board_calls::run_table(&rt, file)?;
-    }
-    Ok(())
+    run_calls(&rt, &TABLES)?;
+    run_boards(&rt, &BOARDS)
 }

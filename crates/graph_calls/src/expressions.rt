@@ -2,7 +2,7 @@
 ghost use Rattle.std.specs.Prelude.{◌≡◌, ◌↔◌, ◌^◌, ◌<◌, All, IsTrue, length};
 ghost use Rattle.param_expr.specs.Words.{IsName};
 
-use crate::parts::{names_of, told};
+use crate::parts::{names_of, text_answer};
 use case_rows::{Trouble, answer_of_text, numbers, text};
 use param_expr::{BindFault, EvalFault, ExprFault, Name, bind, eval, is_name, parse, print};
 use serde_json::Value;
@@ -62,7 +62,7 @@ pub fn printed(alloc: Global, row: &Value) -> Result<Value, Trouble> {
     if names.len() > 100 || !are_names(names) {
         return Err(Trouble::Member("names"));
     }
-    told(outcome(alloc, text.as_str(), names))
+    text_answer(outcome(alloc, text.as_str(), names))
 }
 
 /// The value of a text over names with these values, or why there is none.
@@ -72,11 +72,11 @@ fn value_of(alloc: Global, text: &str, names: &[Name], values: &[i64]) -> Result
 {
     let parsed = match parse(alloc, text) {
         Ok(parsed) => parsed,
-        Err(fault) => return told(fault_text(alloc, fault)),
+        Err(fault) => return text_answer(fault_text(alloc, fault)),
     };
     let expr = match bind(alloc, &parsed, names) {
         Ok(expr) => expr,
-        Err(fault) => return told(unbound(alloc, &fault)),
+        Err(fault) => return text_answer(unbound(alloc, &fault)),
     };
     match eval(&expr, values) {
         Ok(value) => Ok(Value::from(value)),

@@ -251,14 +251,16 @@ pub(crate) fn delay_of(alloc: Global, value: &Value) -> Result<List<i64>, Troubl
 
 /// The life that a FIFO states, or that version 1 gives to its delay.
 fn life_in(reader: &mut Reader, value: &Value, delay: &[i64]) -> Life {
-    match value.get(3usize).map(Value::as_str) {
-        Some(Some("firing")) => Life::Firing,
-        Some(Some("permanent")) => Life::Permanent,
-        Some(_) => {
+    let Some(life) = value.get(3usize) else {
+        return life_of(1, reader.place == reader.top, Life::Firing, delay);
+    };
+    match life.as_str() {
+        Some("firing") => Life::Firing,
+        Some("permanent") => Life::Permanent,
+        _ => {
             reader.trouble = Some(Trouble::Member("a life"));
             Life::Firing
         }
-        None => life_of(1, reader.place == reader.top, Life::Firing, delay),
     }
 }
 

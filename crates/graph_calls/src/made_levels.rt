@@ -3,7 +3,7 @@ ghost use Rattle.std.specs.Prelude.{ℤ, ◌≡◌, ◌<◌, List as Seq, length
 ghost use Rattle.param_resolver.specs.EarlyCheck.{early_of};
 ghost use Rattle.pisdf_model.specs.Valid.{AreValid};
 
-use crate::parts::told;
+use crate::parts::text_answer;
 use crate::resolving::{Asked, graphs_read, told_of};
 use crate::shown::{Shown, Writing, text_of};
 use case_rows::{Trouble, answer_in, lists_text};
@@ -112,7 +112,7 @@ pub(crate) fn level_told(
     }
     match level_of(alloc, graphs, place, early, values.items()) {
         Ok(set) => answer_in(alloc, text_of(alloc, &set)),
-        Err(fault) => told(text_of(alloc, &fault)),
+        Err(fault) => text_answer(text_of(alloc, &fault)),
     }
 }
 

@@ -1,6 +1,6 @@
 // The checks of graphs.
 use crate::graphs::{delay_of, graphs_of};
-use crate::parts::{name_of, told};
+use crate::parts::{name_of, text_answer};
 use crate::shown::{Shown, Writing, text_of};
 use case_rows::{Trouble, answer_of_text, items, member, small_of, small_or, word};
 use pisdf_model::{
@@ -98,7 +98,7 @@ pub fn checked(alloc: Global, row: &Value) -> Result<Value, Trouble> {
     if check == "range" {
         return Ok(Value::from(in_range(&graphs)));
     }
-    told(check_told(alloc, check, &graphs))
+    text_answer(check_told(alloc, check, &graphs))
 }
 
 /// Puts an item's name behind the names that are there. It has to be the only one among a graph's parts, or among the graphs.
@@ -121,7 +121,7 @@ pub fn repeated(alloc: Global, row: &Value) -> Result<Value, Trouble> {
     for item in items(row, "names")? {
         push_named(alloc, &mut names, item)?;
     }
-    told(fault_text(alloc, repeat(alloc, names.as_slice())))
+    text_answer(fault_text(alloc, repeat(alloc, names.as_slice())))
 }
 
 /// The text of an actor's port.
@@ -141,13 +141,14 @@ pub fn small_calls(alloc: Global, row: &Value) -> Result<Value, Trouble> {
     }
     let version = small_or(row, "version", 1)?;
     let is_top = member(row, "top")?.as_bool() == Some(true);
-    let stated = match row.get("life").and_then(Value::as_str) {
-        Some("permanent") => Life::Permanent,
+    let stated = match word(row, "life") {
+        Ok("permanent") => Life::Permanent,
         _ => Life::Firing,
     };
     let delay = delay_of(alloc, member(row, "delay")?)?;
-    match life_of(version, is_top, stated, delay.items()) {
-        Life::Firing => answer_of_text(alloc, "firing"),
-        Life::Permanent => answer_of_text(alloc, "permanent"),
-    }
+    let word = match life_of(version, is_top, stated, delay.items()) {
+        Life::Firing => "firing",
+        Life::Permanent => "permanent",
+    };
+    answer_of_text(alloc, word)
 }

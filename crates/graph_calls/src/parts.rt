@@ -38,12 +38,12 @@ pub(crate) fn names_of(alloc: Global, row: &Value) -> Result<Vec<Name>, Trouble>
 }
 
 /// The answer that a text is.
-pub(crate) fn told(text: Result<String, AllocError>) -> Result<Value, Trouble> {
+pub(crate) fn text_answer(text: Result<String, AllocError>) -> Result<Value, Trouble> {
     Ok(Value::from(text?))
 }
 
 /// The answer that bytes are.
-pub(crate) fn told_bytes(alloc: Global, bytes: Vec<u8>) -> Result<Value, Trouble> {
+pub(crate) fn bytes_answer(alloc: Global, bytes: Vec<u8>) -> Result<Value, Trouble> {
     match String::from_utf8(bytes) {
         Ok(text) => Ok(Value::from(text)),
         Err(_) => answer_of_text(alloc, "bytes that are no text"),

@@ -3,7 +3,7 @@ ghost use Rattle.std.specs.Prelude.{◌≡◌, All, IfOk};
 ghost use Rattle.graph_format.specs.Writable.{IsWritableGraph};
 ghost use Rattle.pisdf_model.specs.WellFormed.{WellFormed};
 
-use crate::parts::told;
+use crate::parts::text_answer;
 use crate::shown::text_of;
 use crate::signatures::signatures_of;
 use case_rows::{Trouble, answer_of_text, bytes, quoted};
@@ -74,7 +74,7 @@ fn outcome_of_beginnings(
 pub fn fault(alloc: Global, row: &Value) -> Result<Value, Trouble> {
     let signatures = signatures_of(alloc, row)?;
     let file = file_of(alloc, row)?;
-    told(match row.get("beginnings") {
+    text_answer(match row.get("beginnings") {
         Some(_) => outcome_of_beginnings(alloc, file.as_slice(), signatures.as_slice()),
         None => outcome(alloc, file.as_slice(), signatures.as_slice()),
     })
@@ -96,7 +96,7 @@ fn graphs_text(
 pub fn meaning(alloc: Global, row: &Value) -> Result<Value, Trouble> {
     let signatures = signatures_of(alloc, row)?;
     let file = file_of(alloc, row)?;
-    told(graphs_text(alloc, file.as_slice(), signatures.as_slice()))
+    text_answer(graphs_text(alloc, file.as_slice(), signatures.as_slice()))
 }
 
 /// These graphs, as those of version 2 where the row asks for `upgraded` ones.
@@ -134,7 +134,7 @@ fn written_told(alloc: Global, file: &[u8], written: Vec<u8>) -> Result<Value, T
         return answer_of_text(alloc, "same");
     }
     match String::from_utf8(written) {
-        Ok(text) => told(text.replace(alloc, '"', "'")),
+        Ok(text) => text_answer(text.replace(alloc, '"', "'")),
         Err(_) => answer_of_text(alloc, "bytes that are no text"),
     }
 }
@@ -163,7 +163,7 @@ pub fn rewritten(alloc: Global, row: &Value) -> Result<Value, Trouble> {
     let file = file_of(alloc, row)?;
     let graphs = match read(alloc, file.as_slice(), signatures.as_slice()) {
         Ok(graphs) => asked_for(alloc, row, graphs)?,
-        Err(fault) => return told(fault_text(alloc, &fault)),
+        Err(fault) => return text_answer(fault_text(alloc, &fault)),
     };
     graphs_rewritten(alloc, file.as_slice(), &graphs, signatures.as_slice())
 }

@@ -6,7 +6,7 @@ ghost use Rattle.pisdf_model.specs.Ports.{inherited_count, is_inherited};
 ghost use Rattle.pisdf_model.specs.Valid.{AreValid};
 
 use crate::made_levels::level_told;
-use crate::parts::told;
+use crate::parts::text_answer;
 use crate::shown::{Shown, Writing, text_of};
 use crate::signatures::signatures_of;
 use case_rows::{Trouble, answer_in, numbers, quoted, small_or};
@@ -106,7 +106,7 @@ fn fault_told(
 ) -> Result<Value, Trouble> {
     let name = part_name(alloc, graphs, graph, fault)?;
     let fault = text_of(alloc, fault)?;
-    told(format!(in alloc; "{}: {fault}", name.text()))
+    text_answer(format!(in alloc; "{}: {fault}", name.text()))
 }
 
 /// The values of all parameters, or where there is a fault, and why.
@@ -124,7 +124,7 @@ fn values_told(
     let graph = &graphs.graphs.items()[place as usize];
     match resolve(alloc, graph, early, chosen) {
         Ok(values) => answer_in(alloc, format!(in alloc; "{:?}", values.items())),
-        Err(fault) => told(text_of(alloc, &EarlyFault::from(fault))),
+        Err(fault) => text_answer(text_of(alloc, &EarlyFault::from(fault))),
     }
 }
 

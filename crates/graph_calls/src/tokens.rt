@@ -1,5 +1,5 @@
 // Token files, and the rows that a run writes.
-use crate::parts::{name_of, names_of, told, told_bytes};
+use crate::parts::{bytes_answer, name_of, names_of, text_answer};
 use crate::shown::{Shown, Writing, text_of};
 use case_rows::{Trouble, bytes, items, member, number, numbers_of, small, word};
 use param_expr::Name;
@@ -34,7 +34,7 @@ impl Shown for Streams {
 pub fn tokens_read(alloc: Global, row: &Value) -> Result<Value, Trouble> {
     let names = names_of(alloc, row)?;
     let file = bytes(alloc, row, "file")?;
-    told(
+    text_answer(
         match read_tokens(alloc, file.as_slice(), names.as_slice()) {
             Ok(streams) => text_of(alloc, &Streams { streams }),
             Err(TokenFault::Name { row }) => format!(in alloc; "name {row}"),
@@ -98,5 +98,5 @@ pub fn rows_written(alloc: Global, row: &Value) -> Result<Value, Trouble> {
     for one in items(row, "rows")? {
         push_row(alloc, &mut text, one, is_alone)?;
     }
-    told_bytes(alloc, text)
+    bytes_answer(alloc, text)
 }

@@ -5,9 +5,9 @@ ghost use Rattle.kernel_gate.specs.Table.{the_signatures};
 ghost use Rattle.param_resolver.specs.EarlyCheck.{early_faults};
 ghost use Rattle.pisdf_meaning.specs.Sound.{AreValidFor};
 
-use crate::parts::told;
+use crate::parts::text_answer;
 use crate::shown::{Shown, Writing, text_of};
-use case_rows::{Parts, Trouble, answer_in, answer_of_text, lists, lists_of, quoted, text};
+use case_rows::{Trouble, answer_in, answer_of_text, lists, quoted, text};
 use graph_laws::kernels_fit;
 use graph_reader::read;
 use kernel_gate::Gate;
@@ -32,19 +32,13 @@ fn graphs_fitting(alloc: Global, row: &Value) -> Result<Graphs, Trouble>
     }
 }
 
-/// The row's lists of tokens of this name.
-fn tokens_of(alloc: Global, row: &Value, name: &'static str) -> Result<List<List<i64>>, Trouble> {
-    let lists = lists(alloc, row, name)?;
-    Ok(lists_of(alloc, lists.as_slice())?)
-}
-
 /// The state before the iteration: the row's `state`, a list for each FIFO and then for each actor, or where it has none
 /// the state with which a run begins.
 fn state_before(alloc: Global, row: &Value, graphs: &Graphs) -> Result<Delays, Trouble> {
     if row.get("state").is_none() {
         return Ok(first_delays(alloc, graphs)?);
     }
-    let lists = tokens_of(alloc, row, "state")?;
+    let lists = lists(alloc, row, "state")?;
     Ok(Delays { lists })
 }
 
@@ -105,7 +99,7 @@ fn fault_told(alloc: Global, fault: &PlainFault) -> Result<Value, Trouble> {
     match fault {
         PlainFault::Refused(refusal) => {
             let cause = text_of(alloc, &refusal.cause)?;
-            told(format!(in alloc; "{} {cause}", refusal.path.text().text()))
+            text_answer(format!(in alloc; "{} {cause}", refusal.path.text().text()))
         }
         PlainFault::Memory => Err(Trouble::Memory),
     }
@@ -130,7 +124,7 @@ fn level_told(
 /// The level of the top graph of the row's file in an iteration that takes the tokens `ins`, a list for each input, or
 /// the path and the cause of its refusal.
 pub fn top_level_made(alloc: Global, row: &Value) -> Result<Value, Trouble> {
-    let ins = tokens_of(alloc, row, "ins")?;
+    let ins = lists(alloc, row, "ins")?;
     let graphs = graphs_fitting(alloc, row)?;
     let delays = state_before(alloc, row, &graphs)?;
     match top_needs(alloc, &graphs) {
@@ -139,14 +133,19 @@ pub fn top_level_made(alloc: Global, row: &Value) -> Result<Value, Trouble> {
     }
 }
 
+/// The texts of paths.
+fn texts_of(alloc: Global, paths: [&Path; 3]) -> Result<Value, Trouble> {
+    let mut texts = Vec::new(alloc);
+    for path in paths {
+        texts.push(answer_of_text(alloc, path.text().text())?)?;
+    }
+    Ok(Value::from(texts))
+}
+
 /// The texts of a path that is made from the row's text, of an equal one, and of one that is equal to that.
 pub fn path_made(alloc: Global, row: &Value) -> Result<Value, Trouble> {
     let path = Path::new(alloc, Name::new(text(alloc, row, "text")?))?;
     let equal = path.copy()?;
     let last = equal.copy()?;
-    let mut texts = Parts::new(alloc);
-    for one in [&path, &equal, &last] {
-        texts.add(answer_of_text(alloc, one.text().text()));
-    }
-    texts.answer()
+    texts_of(alloc, [&path, &equal, &last])
 }

@@ -1,6 +1,6 @@
 // Shelves and sinks in memory.
-use crate::parts::{pair, told_bytes};
-use case_rows::{Parts, Trouble, answer_of_text, bytes_of, items, small, text_of};
+use crate::parts::{bytes_answer, pair};
+use case_rows::{Trouble, answer_of_text, bytes_of, items, small, text_of};
 use outer_world::{LoadFault, MemoryShelf, MemorySink, Shelf, Sink};
 use serde_json::Value;
 use std::alloc::Global;
@@ -64,7 +64,7 @@ pub fn failing_puts(
 pub fn text_after(alloc: Global, word: &str, bytes: &[u8]) -> Result<Value, Trouble> {
     let mut all = Vec::from_slice(alloc, word.as_bytes())?;
     all.extend_from_slice(bytes)?;
-    told_bytes(alloc, all)
+    bytes_answer(alloc, all)
 }
 
 /// The answer of a load, which is the name of a file and the most bytes that it may have.
@@ -85,11 +85,11 @@ pub fn loads(alloc: Global, row: &Value) -> Result<Value, Trouble> {
     let loads = items(row, "loads")?;
     let failing = failing_loads(alloc, row, "failing")?;
     let mut shelf = MemoryShelf::new(alloc, files_of(alloc, row, "files")?, failing);
-    let mut answers = Parts::new(alloc);
+    let mut answers = Vec::new(alloc);
     for load in loads {
-        answers.add(load_told(alloc, &mut shelf, load));
+        answers.push(load_told(alloc, &mut shelf, load)?)?;
     }
-    answers.answer()
+    Ok(Value::from(answers))
 }
 
 /// The answer of a put of a piece of text, with what the sink holds then.
@@ -107,9 +107,9 @@ pub fn puts(alloc: Global, row: &Value) -> Result<Value, Trouble> {
     let puts = items(row, "puts")?;
     let room = small(row, "room")? as usize;
     let mut sink = MemorySink::new(alloc, room, failing_puts(alloc, row, "failing")?)?;
-    let mut answers = Parts::new(alloc);
+    let mut answers = Vec::new(alloc);
     for put in puts {
-        answers.add(put_told(alloc, &mut sink, put));
+        answers.push(put_told(alloc, &mut sink, put)?)?;
     }
-    answers.answer()
+    Ok(Value::from(answers))
 }

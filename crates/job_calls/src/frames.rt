@@ -56,7 +56,7 @@ fn lens_of(alloc: Global, frame: &Frame, outs: u32) -> Result<Vec<usize>, AllocE
 }
 
 /// What a frame holds: its kind, its arguments, the tokens of its inputs, and the lengths of its outputs.
-pub(crate) fn told(alloc: Global, counted: &Counted) -> Result<String, Trouble>
+pub(crate) fn frame_text(alloc: Global, counted: &Counted) -> Result<String, Trouble>
     requires ins { counted.now.ins ≡ length counted.now.frame.inputs }
     requires outs { counted.now.outs ≡ length counted.now.frame.outputs }
 {

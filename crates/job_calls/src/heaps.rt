@@ -105,18 +105,29 @@ fn step_all(
     Ok(answers)
 }
 
-/// The answers of the row's steps.
-pub fn answers(alloc: Global, row: &Value) -> Result<Value, Trouble> {
-    let groups = smalls(alloc, row, "groups")?;
-    let keys = keys_of(alloc, row)?;
-    let count = small(row, "count")? as usize;
-    let steps = items(row, "steps")?;
-    if groups.len() > 1_000_000 || keys.len() != groups.len() || !are_below(&groups, count) {
+/// The answers of steps, where the numbers have these groups and keys.
+fn answers_of(
+    alloc: Global,
+    groups: &[u32],
+    keys: &[u128],
+    count: usize,
+    steps: &[Value],
+) -> Result<Value, Trouble> {
+    if groups.len() > 1_000_000 || keys.len() != groups.len() || !are_below(groups, count) {
         return Err(Trouble::Member("groups"));
     }
-    let mut held = vec![in alloc; false; groups.len()]?;
-    let ranking = Arc::new(alloc, Ranking::new(alloc, &groups, &keys, count)?)?;
+    let ranking = Arc::new(alloc, Ranking::new(alloc, groups, keys, count)?)?;
     let mut heaps = GroupedHeaps::new(alloc, ranking)?;
+    let mut held = vec![in alloc; false; groups.len()]?;
     let answers = step_all(alloc, &mut heaps, &mut held, steps)?;
     answer_in(alloc, format!(in alloc; "{answers:?}"))
+}
+
+/// The answers of the row's steps.
+pub fn answers(alloc: Global, row: &Value) -> Result<Value, Trouble> {
+    let count = small(row, "count")? as usize;
+    let steps = items(row, "steps")?;
+    let groups = smalls(alloc, row, "groups")?;
+    let keys = keys_of(alloc, row)?;
+    answers_of(alloc, &groups, &keys, count, steps)
 }

@@ -1,26 +1,17 @@
 // Jobs at their start.
-ghost use Rattle.std.specs.Prelude.{◌≡◌, length, map, IfOk};
+ghost use Rattle.std.specs.Prelude.{◌≡◌, length, map, IfOk, IsOk};
 ghost use Rattle.std.specs.Bool.{OnTrue};
 ghost use Rattle.kernel_gate.specs.Value.{lengths};
 ghost use Rattle.sdf_level.specs.LevelRun.{HaveDelays};
 ghost use Rattle.job_calls.specs.Held.{HasNoneClaimed};
 
-use case_rows::{Trouble, items, level_of, lists, lists_of, small, small_of};
+use case_rows::{Trouble, items, level_of, lists, small, small_of};
 use job_compiler::{Compiled, compile};
 use one_job::{Job, start};
-use sdf_level::{Link, List};
+use sdf_level::{Level, Link, List};
 use serde_json::Value;
 use std::alloc::{AllocError, Global};
 use std::sync::Arc;
-
-/// The row's lists of this name, as lists of tokens.
-pub(crate) fn token_lists(
-    alloc: Global,
-    row: &Value,
-    name: &'static str,
-) -> Result<List<List<i64>>, Trouble> {
-    Ok(lists_of(alloc, lists(alloc, row, name)?.as_slice())?)
-}
 
 /// The place of a kernel, or none.
 fn kind_of(item: &Value) -> Result<Option<u32>, Trouble> {
@@ -58,7 +49,11 @@ fn are_long(lists: &[List<i64>], lens: &[u32]) -> bool
 fn delays_of(alloc: Global, links: &[Link]) -> Result<Vec<u32>, AllocError>
     ensures { IfOk result (λ v. v.items ≡ map (λ link. link.delay) links.now) }
 {
-    links.iter().map(|link| link.delay).collect(alloc)
+    let mut delays = Vec::new(alloc);
+    for link in links {
+        delays.push(link.delay)?;
+    }
+    Ok(delays)
 }
 
 /// Whether these lists are as long as the delays of these links.
@@ -71,15 +66,42 @@ fn are_delays(alloc: Global, lists: &[List<i64>], links: &[Link]) -> Result<bool
 
 /// The row's compilation.
 fn compiled_of(alloc: Global, row: &Value) -> Result<Arc<Compiled>, Trouble> {
-    let level = level_of(alloc, row)?;
     let workers = small(row, "workers")?;
     if workers == 0 {
         return Err(Trouble::Member("workers"));
     }
+    let level = level_of(alloc, row)?;
     match compile(alloc, &level, workers) {
         Ok(compiled) => Ok(Arc::new(alloc, compiled)?),
         Err(_) => Err(Trouble::Member("links")),
     }
+}
+
+/// Refuses lists with which no job of a level can start.
+fn check_given(
+    alloc: Global,
+    level: &Level,
+    kinds: &[Option<u32>],
+    args: &[List<i64>],
+    sources: &[List<i64>],
+    stored: &[List<i64>],
+) -> Result<(), Trouble>
+    ensures kinds { IsOk result → length kinds.now ≡ level.now.actors }
+    ensures args { IsOk result → length args.now ≡ level.now.actors }
+    ensures sources { IsOk result → lengths sources.now ≡ level.now.sources }
+    ensures stored { IsOk result → HaveDelays level.now.links stored.now }
+{
+    let actors = level.actors as usize;
+    if kinds.len() != actors || args.len() != actors {
+        return Err(Trouble::Member("kinds"));
+    }
+    if !are_long(sources, level.sources.items()) {
+        return Err(Trouble::Member("sources"));
+    }
+    if !are_delays(alloc, stored, level.links.items())? {
+        return Err(Trouble::Member("stored"));
+    }
+    Ok(())
 }
 
 /// The row's job.
@@ -88,20 +110,17 @@ pub(crate) fn started(alloc: Global, row: &Value) -> Result<Job, Trouble>
 {
     let compiled = compiled_of(alloc, row)?;
     let kinds = kinds(alloc, row)?;
-    let args = token_lists(alloc, row, "args")?;
-    let sources = token_lists(alloc, row, "sources")?;
-    let stored = token_lists(alloc, row, "stored")?;
-    let level = compiled.level();
-    let actors = level.actors as usize;
-    if kinds.items().len() != actors || args.items().len() != actors {
-        return Err(Trouble::Member("kinds"));
-    }
-    if !are_long(sources.items(), level.sources.items()) {
-        return Err(Trouble::Member("sources"));
-    }
-    if !are_delays(alloc, stored.items(), level.links.items())? {
-        return Err(Trouble::Member("stored"));
-    }
+    let args = lists(alloc, row, "args")?;
+    let sources = lists(alloc, row, "sources")?;
+    let stored = lists(alloc, row, "stored")?;
+    check_given(
+        alloc,
+        compiled.level(),
+        kinds.items(),
+        args.items(),
+        sources.items(),
+        stored.items(),
+    )?;
     let job = start(alloc, compiled, kinds, args, sources, stored)?;
     Ok(job)
 }

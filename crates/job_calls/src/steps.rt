@@ -13,10 +13,9 @@ ghost use Rattle.kernel_gate.specs.Rooms.{Suffices};
 ghost use Rattle.one_job.specs.View.{IsEnabled, IsFiring};
 ghost use Rattle.job_calls.specs.Held.{Holds, KeepsHeld};
 
-use crate::frames::{Counted, copy_through, count_ports, told, write};
+use crate::frames::{Counted, copy_through, count_ports, frame_text, write};
 use crate::places::{is_held, put_frame, take_frame};
-use crate::starting::token_lists;
-use case_rows::{Trouble, small};
+use case_rows::{Trouble, lists, small};
 use kernel_gate::{Frame, KernelFault, Room};
 use one_job::Job;
 use sdf_level::Node;
@@ -119,14 +118,14 @@ fn claim(
     }
     let room = room_for(alloc, job)?;
     let counted = count_ports(job.claim(node, room));
-    let told = told(alloc, &counted);
+    let text = frame_text(alloc, &counted);
     let Counted {
         frame,
         ins: _,
         outs: _,
     } = counted;
     put_frame(frames, node as usize, frame);
-    told
+    text
 }
 
 /// The code of the step's fault, if it has one.
@@ -161,7 +160,7 @@ fn finish(
     ensures { Holds job.new frames.new }
 {
     let node = node_of(job, step, "finish")?;
-    let outs = token_lists(alloc, step, "outs")?;
+    let outs = lists(alloc, step, "outs")?;
     let code = code_of(step)?;
     if !is_held(frames, node as usize) {
         return Err(Trouble::Member("finish"));

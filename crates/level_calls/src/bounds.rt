@@ -7,10 +7,11 @@ use std::alloc::{AllocError, Global};
 
 /// The slots of the nodes: of each its worker, its start and its end.
 fn rows_of_slots(alloc: Global, slots: &[Slot]) -> Result<Vec<[u64; 3]>, AllocError> {
-    slots
-        .iter()
-        .map(|slot| [u64::from(slot.worker), slot.start, slot.end])
-        .collect(alloc)
+    let mut rows = Vec::new(alloc);
+    for slot in slots {
+        rows.push([u64::from(slot.worker), slot.start, slot.end])?;
+    }
+    Ok(rows)
 }
 
 /// The parts of a report, in their order.

@@ -1,22 +1,12 @@
 // Compilations of levels, and how they are kept.
-use crate::schedules::{deadlock_text, limit_text, rows_of_edges, text_of_nodes};
+use crate::schedules::{fault_text, rows_of_edges, text_of_nodes};
 use crate::solving::text_of_turns;
 use case_rows::{Trouble, answer_in, items, level_of, level_with, numbers, small, small_or};
-use job_compiler::{CompileFault, Compiled, Kept, Key, compile, kept};
+use job_compiler::{Compiled, Kept, Key, compile, kept};
 use sdf_level::List;
 use serde_json::Value;
 use std::alloc::{AllocError, Global};
 use std::sync::Arc;
-
-/// Why a level has no compilation: `rates`; or what is over its limit; or a deadlock.
-fn fault_text(alloc: Global, fault: &CompileFault) -> Result<String, AllocError> {
-    match fault {
-        CompileFault::Rates => format!(in alloc; "\"rates\""),
-        CompileFault::Limit { what, value } => limit_text(alloc, *what, *value),
-        CompileFault::Deadlock { left } => deadlock_text(alloc, left.items()),
-        CompileFault::Memory => Err(AllocError),
-    }
-}
 
 /// The order of a compilation, its nodes, counts, edges and ranks.
 fn graph_text(alloc: Global, compiled: &Compiled) -> Result<String, AllocError> {
@@ -42,15 +32,16 @@ fn text_of(alloc: Global, compiled: &Compiled) -> Result<String, AllocError> {
 
 /// The compilation of the row's level for so many workers, or why it has none.
 pub fn compilation(alloc: Global, row: &Value) -> Result<Value, Trouble> {
-    let level = level_of(alloc, row)?;
     let workers = small(row, "workers")?;
     if workers == 0 {
         return Err(Trouble::Member("workers"));
     }
-    match compile(alloc, &level, workers) {
-        Ok(compiled) => answer_in(alloc, text_of(alloc, &compiled)),
-        Err(fault) => answer_in(alloc, fault_text(alloc, &fault)),
-    }
+    let level = level_of(alloc, row)?;
+    let text = match compile(alloc, &level, workers) {
+        Ok(compiled) => text_of(alloc, &compiled),
+        Err(fault) => fault_text(alloc, &fault),
+    };
+    answer_in(alloc, text)
 }
 
 /// The key of a step: its graph, which is the number given and so many more, its workers, 1 where it has none, and its values.
@@ -98,18 +89,29 @@ fn found_by(alloc: Global, kept: &mut Kept, step: &Value) -> Result<i64, Trouble
     }
 }
 
+/// Makes a step; what it finds comes behind what was found before.
+fn step_once(
+    alloc: Global,
+    kept: &mut Kept,
+    found: &mut Vec<i64>,
+    step: &Value,
+) -> Result<(), Trouble> {
+    if step.get("keep").is_some() {
+        return keep_all(alloc, kept, step);
+    }
+    found.push(found_by(alloc, kept, step)?)?;
+    Ok(())
+}
+
 /// What is found by the row's steps. A step `keep` keeps a compilation with `actors` actors, 1 where it has none, under the
 /// key of that graph, its `workers` and `values`; with `times` so many of them, each with a graph of one number more, and one
 /// actor more. A step `find` looks one up.
 pub fn kept_by(alloc: Global, row: &Value) -> Result<Value, Trouble> {
+    let steps = items(row, "steps")?;
     let mut kept = kept(alloc)?;
     let mut found = Vec::new(alloc);
-    for step in items(row, "steps")? {
-        if step.get("keep").is_some() {
-            keep_all(alloc, &mut kept, step)?;
-        } else {
-            found.push(found_by(alloc, &mut kept, step)?)?;
-        }
+    for step in steps {
+        step_once(alloc, &mut kept, &mut found, step)?;
     }
     answer_in(alloc, format!(in alloc; "{found:?}"))
 }

@@ -17,7 +17,7 @@ pub struct Edges {
 }
 
 /// A pair of numbers.
-fn pair_of(item: &Value, name: &'static str) -> Result<(u32, u32), Trouble> {
+pub fn pair_of(item: &Value, name: &'static str) -> Result<(u32, u32), Trouble> {
     let Some(ends) = item.as_array() else {
         return Err(Trouble::Member(name));
     };

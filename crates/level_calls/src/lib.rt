@@ -1,15 +1,11 @@
-//! The calls on levels, single-rate graphs, frames and leases, each made on the inputs of a row of a table: the answer is
-//! written as a JSON value, which the row's wanted one is compared with. Each of them gives [`case_rows::Trouble`] where the row
-//! hasn't the form that its call asks for, or where there is no memory.
+//! The calls on levels, schedules, single-rate graphs and what is compiled of them, each made on the inputs of a row of a table:
+//! the answer is written as a JSON value, which the row's wanted one is compared with. Each of them gives
+//! [`case_rows::Trouble`] where the row hasn't the form that its call asks for, or where there is no memory.
 #![tactic(auto)]
 
 pub mod bounds;
 pub mod compilations;
 mod edges;
-mod frame_parts;
-pub mod frames;
-pub mod kernels;
-pub mod leases;
 pub mod lines;
 pub mod orderings;
 pub mod placements;

@@ -2,7 +2,7 @@
 ghost use Rattle.std.specs.Prelude.{◌≡◌, ◌<◌, ◌≤◌, ◌^◌, All, IfSome, IsTrue, length, slice_index};
 ghost use Rattle.std.specs.List.{sum_by};
 
-use crate::edges::{edges_of, rank_at};
+use crate::edges::{pairs, rank_at};
 use case_rows::{Trouble, answer_in, lists_text, small, smalls};
 use order_memory::{Ordered, ordered};
 use sdf_level::{Edge, List, Node, SingleRate};
@@ -10,19 +10,23 @@ use serde_json::Value;
 use std::alloc::{AllocError, Global};
 use worker_mapping::Mapping;
 
-/// The single-rate graph of a row, whose nodes are sources all, and whose ports are all 0.
-fn graph_of(alloc: Global, row: &Value) -> Result<SingleRate, Trouble> {
-    let graph = edges_of(alloc, row)?;
-    let sizes = smalls(alloc, row, "sizes")?;
-    if sizes.len() != graph.edges.len() {
-        return Err(Trouble::Member("sizes"));
-    }
+/// So many nodes, which are sources all.
+fn nodes_of(alloc: Global, count: u32) -> Result<Vec<Node>, AllocError> {
     let mut nodes = Vec::new(alloc);
-    for number in 0..graph.nodes {
+    for number in 0..count {
         nodes.push(Node::Source(number))?;
     }
+    Ok(nodes)
+}
+
+/// The edges between the nodes of these pairs, whose ports are all 0, with these sizes.
+fn sized_edges(
+    alloc: Global,
+    pairs: &[(u32, u32)],
+    sizes: &[u32],
+) -> Result<Vec<Edge>, AllocError> {
     let mut edges = Vec::new(alloc);
-    for (ends, size) in graph.edges.iter().zip(&sizes) {
+    for (ends, size) in pairs.iter().zip(sizes) {
         edges.push(Edge {
             tail: ends.0,
             tail_port: 0,
@@ -31,10 +35,25 @@ fn graph_of(alloc: Global, row: &Value) -> Result<SingleRate, Trouble> {
             size: *size,
         })?;
     }
+    Ok(edges)
+}
+
+/// The row's edges, whose ports are all 0.
+fn edges_of(alloc: Global, row: &Value) -> Result<Vec<Edge>, Trouble> {
+    let pairs = pairs(alloc, row, "edges")?;
+    let sizes = smalls(alloc, row, "sizes")?;
+    if sizes.len() != pairs.len() {
+        return Err(Trouble::Member("sizes"));
+    }
+    Ok(sized_edges(alloc, pairs.as_slice(), sizes.as_slice())?)
+}
+
+/// The single-rate graph of a row, whose nodes are sources all, and whose ports are all 0.
+fn graph_of(alloc: Global, row: &Value) -> Result<SingleRate, Trouble> {
     Ok(SingleRate {
-        nodes: List::new(nodes),
-        edges: List::new(edges),
-        ranks: List::new(graph.ranks),
+        nodes: List::new(nodes_of(alloc, small(row, "nodes")?)?),
+        edges: List::new(edges_of(alloc, row)?),
+        ranks: List::new(smalls(alloc, row, "ranks")?),
     })
 }
 
@@ -108,22 +127,33 @@ fn text_of(alloc: Global, ordered: &Ordered) -> Result<String, AllocError> {
     format!(in alloc; "[{orders}, {offsets:?}, {height}]")
 }
 
-/// The orders of so many workers on which the row's nodes have these homes, and the offsets and the height of the placement
-/// of its buffers.
-pub fn orders_and_offsets(alloc: Global, row: &Value) -> Result<Value, Trouble> {
-    let workers = small(row, "workers")?;
-    let mapping = Mapping {
-        home: List::new(smalls(alloc, row, "home")?),
-        priority: List::new(Vec::new(alloc)),
-    };
-    let graph = graph_of(alloc, row)?;
+/// The orders of so many workers on which the nodes have these homes, and the offsets and the height of the placement of the
+/// buffers.
+fn placed_orders(
+    alloc: Global,
+    graph: &SingleRate,
+    mapping: &Mapping,
+    workers: u32,
+) -> Result<Value, Trouble> {
     let home = mapping.home.items();
     if home.len() < graph.nodes.items().len() || !are_workers(home, workers) {
         return Err(Trouble::Member("home"));
     }
-    if !is_sound(&graph) {
+    if !is_sound(graph) {
         return Err(Trouble::Member("edges"));
     }
-    let ordered = ordered(alloc, &graph, &mapping, workers)?;
+    let ordered = ordered(alloc, graph, mapping, workers)?;
     answer_in(alloc, text_of(alloc, &ordered))
+}
+
+/// The orders of the row's workers on which its nodes have the row's homes, and the offsets and the height of the placement of
+/// its buffers.
+pub fn orders_and_offsets(alloc: Global, row: &Value) -> Result<Value, Trouble> {
+    let workers = small(row, "workers")?;
+    let graph = graph_of(alloc, row)?;
+    let mapping = Mapping {
+        home: List::new(smalls(alloc, row, "home")?),
+        priority: List::new(Vec::new(alloc)),
+    };
+    placed_orders(alloc, &graph, &mapping, workers)
 }

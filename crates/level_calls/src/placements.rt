@@ -2,7 +2,7 @@
 ghost use Rattle.std.specs.Prelude.{◌≡◌, ◌<◌, ◌≤◌, ◌^◌, All, IsTrue, length, sum};
 
 use crate::edges::{are_there, costed_of, edges_of, pairs, rise};
-use case_rows::{Trouble, answer_in, small, smalls, total};
+use case_rows::{Trouble, answer_in, answer_of_text, small, smalls, total};
 use memory_exclusion::{Reach, reach};
 use placement::place;
 use placement_checker::{Exclusion, check};
@@ -92,13 +92,13 @@ fn checked<X: Exclusion>(
     sizes: &[u32],
     exclusion: &X,
 ) -> Result<Value, Trouble> {
-    let offsets = smalls(alloc, row, "offsets")?;
     let height = small(row, "height")?;
+    let offsets = smalls(alloc, row, "offsets")?;
     if offsets.len() != sizes.len() || sizes.len() > exclusion.range() as usize {
         return Err(Trouble::Member("offsets"));
     }
     match check(sizes, exclusion, offsets.as_slice(), height) {
-        Ok(()) => Ok(Value::try_from_str(alloc, "valid")?),
+        Ok(()) => answer_of_text(alloc, "valid"),
         Err(clash) => {
             let (e, f) = (clash.e, clash.f);
             answer_in(alloc, format!(in alloc; "[{e}, {f}]"))

@@ -9,7 +9,7 @@ use std::alloc::{AllocError, Global};
 use std::fmt::Write;
 
 /// What is over its limit, with its count.
-pub fn limit_text(alloc: Global, what: What, value: u64) -> Result<String, AllocError> {
+fn limit_text(alloc: Global, what: What, value: u64) -> Result<String, AllocError> {
     let word = match what {
         What::Firings => "firings",
         What::Links => "links",
@@ -18,17 +18,15 @@ pub fn limit_text(alloc: Global, what: What, value: u64) -> Result<String, Alloc
     format!(in alloc; "\"{word} {value}\"")
 }
 
-/// That a level has a deadlock, with the counts left.
-pub fn deadlock_text(alloc: Global, left: &[u32]) -> Result<String, AllocError> {
-    format!(in alloc; "[\"deadlock\", {left:?}]")
-}
-
-/// Why a level has no schedule: `rates`; or what is over its limit; or a deadlock.
-fn fault_text(alloc: Global, fault: &Unscheduled) -> Result<String, AllocError> {
+/// Why a level has no schedule and no compilation: `rates`; or what is over its limit; or a deadlock, with the counts left.
+pub fn fault_text(alloc: Global, fault: &Unscheduled) -> Result<String, AllocError> {
     match fault {
         Unscheduled::Rates => format!(in alloc; "\"rates\""),
         Unscheduled::Limit { what, value } => limit_text(alloc, *what, *value),
-        Unscheduled::Deadlock { left } => deadlock_text(alloc, left.items()),
+        Unscheduled::Deadlock { left } => {
+            let left = left.items();
+            format!(in alloc; "[\"deadlock\", {left:?}]")
+        }
         Unscheduled::Memory => Err(AllocError),
     }
 }
@@ -43,10 +41,11 @@ fn schedule_text(alloc: Global, schedule: &LevelSchedule) -> Result<String, Allo
 /// The one-thread order and the repetition vector of the row's level, or why it has none.
 pub fn scheduled(alloc: Global, row: &Value) -> Result<Value, Trouble> {
     let level = level_of(alloc, row)?;
-    match schedule(alloc, &level) {
-        Ok(schedule) => answer_in(alloc, schedule_text(alloc, &schedule)),
-        Err(fault) => answer_in(alloc, fault_text(alloc, &fault)),
-    }
+    let text = match schedule(alloc, &level) {
+        Ok(schedule) => schedule_text(alloc, &schedule),
+        Err(fault) => fault_text(alloc, &fault),
+    };
+    answer_in(alloc, text)
 }
 
 fn push_node(text: &mut String, node: Node) -> Result<(), AllocError> {
@@ -74,16 +73,17 @@ pub fn text_of_nodes(alloc: Global, nodes: &[Node]) -> Result<String, AllocError
 
 /// The edges: of each its tail and the port there, its head and the port there, and its size.
 pub fn rows_of_edges(alloc: Global, edges: &[Edge]) -> Result<Vec<[u32; 5]>, AllocError> {
-    edges
-        .iter()
-        .map(|edge| [
+    let mut rows = Vec::new(alloc);
+    for edge in edges {
+        rows.push([
             edge.tail,
             edge.tail_port,
             edge.head,
             edge.head_port,
             edge.size,
-        ])
-        .collect(alloc)
+        ])?;
+    }
+    Ok(rows)
 }
 
 /// The nodes, the edges and the ranks of a single-rate graph.

@@ -3,7 +3,7 @@ use balance_solver::{Unsolved, repetition};
 use case_rows::{Trouble, answer_in, level_of, member, small, smalls};
 use firing_order::{Stuck, order};
 use interface_rules::{InterfaceFault, factor, kept_from, repeated_at};
-use sdf_level::{Head, Level, List, Tail, Turn};
+use sdf_level::{Head, Level, Link, List, Tail, Turn};
 use serde_json::Value;
 use std::alloc::{AllocError, Global};
 use std::fmt::Write;
@@ -78,18 +78,17 @@ pub fn ordered(alloc: Global, row: &Value) -> Result<Value, Trouble> {
     }
 }
 
-fn push_tail(text: &mut String, tail: Tail) -> Result<(), AllocError> {
-    match tail {
-        Tail::Source(source) => write!(text, "source {source}"),
-        Tail::Port { actor, port, rate } => write!(text, "{actor}.{port} {rate}"),
+fn push_link(text: &mut String, link: &Link) -> Result<(), AllocError> {
+    match link.tail {
+        Tail::Source(source) => write!(text, "; source {source}")?,
+        Tail::Port { actor, port, rate } => write!(text, "; {actor}.{port} {rate}")?,
     }
-}
-
-fn push_head(text: &mut String, head: Head) -> Result<(), AllocError> {
-    match head {
-        Head::Sink(sink) => write!(text, " -> sink {sink}"),
-        Head::Port { actor, port, rate } => write!(text, " -> {actor}.{port} {rate}"),
+    match link.head {
+        Head::Sink(sink) => write!(text, " -> sink {sink}")?,
+        Head::Port { actor, port, rate } => write!(text, " -> {actor}.{port} {rate}")?,
     }
+    let delay = link.delay;
+    write!(text, " ({delay})")
 }
 
 /// The parts of the row's level: its actors, sources, sinks and links, and of these the ones between two actors.
@@ -103,11 +102,7 @@ fn text_of_level(alloc: Global, level: &Level) -> Result<String, AllocError> {
         "{actors} actors, sources {sources:?}, sinks {sinks:?}"
     )?;
     for link in level.links.items() {
-        text.push_str("; ")?;
-        push_tail(&mut text, link.tail)?;
-        push_head(&mut text, link.head)?;
-        let delay = link.delay;
-        write!(text, " ({delay})")?;
+        push_link(&mut text, link)?;
     }
     Ok(text)
 }

@@ -112,8 +112,10 @@ fn step_all<R: Wait>(
 /// What each of the row's `steps` of two workers answers, and then the tally's counts, its drawers, and whether it is closed.
 pub fn stepped<R: Wait>(rt: &R, alloc: Global, row: &Value) -> Result<Value, Trouble> {
     let steps = items(row, "steps")?;
-    if !steps.iter().all(is_step) {
-        return Err(Trouble::Member("steps"));
+    for step in steps {
+        if !is_step(step) {
+            return Err(Trouble::Member("steps"));
+        }
     }
     let Ok((lock, all)) = Lock::start(alloc, empty(alloc), 2) else {
         return Err(Trouble::Memory);

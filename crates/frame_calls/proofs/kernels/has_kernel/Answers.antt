@@ -2,7 +2,7 @@ use Rattle.std.proofs.Common.{[], false, refl, arith}
 use Rattle.kernel_gate.specs.Table.{the_signatures}
 use Rattle.kernel_gate.specs.declared.signature.Signature.{Signature}
 use Rattle.kernel_library.proofs.Seen.{signature_at}
-use Rattle.level_calls.proofs.kernels.has_kernel.Goals as goal
+use Rattle.frame_calls.proofs.kernels.has_kernel.Goals as goal
 
 -- what an index past the end would read
 none : Signature

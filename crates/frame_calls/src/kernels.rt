@@ -4,10 +4,10 @@ ghost use Rattle.std.specs.Bool.{OnTrue};
 ghost use Rattle.kernel_gate.specs.Signed.{IsFrameOf, unnamed};
 ghost use Rattle.kernel_gate.specs.Table.{the_signatures};
 ghost use Rattle.kernel_gate.specs.Leased.{AreWhole};
-ghost use Rattle.level_calls.specs.Signatures.{HasKernel};
+ghost use Rattle.frame_calls.specs.Signatures.{HasKernel};
 
-use crate::frame_parts::{Told, given_up};
-use case_rows::{Trouble, answer_in, lists, lists_of, numbers, small_or, smalls, word};
+use crate::frame_parts::{Content, given_up};
+use case_rows::{Trouble, answer_in, lists, numbers, small_or, smalls, word};
 use kernel_gate::{Frame, Gate, KernelFault, Signature};
 use kernel_library::Library;
 use sdf_level::List;
@@ -61,15 +61,14 @@ fn frame_for(
     alloc: Global,
     kind: u32,
     args: Vec<i64>,
-    inputs: &[Vec<i64>],
+    inputs: List<List<i64>>,
     outs: &[u32],
     sets: u32,
 ) -> Result<Frame, AllocError>
-    requires { HasKernel kind (length args.items) (length inputs.now) (length outs.now) sets }
+    requires { HasKernel kind (length args.items) (length inputs) (length outs.now) sets }
     ensures fitting { IfOk result (λ f. IsFrameOf (unnamed the_signatures) f) }
     ensures whole { IfOk result (λ f. AreWhole f.places) }
 {
-    let inputs = lists_of(alloc, inputs)?;
     let frame = Frame::start(alloc, kind, List::new(args), inputs, outs, sets)?;
     Ok(frame)
 }
@@ -91,7 +90,7 @@ fn fire(alloc: Global, mut frame: Frame) -> Result<Value, Trouble>
     requires whole { AreWhole frame.places }
 {
     let fired = Library.fire(&mut frame);
-    let results = given_up(alloc, frame, Told::Results);
+    let results = given_up(alloc, frame, Content::Results);
     match fired {
         Ok(()) => answer_in(alloc, results),
         Err(fault) => Ok(Value::try_from_str(alloc, word_of(fault))?),
@@ -102,15 +101,15 @@ fn fire(alloc: Global, mut frame: Frame) -> Result<Value, Trouble>
 /// number of its sets.
 pub fn fired(alloc: Global, row: &Value) -> Result<Value, Trouble> {
     let kind = place_of(word(row, "kernel")?);
+    let sets = small_or(row, "sets", 0)?;
     let args = numbers(alloc, row, "args")?;
     let inputs = lists(alloc, row, "ins")?;
     let outs = smalls(alloc, row, "outs")?;
-    let sets = small_or(row, "sets", 0)?;
-    if !has_kernel(kind, args.len(), inputs.len(), outs.len(), sets) {
+    if !has_kernel(kind, args.len(), inputs.items().len(), outs.len(), sets) {
         return Err(Trouble::Member("kernel"));
     }
     fire(
         alloc,
-        frame_for(alloc, kind, args, inputs.as_slice(), outs.as_slice(), sets)?,
+        frame_for(alloc, kind, args, inputs, outs.as_slice(), sets)?,
     )
 }

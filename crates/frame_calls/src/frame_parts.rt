@@ -8,7 +8,7 @@ use std::fmt::Write;
 
 /// What of a frame is told.
 #[derive(Clone, Copy)]
-pub enum Told {
+pub enum Content {
     /// Its arguments, the tokens of its input and of its output ports, and its sets, one after the other.
     Parts,
     /// The tokens of its output ports, and its sets.
@@ -47,14 +47,14 @@ fn results_text(alloc: Global, lent: &Lent) -> Result<String, AllocError> {
 }
 
 /// What a frame holds, which is given up.
-pub fn given_up(alloc: Global, frame: Frame, told: Told) -> Result<String, AllocError>
+pub fn given_up(alloc: Global, frame: Frame, content: Content) -> Result<String, AllocError>
     requires { AreWhole frame.places }
 {
     let lent = frame.take_back();
-    let text = match told {
-        Told::Parts => parts_text(alloc, &lent),
-        Told::Results => results_text(alloc, &lent),
-        Told::Outputs => cells_text(alloc, lent.outputs.as_slice()),
+    let text = match content {
+        Content::Parts => parts_text(alloc, &lent),
+        Content::Results => results_text(alloc, &lent),
+        Content::Outputs => cells_text(alloc, lent.outputs.as_slice()),
     };
     Frame::lend(lent).end();
     text

@@ -2,7 +2,7 @@ use Rattle.std.proofs.Common.{◌≡◌, ℕ, List, [], ◌∷◌, length, map, 
 use Rattle.std.proofs.lemmas.List.{length-map, length-replicate}
 use Rattle.std.specs.Prelude.{ℤ, replicate, pos}
 use Rattle.kernel_gate.specs.Value.{lengths}
-use Rattle.level_calls.proofs.frames.frame_of.Goals as goal
+use Rattle.frame_calls.proofs.frames.frame_of.Goals as goal
 
 abbrev zeros_of : ℕ → List ℤ
 zeros_of n = replicate n (pos 0)

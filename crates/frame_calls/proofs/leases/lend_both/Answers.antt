@@ -1,8 +1,8 @@
 use Rattle.std.proofs.Common.{ap, sym, ◌∙◌}
 use Rattle.kernel_gate.specs.Framed.{frame_of}
 use Rattle.kernel_gate.specs.Value.{FrameView, Places}
-use Rattle.level_calls.proofs.Placed.{only_place}
-use Rattle.level_calls.proofs.leases.lend_both.Goals as goal
+use Rattle.frame_calls.proofs.Placed.{only_place}
+use Rattle.frame_calls.proofs.leases.lend_both.Goals as goal
 
 pub only-requires-2 : goal.only-requires-2
 only-requires-2 c =

@@ -5,10 +5,8 @@ ghost use Rattle.kernel_gate.specs.Leased.{AreWhole};
 ghost use Rattle.kernel_gate.specs.Value.{lengths};
 ghost use Rattle.special_actors.specs.Fitting.{HasLengths, IsFrameOf};
 
-use crate::frame_parts::{Told, given_up};
-use case_rows::{
-    Trouble, answer_in, lists, lists_of, numbers, small, small_or, smalls, total, word,
-};
+use crate::frame_parts::{Content, given_up};
+use case_rows::{Trouble, answer_in, lists, numbers, small, small_or, smalls, total, word};
 use kernel_gate::Frame;
 use sdf_level::{List, Node};
 use serde_json::Value;
@@ -18,13 +16,13 @@ use std::alloc::Global;
 /// What a frame holds at its start: its kind, its arguments, its inputs, its outputs and its sets.
 pub fn started(alloc: Global, row: &Value) -> Result<Value, Trouble> {
     let kind = small(row, "kind")?;
-    let args = List::new(numbers(alloc, row, "args")?);
-    let inputs = lists_of(alloc, lists(alloc, row, "ins")?.as_slice())?;
-    let outs = smalls(alloc, row, "outs")?;
     let sets = small_or(row, "sets", 0)?;
+    let args = List::new(numbers(alloc, row, "args")?);
+    let inputs = lists(alloc, row, "ins")?;
+    let outs = smalls(alloc, row, "outs")?;
     let frame = Frame::start(alloc, kind, args, inputs, outs.as_slice(), sets)?;
     let kind = frame.kind();
-    let parts = given_up(alloc, frame, Told::Parts)?;
+    let parts = given_up(alloc, frame, Content::Parts)?;
     answer_in(alloc, format!(in alloc; "[[{kind}], {parts}]"))
 }
 
@@ -105,9 +103,9 @@ fn frame_of(
 /// The outputs of the row's node, which fires no kernel: the row has its inputs and the lengths of its outputs.
 pub fn copied(alloc: Global, row: &Value) -> Result<Value, Trouble> {
     let node = node_of(row)?;
-    let inputs = lists_of(alloc, lists(alloc, row, "ins")?.as_slice())?;
+    let inputs = lists(alloc, row, "ins")?;
     let outs = smalls(alloc, row, "outs")?;
     let mut frame = frame_of(alloc, &node, inputs, outs.as_slice())?;
     run_special(&node, &mut frame);
-    answer_in(alloc, given_up(alloc, frame, Told::Outputs))
+    answer_in(alloc, given_up(alloc, frame, Content::Outputs))
 }

@@ -4,7 +4,7 @@ use Rattle.std.specs.Prelude.{slice_get}
 use Rattle.kernel_gate.specs.Signed.{IsFrameOf, unnamed}
 use Rattle.kernel_gate.specs.Table.{the_signatures}
 use Rattle.kernel_gate.specs.Value.{FrameView}
-use Rattle.level_calls.specs.Signatures.{HasKernel}
+use Rattle.frame_calls.specs.Signatures.{HasKernel}
 
 -- a frame of a kernel, with so many arguments, ports and sets
 pub is_frame : (kind args ins outs sets : ℕ) (f : FrameView) → HasKernel kind args ins outs sets → f.kind ≡ kind →

@@ -5,7 +5,7 @@ ghost use Rattle.kernel_gate.specs.Signed.{IsFrameOf, unnamed};
 ghost use Rattle.kernel_gate.specs.Table.{the_signatures};
 ghost use Rattle.kernel_gate.specs.Value.{SameFrame};
 ghost use Rattle.split_block.specs.View.{lease_place};
-ghost use Rattle.level_calls.specs.Signatures.{HasKernel};
+ghost use Rattle.frame_calls.specs.Signatures.{HasKernel};
 
 use crate::frame_parts::parts_text;
 use crate::kernels::{has_kernel, place_of, word_of};
@@ -222,10 +222,10 @@ fn lend_both(
 /// its sets, the cells and the place of the cut. With `unfired` the frame is only lent and taken back.
 pub fn lent(alloc: Global, row: &Value) -> Result<Value, Trouble> {
     let kind = place_of(word(row, "kernel")?);
+    let at = small(row, "at")?;
     let args = List::new(numbers(alloc, row, "args")?);
     let sets = List::new(numbers(alloc, row, "sets")?);
     let cells = numbers(alloc, row, "cells")?;
-    let at = small(row, "at")?;
     if at as usize > cells.len() || sets.items().len() > 1_000_000 {
         return Err(Trouble::Member("at"));
     }
