@@ -1,5 +1,5 @@
 // A pool of cells.
-ghost use Rattle.std.specs.Prelude.{◌≡◌, ◌+◌, ◌<◌, ◌≤◌, [], ◌∷◌, length, replicate, IfOk, IsTrue, pos, true};
+ghost use Rattle.std.specs.Prelude.{◌≡◌, ◌+◌, ◌-◌, ◌<◌, ◌≤◌, [], ◌∷◌, ◌++◌, length, replicate, take, vec_capacity, IfOk, IsOk, IsTrue, pos, true};
 ghost use Rattle.split_block.specs.Places.{AllApart, Clear, has, without, window, write};
 ghost use Rattle.cell_pool.specs.View.{place_of};
 
@@ -43,29 +43,60 @@ impl Pool {
         ensures block { IfOk result (λ p. (p.block.len ≡ height) × (p.block.pooled ≡ true)) }
         ensures out { IfOk result (λ p. (p.out ≡ []) × (p.most ≡ most)) }
     {
-        let mut cells = vec![in alloc; 0i64; height as usize]?;
+        let cells = vec![in alloc; 0i64; height as usize]?;
+        Ok(Pool::of(alloc, cells, most))
+    }
+
+    /// So many cells, all free, in memory that is there, whose cells hold what they held. More is taken only where that is too
+    /// little.
+    ///
+    /// # Errors
+    ///
+    /// Want of memory, only where that is too little.
+    pub fn over(
+        alloc: Global,
+        mut cells: Vec<i64>,
+        height: u32,
+        most: u32,
+    ) -> Result<Pool, AllocError>
+        ensures cells { IfOk result (λ p. p.cells ≡ take height cells.items ++ replicate (height - length cells.items) (pos 0)) }
+        ensures long { IfOk result (λ p. length p.cells ≡ height) }
+        ensures enough { height ≤ vec_capacity cells → IsOk result }
+        ensures block { IfOk result (λ p. (p.block.len ≡ height) × (p.block.pooled ≡ true)) }
+        ensures out { IfOk result (λ p. (p.out ≡ []) × (p.most ≡ most)) }
+    {
+        cells.resize(height as usize, 0)?;
+        Ok(Pool::of(alloc, cells, most))
+    }
+
+    /// These cells, all free.
+    fn of(alloc: Global, mut cells: Vec<i64>, most: u32) -> Pool
+        ensures cells { result.cells ≡ cells.items }
+        ensures block { (result.block.len ≡ length cells.items) × (result.block.pooled ≡ true) }
+        ensures out { (result.out ≡ []) × (result.most ≡ most) }
+    {
         let base = cells.as_mut_ptr();
         let size = cells.len();
         if size == 0 {
             drop(cells);
-            return Ok(Pool {
+            return Pool {
                 free: nothing(),
                 home: None,
                 base,
                 size,
                 most,
                 alloc,
-            });
+            };
         }
         let (run, emptied) = detach(cells);
-        Ok(Pool {
+        Pool {
             free: spread(run),
             home: Some(emptied),
             base,
             size,
             most,
             alloc,
-        })
+        }
     }
 
     /// No cell lies in two of its leases that are out, whatever was taken and given.

@@ -117,7 +117,12 @@ fn answers_of(
         return Err(Trouble::Member("groups"));
     }
     let ranking = Arc::new(alloc, Ranking::new(alloc, groups, keys, count)?)?;
-    let mut heaps = GroupedHeaps::new(alloc, ranking)?;
+    // The set is made in memory of one with a number in it, which says nothing of the set.
+    let mut used = GroupedHeaps::new(alloc, Arc::try_clone(&ranking)?)?;
+    if !groups.is_empty() {
+        used.insert(0);
+    }
+    let mut heaps = GroupedHeaps::over(used.into_rows(), ranking)?;
     let mut held = vec![in alloc; false; groups.len()]?;
     let answers = step_all(alloc, &mut heaps, &mut held, steps)?;
     answer_in(alloc, format!(in alloc; "{answers:?}"))

@@ -104,6 +104,19 @@ fn check_given(
     Ok(())
 }
 
+/// Leaves memory with a compilation, as a job might: other cells, counts and lists of tokens than a job of it begins with. They say
+/// nothing of the next job.
+fn leave_used_memory(alloc: Global, compiled: &Compiled) -> Result<(), AllocError> {
+    compiled.prepare_memory(alloc)?;
+    let mut memory = compiled.take_memory(alloc);
+    memory.cells.fill(7);
+    memory.cells.push(7)?;
+    memory.counts.push(7)?;
+    memory.stock.push(List::new(vec![in alloc; 7i64; 7]?))?;
+    compiled.leave_memory(memory);
+    Ok(())
+}
+
 /// The row's job.
 pub(crate) fn started(alloc: Global, row: &Value) -> Result<Job, Trouble>
     ensures { IfOk result HasNoneClaimed }
@@ -121,6 +134,7 @@ pub(crate) fn started(alloc: Global, row: &Value) -> Result<Job, Trouble>
         sources.items(),
         stored.items(),
     )?;
+    leave_used_memory(alloc, &compiled)?;
     let job = start(alloc, compiled, kinds, args, sources, stored)?;
     Ok(job)
 }

@@ -1,7 +1,9 @@
+use crate::memory::{JobMemory, MemorySlot};
 use crate::wiring::Wiring;
 use placement::Placement;
 use ready_heap::Ranking;
 use sdf_level::{Level, List, SingleRate, Turn};
+use std::alloc::{AllocError, Global};
 use std::marker::Model;
 use std::sync::Arc;
 use worker_mapping::Mapping;
@@ -12,7 +14,7 @@ use worker_mapping::Mapping;
 ///
 /// The type keeps that all of these are those of the level, and the homes those for the number of workers, so that two
 /// compilations of one level for as many workers are the same. The edges at the ports are told by the level and its graph, and
-/// the orders by the priorities and homes.
+/// the orders by the priorities and homes. No clause speaks of the memory that lies with it.
 #[derive(Drop)]
 pub struct Compiled {
     pub(crate) level: Level,
@@ -25,6 +27,8 @@ pub struct Compiled {
     pub(crate) wiring: Wiring,
     pub(crate) ranking: Arc<Ranking>,
     pub(crate) ranking_of_all: Arc<Ranking>,
+    /// Memory for one job.
+    pub(crate) memory: MemorySlot,
 }
 
 impl Model for Compiled {
@@ -135,5 +139,31 @@ impl Compiled {
         ensures { IsRankingOfAll self.now.mapping (arc_value result.now) }
     {
         &self.ranking_of_all
+    }
+
+    /// Takes away the memory for a job of this compilation that lies here; no memory where none does, or another thread looks.
+    pub fn take_memory(&self, alloc: Global) -> JobMemory {
+        self.memory.take(alloc)
+    }
+
+    /// Leaves the memory of a job that has ended for the next one, in place of what lies here. It is given up where it is large, or
+    /// another thread looks.
+    pub fn leave_memory(&self, memory: JobMemory) {
+        self.memory.leave(memory);
+    }
+
+    /// Takes memory for the next job of this compilation, where none lies here, so that the job starts sooner. A large job takes its
+    /// memory at its start.
+    ///
+    /// # Errors
+    ///
+    /// Want of memory. Nothing is put here.
+    pub fn prepare_memory(&self, alloc: Global) -> Result<(), AllocError> {
+        self.memory.prepare(
+            alloc,
+            self.placement.height as usize,
+            self.graph.nodes.items().len(),
+            self.workers,
+        )
     }
 }

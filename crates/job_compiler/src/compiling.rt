@@ -3,6 +3,7 @@ ghost use Rattle.job_compiler.specs.Compilation.{Compilation, IsCompiled};
 ghost use Rattle.level_schedule.specs.Schedules.{IsScheduled, IsUnscheduled};
 
 use crate::compiled::Compiled;
+use crate::memory::MemorySlot;
 use crate::parts::graph_parts;
 use level_schedule::{LevelSchedule, Unscheduled, schedule};
 use sdf_level::Level;
@@ -35,6 +36,7 @@ fn compile_scheduled(
         wiring: parts.wiring,
         ranking: parts.ranking,
         ranking_of_all: parts.ranking_of_all,
+        memory: MemorySlot::new(),
     })
 }
 

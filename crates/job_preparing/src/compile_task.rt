@@ -80,6 +80,15 @@ fn keyed_level(alloc: Global, key: &Key, made: Made) -> Result<Arc<ReadyLevel>, 
     Ok(Arc::new(alloc, ReadyLevel { key, made })?)
 }
 
+/// The compilation ends with this level. Memory for the firing is taken here, where none lies with the level's compilation, so that
+/// the start of the firing takes less. Where none is found, the start looks for it again.
+fn ready_with_memory(alloc: Global, level: Arc<ReadyLevel>) -> CompileEnd
+    ensures { result ≡ CompileEnd.Ready level }
+{
+    let _refused = level.made.compiled.prepare_memory(alloc);
+    CompileEnd::Ready(level)
+}
+
 /// Makes the level: the values of the parameters, then the level with its rates, then its schedule and all else. The compilation
 /// that came with the task is taken where it is of this level and of as many workers, else a new one is made.
 fn make_level(alloc: Global, parts: &Parts) -> CompileEnd
@@ -97,7 +106,7 @@ fn make_level(alloc: Global, parts: &Parts) -> CompileEnd
     );
     match made {
         Ok(made) => match keyed_level(alloc, &parts.key, made) {
-            Ok(level) => CompileEnd::Ready(level),
+            Ok(level) => ready_with_memory(alloc, level),
             Err(AllocError) => CompileEnd::Memory,
         },
         Err(PlainFault::Refused(refusal)) => CompileEnd::Refused(refusal.cause),
@@ -106,12 +115,12 @@ fn make_level(alloc: Global, parts: &Parts) -> CompileEnd
 }
 
 /// The level that is kept.
-fn kept_level(task: &KeptTask) -> CompileEnd
+fn kept_level(alloc: Global, task: &KeptTask) -> CompileEnd
     requires { IsKeptTask task.now }
     ensures { EndsTask (kept_view task.now) result }
 {
     match Arc::try_clone(&task.level) {
-        Ok(level) => CompileEnd::Ready(level),
+        Ok(level) => ready_with_memory(alloc, level),
         Err(AllocError) => CompileEnd::Memory,
     }
 }
@@ -146,7 +155,7 @@ impl CompileTask {
     {
         one_compilation();
         match &self.way {
-            Way::Kept(task) => kept_level(task),
+            Way::Kept(task) => kept_level(alloc, task),
             Way::Make(parts) => make_level(alloc, parts),
         }
     }

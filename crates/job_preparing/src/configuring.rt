@@ -15,7 +15,7 @@ use crate::starting::spend_frames;
 use crate::trace::Trace;
 use job_compiler::{Compiled, Key};
 use kernel_gate::{Frame, KernelFault, told_of};
-use param_resolver::{Early, early_unfolds};
+use param_resolver::early_unfolds;
 use pisdf_meaning::{Cause, Configured, Firing, Refusal};
 use pisdf_model::Graphs;
 use sdf_level::List;
@@ -100,13 +100,6 @@ impl Configuring {
         ensures { arc_value result.now ≡ self.now.graphs }
     {
         &self.graphs
-    }
-
-    /// What is known of the graph before its configuration actors fire.
-    pub fn early(&self) -> &Early
-        ensures { result.now ≡ early_in self.now.graphs.graphs self.now.firing }
-    {
-        self.early.get()
     }
 
     /// The first configuration actor that fires a kernel and isn't claimed yet.

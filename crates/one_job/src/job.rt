@@ -14,7 +14,7 @@ use crate::ready::{ReadyNodes, is_quiet, release, released};
 use crate::stage::{Stage, ended_stage, first_fault};
 use crate::stock::begin;
 use cell_pool::Pool;
-use job_compiler::Compiled;
+use job_compiler::{Compiled, JobMemory};
 use kernel_gate::{Frame, KernelFault, Lent, Room, RoomSize, told_of};
 use sdf_level::{List, Node};
 use single_rate::graphs_numbered;
@@ -24,7 +24,7 @@ use std::snapshot::Snapshot;
 use std::sync::Arc;
 
 /// One firing of a graph: the nodes of its single-rate graph, each of which is claimed once and finished once. It is neither
-/// `Drop` nor `Clone`: its cells are given up by `outcome` or `end`.
+/// `Drop` nor `Clone`: `outcome` or `end` leaves its cells with its compilation.
 pub struct Job {
     pub(crate) compiled: Arc<Compiled>,
     pub(crate) kinds: List<Option<u32>>,
@@ -280,31 +280,38 @@ impl Job {
         let (_outs, _left) = self.take_apart();
     }
 
-    /// Gives up the cells, none of which is out: what remains are the tokens that the sinks keep and those that are left on the
-    /// links.
+    /// Leaves its memory, no cell of which is out, for the next job of this compilation: what remains are the tokens that the sinks
+    /// keep and those that are left on the links.
     fn take_apart(self) -> (Vec<List<i64>>, Vec<List<i64>>)
         requires { (n : ℕ) → phase self.marks n ≢ IsClaimed }
         ensures outs { result.0.items ≡ (ended (graph_of self) (values self.marks)).outs }
         ensures left { result.1.items ≡ (ended (graph_of self) (values self.marks)).left }
     {
         let Job {
-            compiled: _,
+            compiled,
             kinds: _,
             args: _,
             sources: _,
             stored: _,
             stages: _,
-            waiting: _,
-            ready: _,
+            waiting,
+            ready,
             claimed: _,
-            stock: _,
+            stock,
             size: _,
             pool,
             outs,
             left,
-            alloc: _,
+            alloc,
         } = self;
-        drop(pool.close());
+        let ReadyNodes { children, others } = ready;
+        compiled.leave_memory(JobMemory {
+            cells: pool.close(),
+            counts: waiting,
+            stock,
+            children: children.into_rows(alloc),
+            others: others.into_rows(alloc),
+        });
         (outs, left)
     }
 }

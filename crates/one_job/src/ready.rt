@@ -7,10 +7,10 @@ ghost use Rattle.one_job.specs.Alike.{AreOneGroup, IsOfAll};
 
 use crate::nodes::is_child;
 use crate::side::ReadySide;
-use job_compiler::{Compiled, Port};
+use job_compiler::{Compiled, Port, SideMemory};
 use ready_heap::Ranking;
 use sdf_level::{Edge, Node};
-use std::alloc::{AllocError, Global};
+use std::alloc::AllocError;
 use std::sync::Arc;
 
 /// The nodes that may be claimed: those that are jobs of their own, and the others.
@@ -21,9 +21,11 @@ pub(crate) struct ReadyNodes {
 }
 
 impl ReadyNodes {
-    /// None of the nodes that are ranked is in. `of_all` ranks them as one group. `one_home` says that all have home 0.
-    fn new(
-        alloc: Global,
+    /// None of the nodes that are ranked is in. `of_all` ranks them as one group. `one_home` says that all have home 0. More memory
+    /// is taken only where what is there is too little.
+    fn over(
+        children: SideMemory,
+        others: SideMemory,
         ranking: &Arc<Ranking>,
         of_all: &Arc<Ranking>,
         one_home: bool,
@@ -33,8 +35,8 @@ impl ReadyNodes {
         ensures { IfOk result (λ r. r ≡ none_ready (arc_value ranking.now)) }
     {
         Ok(ReadyNodes {
-            children: ReadySide::new(alloc, ranking, of_all, one_home)?,
-            others: ReadySide::new(alloc, ranking, of_all, one_home)?,
+            children: ReadySide::over(children, ranking, of_all, one_home)?,
+            others: ReadySide::over(others, ranking, of_all, one_home)?,
         })
     }
 
@@ -107,7 +109,8 @@ fn have_home_zero(homes: &[u32]) -> bool
 
 /// The nodes that may be claimed at the start of a job of this compilation: those that wait for none.
 pub(crate) fn start_ready(
-    alloc: Global,
+    children: SideMemory,
+    others: SideMemory,
     compiled: &Compiled,
     kinds: &[Option<u32>],
     waiting: &[usize],
@@ -116,8 +119,9 @@ pub(crate) fn start_ready(
     ensures { IfOk result (AreFirstReady compiled.now kinds.now waiting.now) }
 {
     let one_home = have_home_zero(compiled.mapping().home.items());
-    let mut ready = ReadyNodes::new(
-        alloc,
+    let mut ready = ReadyNodes::over(
+        children,
+        others,
         compiled.ranking(),
         compiled.ranking_of_all(),
         one_home,

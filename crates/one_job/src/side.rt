@@ -8,7 +8,8 @@ ghost use Rattle.one_job.specs.Pick.{IsFirst};
 ghost use Rattle.one_job.specs.Ready.{AreRanked, none_in};
 ghost use Rattle.one_job.specs.Alike.{AreOneGroup, CanPut, CanTake, IsLeast, IsOfAll, put_in};
 
-use ready_heap::{GroupedHeaps, Ranking};
+use job_compiler::SideMemory;
+use ready_heap::{BitRows, GroupedHeaps, Ranking};
 use std::alloc::{AllocError, Global};
 use std::marker::Model;
 use std::sync::Arc;
@@ -32,13 +33,13 @@ impl Model for ReadySide {
     ghost invariant = { λ s. AreKeptAlike s.by_home s.of_all };
 }
 
-/// None of the nodes that are ranked is in, as one group; nothing where they have one home.
+/// None of the nodes that are ranked is in, as one group, in this memory; nothing where they have one home.
 ///
 /// # Errors
 ///
 /// Want of memory.
 fn heaps_of_all(
-    alloc: Global,
+    rows: BitRows,
     of_all: &Arc<Ranking>,
     one_home: bool,
 ) -> Result<Option<GroupedHeaps>, AllocError>
@@ -47,7 +48,7 @@ fn heaps_of_all(
     if one_home {
         return Ok(None);
     }
-    let heaps = GroupedHeaps::new(alloc, Arc::try_clone(of_all)?)?;
+    let heaps = GroupedHeaps::over(rows, Arc::try_clone(of_all)?)?;
     Ok(Some(heaps))
 }
 
@@ -74,13 +75,14 @@ fn remove_from(heaps: &mut Option<GroupedHeaps>, node: u32)
 }
 
 impl ReadySide {
-    /// None of the nodes that are ranked is in. `of_all` ranks them as one group. `one_home` says that all have home 0.
+    /// None of the nodes that are ranked is in. `of_all` ranks them as one group. `one_home` says that all have home 0. More memory
+    /// is taken only where what is there is too little.
     ///
     /// # Errors
     ///
     /// Want of memory.
-    pub(crate) fn new(
-        alloc: Global,
+    pub(crate) fn over(
+        rows: SideMemory,
         ranking: &Arc<Ranking>,
         of_all: &Arc<Ranking>,
         one_home: bool,
@@ -89,9 +91,22 @@ impl ReadySide {
         requires one_home { IsTrue one_home → AreOneGroup (arc_value ranking.now).groups }
         ensures { IfOk result (λ s. s ≡ none_in (arc_value ranking.now)) }
     {
-        let by_home = GroupedHeaps::new(alloc, Arc::try_clone(ranking)?)?;
-        let of_all = heaps_of_all(alloc, of_all, one_home)?;
+        let by_home = GroupedHeaps::over(rows.by_home, Arc::try_clone(ranking)?)?;
+        let of_all = heaps_of_all(rows.of_all, of_all, one_home)?;
         Ok(ReadySide { by_home, of_all })
+    }
+
+    /// Its memory.
+    pub(crate) fn into_rows(self, alloc: Global) -> SideMemory {
+        let ReadySide { by_home, of_all } = self;
+        let of_all = match of_all {
+            Some(heaps) => heaps.into_rows(),
+            None => BitRows::none(alloc),
+        };
+        SideMemory {
+            by_home: by_home.into_rows(),
+            of_all,
+        }
     }
 
     /// Puts a node in.

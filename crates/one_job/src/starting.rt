@@ -1,5 +1,5 @@
 // A job at its start.
-ghost use Rattle.std.specs.Prelude.{◌≡◌, length, map, replicate, IfOk};
+ghost use Rattle.std.specs.Prelude.{◌≡◌, ◌≤◌, length, map, replicate, vec_capacity, IfOk, IsOk};
 ghost use Rattle.std.specs.Arc.{arc_value};
 ghost use Rattle.sdf_level.specs.LevelRun.{HaveDelays};
 ghost use Rattle.job_compiler.specs.Ends.{AreEndCounts, head_of};
@@ -17,7 +17,7 @@ use crate::rooms::room_size;
 use crate::stage::Stage;
 use crate::stock::make_stock;
 use cell_pool::Pool;
-use job_compiler::Compiled;
+use job_compiler::{Compiled, JobMemory};
 use job_flow::edges_have_ports;
 use sdf_level::List;
 use std::alloc::{AllocError, Global};
@@ -28,6 +28,7 @@ use std::sync::Arc;
 /// `stored`.
 fn first_stock(
     alloc: Global,
+    stock: Vec<List<i64>>,
     compiled: &Compiled,
     sources: List<List<i64>>,
     stored: List<List<i64>>,
@@ -44,6 +45,7 @@ fn first_stock(
     let mut stored = stored.into_items();
     make_stock(
         alloc,
+        stock,
         graph.nodes.items(),
         graph.edges.items(),
         &compiled.wiring().entering,
@@ -64,6 +66,7 @@ struct FirstTokens {
 /// The first tokens of a job of this compilation, whose sources give `sources` and whose links hold `stored`.
 fn first_tokens(
     alloc: Global,
+    stock: Vec<List<i64>>,
     compiled: &Compiled,
     sources: List<List<i64>>,
     stored: List<List<i64>>,
@@ -73,26 +76,42 @@ fn first_tokens(
     ensures { IfOk result (AreFirstTokens compiled.now sources stored) }
 {
     let level = compiled.level();
-    let stock = first_stock(alloc, compiled, sources, stored)?;
+    let stock = first_stock(alloc, stock, compiled, sources, stored)?;
     let outs = no_tokens(alloc, level.sinks.items().len())?;
     let left = no_tokens(alloc, level.links.items().len())?;
     Ok(FirstTokens { stock, outs, left })
 }
 
-/// The parts of a job at its start that take memory, but for its cells: how far its nodes are, how many edges each waits for,
-/// those that may be claimed, and the tokens.
+/// These counts, in memory that is there. More is taken only where that is too little.
+///
+/// # Errors
+///
+/// Want of memory, only where that is too little.
+fn copied(mut counts: Vec<usize>, values: &[usize]) -> Result<Vec<usize>, AllocError>
+    ensures same { IfOk result (λ v. v.items ≡ values.now) }
+    ensures enough { length values.now ≤ vec_capacity counts → IsOk result }
+{
+    counts.clear();
+    counts.extend_from_slice(values)?;
+    Ok(counts)
+}
+
+/// The parts of a job at its start that take memory: how far its nodes are, how many edges each waits for, those that may be
+/// claimed, the tokens, and memory for its cells.
 #[derive(Drop)]
 struct FirstParts {
     stages: Vec<Stage>,
     waiting: Vec<usize>,
     ready: ReadyNodes,
     tokens: FirstTokens,
+    cells: Vec<i64>,
 }
 
 /// The first parts of a job of this compilation, whose actors have these kernels, whose sources give `sources` and whose links
-/// hold `stored`.
+/// hold `stored`. They are made in memory that is there, and more is taken only where that is too little.
 fn first_parts(
     alloc: Global,
+    memory: JobMemory,
     compiled: &Compiled,
     kinds: &[Option<u32>],
     sources: List<List<i64>>,
@@ -105,21 +124,30 @@ fn first_parts(
     ensures ready { IfOk result (λ nodes. AreFirstReady compiled.now kinds.now nodes.waiting.items nodes.ready) }
     ensures tokens { IfOk result (λ nodes. AreFirstTokens compiled.now sources stored nodes.tokens) }
 {
-    let tokens = first_tokens(alloc, compiled, sources, stored)?;
-    let waiting = compiled.wiring().into.items().to_vec(alloc)?;
+    let JobMemory {
+        cells,
+        counts,
+        stock,
+        children,
+        others,
+    } = memory;
+    let tokens = first_tokens(alloc, stock, compiled, sources, stored)?;
+    let waiting = copied(counts, compiled.wiring().into.items())?;
     let stages = free_stages(alloc, compiled.graph().nodes.items().len())?;
-    let ready = start_ready(alloc, compiled, kinds, &waiting)?;
+    let ready = start_ready(children, others, compiled, kinds, &waiting)?;
     Ok(FirstParts {
         stages,
         waiting,
         ready,
         tokens,
+        cells,
     })
 }
 
 /// A job of a compiled level, in which each node is free. `kinds` has for each actor the place of its kernel, or none where
 /// its firings are jobs of their own; `args` has each actor's arguments, `sources` the tokens of each source, and `stored`
-/// those that each link holds at the start. All memory of the job is taken here. Its room has the most ports of a node, but 1 at
+/// those that each link holds at the start. The memory that lies with the compilation is taken away, and what the job takes beside
+/// it is taken here. Its room has the most ports of a node, but 1 at
 /// least on each side, and the most arguments of an actor.
 ///
 /// # Errors
@@ -148,8 +176,9 @@ pub fn start(
     let size = room_size(compiled.wiring(), args.items());
     let sources_told = Snapshot::of(&sources);
     let stored_told = Snapshot::of(&stored);
-    let nodes = first_parts(alloc, &compiled, kinds.items(), sources, stored)?;
-    let pool = Pool::start(alloc, compiled.placement().height, u32::MAX)?;
+    let memory = compiled.take_memory(alloc);
+    let nodes = first_parts(alloc, memory, &compiled, kinds.items(), sources, stored)?;
+    let pool = Pool::over(alloc, nodes.cells, compiled.placement().height, u32::MAX)?;
     Ok(Job {
         compiled,
         kinds,

@@ -86,9 +86,11 @@ fn stock_of(
     }
 }
 
-/// For each node what lies ready for it, with the tokens of the sources and links moved into it.
+/// For each node what lies ready for it, with the tokens of the sources and links moved into it. The list is made in memory that is
+/// there, and more is taken only where that is too little.
 pub(crate) fn make_stock(
     alloc: Global,
+    mut stock: Vec<List<i64>>,
     nodes: &[Node],
     edges: &[Edge],
     entering: &Rows,
@@ -100,7 +102,8 @@ pub(crate) fn make_stock(
     requires once { StandOnce nodes.now }
     ensures { IfOk result (λ v. AreMade nodes.now edges.now entering.now sources.old stored.old v.items) }
 {
-    let mut stock = Vec::with_capacity(alloc, nodes.len())?;
+    stock.clear();
+    stock.reserve(nodes.len())?;
     for n in 0..nodes.len() {
         let ready = stock_of(alloc, nodes[n], edges, entering.row(n), sources, stored)?;
         stock.push(ready)?;

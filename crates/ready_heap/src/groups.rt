@@ -1,5 +1,5 @@
 // Numbers in groups, each group in the order of its keys.
-ghost use Rattle.std.specs.Prelude.{◌≡◌, ◌<◌, ◌↔◌, ℕ, IsTrue, true, false, length, replicate, slice_index_or, slice_set, IfOk};
+ghost use Rattle.std.specs.Prelude.{◌≡◌, ◌<◌, ◌≤◌, ◌↔◌, ℕ, IsOk, IsTrue, true, false, length, replicate, slice_index_or, slice_set, vec_capacity, IfOk};
 ghost use Rattle.std.specs.Arc.{arc_value};
 ghost use Rattle.ready_heap.specs.Heaps.{Holds};
 ghost use Rattle.ready_heap.specs.Groups.{IsLeastOf};
@@ -9,6 +9,50 @@ use crate::ranking::Ranking;
 use std::alloc::{AllocError, Global};
 use std::marker::Model;
 use std::sync::Arc;
+
+/// The memory of rows of bits. What it holds says nothing.
+#[derive(Drop)]
+pub struct BitRows {
+    words: Vec<u64>,
+    summary: Vec<u64>,
+}
+
+impl BitRows {
+    /// No memory yet.
+    pub fn none(alloc: Global) -> BitRows {
+        BitRows {
+            words: Vec::new(alloc),
+            summary: Vec::new(alloc),
+        }
+    }
+
+    /// Memory for a set of so many numbers.
+    ///
+    /// # Errors
+    ///
+    /// Want of memory.
+    pub fn with_room(alloc: Global, numbers: usize) -> Result<BitRows, AllocError> {
+        let words = numbers.div_ceil(BITS);
+        Ok(BitRows {
+            words: Vec::with_capacity(alloc, words)?,
+            summary: Vec::with_capacity(alloc, words.div_ceil(BITS))?,
+        })
+    }
+}
+
+/// So many words, each 0, in this memory.
+///
+/// # Errors
+///
+/// Want of memory, only where that is too little.
+fn zeros(mut words: Vec<u64>, count: usize) -> Result<Vec<u64>, AllocError>
+    ensures zeros { IfOk result (λ v. v.items ≡ replicate count 0) }
+    ensures enough { count ≤ vec_capacity words → IsOk result }
+{
+    words.clear();
+    words.resize(count, 0)?;
+    Ok(words)
+}
 
 /// Numbers of which each has a group and a key, which never change, and for each group those of its numbers that are in. A
 /// number comes in and goes out without memory, by a write of two words. The order of the numbers may be that of many such
@@ -46,13 +90,35 @@ impl GroupedHeaps {
     pub fn new(alloc: Global, ranking: Arc<Ranking>) -> Result<GroupedHeaps, AllocError>
         ensures { IfOk result (λ h. h ≡ record { groups = (arc_value ranking).groups; keys = (arc_value ranking).keys; held = replicate (length (arc_value ranking).groups) false }) }
     {
-        let words = vec![in alloc; 0u64; ranking.count().div_ceil(BITS)]?;
-        let summary = vec![in alloc; 0u64; words.len().div_ceil(BITS)]?;
+        GroupedHeaps::over(BitRows::none(alloc), ranking)
+    }
+
+    /// As `new`, in memory that is there. More is taken only where that is too little.
+    ///
+    /// # Errors
+    ///
+    /// Want of memory, only where that is too little.
+    pub fn over(rows: BitRows, ranking: Arc<Ranking>) -> Result<GroupedHeaps, AllocError>
+        ensures { IfOk result (λ h. h ≡ record { groups = (arc_value ranking).groups; keys = (arc_value ranking).keys; held = replicate (length (arc_value ranking).groups) false }) }
+    {
+        let count = ranking.count().div_ceil(BITS);
+        let words = zeros(rows.words, count)?;
+        let summary = zeros(rows.summary, count.div_ceil(BITS))?;
         Ok(GroupedHeaps {
             ranking,
             words,
             summary,
         })
+    }
+
+    /// Its memory.
+    pub fn into_rows(self) -> BitRows {
+        let GroupedHeaps {
+            ranking: _,
+            words,
+            summary,
+        } = self;
+        BitRows { words, summary }
     }
 
     /// The number of least key in a group that is in.

@@ -7,5 +7,5 @@ mod bits;
 mod groups;
 mod ranking;
 
-pub use groups::GroupedHeaps;
+pub use groups::{BitRows, GroupedHeaps};
 pub use ranking::Ranking;

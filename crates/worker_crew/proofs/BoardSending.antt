@@ -31,6 +31,7 @@ use Rattle.ready_heap.specs.contracts.groups.GroupedHeaps as GroupedHeaps
 use Rattle.ready_heap.specs.contracts.ranking.Ranking as Ranking
 use Rattle.job_compiler.proofs.cache.LastUsed.TheSendSync as last_used
 use Rattle.job_compiler.specs.contracts.compiled.Compiled as Compiled
+use Rattle.job_compiler.specs.contracts.memory.JobMemory as JobMemory
 use Rattle.one_job.specs.contracts.job.Job as Job
 use Rattle.one_job.specs.contracts.ready.ReadyNodes as ReadyNodes
 use Rattle.one_job.specs.contracts.side.ReadySide as ReadySide
@@ -75,11 +76,14 @@ ranking_send = search (crosses, sendable) depth 30 fits 4000
 ranking_sync : IsSync Ranking.the_row
 ranking_sync = search (crosses, sendable) depth 30 fits 4000
 
+job_memory_send : IsSend JobMemory.the_row
+job_memory_send = search (list.the_send, crosses, sendable) depth 30 fits 4000
+
 compiled_send : IsSend Compiled.the_row
-compiled_send = search (ranking_send, ranking_sync, level.the_send, turn.the_send, list.the_send, crosses, sendable) depth 30 fits 4000
+compiled_send = search (job_memory_send, option.the_send, ranking_send, ranking_sync, level.the_send, turn.the_send, list.the_send, crosses, sendable) depth 60 fits 8000
 
 compiled_sync : IsSync Compiled.the_row
-compiled_sync = search (ranking_send, ranking_sync, level.the_sync, turn.the_sync, list.the_sync, crosses, sendable) depth 30 fits 4000
+compiled_sync = search (job_memory_send, option.the_send, ranking_send, ranking_sync, level.the_sync, turn.the_sync, list.the_sync, crosses, sendable) depth 60 fits 8000
 
 level_set_field_sync : IsSync LevelSet.the_field.row
 level_set_field_sync = search (early_sync, crosses, sendable) depth 60 fits 20000

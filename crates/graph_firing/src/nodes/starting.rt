@@ -388,7 +388,7 @@ fn start_parts(
 }
 
 /// The nodes of a firing, in which each is free: its configuration actors, which are ready, and what it was compiled to. All memory
-/// of the firing but that of the calls is taken here.
+/// of the firing but that of the calls is there from here on.
 ///
 /// # Errors
 ///

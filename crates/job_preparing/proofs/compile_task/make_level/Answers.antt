@@ -10,7 +10,7 @@ use Rattle.job_rules.specs.Doing as doing
 use Rattle.job_rules.specs.Words as words
 use Rattle.job_preparing.specs.CompileTasks.{IsReadyFor, IsReadyWith}
 use Rattle.job_preparing.specs.Slim.{slim_firing, slim_left}
-use Rattle.job_preparing.specs.Tasked.{IsTask, task_view}
+use Rattle.job_preparing.specs.Tasked.{EndsTask, IsTask, task_view}
 use Rattle.job_preparing.specs.declared.compile_task.Parts.{Parts}
 use Rattle.job_preparing.specs.declared.compiling.ReadyLevel.{ReadyLevel}
 use Rattle.job_preparing.proofs.Ends.{refusal_path}
@@ -32,7 +32,8 @@ returns-in-Ok-keyed_level c =
     let slim = for_all i c.requires P c.deref.result.now c.deref-2.result.now c.deref.ensures c.deref-2.ensures.value c.in-Ok.ensures.made in
     let own : ReadyLevel = record { key = i.key; made = c.in-Ok.made } in
     let is : IsReadyFor (arc_value i.graphs).graphs i.workers i.whole.value i.told own = record { made = ready_kept (arc_value i.graphs).graphs i.workers i.whole.value i.told _ _ _ slim; key = c.requires.key_is; inherited = c.requires.inherited } in
-    subst (IsReadyFor (arc_value i.graphs).graphs i.workers i.whole.value i.told) (sym c.in-Ok-keyed_level.ensures) is
+    let ends = subst (IsReadyFor (arc_value i.graphs).graphs i.workers i.whole.value i.told) (sym c.in-Ok-keyed_level.ensures) is in
+    subst (EndsTask (task_view i)) (sym c.ready_with_memory.ensures) ends
 
 pub returns-in-Err-Refused : goal.returns-in-Err-Refused
 returns-in-Err-Refused c =

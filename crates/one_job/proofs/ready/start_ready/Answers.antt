@@ -10,11 +10,11 @@ use Rattle.one_job.proofs.Rankings.{are_of_all}
 use Rattle.one_job.proofs.Sides.{none_wide}
 use Rattle.one_job.proofs.ready.start_ready.Goals as goal
 
-pub new-requires-clause-of_all : goal.new-requires-clause-of_all
-new-requires-clause-of_all c = are_of_all c.args.compiled.now.mapping (arc_value c.ranking.result.now) (arc_value c.ranking_of_all.result.now) c.ranking.ensures c.ranking_of_all.ensures
+pub over-requires-clause-of_all : goal.over-requires-clause-of_all
+over-requires-clause-of_all c = are_of_all c.args.compiled.now.mapping (arc_value c.ranking.result.now) (arc_value c.ranking_of_all.result.now) c.ranking.ensures c.ranking_of_all.ensures
 
-pub new-requires-clause-one_home : goal.new-requires-clause-one_home
-new-requires-clause-one_home c = λ yes.
+pub over-requires-clause-one_home : goal.over-requires-clause-one_home
+over-requires-clause-one_home c = λ yes.
     let homes : c.items.result.now ≡ c.args.compiled.now.mapping.home = c.items.ensures ∙ ap (λ (m : Mapping). m.home) c.mapping.ensures.value in
     subst AreOneGroup (homes ∙ sym c.ranking.ensures.homes) (c.have_home_zero-one_home.ensures.0 yes)
 

@@ -1,6 +1,5 @@
 use Rattle.std.proofs.Common.{◌≡◌, ℕ, ℤ, List, [], length, map, replicate, refl, sym, ap, ◌∙◌, subst, arith, ◌<◌, ◌≤◌}
 use Rattle.std.specs.Arc.{arc_value}
-use Rattle.std.proofs.lemmas.List.{length-replicate}
 use Rattle.job_compiler.specs.Compilation.{Compilation, IsCompiled}
 use Rattle.job_compiler.specs.Ends.{AreEndCounts, head_of}
 use Rattle.job_compiler.specs.Wired.{entering, leaving}
@@ -30,13 +29,13 @@ leaving_is : (c : goal.In_ok-pool) → c.wiring.result.now.leaving ≡ leaving (
 leaving_is c = c.wiring.ensures.leaving ∙ ap (λ (x : Compilation). leaving x.level x.graph) c.deref-2.ensures
 
 marks_are : (c : goal.In_ok-pool) → map mark_of c.in_ok-nodes.nodes.stages.items ≡ replicate (length (comp c).graph.nodes) Free
-marks_are c = c.in_ok-nodes.ensures.free ∙ ap (λ (x : Compilation). replicate (length x.graph.nodes) Free) c.deref-3.ensures
+marks_are c = c.in_ok-nodes.ensures.free ∙ ap (λ (x : Compilation). replicate (length x.graph.nodes) Free) c.deref-4.ensures
 
 height_is : (c : goal.In_ok-pool) → c.placement.result.now.height ≡ (comp c).placement.height
-height_is c = ap (λ x. x.height) (c.placement.ensures.value ∙ ap (λ x. x.placement) c.deref-4.ensures)
+height_is c = ap (λ x. x.height) (c.placement.ensures.value ∙ ap (λ x. x.placement) c.deref-5.ensures)
 
-cells_are : (c : goal.In_ok-pool) → c.in_ok-pool.pool.cells ≡ replicate c.placement.result.now.height (Rattle.std.proofs.Common.pos 0)
-cells_are c = c.in_ok-pool.ensures.cells
+cells_are : (c : goal.In_ok-pool) → length c.in_ok-pool.pool.cells ≡ c.placement.result.now.height
+cells_are c = c.in_ok-pool.ensures.long
 
 abbrev view_with : goal.In_ok-pool → List (List ℤ) → List (List ℤ) → JobView
 view_with c sources stored = record {
@@ -69,7 +68,7 @@ wired_so c =
     (wired_by c.deref-2.result.now (comp c) c.wiring.result.now.entering c.wiring.result.now.leaving c.deref-2.ensures c.wiring.ensures.wired c.args.sources c.args.stored c.requires.sources c.requires.stored)
 
 made_so : (c : goal.In_ok-pool) → AreMade (comp c).graph.nodes (comp c).graph.edges (parts c).entering c.args.sources c.args.stored (parts c).stock
-made_so c = subst (λ (x : Compilation). AreMade x.graph.nodes x.graph.edges (entering x.level x.graph) c.args.sources c.args.stored (parts c).stock) c.deref-3.ensures c.in_ok-nodes.ensures.tokens.stock
+made_so c = subst (λ (x : Compilation). AreMade x.graph.nodes x.graph.edges (entering x.level x.graph) c.args.sources c.args.stored (parts c).stock) c.deref-4.ensures c.in_ok-nodes.ensures.tokens.stock
 
 room_is : (c : goal.In_ok-pool) → IsRoomOf (comp c).level (comp c).graph c.args.args c.room_size-size.result
 room_is c =
@@ -84,7 +83,7 @@ keeps c =
       block = refl;
       pooled = c.in_ok-pool.ensures.block.1;
       len = c.in_ok-pool.ensures.block.0 ∙ height_is c;
-      long = ap length (cells_are c) ∙ (length-replicate c.placement.result.now.height (Rattle.std.proofs.Common.pos 0) ∙ height_is c);
+      long = cells_are c ∙ height_is c;
       most = c.in_ok-pool.ensures.out.1;
       small = subst (λ k. k ≤ 4294967295) (height_is c) (omega arith);
     }
@@ -92,17 +91,17 @@ keeps c =
     (made_so c).one_each
     (stock_of_free (view c) (parts c) (kept c) (all_lists c) (wired_so c) c.edges_have_ports.ensures.ports (made_so c))
     (rooms_at_start (view c) (parts c) (wired_so c) (room_is c).inputs (room_is c).outputs (room_is c).args.each)
-    (c.in_ok-nodes.ensures.tokens.outs ∙ ap (λ (x : Compilation). replicate (length x.level.sinks) []) c.deref-3.ensures)
-    (c.in_ok-nodes.ensures.tokens.left ∙ ap (λ (x : Compilation). replicate (length x.level.links) []) c.deref-3.ensures)
+    (c.in_ok-nodes.ensures.tokens.outs ∙ ap (λ (x : Compilation). replicate (length x.level.sinks) []) c.deref-4.ensures)
+    (c.in_ok-nodes.ensures.tokens.left ∙ ap (λ (x : Compilation). replicate (length x.level.links) []) c.deref-4.ensures)
 
 keeps_ready : (c : goal.In_ok-pool) → KeepsReady (view c) c.in_ok-nodes.nodes.waiting.items 0 c.in_ok-nodes.nodes.ready
 keeps_ready c =
     let waiting = c.in_ok-nodes.nodes.waiting.items in
     let ready = c.in_ok-nodes.nodes.ready in
     let counts : AreEndCounts (length (comp c).graph.nodes) (map head_of (comp c).graph.edges) waiting =
-    subst (λ (x : Compilation). AreEndCounts (length x.graph.nodes) (map head_of x.graph.edges) waiting) c.deref-3.ensures c.in_ok-nodes.ensures.waiting in
+    subst (λ (x : Compilation). AreEndCounts (length x.graph.nodes) (map head_of x.graph.edges) waiting) c.deref-4.ensures c.in_ok-nodes.ensures.waiting in
     let first : AreFirstReady (comp c) c.args.kinds waiting ready =
-    subst (λ (t : Type 0). t) (λ t. AreFirstReady (c.deref-3.ensures t) (c.items-2.ensures t) waiting ready) c.in_ok-nodes.ensures.ready in
+    subst (λ (t : Type 0). t) (λ t. AreFirstReady (c.deref-4.ensures t) (c.items-2.ensures t) waiting ready) c.in_ok-nodes.ensures.ready in
     start_ready_keeps (view c) first.ranking waiting ready (marks_are c) first.ranked (kept c).mapped.homes.one_each counts first.started
 
 pub invariant_of-result : goal.invariant_of-result

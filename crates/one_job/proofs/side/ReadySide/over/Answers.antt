@@ -5,7 +5,7 @@ use Rattle.ready_heap.specs.Groups.{RankingView}
 use Rattle.one_job.specs.Alike.{AreKeptAlike}
 use Rattle.one_job.specs.Ready.{none_in}
 use Rattle.one_job.proofs.Rankings.{none_kept}
-use Rattle.one_job.proofs.side.ReadySide.new.Goals as goal
+use Rattle.one_job.proofs.side.ReadySide.over.Goals as goal
 
 pub invariant_of-result : goal.invariant_of-result
 invariant_of-result c =
