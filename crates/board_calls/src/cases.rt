@@ -3,6 +3,7 @@ ghost use Rattle.std.specs.Prelude.{◌≤◌, IfOk};
 ghost use Rattle.std.specs.Arc.{arc_value};
 ghost use Rattle.board_calls.specs.Given.{AreSound};
 
+use crate::carried::Carried;
 use crate::given::{graphs_of, streams_of};
 use crate::iterations::{Plan, run};
 use crate::told::Told;
@@ -104,7 +105,7 @@ fn plan_of<'a>(case: &Value, order: &'a [u32]) -> Result<Plan<'a>, Trouble>
     })
 }
 
-/// What becomes of a case, which makes one list of kept compilations for its boards where it has the member `kept`.
+/// What becomes of a case. Its boards keep compilations where it has the member `kept`, and levels where it has the member `levels`.
 fn outcome_of<R: Threads + Wait + Sync>(
     rt: &R,
     alloc: Global,
@@ -117,12 +118,13 @@ fn outcome_of<R: Threads + Wait + Sync>(
     let order = order_of(alloc, case)?;
     let plan = plan_of(case, order.as_slice())?;
     let tells = tells_of(case)?;
-    let mut kept = match case.get("kept") {
+    let kept = match case.get("kept") {
         Some(_) => Some(kept(alloc)?),
         None => None,
     };
+    let mut carried = Carried::new(kept, case.get("levels").is_some());
     let mut told = Told::new(alloc, tells == Tells::Steps);
-    run(rt, alloc, graphs, streams, &plan, &mut kept, &mut told)?;
+    run(rt, alloc, graphs, streams, &plan, &mut carried, &mut told)?;
     let answer = answer_of(alloc, case, tells, &told)?;
     case_rows::outcome_of(alloc, case, &answer)
 }

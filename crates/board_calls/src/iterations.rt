@@ -6,6 +6,7 @@ ghost use Rattle.kernel_gate.specs.Value.{lengths};
 ghost use Rattle.param_resolver.specs.EarlyCheck.{early_faults};
 ghost use Rattle.pisdf_meaning.specs.Run.{top_needs};
 ghost use Rattle.firing_board.specs.Ends.{IsOver};
+ghost use Rattle.firing_board.specs.Keeping.{AreKeptLevelsOf};
 ghost use Rattle.firing_board.specs.Runs.{AreAllIdle};
 ghost use Rattle.quiescent_driver.specs.Endings.{EndsWith};
 ghost use Rattle.quiescent_driver.specs.Given.{IsTopState, key_with};
@@ -13,6 +14,7 @@ ghost use Rattle.board_calls.specs.Ends.{left_by};
 ghost use Rattle.board_calls.specs.Given.{AreSound};
 ghost use Rattle.board_calls.specs.Holding.{HasOurKernels, IsCrewOf};
 
+use crate::carried::{Carried, lend, take_back};
 use crate::crew::{finish_all, has_ended, step};
 use crate::given::{Taken, take_ins, top_of};
 use crate::held::Held;
@@ -23,12 +25,10 @@ use crate::turns::Turns;
 use board_lock::NotMade;
 use case_rows::Trouble;
 use firing_board::{Board, BoardEnd};
-use job_compiler::Kept;
 use kernel_gate::{Gate, lengths_given};
 use kernel_library::Library;
 use pisdf_meaning::{Delays, PlainFault, first_delays, runnable, sizes_kept, top_needs};
 use pisdf_model::Graphs;
-use quiescent_driver::lend_kept;
 use sdf_level::List;
 use std::alloc::{AllocError, Global};
 use std::sync::{Arc, Wait};
@@ -124,46 +124,50 @@ fn outcome_of(
     }
 }
 
-/// Plays a board to its end, with the compilations that are kept, and those that are made after it.
+/// Plays a board to its end, with what is kept before it, and after it.
 fn end_of(
     alloc: Global,
     mut board: Board,
-    kept: &mut Option<Kept>,
+    carried: &mut Carried,
     turns: &mut Turns<'_>,
     told: &mut Told,
 ) -> Result<BoardEnd, Trouble>
     requires kernels { HasOurKernels board }
     requires idle { AreAllIdle board }
     requires workers { turns.old.workers ≡ board.key.workers }
-    ensures { IfOk result (EndsWith board.key) }
+    requires levels { AreKeptLevelsOf board.key.graphs carried.old.levels }
+    ensures ends { IfOk result (EndsWith board.key) }
+    ensures levels { AreKeptLevelsOf board.key.graphs carried.new.levels }
 {
-    lend_kept(&mut board, kept);
+    lend(&mut board, carried);
     let ended = play_all(alloc, &mut board, turns, told);
-    *kept = board.take_kept();
+    take_back(&mut board, carried);
     outcome_of(alloc, board, ended)
 }
 
-/// Runs a board by a crew of threads to its end, with the compilations that are kept, and those that are made after it.
+/// Runs a board by a crew of threads to its end, with what is kept before it, and after it.
 fn crew_end_of<R: Threads + Wait + Sync>(
     rt: &R,
     alloc: Global,
     mut board: Board,
     workers: u32,
-    kept: &mut Option<Kept>,
+    carried: &mut Carried,
 ) -> Result<BoardEnd, Trouble>
     requires kernels { HasOurKernels board }
     requires idle { AreAllIdle board }
     requires workers { workers ≡ board.key.workers }
-    ensures { IfOk result (EndsWith board.key) }
+    requires levels { AreKeptLevelsOf board.key.graphs carried.old.levels }
+    ensures ends { IfOk result (EndsWith board.key) }
+    ensures levels { AreKeptLevelsOf board.key.graphs carried.new.levels }
 {
-    lend_kept(&mut board, kept);
+    lend(&mut board, carried);
     match run_crew(rt, alloc, board, workers, &Library) {
         Ok(mut board) => {
-            *kept = board.take_kept();
+            take_back(&mut board, carried);
             Ok(board.outcome(alloc)?)
         }
         Err(NotMade { state: mut board }) => {
-            *kept = board.take_kept();
+            take_back(&mut board, carried);
             board.end();
             Err(Trouble::Memory)
         }
@@ -177,20 +181,22 @@ fn finish<R: Threads + Wait + Sync>(
     board: Board,
     plan: &Plan<'_>,
     number: u32,
-    kept: &mut Option<Kept>,
+    carried: &mut Carried,
     told: &mut Told,
 ) -> Result<BoardEnd, Trouble>
     requires kernels { HasOurKernels board }
     requires idle { AreAllIdle board }
     requires workers { plan.now.workers ≡ board.key.workers }
-    ensures { IfOk result (EndsWith board.key) }
+    requires levels { AreKeptLevelsOf board.key.graphs carried.old.levels }
+    ensures ends { IfOk result (EndsWith board.key) }
+    ensures levels { AreKeptLevelsOf board.key.graphs carried.new.levels }
 {
     if plan.threads {
-        return crew_end_of(rt, alloc, board, plan.workers, kept);
+        return crew_end_of(rt, alloc, board, plan.workers, carried);
     }
     let seed = plan.seed.wrapping_add(u64::from(number));
     let mut turns = Turns::new(plan.order, plan.drawn, seed, plan.workers);
-    end_of(alloc, board, kept, &mut turns, told)
+    end_of(alloc, board, carried, &mut turns, told)
 }
 
 /// Tells the end of a board; whether another iteration may come.
@@ -266,7 +272,7 @@ fn iterate<R: Threads + Wait + Sync>(
     plan: &Plan<'_>,
     number: u32,
     delays: &mut Delays,
-    kept: &mut Option<Kept>,
+    carried: &mut Carried,
     told: &mut Told,
 ) -> Result<bool, Trouble>
     requires sound { AreSound (arc_value graphs.now) }
@@ -275,13 +281,15 @@ fn iterate<R: Threads + Wait + Sync>(
     requires state { IsTopState (arc_value graphs.now) delays.old.lists }
     requires some { 1 ≤ plan.now.workers }
     requires few { plan.now.workers ≤ 16 }
-    ensures { IsTopState (arc_value graphs.now) delays.new.lists }
+    requires levels { AreKeptLevelsOf (arc_value graphs.now) carried.old.levels }
+    ensures state { IsTopState (arc_value graphs.now) delays.new.lists }
+    ensures levels { AreKeptLevelsOf (arc_value graphs.now) carried.new.levels }
 {
     runnable();
     lengths_given();
     sizes_kept();
     let board = start_board(alloc, graphs, delays, ins, plan.workers)?;
-    let end = finish(rt, alloc, board, plan, number, kept, told)?;
+    let end = finish(rt, alloc, board, plan, number, carried, told)?;
     see_board(graphs, number, delays, end, told)
 }
 
@@ -292,12 +300,13 @@ pub(crate) fn run<R: Threads + Wait + Sync>(
     graphs: &Arc<Graphs>,
     streams: &[List<i64>],
     plan: &Plan<'_>,
-    kept: &mut Option<Kept>,
+    carried: &mut Carried,
     told: &mut Told,
 ) -> Result<(), Trouble>
     requires sound { AreSound (arc_value graphs.now) }
     requires some { 1 ≤ plan.now.workers }
     requires few { plan.now.workers ≤ 16 }
+    requires levels { AreKeptLevelsOf (arc_value graphs.now) carried.old.levels }
 {
     let needs = match top_needs(alloc, graphs) {
         Ok(needs) => needs,
@@ -318,7 +327,7 @@ pub(crate) fn run<R: Threads + Wait + Sync>(
                     plan,
                     number,
                     &mut delays,
-                    kept,
+                    carried,
                     told,
                 )? {
                     return Ok(());

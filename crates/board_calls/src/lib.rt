@@ -3,6 +3,7 @@
 //! [`case_rows::Trouble`] where a line hasn't its form, or where there is no memory.
 #![tactic(auto)]
 
+mod carried;
 mod cases;
 mod crew;
 mod given;

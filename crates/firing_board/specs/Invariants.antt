@@ -6,7 +6,7 @@ use Rattle.board_rules.specs.Entries.{Step}
 use Rattle.board_rules.specs.Keys.{IsKey, Key}
 use Rattle.firing_board.specs.Table.View.{firings_of}
 use Rattle.firing_board.specs.Core.{HasMemory, IsLentToRunners, RowsHaveOwners, StandsAt, lent_of, runners}
-use Rattle.firing_board.specs.Keeping.{AreLevelsOf}
+use Rattle.firing_board.specs.Keeping.{AreKeptLevelsOf}
 use Rattle.firing_board.specs.Starved.{StarvesAt}
 use Rattle.firing_board.specs.View.{BoardView}
 use Rattle.firing_board.specs.Signatures.{counts_by}
@@ -46,4 +46,4 @@ HasMemoryUnless false c = HasMemory c
 HasMemoryUnless true c = Unit {0}
 
 abbrev pub IsBoard : Inside → Type 0
-IsBoard i = Keeps (key_of i) i.core i.starved × AreLevelsOf i.core.table.graphs i.keeping.levels × HasMemoryUnless i.starved i.core × (length i.core.rooms.slots.items ≡ length i.core.running.items)
+IsBoard i = Keeps (key_of i) i.core i.starved × AreKeptLevelsOf i.core.table.graphs i.keeping.levels × HasMemoryUnless i.starved i.core × (length i.core.rooms.slots.items ≡ length i.core.running.items)

@@ -8,13 +8,13 @@ use Rattle.job_preparing.specs.declared.compiling.CompileEnd.TheVariants.{Ready,
 use Rattle.firing_board.specs.declared.keeping.Keeping.{Keeping}
 
 -- the levels that are kept, if any are, are of these graphs
-abbrev pub AreLevelsOf : Graphs → Option Graphs → Type 0
-AreLevelsOf graphs levels = IfSome levels (λ own. own ≡ graphs)
+abbrev pub AreKeptLevelsOf : Graphs → Option Graphs → Type 0
+AreKeptLevelsOf graphs levels = IfSome levels (λ own. own ≡ graphs)
 
 -- compilations are kept as before, and levels of the same graphs
 pub record KeepsAs (old new : Keeping) : Type 0 where
   pub kept : is_some new.kept ≡ is_some old.kept
-  pub graphs : (graphs : Graphs) → AreLevelsOf graphs old.levels → AreLevelsOf graphs new.levels
+  pub graphs : (graphs : Graphs) → AreKeptLevelsOf graphs old.levels → AreKeptLevelsOf graphs new.levels
 
 -- a level that a compilation ended with is of these graphs
 abbrev pub IsOfLevels : Graphs → CompileEnd → Type 0

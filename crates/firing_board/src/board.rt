@@ -14,7 +14,7 @@ use crate::state::Core;
 use board_journal::Journal;
 use board_rules::{boards_end, boards_keep, entries_tell_steps, few_jobs_are_open};
 use job_compiler::Kept;
-use job_preparing::CompileEnd;
+use job_preparing::{CompileEnd, KeptLevels};
 use job_rules::rules_are_lawful;
 use kernel_gate::{Frame, KernelFault, Signature};
 use pisdf_meaning::{Delays, Firing, runnable, top_firing};
@@ -61,6 +61,7 @@ impl Board {
     ghost use Rattle.firing_board.specs.Ends.{EndsAs, IsOver};
     ghost use Rattle.firing_board.specs.Finishes.{Finishes, MayComeBack, MayEnd};
     ghost use Rattle.firing_board.specs.Firings.{FiringsGoOn, LeasesFrame, open_count};
+    ghost use Rattle.firing_board.specs.Keeping.{AreKeptLevelsOf};
     ghost use Rattle.firing_board.specs.Runs.{AreAllIdle, IsIdle, IsSound, Runs};
     ghost use Rattle.firing_board.specs.Starts.{key_from};
     ghost use Rattle.firing_board.specs.View.{lent_to};
@@ -240,6 +241,22 @@ impl Board {
         ensures left { self.new ≡ record self.old { kept = false } }
     {
         mem::replace(&mut self.keeping.kept, None)
+    }
+
+    /// Puts in levels of the board's graphs that are kept from one board to the next, in place of those that were in the board.
+    pub fn put_levels(&mut self, levels: KeptLevels)
+        requires { levels ≡ self.old.key.graphs }
+        ensures { self.new ≡ self.old }
+    {
+        self.keeping.levels = Some(levels);
+    }
+
+    /// Takes out the levels that were put in, with those made since; or `None`, where none are in the board.
+    pub fn take_levels(&mut self) -> Option<KeptLevels>
+        ensures taken { AreKeptLevelsOf self.old.key.graphs result }
+        ensures left { self.new ≡ self.old }
+    {
+        mem::replace(&mut self.keeping.levels, None)
     }
 
     /// How the board ends, once its journal has ended, or memory was wanted and no worker runs anything.

@@ -12,7 +12,7 @@ ghost use Rattle.graph_firing.specs.View.{IsOfferedCompilation, IsOfferedWork, c
 ghost use Rattle.firing_board.specs.Core.{HasMemory, IsNumbered};
 ghost use Rattle.firing_board.specs.Handing.{Enters, HandsCompilation, HandsFrame, HandsOut, MayEnter, claim_of};
 ghost use Rattle.firing_board.specs.Invariants.{view_with};
-ghost use Rattle.firing_board.specs.Keeping.{AreLevelsOf, KeepsAs};
+ghost use Rattle.firing_board.specs.Keeping.{AreKeptLevelsOf, KeepsAs};
 ghost use Rattle.firing_board.specs.OnCore.{ClaimsOn, KeepsKey, MayClaim, StarvesOn};
 ghost use Rattle.firing_board.specs.Wanting.{MayStarve};
 
@@ -114,7 +114,7 @@ fn hand_compilation(
     requires enter { MayEnter core.old worker run }
     requires room { HasMemory core.old }
     requires offered { HasJob IsOfferedCompilation core.old.table run.row }
-    requires graphs { HasJob (λ job. AreLevelsOf job.graphs keeping.old.levels) core.old.table run.row }
+    requires graphs { HasJob (λ job. AreKeptLevelsOf job.graphs keeping.old.levels) core.old.table run.row }
     ensures handed { IfOk result (HandsCompilation core.old worker run core.new) }
     ensures room { OnOk result (HasMemory core.new) }
     ensures rooms { core.new.rooms ≡ core.old.rooms }
@@ -144,7 +144,7 @@ fn hand_out(
     requires numbered { (path : Seq ℕ) × IsNumbered core.old.numbers.items core.old.journal.paths run.row path }
     requires offered { HasJob (λ job. IsOfferedWork job run.item) core.old.table run.row }
     requires room { HasMemory core.old }
-    requires graphs { HasJob (λ job. AreLevelsOf job.graphs keeping.old.levels) core.old.table run.row }
+    requires graphs { HasJob (λ job. AreKeptLevelsOf job.graphs keeping.old.levels) core.old.table run.row }
     ensures handed { IfOk result (HandsOut core.old worker run core.new) }
     ensures room { OnOk result (HasMemory core.new) }
     ensures slots { length core.new.rooms.slots.items ≡ length core.old.rooms.slots.items }
@@ -181,7 +181,7 @@ pub(crate) fn claim(
 ) -> Result<Claim, AllocError>
     requires may { (key : BoardKey) × MayClaim key core.old worker }
     requires room { HasMemory core.old }
-    requires graphs { AreLevelsOf core.old.table.graphs keeping.old.levels }
+    requires graphs { AreKeptLevelsOf core.old.table.graphs keeping.old.levels }
     ensures claimed { IfOk result (λ claim. (key : BoardKey) → MayClaim key core.old worker → ClaimsOn key core.old worker core.new claim) }
     ensures room { OnOk result (HasMemory core.new) }
     ensures refused { OnErr result ((key : BoardKey) → MayClaim key core.old worker → StarvesOn key core.old core.new) }

@@ -3,7 +3,7 @@ ghost use Rattle.std.specs.Prelude.{◌≡◌, IfOk, IfSome, is_some};
 ghost use Rattle.std.specs.Arc.{arc_value};
 ghost use Rattle.graph_firing.specs.View.{IsOfferedCompilation, key_in};
 ghost use Rattle.job_preparing.specs.Levels.{IsLevelBy, IsLevelOf, SuitsKey};
-ghost use Rattle.firing_board.specs.Keeping.{AreLevelsOf, IsOfLevels, KeepsAs};
+ghost use Rattle.firing_board.specs.Keeping.{AreKeptLevelsOf, IsOfLevels, KeepsAs};
 
 use graph_firing::OpenJob;
 use job_compiler::{Compiled, Kept, Key};
@@ -17,14 +17,15 @@ use std::sync::Arc;
 pub(crate) struct Keeping {
     /// The compilations that are kept from one board to the next, by the keys of firings.
     pub(crate) kept: Option<Kept>,
-    /// The levels that this board's compilations made, by the same keys; none before the first.
+    /// The levels that are kept from one board to the next, by the same keys, with those that this board's compilations made; none
+    /// before the first.
     pub(crate) levels: Option<KeptLevels>,
 }
 
 /// The level that is kept by a key, if there is one, and memory for one more owner.
 fn level_for(levels: &mut Option<KeptLevels>, key: &Key) -> Option<Arc<ReadyLevel>>
-    ensures serves { IfSome result (λ level. (graphs : Graphs) → AreLevelsOf graphs levels.old → IsLevelBy graphs.graphs key.now (arc_value level)) }
-    ensures graphs { (graphs : Graphs) → AreLevelsOf graphs levels.old → AreLevelsOf graphs levels.new }
+    ensures serves { IfSome result (λ level. (graphs : Graphs) → AreKeptLevelsOf graphs levels.old → IsLevelBy graphs.graphs key.now (arc_value level)) }
+    ensures graphs { (graphs : Graphs) → AreKeptLevelsOf graphs levels.old → AreKeptLevelsOf graphs levels.new }
 {
     match levels {
         Some(levels) => match levels.find(key) {
@@ -59,7 +60,7 @@ pub(crate) fn at_hand(
     job: &OpenJob,
 ) -> Result<AtHand, AllocError>
     requires offered { IsOfferedCompilation job.now }
-    requires graphs { AreLevelsOf job.now.graphs keeping.old.levels }
+    requires graphs { AreKeptLevelsOf job.now.graphs keeping.old.levels }
     ensures suits { IfOk result (SuitsKey job.now.graphs.graphs (key_in job.now)) }
     ensures keeps { KeepsAs keeping.old keeping.new }
 {
@@ -114,9 +115,9 @@ fn keep_level(
     levels: &mut Option<KeptLevels>,
     level: &Arc<ReadyLevel>,
 ) -> Result<(), AllocError>
-    requires levels { AreLevelsOf graphs.now levels.old }
+    requires levels { AreKeptLevelsOf graphs.now levels.old }
     requires level { IsLevelOf graphs.now.graphs (arc_value level.now) }
-    ensures { AreLevelsOf graphs.now levels.new }
+    ensures { AreKeptLevelsOf graphs.now levels.new }
 {
     match levels {
         Some(levels) => levels.keep(alloc, level),
@@ -131,10 +132,10 @@ fn keep_level(
 
 /// Keeps a level of these graphs that isn't kept yet, and its compilation, where there is memory for them.
 pub(crate) fn keep_ready(alloc: Global, graphs: &Graphs, keeping: &mut Keeping, end: &CompileEnd)
-    requires levels { AreLevelsOf graphs.now keeping.old.levels }
+    requires levels { AreKeptLevelsOf graphs.now keeping.old.levels }
     requires end { IsOfLevels graphs.now end.now }
     ensures kept { is_some keeping.new.kept ≡ is_some keeping.old.kept }
-    ensures levels { AreLevelsOf graphs.now keeping.new.levels }
+    ensures levels { AreKeptLevelsOf graphs.now keeping.new.levels }
 {
     if let CompileEnd::Ready(level) = end {
         if !has_level(&keeping.levels, &level.key) {

@@ -5,6 +5,7 @@ ghost use Rattle.kernel_gate.specs.Signed.{signature_view};
 ghost use Rattle.kernel_gate.specs.Table.{the_signatures};
 ghost use Rattle.param_resolver.specs.EarlyCheck.{early_faults};
 ghost use Rattle.pisdf_meaning.specs.Run.{top_needs};
+ghost use Rattle.quiescent_driver.specs.Carrying.{Suits};
 ghost use Rattle.quiescent_driver.specs.Iterated.{Gives};
 ghost use Rattle.pisdf_program.specs.Soak.{soak_file, soak_iterations, soak_streams};
 ghost use Rattle.pisdf_program.specs.SoakEnd.{EndsSoak, IsSoakStatus, LacksNothing, total_row};
@@ -23,12 +24,12 @@ use crate::status::Status;
 use crate::stop::stop_status;
 use board_journal::Journal;
 use graph_writer::write;
-use job_compiler::{Kept, kept};
+use job_compiler::kept;
 use kernel_gate::{Gate, Signature};
 use outer_world::{Sink, put_text};
 use pisdf_meaning::{Delays, Iteration, first_delays};
 use pisdf_model::Graphs;
-use quiescent_driver::{Stop, Workload, run_iteration_by};
+use quiescent_driver::{Carried, Stop, run_iteration_by};
 use std::alloc::Global;
 use std::sync::{Arc, Wait};
 use std::thread::Threads;
@@ -62,8 +63,7 @@ fn soak_iteration<K: Gate + Sync, R: Threads + Wait + Sync>(
     number: u32,
     iteration: u32,
     workers: u32,
-    kept: &mut Option<Kept>,
-    workload: &mut Workload,
+    carried: &mut Carried,
     delays: &mut Delays,
     gate: &K,
 ) -> Result<Iteration, Stop>
@@ -76,10 +76,12 @@ fn soak_iteration<K: Gate + Sync, R: Threads + Wait + Sync>(
     requires state { IsTopState (arc_value graphs.now) delays.old.lists }
     requires some { 0 < workers }
     requires most { workers ≤ 16 }
+    requires levels { Suits (arc_value graphs.now) carried.old }
     ensures gives { IfOk result (λ i. Gives (arc_value graphs.now) delays.old.lists (rest_of iteration (top_needs (arc_value graphs.now)) (soak_streams number)) i delays.new.lists) }
     ensures stops { IfErr result (StopsAt (arc_value graphs.now) delays.old.lists (rest_of iteration (top_needs (arc_value graphs.now)) (soak_streams number))) }
     ensures enough { IfErr result LacksNothing }
     ensures state { OnOk result (IsTopState (arc_value graphs.now) delays.new.lists) }
+    ensures levels { Suits (arc_value graphs.now) carried.new }
 {
     let Ok(ins) = soak_part(alloc, number, iteration) else {
         return Err(Stop::Memory);
@@ -91,8 +93,7 @@ fn soak_iteration<K: Gate + Sync, R: Threads + Wait + Sync>(
         delays,
         ins.as_slice(),
         workers,
-        kept,
-        workload,
+        carried,
         gate,
         Journal::unreadable(),
     ) {
@@ -108,7 +109,7 @@ fn run_soak<K: Gate + Sync, R: Threads + Wait + Sync>(
     graphs: &Arc<Graphs>,
     number: u32,
     workers: u32,
-    kept: &mut Option<Kept>,
+    carried: &mut Carried,
     gate: &K,
 ) -> Result<Total, Stop>
     requires good { AreGood (arc_value graphs.now) }
@@ -118,13 +119,13 @@ fn run_soak<K: Gate + Sync, R: Threads + Wait + Sync>(
     requires sound { early_faults (arc_value graphs.now).graphs (arc_value graphs.now).top [] ≡ [] }
     requires some { 0 < workers }
     requires most { workers ≤ 16 }
+    requires levels { Suits (arc_value graphs.now) carried.old }
     ensures ends { EndsSoak (arc_value graphs.now) number result }
     ensures enough { IfErr result LacksNothing }
 {
     let Ok(mut delays) = first_delays(alloc, graphs) else {
         return Err(Stop::Memory);
     };
-    let mut workload = Workload::new();
     let mut total = Total { count: 0, sum: 0 };
     for place in 0..soak_iterations(number) {
         let iteration = match soak_iteration(
@@ -134,8 +135,7 @@ fn run_soak<K: Gate + Sync, R: Threads + Wait + Sync>(
             number,
             place,
             workers,
-            kept,
-            &mut workload,
+            carried,
             &mut delays,
             gate,
         ) {
@@ -217,7 +217,7 @@ pub(crate) fn soak<O: Sink, K: Gate + Sync, R: Threads + Wait + Sync>(
     let Ok(kept) = kept(alloc) else {
         return Err(Status::WantOfMemory);
     };
-    let mut kept = Some(kept);
-    let end = run_soak(rt, alloc, &graphs, number, workers, &mut kept, gate);
+    let mut carried = Carried::new(Some(kept));
+    let end = run_soak(rt, alloc, &graphs, number, workers, &mut carried, gate);
     tell_soak(alloc, &graphs, number, end, out)
 }

@@ -6,6 +6,7 @@ pub mod Top
 pub mod Texts
 pub mod Iterated
 pub mod Stops
+pub mod Carrying
 pub mod Making
 pub mod Runs
 pub mod Reached

@@ -8,7 +8,9 @@ use Rattle.pisdf_meaning.specs.Run.{IterationEnds, IterationGives, top_needs}
 use Rattle.pisdf_meaning.specs.declared.outcome.Delays.{Delays}
 use Rattle.pisdf_meaning.specs.declared.outcome.Iteration.{Iteration}
 use Rattle.pisdf_meaning.specs.declared.refusal.Refusal.{Refusal}
+use Rattle.quiescent_driver.specs.Carrying.{Suits}
 use Rattle.quiescent_driver.specs.Given.{IsTopState}
+use Rattle.quiescent_driver.specs.declared.carried.Carried.{Carried}
 use Rattle.quiescent_driver.specs.declared.stop.Stop.{Stop}
 use Rattle.quiescent_driver.specs.declared.stop.Stop.TheVariants as stop
 
@@ -32,13 +34,16 @@ pub record IsMade (graphs : Graphs) (state ins next : List (List ℤ)) (result :
 
 -- ---- a call that makes it
 
-module _ {S : Type 0} (graphs : Graphs) where
-  -- it may be called of whatever an iteration can begin with
-  abbrev pub MayMake : (MutBor S → MutBor Delays → Bor (List (List ℤ)) → Type 0) → Type 0
-  MayMake pre = (kept : MutBor S) (delays : MutBor Delays) (ins : Bor (List (List ℤ))) → MayBegin graphs delays.now.lists ins.now → pre kept delays ins
+module _ (graphs : Graphs) where
+  -- it may be called of whatever an iteration can begin with, and what suits these graphs
+  abbrev pub MayMake : (MutBor Carried → MutBor Delays → Bor (List (List ℤ)) → Type 0) → Type 0
+  MayMake pre =
+      (carried : MutBor Carried) (delays : MutBor Delays) (ins : Bor (List (List ℤ)))
+      → MayBegin graphs delays.now.lists ins.now → Suits graphs carried.now → pre carried delays ins
 
-  -- and makes the iteration of it
-  abbrev pub Makes : (MutBor S → MutBor Delays → Bor (List (List ℤ)) → Result Iteration Stop → MutBor S → MutBor Delays → Type 0) → Type 0
+  -- and makes the iteration of it, and carries on what suits them
+  abbrev pub Makes : (MutBor Carried → MutBor Delays → Bor (List (List ℤ)) → Result Iteration Stop → MutBor Carried → MutBor Delays → Type 0) → Type 0
   Makes post =
-      (kept kept_left : MutBor S) (delays left : MutBor Delays) (ins : Bor (List (List ℤ))) (result : Result Iteration Stop)
-      → MayBegin graphs delays.now.lists ins.now → post kept delays ins result kept_left left → IsMade graphs delays.now.lists ins.now left.now.lists result
+      (carried carried_left : MutBor Carried) (delays left : MutBor Delays) (ins : Bor (List (List ℤ))) (result : Result Iteration Stop)
+      → MayBegin graphs delays.now.lists ins.now → Suits graphs carried.now → post carried delays ins result carried_left left
+      → IsMade graphs delays.now.lists ins.now left.now.lists result × Suits graphs carried_left.now

@@ -9,10 +9,12 @@ ghost use Rattle.pisdf_meaning.specs.Sound.{AreValidFor};
 ghost use Rattle.pisdf_meaning.specs.declared.outcome.Iteration.{Iteration as Outcome};
 ghost use Rattle.pisdf_meaning.specs.declared.refusal.Refusal.{Refusal as Cause};
 ghost use Rattle.board_journal.specs.View.{IsEmpty, JournalView};
+ghost use Rattle.quiescent_driver.specs.Carrying.{Suits};
 ghost use Rattle.firing_board.specs.Runs.{AreAllIdle};
 ghost use Rattle.quiescent_driver.specs.Endings.{HasReadableJournal, HasWholeJournal, IfRefused};
 ghost use Rattle.quiescent_driver.specs.Given.{IsTopState, key_with};
 
+use crate::carried::Carried;
 use crate::driving::drive;
 use crate::fault::IterationFault;
 use board_journal::Journal;
@@ -23,9 +25,9 @@ use pisdf_meaning::{Delays, Iteration, one_meaning, runnable, sizes_kept};
 use pisdf_model::Graphs;
 use sdf_level::List;
 use std::alloc::{AllocError, Global};
+use std::mem;
 use std::sync::{Arc, Wait};
 use std::thread::Threads;
-use worker_crew::Workload;
 
 /// The board of an iteration, in which nothing is claimed. Nothing was put into the journal.
 fn start_board<K: Gate>(
@@ -82,8 +84,7 @@ fn iterate<K: Gate + Sync, R: Threads + Wait + Sync>(
     delays: &mut Delays,
     ins: &[List<i64>],
     workers: u32,
-    kept: &mut Option<Kept>,
-    workload: &mut Workload,
+    carried: &mut Carried,
     gate: &K,
     journal: Journal,
 ) -> Result<(Iteration, Journal), IterationFault>
@@ -94,15 +95,17 @@ fn iterate<K: Gate + Sync, R: Threads + Wait + Sync>(
     requires some { 0 < workers }
     requires few { workers ≤ 16 }
     requires empty { IsEmpty journal }
+    requires levels { Suits (arc_value graphs.now) carried.old }
     ensures gives { IfOk result (λ r. IterationGives (arc_value graphs.now) ins.now delays.old.lists r.0 delays.new.lists) }
     ensures refused { IfErr result (IfRefused (λ refusal. IterationEnds (arc_value graphs.now) ins.now delays.old.lists (Err refusal))) }
     ensures unchanged { OnErr result (delays.new ≡ delays.old) }
     ensures journal { HasWholeJournal (key_with (arc_value graphs.now) (K.kernels gate.now) delays.old.lists ins.now workers) result }
     ensures readable { journal.readable ≡ true → HasReadableJournal result }
+    ensures levels { Suits (arc_value graphs.now) carried.new }
 {
     let readable = journal.is_readable();
     let board = start_board(alloc, graphs, delays, ins, workers, gate, journal)?;
-    match drive(rt, alloc, board, workers, kept, workload, gate)? {
+    match drive(rt, alloc, board, workers, carried, gate)? {
         BoardEnd::Done {
             iteration,
             delays: left,
@@ -120,9 +123,10 @@ fn iterate<K: Gate + Sync, R: Threads + Wait + Sync>(
     }
 }
 
-/// As `run_iteration`, with as many threads as `workload` asks for by what the run's iterations before it have shown, at most one for
-/// each worker. Nothing was put into the journal, into which the workers' steps are entered: where it can't be read, they take no
-/// memory.
+/// As `run_iteration`, with what the run's iterations before it have left in `carried`: the compilations and levels that are kept,
+/// which are used, and what the iterations have shown. There are as many threads as that asks for, at most one for each worker. The
+/// compilations and levels that are made are kept there. Nothing was put into the journal, into which the workers' steps are entered:
+/// where it can't be read, they take no memory.
 ///
 /// # Errors
 ///
@@ -137,8 +141,7 @@ pub fn run_iteration_by<K: Gate + Sync, R: Threads + Wait + Sync>(
     delays: &mut Delays,
     ins: &[List<i64>],
     workers: u32,
-    kept: &mut Option<Kept>,
-    workload: &mut Workload,
+    carried: &mut Carried,
     gate: &K,
     journal: Journal,
 ) -> Result<(Iteration, Journal), IterationFault>
@@ -149,6 +152,7 @@ pub fn run_iteration_by<K: Gate + Sync, R: Threads + Wait + Sync>(
     requires some { 0 < workers }
     requires few { workers ≤ 16 }
     requires empty { IsEmpty journal }
+    requires levels { Suits (arc_value graphs.now) carried.old }
     ensures gives { IfOk result (λ r. IterationGives (arc_value graphs.now) ins.now delays.old.lists r.0 delays.new.lists) }
     ensures refused { IfErr result (IfRefused (λ refusal. IterationEnds (arc_value graphs.now) ins.now delays.old.lists (Err refusal))) }
     ensures unchanged { OnErr result (delays.new ≡ delays.old) }
@@ -163,6 +167,9 @@ pub fn run_iteration_by<K: Gate + Sync, R: Threads + Wait + Sync>(
 
     // The state that is left suits the next iteration.
     ensures state { IsTopState (arc_value graphs.now) delays.new.lists }
+
+    // So do the levels that are kept.
+    ensures levels { Suits (arc_value graphs.now) carried.new }
 {
     one_meaning();
     sizes_kept();
@@ -170,7 +177,7 @@ pub fn run_iteration_by<K: Gate + Sync, R: Threads + Wait + Sync>(
     // Its clause says that the kernels give outputs of the lengths that they are asked for.
     let _signatures = gate.signatures();
     iterate(
-        rt, alloc, graphs, delays, ins, workers, kept, workload, gate, journal,
+        rt, alloc, graphs, delays, ins, workers, carried, gate, journal,
     )
 }
 
@@ -217,18 +224,24 @@ pub fn run_iteration<K: Gate + Sync, R: Threads + Wait + Sync>(
     // The state that is left suits the next iteration.
     ensures state { IsTopState (arc_value graphs.now) delays.new.lists }
 {
-    let mut workload = Workload::new();
+    let mut carried = Carried::new(mem::replace(kept, None));
     let journal = Journal::new(alloc);
-    run_iteration_by(
+    let made = run_iteration_by(
         rt,
         alloc,
         graphs,
         delays,
         ins,
         workers,
-        kept,
-        &mut workload,
+        &mut carried,
         gate,
         journal,
-    )
+    );
+    let Carried {
+        kept: left,
+        levels: _,
+        workload: _,
+    } = carried;
+    *kept = left;
+    made
 }

@@ -14,7 +14,8 @@ mod streams;
 mod texts;
 mod unfolded;
 
-pub use driving::lend_kept;
+pub use carried::Carried;
+pub use driving::{lend_kept, lend_levels};
 pub use end::RunEnd;
 pub use fault::IterationFault;
 pub use iteration::{run_iteration, run_iteration_by};
@@ -22,4 +23,3 @@ pub use run::{plain_run, run_all, top_of};
 pub use stop::Stop;
 pub use streams::{Lack, Streams};
 pub use unfolded::run_unfolded;
-pub use worker_crew::Workload;

@@ -3,6 +3,7 @@ ghost use Rattle.std.specs.Prelude.{◌<◌, ◌≤◌};
 ghost use Rattle.std.specs.Arc.{arc_value};
 ghost use Rattle.kernel_gate.specs.Signed.{unnamed};
 ghost use Rattle.pisdf_meaning.specs.Sound.{AreValidFor};
+ghost use Rattle.quiescent_driver.specs.Carrying.{Suits};
 ghost use Rattle.quiescent_driver.specs.Making.{IsMade, MayBegin};
 
 use crate::carried::Carried;
@@ -58,7 +59,9 @@ pub(crate) fn make_by_workers<K: Gate + Sync, R: Threads + Wait + Sync>(
     requires begins { MayBegin (arc_value graphs.now) delays.old.lists ins.now }
     requires some { 0 < workers }
     requires few { workers ≤ 16 }
-    ensures { IsMade (arc_value graphs.now) delays.old.lists ins.now delays.new.lists result }
+    requires levels { Suits (arc_value graphs.now) carried.old }
+    ensures made { IsMade (arc_value graphs.now) delays.old.lists ins.now delays.new.lists result }
+    ensures levels { Suits (arc_value graphs.now) carried.new }
 {
     match run_iteration_by(
         rt,
@@ -67,8 +70,7 @@ pub(crate) fn make_by_workers<K: Gate + Sync, R: Threads + Wait + Sync>(
         delays,
         ins,
         workers,
-        &mut carried.kept,
-        &mut carried.workload,
+        carried,
         gate,
         Journal::unreadable(),
     ) {

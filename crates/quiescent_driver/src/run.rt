@@ -6,6 +6,7 @@ ghost use Rattle.param_resolver.specs.EarlyCheck.{early_faults};
 ghost use Rattle.pisdf_model.specs.Valid.{AreValid};
 ghost use Rattle.pisdf_meaning.specs.Run.{IsRun, Run, top_needs};
 ghost use Rattle.pisdf_meaning.specs.Sound.{AreValidFor};
+ghost use Rattle.quiescent_driver.specs.Carrying.{Suits};
 ghost use Rattle.quiescent_driver.specs.Given.{IsTopState};
 ghost use Rattle.quiescent_driver.specs.Iterated.{Gives};
 ghost use Rattle.quiescent_driver.specs.Making.{IsMade, Makes, MayBegin, MayMake};
@@ -41,34 +42,37 @@ pub fn top_of(graphs: &Graphs) -> &Graph
 }
 
 /// Makes an iteration by `make`.
-fn made<S, F: Fn(&mut S, &mut Delays, &[List<i64>]) -> Made>(
+fn made<F: Fn(&mut Carried, &mut Delays, &[List<i64>]) -> Made>(
     graphs: &Arc<Graphs>,
     make: &F,
-    kept: &mut S,
+    carried: &mut Carried,
     delays: &mut Delays,
     ins: &[List<i64>],
 ) -> Result<Iteration, Stop>
     requires may { MayMake (arc_value graphs.now) (F.pre make.now) }
     requires makes { Makes (arc_value graphs.now) (F.post make.now) }
+    requires levels { Suits (arc_value graphs.now) carried.old }
     requires begins { MayBegin (arc_value graphs.now) delays.old.lists ins.now }
-    ensures { IsMade (arc_value graphs.now) delays.old.lists ins.now delays.new.lists result }
+    ensures made { IsMade (arc_value graphs.now) delays.old.lists ins.now delays.new.lists result }
+    ensures levels { Suits (arc_value graphs.now) carried.new }
 {
-    make(kept, delays, ins)
+    make(carried, delays, ins)
 }
 
 /// Makes one iteration, which leaves its state for the next, or answers why it isn't done.
-fn next_iteration<S, F: Fn(&mut S, &mut Delays, &[List<i64>]) -> Made>(
+fn next_iteration<F: Fn(&mut Carried, &mut Delays, &[List<i64>]) -> Made>(
     alloc: Global,
     graphs: &Arc<Graphs>,
     streams: &Streams<'_>,
     number: u32,
     make: &F,
-    kept: &mut S,
+    carried: &mut Carried,
     delays: &mut Delays,
 ) -> Result<Iteration, Stop>
     requires there { (arc_value graphs.now).top < length (arc_value graphs.now).graphs }
     requires may { MayMake (arc_value graphs.now) (F.pre make.now) }
     requires makes { Makes (arc_value graphs.now) (F.post make.now) }
+    requires levels { Suits (arc_value graphs.now) carried.old }
     requires needs { streams.now.needs.now ≡ top_needs (arc_value graphs.now) }
     requires fit { length streams.now.needs.now ≡ length streams.now.tokens.now }
     requires sound { early_faults (arc_value graphs.now).graphs (arc_value graphs.now).top [] ≡ [] }
@@ -76,6 +80,7 @@ fn next_iteration<S, F: Fn(&mut S, &mut Delays, &[List<i64>]) -> Made>(
     ensures gives { IfOk result (λ i. Gives (arc_value graphs.now) delays.old.lists (rest_of number (top_needs (arc_value graphs.now)) streams.now.tokens.now) i delays.new.lists) }
     ensures stops { IfErr result (StopsAt (arc_value graphs.now) delays.old.lists (rest_of number (top_needs (arc_value graphs.now)) streams.now.tokens.now)) }
     ensures state { OnOk result (IsTopState (arc_value graphs.now) delays.new.lists) }
+    ensures levels { Suits (arc_value graphs.now) carried.new }
 {
     match streams.first_lack(number) {
         Some(lack) => return Err(Stop::from(lack)),
@@ -84,7 +89,7 @@ fn next_iteration<S, F: Fn(&mut S, &mut Delays, &[List<i64>]) -> Made>(
     let Ok(ins) = streams.taken(alloc, number) else {
         return Err(Stop::Memory);
     };
-    made(graphs, make, kept, delays, ins.as_slice())
+    made(graphs, make, carried, delays, ins.as_slice())
 }
 
 /// Puts the text of one iteration, or answers how the run ends with it.
@@ -110,19 +115,20 @@ pub(crate) fn put_iteration<O: Sink>(
 }
 
 /// Makes and puts one iteration, which leaves its state for the next, or answers how the run ends with it.
-fn step<O: Sink, S, F: Fn(&mut S, &mut Delays, &[List<i64>]) -> Made>(
+fn step<O: Sink, F: Fn(&mut Carried, &mut Delays, &[List<i64>]) -> Made>(
     alloc: Global,
     graphs: &Arc<Graphs>,
     streams: &Streams<'_>,
     number: u32,
     make: &F,
-    kept: &mut S,
+    carried: &mut Carried,
     delays: &mut Delays,
     out: &mut O,
 ) -> Result<(), RunEnd>
     requires there { (arc_value graphs.now).top < length (arc_value graphs.now).graphs }
     requires may { MayMake (arc_value graphs.now) (F.pre make.now) }
     requires makes { Makes (arc_value graphs.now) (F.post make.now) }
+    requires levels { Suits (arc_value graphs.now) carried.old }
     requires needs { streams.now.needs.now ≡ top_needs (arc_value graphs.now) }
     requires fit { length streams.now.needs.now ≡ length streams.now.tokens.now }
     requires sound { early_faults (arc_value graphs.now).graphs (arc_value graphs.now).top [] ≡ [] }
@@ -130,8 +136,9 @@ fn step<O: Sink, S, F: Fn(&mut S, &mut Delays, &[List<i64>]) -> Made>(
     ensures steps { Steps (arc_value graphs.now) number delays.old.lists delays.new.lists (rest_of number (top_needs (arc_value graphs.now)) streams.now.tokens.now) (O.written out.old) (O.written out.new) (O.faults out.old) (O.faults out.new) result }
     ensures never_falls { O.faults out.old ≤ O.faults out.new }
     ensures state { OnOk result (IsTopState (arc_value graphs.now) delays.new.lists) }
+    ensures levels { Suits (arc_value graphs.now) carried.new }
 {
-    let iteration = match next_iteration(alloc, graphs, streams, number, make, kept, delays) {
+    let iteration = match next_iteration(alloc, graphs, streams, number, make, carried, delays) {
         Ok(iteration) => iteration,
         Err(stop) => return Err(RunEnd::from(stop)),
     };
@@ -139,20 +146,21 @@ fn step<O: Sink, S, F: Fn(&mut S, &mut Delays, &[List<i64>]) -> Made>(
 }
 
 /// Goes on with a run of so many iterations, of which the first were put and left this state.
-pub(crate) fn run_from<O: Sink, S, F: Fn(&mut S, &mut Delays, &[List<i64>]) -> Made>(
+pub(crate) fn run_from<O: Sink, F: Fn(&mut Carried, &mut Delays, &[List<i64>]) -> Made>(
     alloc: Global,
     graphs: &Arc<Graphs>,
     streams: &Streams<'_>,
     first: u32,
     iterations: u32,
     make: &F,
-    kept: &mut S,
+    carried: &mut Carried,
     delays: &mut Delays,
     out: &mut O,
 ) -> RunEnd
     requires there { (arc_value graphs.now).top < length (arc_value graphs.now).graphs }
     requires may { MayMake (arc_value graphs.now) (F.pre make.now) }
     requires makes { Makes (arc_value graphs.now) (F.post make.now) }
+    requires levels { Suits (arc_value graphs.now) carried.old }
     requires needs { streams.now.needs.now ≡ top_needs (arc_value graphs.now) }
     requires fit { length streams.now.needs.now ≡ length streams.now.tokens.now }
     requires sound { early_faults (arc_value graphs.now).graphs (arc_value graphs.now).top [] ≡ [] }
@@ -162,7 +170,7 @@ pub(crate) fn run_from<O: Sink, S, F: Fn(&mut S, &mut Delays, &[List<i64>]) -> M
     ensures never_falls { O.faults out.old ≤ O.faults out.new }
 {
     for number in first..iterations {
-        match step(alloc, graphs, streams, number, make, kept, delays, out) {
+        match step(alloc, graphs, streams, number, make, carried, delays, out) {
             Ok(()) => {}
             Err(end) => return end,
         }
@@ -174,18 +182,19 @@ pub(crate) fn run_from<O: Sink, S, F: Fn(&mut S, &mut Delays, &[List<i64>]) -> M
 }
 
 /// Runs so many iterations, at least one, on streams from which each takes what the top graph needs.
-fn run_some<O: Sink, S, F: Fn(&mut S, &mut Delays, &[List<i64>]) -> Made>(
+fn run_some<O: Sink, F: Fn(&mut Carried, &mut Delays, &[List<i64>]) -> Made>(
     alloc: Global,
     graphs: &Arc<Graphs>,
     streams: &Streams<'_>,
     iterations: u32,
     make: &F,
-    kept: &mut S,
+    carried: &mut Carried,
     out: &mut O,
 ) -> RunEnd
     requires there { (arc_value graphs.now).top < length (arc_value graphs.now).graphs }
     requires may { MayMake (arc_value graphs.now) (F.pre make.now) }
     requires makes { Makes (arc_value graphs.now) (F.post make.now) }
+    requires levels { Suits (arc_value graphs.now) carried.old }
     requires needs { streams.now.needs.now ≡ top_needs (arc_value graphs.now) }
     requires fit { length streams.now.needs.now ≡ length streams.now.tokens.now }
     requires sound { early_faults (arc_value graphs.now).graphs (arc_value graphs.now).top [] ≡ [] }
@@ -202,7 +211,7 @@ fn run_some<O: Sink, S, F: Fn(&mut S, &mut Delays, &[List<i64>]) -> Made>(
         0,
         iterations,
         make,
-        kept,
+        carried,
         &mut delays,
         out,
     )
@@ -219,19 +228,20 @@ fn lengths(alloc: Global, streams: &[List<i64>]) -> Result<List<u64>, AllocError
     Ok(List::new(counts))
 }
 
-/// Runs so many iterations, each made by `make`, which is given what it keeps from one to the next.
-fn run_by<O: Sink, S, F: Fn(&mut S, &mut Delays, &[List<i64>]) -> Made>(
+/// Runs so many iterations, each made by `make`, which is given what is carried from one to the next.
+fn run_by<O: Sink, F: Fn(&mut Carried, &mut Delays, &[List<i64>]) -> Made>(
     alloc: Global,
     graphs: &Arc<Graphs>,
     streams: &[List<i64>],
     iterations: u32,
     make: &F,
-    kept: &mut S,
+    carried: &mut Carried,
     out: &mut O,
 ) -> RunEnd
     requires valid { AreValid (arc_value graphs.now) }
     requires may { MayMake (arc_value graphs.now) (F.pre make.now) }
     requires makes { Makes (arc_value graphs.now) (F.post make.now) }
+    requires levels { Suits (arc_value graphs.now) carried.old }
     requires fit { length streams.now ≡ length (top_of (arc_value graphs.now)).inputs }
     ensures ends { EndsRun (arc_value graphs.now) streams.now iterations (O.written out.old) (O.written out.new) (O.faults out.old) (O.faults out.new) result }
     ensures never_falls { O.faults out.old ≤ O.faults out.new }
@@ -253,7 +263,7 @@ fn run_by<O: Sink, S, F: Fn(&mut S, &mut Delays, &[List<i64>]) -> Made>(
         needs: needs.items(),
         tokens: streams,
     };
-    run_some(alloc, graphs, &feed, iterations, make, kept, out)
+    run_some(alloc, graphs, &feed, iterations, make, carried, out)
 }
 
 /// Runs so many iterations, each by 1 to 16 workers in threads, with a stream of tokens for each input of the top graph, whose
@@ -285,13 +295,15 @@ pub fn run_all<O: Sink, K: Gate + Sync, R: Threads + Wait + Sync>(
     let Ok(kept) = kept(alloc) else {
         return RunEnd::Memory;
     };
-    let mut carried = Carried::new(kept);
+    let mut carried = Carried::new(Some(kept));
     let make = |carried: &mut Carried, delays: &mut Delays, ins: &[List<i64>]| -> Made
         requires valid { AreValidFor (unnamed (K.kernels gate.now)) (arc_value graphs.now) }
         requires some { 0 < workers }
         requires few { workers ≤ 16 }
         requires begins { MayBegin (arc_value graphs.now) delays.now.lists ins.now }
-        ensures { IsMade (arc_value graphs.entry.now) delays.entry.now.lists ins.entry.now delays.exit.now.lists result }
+        requires levels { Suits (arc_value graphs.now) carried.now }
+        ensures made { IsMade (arc_value graphs.entry.now) delays.entry.now.lists ins.entry.now delays.exit.now.lists result }
+        ensures levels { Suits (arc_value graphs.entry.now) carried.exit.now }
     { make_by_workers(rt, alloc, graphs, delays, ins, workers, carried, gate) };
     run_by(alloc, graphs, streams, iterations, &make, &mut carried, out)
 }
@@ -312,10 +324,13 @@ pub fn plain_run<O: Sink, K: Gate>(
     ensures never_falls { O.faults out.old ≤ O.faults out.new }
 {
     one_meaning();
-    let make = |_kept: &mut (), delays: &mut Delays, ins: &[List<i64>]| -> Made
+    let mut carried = Carried::new(None);
+    let make = |carried: &mut Carried, delays: &mut Delays, ins: &[List<i64>]| -> Made
         requires valid { AreValidFor (unnamed (K.kernels gate.now)) (arc_value graphs.now) }
         requires begins { MayBegin (arc_value graphs.now) delays.now.lists ins.now }
-        ensures { IsMade (arc_value graphs.entry.now) delays.entry.now.lists ins.entry.now delays.exit.now.lists result }
+        requires levels { Suits (arc_value graphs.now) carried.now }
+        ensures made { IsMade (arc_value graphs.entry.now) delays.entry.now.lists ins.entry.now delays.exit.now.lists result }
+        ensures levels { Suits (arc_value graphs.entry.now) carried.exit.now }
     { make_by_queues(alloc, graphs, delays, ins, gate) };
-    run_by(alloc, graphs, streams, iterations, &make, &mut (), out)
+    run_by(alloc, graphs, streams, iterations, &make, &mut carried, out)
 }

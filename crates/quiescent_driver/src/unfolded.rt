@@ -7,6 +7,7 @@ ghost use Rattle.pisdf_model.specs.Hold.{initial};
 ghost use Rattle.pisdf_model.specs.Valid.{AreValid};
 ghost use Rattle.pisdf_meaning.specs.Run.{IsRun, Run, top_needs};
 ghost use Rattle.pisdf_meaning.specs.Sound.{AreValidFor};
+ghost use Rattle.quiescent_driver.specs.Carrying.{Suits};
 ghost use Rattle.quiescent_driver.specs.Given.{IsTopState};
 ghost use Rattle.quiescent_driver.specs.Making.{IsMade, MayBegin};
 ghost use Rattle.quiescent_driver.specs.Reached.{EndsFrom, Iterate, PutsGroup, PutsInTurn, Reached};
@@ -77,10 +78,12 @@ fn next_group<K: Gate + Sync, R: Threads + Wait + Sync>(
     requires state { IsTopState (arc_value graphs.now) delays.old.lists }
     requires some { 0 < workers }
     requires few { workers ≤ 16 }
+    requires levels { Suits (arc_value unfolded.now.graphs) carried.old }
     ensures given { IfOk result (λ found. IfSome found (λ its. Iterate (arc_value graphs.now) streams.now.tokens.now (group * unfolded.now.times) delays.old.lists its delays.new.lists)) }
     ensures all { IfOk result (λ found. IfSome found (λ its. length its ≡ unfolded.now.times)) }
     ensures unchanged { result ≡ Good None → delays.new ≡ delays.old }
     ensures state { IsTopState (arc_value graphs.now) delays.new.lists }
+    ensures levels { Suits (arc_value unfolded.now.graphs) carried.new }
 {
     // Its clause says that the kernels give outputs of the lengths that they are asked for.
     let _signatures = gate.signatures();
@@ -96,8 +99,7 @@ fn next_group<K: Gate + Sync, R: Threads + Wait + Sync>(
         delays,
         ins.as_slice(),
         workers,
-        &mut carried.kept,
-        &mut carried.workload,
+        carried,
         gate,
         Journal::unreadable(),
     ) {
@@ -132,9 +134,11 @@ fn step_group<O: Sink, K: Gate + Sync, R: Threads + Wait + Sync>(
     requires some { 0 < workers }
     requires few { workers ≤ 16 }
     requires numbers { group * unfolded.now.times + unfolded.now.times < 2 ^ 32 }
+    requires levels { Suits (arc_value unfolded.now.graphs) carried.old }
     ensures puts { (n : ℕ) → group * unfolded.now.times + unfolded.now.times ≤ n → PutsGroup (arc_value graphs.now) streams.now.tokens.now n (group * unfolded.now.times) unfolded.now.times delays.old.lists delays.new.lists (O.written out.old) (O.written out.new) (O.faults out.old) (O.faults out.new) result }
     ensures never_falls { O.faults out.old ≤ O.faults out.new }
     ensures state { IsTopState (arc_value graphs.now) delays.new.lists }
+    ensures levels { Suits (arc_value unfolded.now.graphs) carried.new }
 {
     let Ok(found) = next_group(
         rt, alloc, graphs, unfolded, streams, group, workers, carried, delays, gate,
@@ -184,11 +188,13 @@ fn run_groups<O: Sink, K: Gate + Sync, R: Threads + Wait + Sync>(
     requires some { 0 < workers }
     requires few { workers ≤ 16 }
     requires times { 0 < unfolded.now.times }
+    requires levels { Suits (arc_value unfolded.now.graphs) carried.old }
     ensures reached { IfOk result (λ done. Reached (arc_value graphs.now) streams.now.tokens.now done delays.new.lists (O.written out.old) (O.written out.new)) }
     ensures within { IfOk result (λ done. done ≤ iterations) }
     ensures ends { IfErr result (EndsRun (arc_value graphs.now) streams.now.tokens.now iterations (O.written out.old) (O.written out.new) (O.faults out.old) (O.faults out.new)) }
     ensures never_falls { O.faults out.old ≤ O.faults out.new }
     ensures state { IsTopState (arc_value graphs.now) delays.new.lists }
+    ensures levels { Suits (arc_value unfolded.now.graphs) carried.new }
 {
     let groups = iterations / unfolded.times;
     for group in 0..groups {
@@ -247,7 +253,7 @@ fn run_singly<O: Sink, K: Gate + Sync, R: Threads + Wait + Sync>(
     let Ok(kept) = kept(alloc) else {
         return RunEnd::Memory;
     };
-    let mut carried = Carried::new(kept);
+    let mut carried = Carried::new(Some(kept));
     let feed = Streams {
         needs: needs.items(),
         tokens: streams,
@@ -257,7 +263,9 @@ fn run_singly<O: Sink, K: Gate + Sync, R: Threads + Wait + Sync>(
         requires some { 0 < workers }
         requires few { workers ≤ 16 }
         requires begins { MayBegin (arc_value graphs.now) delays.now.lists ins.now }
-        ensures { IsMade (arc_value graphs.entry.now) delays.entry.now.lists ins.entry.now delays.exit.now.lists result }
+        requires levels { Suits (arc_value graphs.now) carried.now }
+        ensures made { IsMade (arc_value graphs.entry.now) delays.entry.now.lists ins.entry.now delays.exit.now.lists result }
+        ensures levels { Suits (arc_value graphs.entry.now) carried.exit.now }
     { make_by_workers(rt, alloc, graphs, delays, ins, workers, carried, gate) };
     run_from(
         alloc,
@@ -305,7 +313,7 @@ fn begin_in_groups<O: Sink, K: Gate + Sync, R: Threads + Wait + Sync>(
     let Ok(kept) = kept(alloc) else {
         return Err(RunEnd::Memory);
     };
-    let mut carried = Carried::new(kept);
+    let mut carried = Carried::new(Some(kept));
     let feed = Streams {
         needs: needs.items(),
         tokens: streams,

@@ -9,7 +9,7 @@ use Rattle.firing_board.specs.declared.table.row.Row.{Row}
 use Rattle.board_rules.specs.declared.entry.ItemName.TheVariants as items
 use Rattle.firing_board.specs.declared.claim.Claim.TheVariants as claim
 use Rattle.firing_board.specs.declared.state.Core.{Core}
-use Rattle.firing_board.specs.Keeping.{AreLevelsOf}
+use Rattle.firing_board.specs.Keeping.{AreKeptLevelsOf}
 use Rattle.firing_board.proofs.FrameSteps.{rooms_kept}
 use Rattle.firing_board.proofs.RoomSteps.{entered_room}
 use Rattle.firing_board.proofs.Rows.{last_go_on, marks_rows, the_same}
@@ -61,7 +61,7 @@ pub at_hand-requires-clause-graphs : goal.at_hand-requires-clause-graphs
 at_hand-requires-clause-graphs c =
     let o = c.requires.graphs in
     let is : c.job.result.now ≡ o.0.job = c.job.ensures.2 ∙ ap (λ (r : Row). r.job) (the_same (row_at c.args.core.now.table c.args.run.row) c.job.ensures.0 o.0 c.job.ensures.1 o.1) in
-    subst (λ (j : OpenView). AreLevelsOf j.graphs c.args.keeping.now.levels) (sym is) o.2
+    subst (λ (j : OpenView). AreKeptLevelsOf j.graphs c.args.keeping.now.levels) (sym is) o.2
 
 pub claim_compile-requires-clause-suits : goal.claim_compile-requires-clause-suits
 claim_compile-requires-clause-suits c =

@@ -14,6 +14,7 @@ loop-place-init g c =
     record {
       reached = soak_starts (arc_value c.args.graphs.now) c.args.number c.in-Ok.delays.lists first;
       state = ap lengths first;
+      levels = c.requires.levels;
     }
 
 pub loop-place-preserved : goal.loop-place-preserved
@@ -25,6 +26,7 @@ loop-place-preserved g c =
           (c.in-Some.ensures.count ∙ ap (λ (t : List ℤ). total.count + length t) c.y_tokens.ensures)
           (c.in-Some.ensures.sum ∙ ap (λ (t : List ℤ). fold (λ sum token. sum +ℤ token) total.sum t) c.y_tokens.ensures);
       state = c.in-Ok-soak_iteration.ensures.state;
+      levels = c.soak_iteration.ensures.levels;
     }
 
 pub returns-in-Err-clause-ends : goal.returns-in-Err-clause-ends

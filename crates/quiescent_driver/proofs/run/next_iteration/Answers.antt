@@ -10,12 +10,12 @@ use Rattle.quiescent_driver.proofs.run.next_iteration.Goals as goal
 pub returns-clause-gives : goal.returns-clause-gives
 returns-clause-gives g c =
     gives_next (arc_value c.args.graphs.now) c.args.delays.now.lists c.made.new.delays.lists c.args.streams.now.tokens.now c.as_slice.result.now c.args.streams.now.needs.now c.args.number
-    c.requires.needs c.requires.sound c.in-None.ensures (c.as_slice.ensures.value ∙ c.in-Ok.ensures) c.made.result c.made.ensures.gives
+    c.requires.needs c.requires.sound c.in-None.ensures (c.as_slice.ensures.value ∙ c.in-Ok.ensures) c.made.result c.made.ensures.made.gives
 
 pub returns-clause-stops : goal.returns-clause-stops
 returns-clause-stops g c =
     stops_next (arc_value c.args.graphs.now) c.args.delays.now.lists c.made.new.delays.lists c.args.streams.now.tokens.now c.as_slice.result.now c.args.streams.now.needs.now c.args.number
-    c.requires.needs c.requires.sound c.in-None.ensures (c.as_slice.ensures.value ∙ c.in-Ok.ensures) c.made.result c.made.ensures.stops
+    c.requires.needs c.requires.sound c.in-None.ensures (c.as_slice.ensures.value ∙ c.in-Ok.ensures) c.made.result c.made.ensures.made.stops
 
 pub returns-in-Some-clause-stops : goal.returns-in-Some-clause-stops
 returns-in-Some-clause-stops g c =
@@ -25,7 +25,7 @@ returns-in-Some-clause-stops g c =
     (lacks graphs c.args.streams.now.tokens.now c.args.streams.now.needs.now c.args.number lack c.requires.there c.requires.needs c.requires.sound c.in-Some.ensures)
 
 pub returns-clause-state : goal.returns-clause-state
-returns-clause-state g c = c.made.ensures.left
+returns-clause-state g c = c.made.ensures.made.left
 
 pub made-requires-clause-begins : goal.made-requires-clause-begins
 made-requires-clause-begins g c =

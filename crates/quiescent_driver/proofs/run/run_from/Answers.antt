@@ -11,6 +11,7 @@ loop-number-init g c =
       reached = λ had r. r;
       never_falls = omega arith;
       state = c.requires.state;
+      levels = c.requires.levels;
     }
 
 pub loop-number-preserved : goal.loop-number-preserved
@@ -22,6 +23,7 @@ loop-number-preserved g c =
           (c.loop-number.invariant.reached had r) s.1 s.2;
       never_falls = omega (arith, c.loop-number.invariant.never_falls, c.step.ensures.never_falls);
       state = c.in-Ok.ensures.state;
+      levels = c.step.ensures.levels;
     }
 
 pub returns-in-Err-clause-ends : goal.returns-in-Err-clause-ends

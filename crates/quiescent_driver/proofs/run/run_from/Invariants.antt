@@ -1,5 +1,6 @@
 use Rattle.std.proofs.Common.{ℕ, ◌≤◌, List, Option}
 use Rattle.std.specs.Arc.{arc_value}
+use Rattle.quiescent_driver.specs.Carrying.{Suits}
 use Rattle.quiescent_driver.specs.Given.{IsTopState}
 use Rattle.quiescent_driver.specs.Reached.{Reached}
 use Rattle.quiescent_driver.proofs.run.run_from.Given as goal
@@ -12,4 +13,5 @@ invariant-loop-number g l =
           → Reached (arc_value l.graphs) l.streams.tokens.now l.number l.delays.lists had (sink.written l.out);
       never_falls : sink.faults l.fn.out ≤ sink.faults l.out;
       state : IsTopState (arc_value l.graphs) l.delays.lists;
+      levels : Suits (arc_value l.graphs) l.carried;
     }

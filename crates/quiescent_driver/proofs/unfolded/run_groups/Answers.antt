@@ -14,6 +14,7 @@ loop-group-init g c =
       reached = subst (λ k. Reached (arc_value c.args.graphs.now) c.args.streams.now.tokens.now k c.args.delays.now.lists (g.O.Sink.written c.args.out.now) (g.O.Sink.written c.args.out.now)) none first;
       never_falls = omega arith;
       state = ap lengths c.requires.begins;
+      levels = c.requires.levels;
     }
 
 pub step_group-requires-clause-numbers : goal.step_group-requires-clause-numbers
@@ -54,4 +55,5 @@ loop-group-preserved g c =
           (c.in-Ok.ensures.puts c.args.iterations room had (g.O.Sink.faults c.args.out.now) c.loop-group.invariant.reached c.loop-group.invariant.never_falls));
       never_falls = omega (arith, c.loop-group.invariant.never_falls, c.step_group.ensures.never_falls);
       state = c.in-Ok.ensures.state;
+      levels = c.step_group.ensures.levels;
     }

@@ -11,7 +11,7 @@ use Rattle.firing_board.proofs.Fields.{key_same}
 use Rattle.firing_board.proofs.KeptViews.{finishes_as, keeping, runs_as}
 use Rattle.firing_board.proofs.RoomSteps.{room_unless}
 use Rattle.pisdf_model.specs.declared.graph.Graphs.{Graphs}
-use Rattle.firing_board.specs.Keeping.{AreLevelsOf, IsOfLevels}
+use Rattle.firing_board.specs.Keeping.{AreKeptLevelsOf, IsOfLevels}
 use Rattle.firing_board.proofs.Abandoned.{compilation}
 use Rattle.firing_board.proofs.EndedLevels.{ended_level, levels_same}
 use Rattle.firing_board.proofs.board.Board.finish_compile.Goals as goal
@@ -43,7 +43,7 @@ invariant_of-self c =
     } in
     let same = key_same (counts_by i.signatures) i.top.value i.core new kept in (
       subst (λ (k : Key). Keeps k new c.finish_compilation-self-inside.result) (sym same) f.keeps,
-      levels_same i.core.table.graphs new.table.graphs c.keep_ready.new.keeping.levels kept.graphs_are (subst (λ (g : Graphs). AreLevelsOf g c.keep_ready.new.keeping.levels) c.graphs.ensures c.keep_ready.ensures.levels),
+      levels_same i.core.table.graphs new.table.graphs c.keep_ready.new.keeping.levels kept.graphs_are (subst (λ (g : Graphs). AreKeptLevelsOf g c.keep_ready.new.keeping.levels) c.graphs.ensures c.keep_ready.ensures.levels),
       room_unless i.starved c.finish_compilation-self-inside.result i.core new f.stays c.self.invariant.2 c.finish_compilation-self-inside.ensures.room,
       kept.slots_each ∙ (c.self.invariant.3 ∙ sym kept.one_each),
     )
@@ -97,7 +97,7 @@ returns-clause-firings c =
     subst (λ (b : BoardView). FiringsGoOn b.firings (firings_of new.table)) c.self.view_is f.firings
 
 pub keep_ready-requires-clause-levels : goal.keep_ready-requires-clause-levels
-keep_ready-requires-clause-levels c = subst (λ (g : Graphs). AreLevelsOf g c.self.inside.keeping.levels) (sym c.graphs.ensures) c.self.invariant.1
+keep_ready-requires-clause-levels c = subst (λ (g : Graphs). AreKeptLevelsOf g c.self.inside.keeping.levels) (sym c.graphs.ensures) c.self.invariant.1
 
 pub keep_ready-requires-clause-end : goal.keep_ready-requires-clause-end
 keep_ready-requires-clause-end c =
