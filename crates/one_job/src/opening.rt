@@ -75,7 +75,7 @@ pub(crate) fn free_stages(alloc: Global, count: usize) -> Result<Vec<Stage>, All
 {
     let mut stages = Vec::with_capacity(alloc, count)?;
     for _n in 0..count {
-        stages.push(Stage::Free)?;
+        stages.push_reserved(Stage::Free);
     }
     Ok(stages)
 }
