@@ -3,6 +3,7 @@ pub mod AskedOrder
 pub mod AskedBest
 pub mod AskedOffers
 pub mod AskedFirst
+pub mod AskedAlone
 pub mod Paths
 pub mod Rows
 pub mod Keys

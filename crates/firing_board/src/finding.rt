@@ -84,16 +84,9 @@ pub(crate) fn find(alloc: Global, core: &mut Core, worker: u32) -> Result<Option
     rules_are_lawful();
     workers_are_answered();
     match core.table.pick(worker) {
-        Some(Picked::Work(work)) => Ok(Some(Run {
-            row: work.row,
-            item: work.offer.item,
-        })),
+        Some(Picked::Work(work)) => Ok(Some(work)),
         Some(Picked::Call(call)) => {
-            let at = Run {
-                row: call.row,
-                item: call.offer.item,
-            };
-            let run = open_way(alloc, core, at)?;
+            let run = open_way(alloc, core, call)?;
             Ok(Some(run))
         }
         None => Ok(None),

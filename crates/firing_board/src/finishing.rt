@@ -90,15 +90,25 @@ fn close(core: &mut Core, row: usize)
     ensures fewer { free_items core.new.table ≤ free_items core.old.table }
     ensures rooms { core.new.rooms ≡ core.old.rooms }
 {
-    boards_keep();
-    rules_are_lawful();
-    // Most finishes leave their job with more to do.
-    if !core.table.job(row).quiet() {
-        return;
-    }
     if let Some(end) = core.table.close_from(row) {
         core.end = Some(end);
     }
+}
+
+/// As `close`. Most finishes leave their job with more to do, and then nothing is closed.
+fn close_if_quiet(core: &mut Core, row: usize)
+    requires { IsClosingFrom core.old.table row }
+    ensures closed { ClosesOn core.old row core.new }
+    ensures kept { KeepsJournal core.old core.new }
+    ensures fewer { free_items core.new.table ≤ free_items core.old.table }
+    ensures rooms { core.new.rooms ≡ core.old.rooms }
+{
+    boards_keep();
+    rules_are_lawful();
+    if !core.table.job(row).quiet() {
+        return;
+    }
+    close(core, row);
 }
 
 /// Closes jobs from the row up of a job whose compilation was taken back, once the rooms of workers suffice for its nodes.
@@ -143,7 +153,7 @@ pub(crate) fn finish_frame(
     if starved {
         return;
     }
-    close(core, row);
+    close_if_quiet(core, row);
 }
 
 /// A worker finishes a compilation: whether memory was wanted, then or before.

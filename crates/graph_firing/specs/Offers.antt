@@ -47,6 +47,10 @@ goes_first away urgency i other_away other_urgency j =
 
 -- ---- the first
 
+abbrev pub number_of : Option Offer → Option ℕ
+number_of None = None
+number_of (Some offer) = Some offer.item
+
 pub record GoesBefore (v : OpenView) (w : ℕ) (offer : Offer) (j : ℕ) : Type 0 where
   pub away : Bool
   pub urgency : Option ℕ
@@ -63,3 +67,9 @@ pub record IsFirst (P : ℕ → Type 0) (v : OpenView) (w : ℕ) (offer : Offer)
 abbrev pub IsPick : (ℕ → Type 0) → OpenView → ℕ → Option Offer → Type 0
 IsPick P v w None = (i : ℕ) → P i → ⊥
 IsPick P v w (Some offer) = IsFirst P v w offer
+
+-- the number of the first, and none exactly where it holds of none
+pub record IsPickedNumber (P : ℕ → Type 0) (v : OpenView) (w : ℕ) (number : Option ℕ) : Type 0 where
+  pub offer : Option Offer
+  pub is_pick : IsPick P v w offer
+  pub number_is : number ≡ number_of offer

@@ -1,5 +1,6 @@
 // One open job and its events.
 ghost use Rattle.std.specs.Prelude.{◌≡◌, ◌≢◌, ◌⊎◌, ◌↔◌, ◌<◌, ◌-◌, None, Some, IfOk, IfSome, IsOk, IsTrue, MatchOption, OnErr, OnOk, slice_index};
+ghost use Rattle.graph_firing.specs.Offers as offers;
 
 use crate::going::{end_stage, go_on, next_stage, refused_early};
 use crate::handed::Handed;
@@ -45,6 +46,16 @@ impl Model for OpenJob {
     ghost invariant = { IsOpenJob };
 }
 
+/// The number of the item that is offered.
+fn number_of(offer: Option<Offer>) -> Option<usize>
+    ensures { result ≡ offers.number_of offer }
+{
+    match offer {
+        Some(offer) => Some(offer.item),
+        None => None,
+    }
+}
+
 impl OpenJob {
     ghost use Rattle.job_preparing.specs.Handing.{answer_with, end_of, lent_at, mark_at, EndSuits, IsNothingLent};
     ghost use Rattle.job_preparing.specs.CompileTasks.{IsEndOf};
@@ -57,7 +68,7 @@ impl OpenJob {
     ghost use Rattle.nested_jobs.specs.Rules.{Call};
     ghost use Rattle.graph_firing.specs.View.{HasItem, IsOfferedCall, IsOfferedCompilation, IsOfferedWork, IsQuiet, compilation_of, graph_in, key_in, left_by, outcome_in, task};
     ghost use Rattle.graph_firing.specs.Places.{config_places};
-    ghost use Rattle.graph_firing.specs.Offers.{IsPick};
+    ghost use Rattle.graph_firing.specs.Offers.{IsPick, IsPickedNumber};
     ghost use Rattle.one_job.specs.Leased.{OneOwnerEach};
     ghost use Rattle.graph_firing.specs.Leases.{LendsItems};
     ghost use Rattle.graph_firing.specs.Paths.{IsCall, step_of};
@@ -159,6 +170,22 @@ impl OpenJob {
             Stage::Nodes(running) => {
                 first_node(running, self.configuring.count() as usize + 1, worker)
             }
+        }
+    }
+
+    /// The number of the item that `pick` answers, without where it stands.
+    pub fn first_work(&self, worker: u32) -> Option<usize>
+        ensures { IsPickedNumber (IsOfferedWork self.now) self.now worker result }
+    {
+        match &self.stage {
+            Stage::Waiting => number_of(first_waiting(&self.configuring)),
+            Stage::Compiling => None,
+            Stage::Refused(_) => None,
+            Stage::Nodes(running) => number_of(first_node(
+                running,
+                self.configuring.count() as usize + 1,
+                worker,
+            )),
         }
     }
 

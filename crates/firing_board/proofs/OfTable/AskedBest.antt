@@ -1,5 +1,5 @@
 -- The best of the rows before one gives way to what this one offers, or stays.
-use Rattle.std.proofs.Common.{◌≡◌, ◌≢◌, ℕ, ◌+◌, ◌<◌, ⊎_elim, Bool, true, false, Option, Some, None, List, refl, sym, ◌∙◌, subst, arith}
+use Rattle.std.proofs.Common.{◌≡◌, ◌≢◌, ℕ, ◌+◌, ◌<◌, ⊎_elim, Bool, true, false, Option, Some, None, List, length, refl, sym, ◌∙◌, subst, arith}
 use Rattle.std.proofs.lemmas.Bool.{cases_eq, cases_lt}
 use Rattle.board_rules.proofs.Ordering.{standings_ordered}
 use Rattle.graph_firing.specs.declared.offer.Offer.{Offer}
@@ -127,3 +127,7 @@ module _ (rows : List (Option Row)) where
         go : (x : Bool) → before b a ≡ x → IsBest w calls rows (n + 1) (first_of_two rows a b)
         go true e = subst (λ (z : Asked). IsBest w calls rows (n + 1) z) (sym (rw e refl)) (gives_way n a b best next e)
         go false e = subst (λ (z : Asked). IsBest w calls rows (n + 1) z) (sym (rw e refl)) (stays n a (Some b) best next e)
+
+    -- of one row it is what that row offers
+    pub alone : length rows ≡ 1 → (answer : Option Asked) → First 0 answer → Best (length rows) answer
+    alone one answer first = subst (λ (n : ℕ). Best n answer) (sym one) (goes_on 0 None answer (λ k low. absurd (omega arith)) first)

@@ -15,6 +15,7 @@ use Rattle.firing_board.specs.declared.table.pick.Asked.{Asked}
 use Rattle.firing_board.specs.declared.table.pick.Picked.{Picked}
 use Rattle.firing_board.specs.declared.table.pick.Picked.TheVariants.{Work, Call}
 use Rattle.firing_board.specs.declared.table.row.Row.{Row}
+use Rattle.firing_board.specs.declared.run.Run.{Run}
 
 -- an offer as the rules of boards have it
 abbrev pub offer_of : Offer → board.Offer
@@ -33,10 +34,20 @@ PathsDiffer key m = (p q : Place) (c d : Firing) → m p ≡ Open c → m q ≡ 
 abbrev pub IsAsked : ℕ → Bool → TableView → Option Asked → Type 0
 IsAsked w opens v answer = (key : Key) (m : Marks Firing Answer) → Suits key m v → PathsDiffer key m → IsFirstOffer key m w opens v answer
 
+-- the item that is asked for
+abbrev pub run_of : Asked → Run
+run_of asked = record { row = asked.row; item = asked.offer.item }
+
+-- the item of the first of all offers of this kind
+pub record IsFirstRun (w : ℕ) (opens : Bool) (v : TableView) (run : Run) : Type 0 where
+  pub asked : Asked
+  pub run_is : run ≡ run_of asked
+  pub is_asked : IsAsked w opens v (Some asked)
+
 -- rule 1: the first work, or, where no row offers work, the first call; none exactly where no row offers either
 abbrev pub IsPicked : ℕ → TableView → Option Picked → Type 0
-IsPicked w v (Some (Work work)) = IsAsked w false v (Some work)
-IsPicked w v (Some (Call call)) = IsAsked w false v None × IsAsked w true v (Some call)
+IsPicked w v (Some (Work work)) = IsFirstRun w false v work
+IsPicked w v (Some (Call call)) = IsAsked w false v None × IsFirstRun w true v call
 IsPicked w v None = IsAsked w false v None × IsAsked w true v None
 
 -- the same of a table with these rows

@@ -5,15 +5,17 @@ ghost use Rattle.board_rules.specs.Picks.{goes_before};
 ghost use Rattle.nested_jobs.specs.Pick.{is_more_urgent};
 ghost use Rattle.graph_firing.specs.Offers.{IsPick};
 ghost use Rattle.firing_board.specs.Table.Asked.{IsPickedOf};
+ghost use Rattle.firing_board.specs.Table.Asked as table_asked;
 ghost use Rattle.firing_board.specs.Table.AskedRows.{IsBestOf, IsFirstOf, IsOfferedAs, ordering_by, row_in, standing_of};
 ghost use Rattle.firing_board.specs.Table.AskedRows as rows_asked;
 
+use crate::run::Run;
 use crate::table::row::Row;
 use graph_firing::{Offer, OpenJob};
 use std::cmp::Ordering;
 
 /// What a table offers a worker first.
-#[derive(Debug, Clone, Copy)]
+#[derive(Clone, Copy)]
 pub(crate) struct Asked {
     /// The key of the row of the job that offers it.
     pub row: usize,
@@ -21,27 +23,61 @@ pub(crate) struct Asked {
     pub offer: Offer,
 }
 
-/// What goes first of all that a table offers.
-#[derive(Debug, Clone, Copy)]
+/// The item that goes first of all that a table offers.
+#[derive(Clone, Copy)]
 pub(crate) enum Picked {
     /// Work of a job that is open.
-    Work(Asked),
+    Work(Run),
     /// A call, whose claim opens a job. No open job offers work.
-    Call(Asked),
+    Call(Run),
 }
 
 // ---- rule 1
+
+/// The item that is asked for.
+fn run_of(asked: Asked) -> Run
+    ensures { result ≡ table_asked.run_of asked }
+{
+    Run {
+        row: asked.row,
+        item: asked.offer.item,
+    }
+}
 
 /// What goes first of all that the rows offer: work of an open job before each call. None where no row offers anything.
 pub(crate) fn pick(rows: &[Option<Row>], worker: u32) -> Option<Picked>
     ensures { IsPickedOf worker rows.now result }
 {
+    // The most frequent case by far: where one job alone is open, nothing need be told of its items but their numbers.
+    if rows.len() == 1 {
+        return pick_alone(rows, worker);
+    }
     match best_of(rows, worker, false) {
-        Some(work) => Some(Picked::Work(work)),
+        Some(work) => Some(Picked::Work(run_of(work))),
         None => match best_of(rows, worker, true) {
-            Some(call) => Some(Picked::Call(call)),
+            Some(call) => Some(Picked::Call(run_of(call))),
             None => None,
         },
+    }
+}
+
+/// As `pick`, where there is one row.
+fn pick_alone(rows: &[Option<Row>], worker: u32) -> Option<Picked>
+    requires { length rows.now ≡ 1 }
+    ensures { IsPickedOf worker rows.now result }
+{
+    match &rows[0] {
+        Some(row) => match row.job.first_work(worker) {
+            Some(item) => Some(Picked::Work(Run { row: 0, item })),
+            None => match row.job.pick_call(worker) {
+                Some(offer) => Some(Picked::Call(Run {
+                    row: 0,
+                    item: offer.item,
+                })),
+                None => None,
+            },
+        },
+        None => None,
     }
 }
 
@@ -151,10 +187,6 @@ fn asked_at(rows: &[Option<Row>], key: usize, worker: u32, calls: bool) -> Optio
 fn best_of(rows: &[Option<Row>], worker: u32, calls: bool) -> Option<Asked>
     ensures { IsBestOf worker calls rows.now (length rows.now) result }
 {
-    // The most frequent case by far, without the best offer that the loop carries along.
-    if rows.len() == 1 {
-        return asked_at(rows, 0, worker, calls);
-    }
     let mut best: Option<Asked> = None;
     for key in 0..rows.len() {
         best = better(rows, best, asked_at(rows, key, worker, calls));

@@ -3,9 +3,10 @@ ghost use Rattle.std.specs.Prelude.{◌≡◌, replicate, slice_set};
 
 use crate::nodes::stage::Stage;
 use std::marker::Model;
+use std::mem;
 use std::snapshot::Snapshot;
 
-/// How far each node was, and what changed last: as many bytes as one change has, however many nodes there are.
+/// How far each node was, and what changed last.
 #[derive(Drop)]
 pub(crate) enum Past {
     /// So many nodes, each of which is free.
@@ -18,10 +19,10 @@ pub(crate) enum Past {
     },
 }
 
-/// How far each node is, by its number. No code can read it.
+/// How far each node is, by its number. It has no bytes, and no code can read it.
 #[derive(Drop)]
 pub(crate) struct Stages {
-    past: Past,
+    past: Snapshot<Past>,
 }
 
 impl Model for Stages {
@@ -32,7 +33,7 @@ impl Model for Stages {
 
     ghost use Rattle.graph_firing.specs.Nodes.Told.{stages_by};
 
-    ghost view = { λ s. stages_by s.past };
+    ghost view = { λ s. stages_by s.past.value };
 }
 
 impl Stages {
@@ -41,7 +42,7 @@ impl Stages {
         ensures { result ≡ replicate count Stage.Free }
     {
         Stages {
-            past: Past::Free(count),
+            past: Snapshot::of(&Past::Free(count)),
         }
     }
 
@@ -49,7 +50,7 @@ impl Stages {
     pub(crate) fn put(&mut self, node: u32, stage: Stage)
         ensures { self.new ≡ slice_set self.old node stage }
     {
-        let past = Snapshot::of(&self.past);
-        self.past = Past::Then { past, node, stage };
+        let past = mem::replace(&mut self.past, Snapshot::of(&Past::Free(0)));
+        self.past = Snapshot::of(&Past::Then { past, node, stage });
     }
 }

@@ -1,7 +1,7 @@
 use Rattle.std.proofs.Common.{None, refl, sym, subst}
 use Rattle.graph_firing.specs.View.{IsQuiet}
 use Rattle.firing_board.proofs.OfTable.CloseSteps.{stops}
-use Rattle.firing_board.proofs.finishing.close.Goals as goal
+use Rattle.firing_board.proofs.finishing.close_if_quiet.Goals as goal
 
 -- a job that isn't quiet stays open, and so do all round it
 pub returns-then-not-quiet-clause-closed : goal.returns-then-not-quiet-clause-closed
