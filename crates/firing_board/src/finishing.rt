@@ -95,7 +95,7 @@ fn close(core: &mut Core, row: usize)
     }
 }
 
-/// As `close`. Most finishes leave their job with more to do, and then nothing is closed.
+/// As `close`, in less time where the job isn't quiet: most finishes leave their job with more to do.
 fn close_if_quiet(core: &mut Core, row: usize)
     requires { IsClosingFrom core.old.table row }
     ensures closed { ClosesOn core.old row core.new }

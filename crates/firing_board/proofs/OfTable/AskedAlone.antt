@@ -7,7 +7,6 @@ use Rattle.graph_firing.specs.declared.offer.Offer.{Offer}
 use Rattle.firing_board.specs.Table.Asked.{IsAsked, IsPickedOf, run_of}
 use Rattle.firing_board.specs.Table.AskedRows.{IsFirstOf, IsOfferedAs, row_in}
 use Rattle.firing_board.specs.Table.View.{TableView}
-use Rattle.firing_board.specs.declared.run.Run.{Run}
 use Rattle.firing_board.specs.declared.table.pick.Asked.{Asked}
 use Rattle.firing_board.specs.declared.table.pick.Picked.TheVariants.{Work, Call}
 use Rattle.firing_board.specs.declared.table.row.Row.{Row}

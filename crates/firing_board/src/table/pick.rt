@@ -1,5 +1,5 @@
 // What the rows of a table offer a worker first. Six rules say it, and the first that tells two items apart decides. `pick` is
-// rule 1, and `goes_before` has rules 2 to 6.
+// rule 1 (`pick_alone` for one row), and `goes_before` has rules 2 to 6.
 ghost use Rattle.std.specs.Prelude.{◌≡◌, ◌<◌, false, true, length, IfSome, IsSome};
 ghost use Rattle.board_rules.specs.Picks.{goes_before};
 ghost use Rattle.nested_jobs.specs.Pick.{is_more_urgent};
@@ -48,7 +48,7 @@ fn run_of(asked: Asked) -> Run
 pub(crate) fn pick(rows: &[Option<Row>], worker: u32) -> Option<Picked>
     ensures { IsPickedOf worker rows.now result }
 {
-    // The most frequent case by far: where one job alone is open, nothing need be told of its items but their numbers.
+    // The most frequent case by far: a table that never had a second row has nothing to compare, so a number says it all.
     if rows.len() == 1 {
         return pick_alone(rows, worker);
     }

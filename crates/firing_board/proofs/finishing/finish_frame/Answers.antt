@@ -39,8 +39,8 @@ take_back-row-requires-clause-room c =
     let runs = runs_at c.entries_tell_steps.ensures.steps key old c.args.starved may.keeps w (MayComeBack key c.args.frame c.args.answer (IsOk c.args.answer)) may.runs in
     has_room key (state_after key may.keeps.taken) old c.args.starved may.keeps w may.runs.work (mine c.boards_keep.ensures.held key lawful c.args.starved old may.keeps w may.runs.is_worker may.runs.work runs)
 
-pub close-requires : goal.close-requires
-close-requires c =
+pub close_if_quiet-requires : goal.close_if_quiet-requires
+close_if_quiet-requires c =
     let key = c.requires.may.0 in
     let old = c.args.core.now in
     let w = c.args.worker in
@@ -86,7 +86,7 @@ returns-clause-finished c = λ key was.
     let old = c.args.core.now in
     let w = c.args.worker in
     let mid = c.take_back-row.new.core in
-    let new = c.close.new.core in
+    let new = c.close_if_quiet.new.core in
     let P = MayComeBack key c.args.frame c.args.answer (IsOk c.args.answer) in
     let may = subst (λ (b : Bool). MayLeave key old b w P (Some c.args.frame.places)) c.if-starved.false was in
     let laws : FinishLaws key = record {
@@ -105,7 +105,7 @@ returns-clause-finished c = λ key was.
     let leaves = c.take_back-row.ensures.returns.leaves in
     let answer = answer_with (Some (Work may.runs.work)) c.args.frame c.args.answer in
     subst (λ (s : Bool). FinishesOn key old s w new s) (sym c.if-starved.false)
-    (closes_finishes key laws old may.keeps w may.runs.is_worker may.runs.work runs answer may.runs.so.answered mid b.marks b.lends leaves.running_are leaves.journal_is new c.close.ensures.kept leaves.numbers_are (subst (λ k. ClosesOn mid k new) b.row_is c.close.ensures.closed))
+    (closes_finishes key laws old may.keeps w may.runs.is_worker may.runs.work runs answer may.runs.so.answered mid b.marks b.lends leaves.running_are leaves.journal_is new c.close_if_quiet.ensures.kept leaves.numbers_are (subst (λ k. ClosesOn mid k new) b.row_is c.close_if_quiet.ensures.closed))
 
 pub take_back-row-requires-clause-slot : goal.take_back-row-requires-clause-slot
 take_back-row-requires-clause-slot c =
@@ -143,17 +143,17 @@ returns-clause-room c = λ has.
     let old = c.args.core.now in
     let w = c.args.worker in
     let mid = c.take_back-row.new.core in
-    let new = c.close.new.core in
+    let new = c.close_if_quiet.new.core in
     let r = c.take_back-row.ensures.returns in
     let ended : FinishesOn key old c.args.starved w new c.args.starved = returns-clause-finished c key may in
     record {
-      in_journal = closed_room mid new c.close.ensures.kept c.close.ensures.fewer (c.take_back-row.ensures.room has.in_journal);
+      in_journal = closed_room mid new c.close_if_quiet.ensures.kept c.close_if_quiet.ensures.fewer (c.take_back-row.ensures.room has.in_journal);
       for_frames = rooms_back old new w r.run r.row c.args.frame.places has.for_frames r.leaves.ran (inside_of old.running.items w r.run r.leaves.ran) r.here
           (lent_run old w r.run c.args.frame.places r.leaves.ran may.lent)
-          (ap (λ rs. rs.items) c.close.ensures.kept.running_is ∙ r.leaves.running_are)
-          (rows_close old.table mid.table new.table (marks_rows r.run.row r.run.item (Done (answer_with (task r.row.job r.run.item) c.args.frame c.args.answer)) old.table mid.table r.marks) c.close.ensures.kept.stay)
+          (ap (λ rs. rs.items) c.close_if_quiet.ensures.kept.running_is ∙ r.leaves.running_are)
+          (rows_close old.table mid.table new.table (marks_rows r.run.row r.run.item (Done (answer_with (task r.row.job r.run.item) c.args.frame c.args.answer)) old.table mid.table r.marks) c.close_if_quiet.ensures.kept.stay)
           (ap (λ (b : BoardView). b.lent) ended.finishes.new_is)
-          (λ k need asks. sym (r.asked k) ∙ asks_still mid.table new.table c.close.ensures.kept.stay k need asks)
-          (ap (λ (x : FrameRooms). x.size) c.close.ensures.rooms ∙ r.size_is)
-          (ap (λ (x : FrameRooms). x.slots.items) c.close.ensures.rooms ∙ r.slots_are);
+          (λ k need asks. sym (r.asked k) ∙ asks_still mid.table new.table c.close_if_quiet.ensures.kept.stay k need asks)
+          (ap (λ (x : FrameRooms). x.size) c.close_if_quiet.ensures.rooms ∙ r.size_is)
+          (ap (λ (x : FrameRooms). x.slots.items) c.close_if_quiet.ensures.rooms ∙ r.slots_are);
     }
